@@ -1,0 +1,2 @@
+pub mod IdleArc
+pub mod Summing

@@ -1,0 +1,22 @@
+-- Arcs and sums over them.
+use Rattle.std.specs.Prelude.{ℕ, ◌≡◌, List, Bool, true, false, not, sum_by, count_by}
+use Rattle.dmf_net.specs.declared.arc.Arc.{Arc}
+use Rattle.dmf_net.specs.Node.{IsNode}
+
+-- Both ends are nodes, and nothing may flow on a closed arc.
+pub record IsArc (nodes : ℕ) (arc : Arc) : Type 0 where
+  pub tail : IsNode nodes arc.tail
+  pub head : IsNode nodes arc.head
+  pub closed : arc.closed ≡ true → arc.cap ≡ 0
+
+-- an open arc from `tail` to `head` of capacity `cap`
+abbrev pub open_arc : ℕ → ℕ → ℕ → Arc
+open_arc tail head cap = record { tail = tail; head = head; cap = cap; closed = false }
+
+-- the sum of the capacities
+abbrev pub capacity_sum : List Arc → ℕ
+capacity_sum arcs = sum_by (λ arc. arc.cap) arcs
+
+-- how many of the arcs are open
+abbrev pub open_count : List Arc → ℕ
+open_count arcs = count_by (λ arc. not arc.closed) arcs

@@ -1,0 +1,49 @@
+-- Edits: changes that were planned on a state, written down so that they can be applied to it.
+use Rattle.std.specs.Prelude.{ℕ, ◌≡◌, ◌+◌, ◌-◌, ◌<◌, ◌==◌, if◌then◌else◌, List, [], ◌∷◌, slice_get, slice_set, Some}
+use Rattle.dmf_net.specs.declared.edit.Move.{Move}
+use Rattle.dmf_net.specs.declared.edit.Edit.{Edit}
+use Rattle.dmf_net.specs.declared.edit.Edit.TheVariants.{Add}
+use Rattle.dmf_net.specs.Arc.{open_arc}
+use Rattle.dmf_net.specs.NetworkState.{NetworkState, IsState, with_idle_arc}
+
+-- the flows that an edit moves
+abbrev pub moves_of : Edit → List Move
+moves_of (Add tail head cap) = []
+
+-- the flows after these moves: each arc that they name has the flow that they give it
+abbrev pub moved : List Move → List ℕ → List ℕ
+moved [] flows = flows
+moved (m ∷ moves) flows = moved moves (slice_set flows (m.arc - 1) m.to)
+
+-- the state that an edit makes of a state
+abbrev pub applied : Edit → NetworkState → NetworkState
+applied (Add tail head cap) s = with_idle_arc s (open_arc tail head cap)
+
+-- The moves name arcs past number `last`, in strictly ascending order, each with the flow that it has.
+abbrev pub MovesFit : ℕ → List Move → List ℕ → Type 0
+MovesFit last [] flows = Unit {0}
+MovesFit last (m ∷ moves) flows =
+    (last < m.arc) × (slice_get flows (m.arc - 1) ≡ Some m.from) × MovesFit m.arc moves flows
+
+-- The edit fits the state: what it says of the state is so, and what it makes of it is a state.
+pub record Fits (edit : Edit) (s : NetworkState) : Type 0 where
+  pub moves : MovesFit 0 (moves_of edit) s.flows
+  pub applied : IsState (applied edit s)
+
+-- The edit stands in the state: applying it to a state that it fits gave this one.
+pub record Stands (edit : Edit) (after : NetworkState) : Type 0 where
+  pub before : NetworkState
+  pub fits : Fits edit before
+  pub gives : applied edit before ≡ after
+
+-- the moves of the arcs whose flow differs, ascending, the first arc of the lists being number `j`
+abbrev pub differences : ℕ → List ℕ → List ℕ → List Move
+differences j [] after = []
+differences j (x ∷ before) [] = []
+differences j (x ∷ before) (y ∷ after) =
+    if x == y then differences (j + 1) before after
+    else record { arc = j; from = x; to = y } ∷ differences (j + 1) before after
+
+-- The edit's moves list just the arcs whose flow it changes.
+abbrev pub ListsDifferences : Edit → NetworkState → Type 0
+ListsDifferences edit s = moves_of edit ≡ differences 1 s.flows (applied edit s).flows

@@ -1,0 +1,9 @@
+pub mod Node
+pub mod Arc
+pub mod Network
+pub mod Flow
+pub mod NetworkState
+pub mod FlowFault
+pub mod Change
+pub mod Edit
+pub mod FlowSums

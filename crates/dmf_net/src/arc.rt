@@ -1,0 +1,31 @@
+ghost use Rattle.std.specs.Prelude.{◌≡◌};
+ghost use Rattle.dmf_net.specs.Arc.{open_arc};
+
+/// A directed arc of a network.
+///
+/// Its ends are node numbers, from 1 on. A closed arc keeps its number in the network, and its capacity is 0.
+#[derive(Clone, Copy, Debug, PartialEq, Eq, Hash)]
+pub struct Arc {
+    /// The node that the arc leaves.
+    pub tail: u32,
+    /// The node that the arc enters.
+    pub head: u32,
+    /// The most that may flow on the arc, a whole number.
+    pub cap: u64,
+    /// Whether the arc was closed.
+    pub closed: bool,
+}
+
+impl Arc {
+    /// An open arc.
+    pub fn open(tail: u32, head: u32, cap: u64) -> Self
+        ensures { result ≡ open_arc tail head cap }
+    {
+        Arc {
+            tail,
+            head,
+            cap,
+            closed: false,
+        }
+    }
+}

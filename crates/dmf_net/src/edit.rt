@@ -1,0 +1,24 @@
+/// A change of the flow on one arc.
+#[derive(Clone, Copy, Debug, PartialEq, Eq, Hash)]
+pub struct Move {
+    /// The arc's number, counted from 1.
+    pub arc: u32,
+    /// The flow before.
+    pub from: u64,
+    /// The flow after.
+    pub to: u64,
+}
+
+/// A change that was planned on a state, with all that it takes to apply it there.
+#[derive(Debug, PartialEq, Eq, Drop)]
+pub enum Edit {
+    /// A new last arc, open and without flow.
+    Add {
+        /// The node that the arc leaves.
+        tail: u32,
+        /// The node that the arc enters.
+        head: u32,
+        /// Its capacity.
+        cap: u64,
+    },
+}

@@ -1,0 +1,17 @@
+//! Networks with flows, and edits of them: the base of the maximum-flow solver `dmf`.
+#![tactic(auto)]
+
+pub use arc::Arc;
+pub use edit::{Edit, Move};
+pub use fault::{ArcFault, FlowFault, NetFault, NoMemory, PlanFault};
+pub use limits::{MAX_ARCS, MAX_NODES};
+pub use plan::plan_add;
+pub use state::State;
+
+mod arc;
+mod edit;
+mod fault;
+mod flow_sums;
+mod limits;
+mod plan;
+mod state;

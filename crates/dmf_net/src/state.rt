@@ -1,0 +1,212 @@
+ghost use Rattle.std.specs.Prelude.{◌≡◌, ◌≢◌, ℕ, false, ◌+◌, ◌-◌, ◌<◌, ◌≤◌, ◌↔◌, pos, length, slice_get, Some, None, Ok, Err, IsTrue, IfOk, IfErr, OnOk, OnErr, IsOkUnless, MatchOption};
+ghost use Rattle.std.specs.Result.{result_err};
+ghost use Rattle.dmf_net.specs.declared.limits.TheConstants.{MAX_NODES};
+ghost use Rattle.dmf_net.specs.Node.{IsNode, is_node};
+ghost use Rattle.dmf_net.specs.Arc.{open_arc, open_count};
+ghost use Rattle.dmf_net.specs.Flow.{flow_value};
+ghost use Rattle.dmf_net.specs.FlowFault.{FlowFaultHolds};
+ghost use Rattle.dmf_net.specs.NetworkState.{IsState, without_arcs, with_flows, with_idle_arc};
+ghost use Rattle.dmf_net.specs.Change.{arc_fault, net_fault};
+ghost use Rattle.dmf_net.specs.Edit.{applied, Fits};
+
+use crate::arc::Arc;
+use crate::edit::Edit;
+use crate::fault::{ArcFault, FlowFault, NetFault, NoMemory};
+use crate::limits::MAX_ARCS;
+use std::alloc::{AllocError, Global};
+use std::marker::Model;
+
+/// A network with a flow on it.
+///
+/// Nodes are numbered from 1, arcs from 1 in the order in which they were added. The flow is within the
+/// capacities, is conserved at each node but the source and the sink, and its value is 0 or more. The sum of the
+/// capacities, the value and the number of open arcs are kept beside it, so that asking for them looks at no arc.
+#[derive(Debug, Drop)]
+pub struct State {
+    nodes: u32,
+    source: u32,
+    sink: u32,
+    arcs: Vec<Arc>,
+    flows: Vec<u64>,
+    capacities: u64,
+    value: u64,
+    open_arcs: u32,
+}
+
+impl Model for State {
+    ghost use Rattle.dmf_net.specs.NetworkState.{NetworkState, KeepsTotals};
+
+    ghost Value = { NetworkState };
+
+    ghost view = { λ a. record {
+      network = record { nodes = a.nodes; source = a.source; sink = a.sink; arcs = a.arcs.items };
+      flows = a.flows.items;
+    } };
+
+    ghost invariant = { λ a. KeepsTotals
+        (record {
+          network = record { nodes = a.nodes; source = a.source; sink = a.sink; arcs = a.arcs.items };
+          flows = a.flows.items;
+        })
+        a.capacities a.value a.open_arcs };
+}
+
+impl State {
+    /// The state without arcs. Takes no memory.
+    pub fn new(alloc: Global, nodes: u32, source: u32, sink: u32) -> Self
+        requires at_least_two_nodes { 2 ≤ nodes }
+        requires at_most_nodes { nodes ≤ MAX_NODES }
+        requires source { IsNode nodes source }
+        requires sink { IsNode nodes sink }
+        requires two_terminals { source ≢ sink }
+        ensures { result ≡ without_arcs nodes source sink }
+    {
+        State {
+            nodes,
+            source,
+            sink,
+            arcs: Vec::new(alloc),
+            flows: Vec::new(alloc),
+            capacities: 0,
+            value: 0,
+            open_arcs: 0,
+        }
+    }
+
+    /// The number of nodes.
+    pub fn nodes(&self) -> u32
+        ensures value { result ≡ self.now.network.nodes }
+        ensures state { IsState self.now }
+    {
+        self.nodes
+    }
+
+    /// The source's number.
+    pub fn source(&self) -> u32
+        ensures value { result ≡ self.now.network.source }
+        ensures state { IsState self.now }
+    {
+        self.source
+    }
+
+    /// The sink's number.
+    pub fn sink(&self) -> u32
+        ensures value { result ≡ self.now.network.sink }
+        ensures state { IsState self.now }
+    {
+        self.sink
+    }
+
+    /// The arcs in the order of their numbers, closed ones too: arc number `j` is at index `j - 1`.
+    pub fn arcs(&self) -> &[Arc]
+        ensures value { result.now ≡ self.now.network.arcs }
+        ensures state { IsState self.now }
+    {
+        &self.arcs
+    }
+
+    /// The flow on arc number `j`, counted from 1.
+    pub fn flow(&self, j: u32) -> u64
+        requires from_one { 1 ≤ j }
+        requires to_last { j ≤ length self.now.network.arcs }
+        ensures { slice_get self.now.flows (j - 1) ≡ Some result }
+    {
+        self.flows[j as usize - 1]
+    }
+
+    /// The value of the flow: what flows out of the source less what flows into it. Looks at no arc.
+    pub fn value(&self) -> u64
+        ensures value { pos result ≡ flow_value self.now.network self.now.flows }
+        ensures state { IsState self.now }
+    {
+        self.value
+    }
+
+    /// The number of arcs that are not closed. Looks at no arc.
+    pub fn open_count(&self) -> u32
+        ensures value { result ≡ open_count self.now.network.arcs }
+        ensures state { IsState self.now }
+    {
+        self.open_arcs
+    }
+
+    /// A second state, equal to this one. Fails only where memory is refused.
+    pub fn copy(&self, alloc: Global) -> Result<State, NoMemory>
+        ensures { IfOk result (λ state. state ≡ self.now) }
+    {
+        Ok(State {
+            arcs: Vec::from_slice(alloc, &self.arcs)?,
+            flows: Vec::from_slice(alloc, &self.flows)?,
+            ..*self
+        })
+    }
+
+    /// Appends an open arc without flow.
+    ///
+    /// Refused, in this order, by [`NetFault::NoSuchNode`], [`NetFault::TooManyArcs`], [`NetFault::SumTooLarge`] and
+    /// [`NetFault::NoMemory`]; the state is then as it was.
+    pub fn push_arc(&mut self, tail: u64, head: u64, cap: u64) -> Result<(), NetFault>
+        ensures refused { MatchOption (arc_fault self.old.network tail head cap)
+            (IsOkUnless result NetFault.NoMemory)
+            (λ fault. result ≡ Err (net_fault fault)) }
+        ensures ok { OnOk result (self.new ≡ with_idle_arc self.old (open_arc tail head cap)) }
+        ensures err { OnErr result (self.new ≡ self.old) }
+    {
+        let arc = self.admit(tail, head, cap)?;
+        self.append(arc)?;
+        Ok(())
+    }
+
+    /// Applies an edit that fits the state.
+    ///
+    /// Only an edit that adds an arc takes memory; where that is refused the state is as it was.
+    pub fn apply(&mut self, edit: &Edit) -> Result<(), NoMemory>
+        requires { Fits edit.now self.old }
+        ensures ok { OnOk result (self.new ≡ applied edit.now self.old) }
+        ensures err { OnErr result (self.new ≡ self.old) }
+    {
+        match *edit {
+            Edit::Add { tail, head, cap } => self.append(Arc::open(tail, head, cap)),
+        }
+    }
+
+    /// The open arc from `tail` to `head`, or the first reason why the network cannot take it.
+    pub(crate) fn admit(&self, tail: u64, head: u64, cap: u64) -> Result<Arc, ArcFault>
+        ensures fault { result_err result ≡ arc_fault self.now.network tail head cap }
+        ensures arc { IfOk result (λ arc. arc ≡ open_arc tail head cap) }
+        ensures fits { IfOk result (λ arc. IsState (with_idle_arc self.now arc)) }
+    {
+        if !self.has_node(tail) || !self.has_node(head) {
+            return Err(ArcFault::NoSuchNode);
+        }
+        if self.arcs.len() >= MAX_ARCS as usize {
+            return Err(ArcFault::TooManyArcs);
+        }
+        if cap > u64::MAX - self.capacities {
+            return Err(ArcFault::SumTooLarge);
+        }
+        Ok(Arc::open(tail as u32, head as u32, cap))
+    }
+
+    fn has_node(&self, v: u64) -> bool
+        ensures { result ≡ is_node self.now.network.nodes v }
+    {
+        1 <= v && v <= u64::from(self.nodes)
+    }
+
+    /// Appends an open arc without flow: both vectors make room before either changes.
+    fn append(&mut self, arc: Arc) -> Result<(), NoMemory>
+        requires open { arc.closed ≡ false }
+        requires fits { IsState (with_idle_arc self.old arc) }
+        ensures ok { OnOk result (self.new ≡ with_idle_arc self.old arc) }
+        ensures err { OnErr result (self.new ≡ self.old) }
+    {
+        self.arcs.reserve(1)?;
+        self.flows.reserve(1)?;
+        self.capacities += arc.cap;
+        self.open_arcs += 1;
+        self.arcs.push_reserved(arc);
+        self.flows.push_reserved(0);
+        Ok(())
+    }
+}
