@@ -1,2 +1,5 @@
+pub mod NoArc
 pub mod IdleArc
 pub mod Summing
+pub mod OverCapacity
+pub mod Balance

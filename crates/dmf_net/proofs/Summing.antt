@@ -6,6 +6,7 @@ use Rattle.std.proofs.lemmas.List.{get_or-set_same, get_or-set_other, get_or-rep
 use Rattle.std.proofs.lemmas.List.Sums.{sum_by-cons, sum_by_more, sum_by_more_le_part}
 use Rattle.std.proofs.lemmas.Slice.Zip.{AllZip-long, length-zip, get_or-zip}
 use Rattle.dmf_net.specs.declared.arc.Arc.{Arc}
+use Rattle.dmf_net.proofs.NoArc.{no_arc}
 use Rattle.dmf_net.specs.Node.{IsNode}
 use Rattle.dmf_net.specs.Arc.{capacity_sum}
 use Rattle.dmf_net.specs.Flow.{flow_at, AreWithinCapacities}
@@ -22,10 +23,6 @@ pub record AreSumsSoFar (end : Arc → ℕ) (nodes : ℕ) (arcs : List Arc) (flo
 
 pub sums-none : (end : Arc → ℕ) (nodes : ℕ) (arcs : List Arc) (flows : List ℕ) → AreSumsSoFar end nodes arcs flows 0 (replicate nodes 0)
 sums-none end nodes arcs flows = record { one_each = length-replicate nodes 0; each = λ k h. get_or-replicate nodes k 0 0 h }
-
--- a read of an arc, where the list has none
-abbrev pub no_arc : Arc
-no_arc = record { tail = 0; head = 0; cap = 0; closed = false }
 
 -- the sum at a node, with the next arc
 one-more : (end : Arc → ℕ) (v : ℕ) (arcs : List Arc) (flows : List ℕ) (i : ℕ) → length flows ≡ length arcs → i < length arcs → sum_by (at_node end v) (take (i + 1) (zip arcs flows)) ≡ sum_by (at_node end v) (take i (zip arcs flows)) + cond (end (get_or arcs i no_arc) == v) (get_or flows i 0) 0

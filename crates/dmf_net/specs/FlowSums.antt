@@ -1,5 +1,5 @@
 -- The sums of the flows at the nodes.
-use Rattle.std.specs.Prelude.{ℕ, ◌≡◌, ◌+◌, List, length, EachIndex, slice_index}
+use Rattle.std.specs.Prelude.{ℕ, ◌≡◌, ◌≢◌, ◌+◌, ◌-◌, ◌≤◌, List, length, EachIndex, slice_index}
 use Rattle.dmf_net.specs.declared.arc.Arc.{Arc}
 use Rattle.dmf_net.specs.Flow.{flow_at}
 
@@ -7,3 +7,19 @@ use Rattle.dmf_net.specs.Flow.{flow_at}
 pub record AreFlowSums (end : Arc → ℕ) (nodes : ℕ) (arcs : List Arc) (flows sums : List ℕ) : Type 0 where
   pub one_each : length sums ≡ nodes
   pub each : EachIndex sums (λ k. slice_index sums k ≡ flow_at end arcs flows (k + 1))
+
+-- `v` is one of the nodes 1 to `last` other than the source and the sink.
+pub record IsInnerUpTo (last source sink v : ℕ) : Type 0 where
+  pub from_one : 1 ≤ v
+  pub to_last : v ≤ last
+  pub not_source : v ≢ source
+  pub not_sink : v ≢ sink
+
+-- The two sums at node `v` are the same.
+abbrev pub AreSameAt : List ℕ → List ℕ → ℕ → Type 0
+AreSameAt leaving entering v = slice_index leaving (v - 1) ≡ slice_index entering (v - 1)
+
+-- At the inner node `v` the two sums differ.
+pub record DifferAt (source sink : ℕ) (leaving entering : List ℕ) (v : ℕ) : Type 0 where
+  pub inner : IsInnerUpTo (length leaving) source sink v
+  pub differ : ¬ AreSameAt leaving entering v

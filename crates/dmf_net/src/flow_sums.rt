@@ -1,7 +1,10 @@
-ghost use Rattle.std.specs.Prelude.{◌^◌, ◌<◌, All, IfOk};
+ghost use Rattle.std.specs.Prelude.{◌≡◌, ℕ, ◌-◌, ◌^◌, ◌<◌, ◌≤◌, length, slice_index, All, IfOk, MatchOption};
+ghost use Rattle.std.specs.Option.{SomeIff};
+ghost use Rattle.dmf_net.specs.declared.limits.TheConstants.{MAX_ARCS, MAX_NODES};
 ghost use Rattle.dmf_net.specs.Arc.{IsArc, capacity_sum};
 ghost use Rattle.dmf_net.specs.Flow.{AreWithinCapacities};
-ghost use Rattle.dmf_net.specs.FlowSums.{AreFlowSums};
+ghost use Rattle.dmf_net.specs.FlowFault.{IsLeast, IsOverCapacity};
+ghost use Rattle.dmf_net.specs.FlowSums.{AreFlowSums, IsInnerUpTo, AreSameAt, DifferAt};
 
 use crate::arc::Arc;
 use std::alloc::{AllocError, Global};
@@ -34,4 +37,50 @@ pub fn flow_sums(
         entering[arc.head as usize - 1] += flow;
     }
     Ok(FlowSums { leaving, entering })
+}
+
+impl FlowSums {
+    /// The least node other than these two at which the sums differ.
+    pub fn first_unbalanced(&self, source: u32, sink: u32) -> Option<u32>
+        requires one_each { length self.now.leaving.items ≡ length self.now.entering.items }
+        requires at_most_nodes { length self.now.leaving.items ≤ MAX_NODES }
+        ensures { MatchOption result
+            ((v : ℕ) → IsInnerUpTo (length self.now.leaving.items) source sink v → AreSameAt self.now.leaving.items self.now.entering.items v)
+            (IsLeast (DifferAt source sink self.now.leaving.items self.now.entering.items)) }
+    {
+        for k in 0..self.leaving.len() {
+            let node = k as u32 + 1;
+            if node != source && node != sink && self.leaving[k] != self.entering[k] {
+                return Some(node);
+            }
+        }
+        None
+    }
+
+    /// What flows out of a node less what flows into it, if that is not below 0.
+    pub fn excess_at(&self, node: u32) -> Option<u64>
+        requires from_one { 1 ≤ node }
+        requires in_leaving { node ≤ length self.now.leaving.items }
+        requires in_entering { node ≤ length self.now.entering.items }
+        ensures { SomeIff result
+            (slice_index self.now.entering.items (node - 1) ≤ slice_index self.now.leaving.items (node - 1))
+            (slice_index self.now.leaving.items (node - 1) - slice_index self.now.entering.items (node - 1)) }
+    {
+        let k = node as usize - 1;
+        self.leaving[k].checked_sub(self.entering[k])
+    }
+}
+
+/// The number of the first arc on which more flows than its capacity, counted from 1.
+pub fn first_over_capacity(arcs: &[Arc], flows: &[u64]) -> Option<u32>
+    requires one_flow_each { length flows.now ≡ length arcs.now }
+    requires at_most_arcs { length arcs.now ≤ MAX_ARCS }
+    ensures { MatchOption result (AreWithinCapacities arcs.now flows.now) (IsLeast (IsOverCapacity arcs.now flows.now)) }
+{
+    for (i, arc) in arcs.iter().enumerate() {
+        if arc.cap < flows[i] {
+            return Some(i as u32 + 1);
+        }
+    }
+    None
 }

@@ -3,7 +3,7 @@ ghost use Rattle.std.specs.Result.{result_err};
 ghost use Rattle.dmf_net.specs.declared.limits.TheConstants.{MAX_NODES};
 ghost use Rattle.dmf_net.specs.Node.{IsNode, is_node};
 ghost use Rattle.dmf_net.specs.Arc.{open_arc, open_count};
-ghost use Rattle.dmf_net.specs.Flow.{flow_value};
+ghost use Rattle.dmf_net.specs.Flow.{IsFlow, flow_value};
 ghost use Rattle.dmf_net.specs.FlowFault.{FlowFaultHolds};
 ghost use Rattle.dmf_net.specs.NetworkState.{IsState, without_arcs, with_flows, with_idle_arc};
 ghost use Rattle.dmf_net.specs.Change.{arc_fault, net_fault};
@@ -12,6 +12,7 @@ ghost use Rattle.dmf_net.specs.Edit.{applied, Fits};
 use crate::arc::Arc;
 use crate::edit::Edit;
 use crate::fault::{ArcFault, FlowFault, NetFault, NoMemory};
+use crate::flow_sums::{first_over_capacity, flow_sums};
 use crate::limits::MAX_ARCS;
 use std::alloc::{AllocError, Global};
 use std::marker::Model;
@@ -139,6 +140,48 @@ impl State {
             flows: Vec::from_slice(alloc, &self.flows)?,
             ..*self
         })
+    }
+
+    /// The same network with these flows, one for each arc in the order of their numbers. The vector is kept, or
+    /// dropped where it is refused.
+    ///
+    /// Refused, in this order, by [`FlowFault::OverCapacity`], [`FlowFault::NotConserved`] and
+    /// [`FlowFault::Negative`]. Takes memory for a copy of the arcs, and for the time of the call two numbers a node;
+    /// where it is refused, the answer is [`FlowFault::NoMemory`].
+    pub fn with_flows(&self, alloc: Global, flows: Vec<u64>) -> Result<State, FlowFault>
+        requires { length flows.items ≡ length self.now.network.arcs }
+        ensures ok { IfOk result (λ state. state ≡ with_flows self.now flows.items) }
+        ensures state { OnOk result (IsState (with_flows self.now flows.items)) }
+        ensures fault { IfErr result (FlowFaultHolds self.now.network flows.items) }
+    {
+        let value = self.value_of(alloc, &flows)?;
+        let arcs = Vec::from_slice(alloc, &self.arcs)?;
+        Ok(State {
+            arcs,
+            flows,
+            value,
+            ..*self
+        })
+    }
+
+    /// The value of these flows on the network, or why they are no flow of a value from 0 on.
+    fn value_of(&self, alloc: Global, flows: &[u64]) -> Result<u64, FlowFault>
+        requires { length flows.now ≡ length self.now.network.arcs }
+        ensures flow { OnOk result (IsFlow self.now.network flows.now) }
+        ensures value { IfOk result (λ value. pos value ≡ flow_value self.now.network flows.now) }
+        ensures fault { IfErr result (FlowFaultHolds self.now.network flows.now) }
+    {
+        if let Some(arc) = first_over_capacity(&self.arcs, flows) {
+            return Err(FlowFault::OverCapacity(arc));
+        }
+        let sums = flow_sums(alloc, self.nodes, &self.arcs, flows)?;
+        if let Some(node) = sums.first_unbalanced(self.source, self.sink) {
+            return Err(FlowFault::NotConserved(node));
+        }
+        let Some(value) = sums.excess_at(self.source) else {
+            return Err(FlowFault::Negative);
+        };
+        Ok(value)
     }
 
     /// Appends an open arc without flow.

@@ -1,7 +1,8 @@
 use Rattle.std.proofs.Common.{arith, length, ◌≡◌, replicate, rules}
 use Rattle.std.proofs.lemmas.Slice.Zip.{AllZip-long}
 use Rattle.dmf_net.specs.declared.arc.Arc.{Arc}
-use Rattle.dmf_net.proofs.Summing.{no_arc, sums-none, sums-more, sums-all, sums-le}
+use Rattle.dmf_net.proofs.NoArc.{no_arc}
+use Rattle.dmf_net.proofs.Summing.{sums-none, sums-more, sums-all, sums-le}
 use Rattle.dmf_net.proofs.flow_sums.flow_sums.Goals as goal
 
 pub loop-i-init : goal.loop-i-init
