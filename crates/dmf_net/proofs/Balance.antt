@@ -17,9 +17,9 @@ pub record AreBothSums (n : Network) (flows leaving entering : List ℕ) : Type 
 -- the same, where the parts of the network stand for themselves
 pub AreBothSums-of_parts : (n : Network) (nodes : ℕ) (arcs : List Arc) (flows leaving entering : List ℕ) → nodes ≡ n.nodes → arcs ≡ n.arcs → AreFlowSums (λ arc. arc.tail) nodes arcs flows leaving → AreFlowSums (λ arc. arc.head) nodes arcs flows entering → AreBothSums n flows leaving entering
 AreBothSums-of_parts n nodes arcs flows leaving entering of_nodes of_arcs tails heads = record {
-    tails = subst (λ m. AreFlowSums (λ arc. arc.tail) m n.arcs flows leaving) of_nodes (subst (λ xs. AreFlowSums (λ arc. arc.tail) nodes xs flows leaving) of_arcs tails);
-    heads = subst (λ m. AreFlowSums (λ arc. arc.head) m n.arcs flows entering) of_nodes (subst (λ xs. AreFlowSums (λ arc. arc.head) nodes xs flows entering) of_arcs heads);
-  }
+  tails = subst (λ m. AreFlowSums (λ arc. arc.tail) m n.arcs flows leaving) of_nodes (subst (λ xs. AreFlowSums (λ arc. arc.tail) nodes xs flows leaving) of_arcs tails);
+  heads = subst (λ m. AreFlowSums (λ arc. arc.head) m n.arcs flows entering) of_nodes (subst (λ xs. AreFlowSums (λ arc. arc.head) nodes xs flows entering) of_arcs heads);
+}
 
 sum_at : (end : Arc → ℕ) (nodes : ℕ) (arcs : List Arc) (flows sums : List ℕ) (v : ℕ) → AreFlowSums end nodes arcs flows sums → IsNode nodes v → slice_index sums (v - 1) ≡ flow_at end arcs flows v
 sum_at end nodes arcs flows sums v s node =
@@ -53,20 +53,20 @@ unbalanced-from_differ n flows leaving entering v s d =
 
 differ-from_unbalanced : (n : Network) (flows leaving entering : List ℕ) (v : ℕ) → AreBothSums n flows leaving entering → IsUnbalanced n flows v → DifferAt n.source n.sink leaving entering v
 differ-from_unbalanced n flows leaving entering v s u = record {
-    inner = record {
-      from_one = u.inner.node.from_one;
-      to_last = omega (arith, s.tails.one_each, u.inner.node.to_last);
-      not_source = u.inner.not_source;
-      not_sink = u.inner.not_sink;
-    };
-    differ = λ same. u.differ (same-to_conserved n flows leaving entering v s u.inner.node same);
-  }
+  inner = record {
+    from_one = u.inner.node.from_one;
+    to_last = omega (arith, s.tails.one_each, u.inner.node.to_last);
+    not_source = u.inner.not_source;
+    not_sink = u.inner.not_sink;
+  };
+  differ = λ same. u.differ (same-to_conserved n flows leaving entering v s u.inner.node same);
+}
 
 pub least_unbalanced : (n : Network) (flows leaving entering : List ℕ) (v : ℕ) → AreBothSums n flows leaving entering → IsLeast (DifferAt n.source n.sink leaving entering) v → IsLeast (IsUnbalanced n flows) v
 least_unbalanced n flows leaving entering v s least = record {
-    holds = unbalanced-from_differ n flows leaving entering v s least.holds;
-    least = λ u lower unbalanced. least.least u lower (differ-from_unbalanced n flows leaving entering u s unbalanced);
-  }
+  holds = unbalanced-from_differ n flows leaving entering v s least.holds;
+  least = λ u lower unbalanced. least.least u lower (differ-from_unbalanced n flows leaving entering u s unbalanced);
+}
 
 -- the value, where the source's inflow is within its outflow
 pub value-from_sums : (n : Network) (flows leaving entering : List ℕ) → AreBothSums n flows leaving entering → IsNode n.nodes n.source → slice_index entering (n.source - 1) ≤ slice_index leaving (n.source - 1) → pos (slice_index leaving (n.source - 1) - slice_index entering (n.source - 1)) ≡ flow_value n flows
@@ -81,12 +81,12 @@ negative-from_sums n flows leaving entering s source not_le =
 -- the totals with another flow
 pub KeepsTotals-with_flows : (n : Network) (old flows : List ℕ) (sum before value count : ℕ) → KeepsTotals (record { network = n; flows = old }) sum before count → IsFlow n flows → pos value ≡ flow_value n flows → KeepsTotals (record { network = n; flows = flows }) sum value count
 KeepsTotals-with_flows n old flows sum before value count keeps flow is = record {
-    state = record {
-      network = keeps.state.network;
-      flow = flow;
-      value_from_zero = rw (← is) (omega (arith, ints));
-    };
-    sum_is = keeps.sum_is;
-    value_is = is;
-    count_is = keeps.count_is;
-  }
+  state = record {
+    network = keeps.state.network;
+    flow = flow;
+    value_from_zero = rw (← is) (omega (arith, ints));
+  };
+  sum_is = keeps.sum_is;
+  value_is = is;
+  count_is = keeps.count_is;
+}

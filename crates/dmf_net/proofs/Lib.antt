@@ -3,3 +3,4 @@ pub mod IdleArc
 pub mod Summing
 pub mod OverCapacity
 pub mod Balance
+pub mod OneBefore

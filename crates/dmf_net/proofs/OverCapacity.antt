@@ -20,19 +20,19 @@ within-from_below (a ∷ arcs) (x ∷ flows) same below =
 
 pub least_over : (arcs : List Arc) (flows : List ℕ) (i : ℕ) → length flows ≡ length arcs → i < length arcs → AreWithinBelow i arcs flows → (get_or arcs i no_arc).cap < get_or flows i 0 → IsLeast (IsOverCapacity arcs flows) (i + 1)
 least_over arcs flows i same h below over =
-  let place : i + 1 - 1 ≡ i = omega arith in
-  record {
-    holds = record {
-      from_one = omega arith;
-      arc = get_or arcs i no_arc;
-      flow = get_or flows i 0;
-      arc_is = rw place (slice_get-get_or arcs i no_arc h);
-      flow_is = rw place (slice_get-get_or flows i 0 (omega arith));
-      over = over;
-    };
-    least = λ k lower o.
-      let arc = get_or_from_slice_get arcs (k - 1) o.arc no_arc o.arc_is in
-      let flow = get_or_from_slice_get flows (k - 1) o.flow 0 o.flow_is in
-      let cap = ap (λ (a : Arc). a.cap) arc in
-      omega (arith, below (k - 1) (omega (arith, o.from_one)), o.over, flow, cap, o.from_one);
-  }
+    let place : i + 1 - 1 ≡ i = omega arith in
+    record {
+      holds = record {
+        from_one = omega arith;
+        arc = get_or arcs i no_arc;
+        flow = get_or flows i 0;
+        arc_is = rw place (slice_get-get_or arcs i no_arc h);
+        flow_is = rw place (slice_get-get_or flows i 0 (omega arith));
+        over = over;
+      };
+      least = λ k lower o.
+          let arc = get_or_from_slice_get arcs (k - 1) o.arc no_arc o.arc_is in
+          let flow = get_or_from_slice_get flows (k - 1) o.flow 0 o.flow_is in
+          let cap = ap (λ (a : Arc). a.cap) arc in
+          omega (arith, below (k - 1) (omega (arith, o.from_one)), o.over, flow, cap, o.from_one);
+    }

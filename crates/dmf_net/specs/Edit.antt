@@ -36,6 +36,10 @@ pub record Stands (edit : Edit) (after : NetworkState) : Type 0 where
   pub fits : Fits edit before
   pub gives : applied edit before ≡ after
 
+-- An edit stands in a state for one state before it alone.
+abbrev pub HasOneBefore : Type 0
+HasOneBefore = (edit : Edit) (s t : NetworkState) → Fits edit s → Fits edit t → applied edit s ≡ applied edit t → s ≡ t
+
 -- the moves of the arcs whose flow differs, ascending, the first arc of the lists being number `j`
 abbrev pub differences : ℕ → List ℕ → List ℕ → List Move
 differences j [] after = []

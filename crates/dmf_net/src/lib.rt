@@ -4,6 +4,7 @@
 pub use arc::Arc;
 pub use edit::{Edit, Move};
 pub use fault::{ArcFault, FlowFault, NetFault, NoMemory, PlanFault};
+pub use laws::one_state_before;
 pub use limits::{MAX_ARCS, MAX_NODES};
 pub use plan::plan_add;
 pub use state::State;
@@ -12,6 +13,9 @@ mod arc;
 mod edit;
 mod fault;
 mod flow_sums;
+mod laws;
 mod limits;
 mod plan;
 mod state;
+#[cfg(test)]
+mod tests;

@@ -18,7 +18,7 @@ returns-in_default-excess_at-clause-fault c =
     let within = subst (λ arcs. AreWithinCapacities arcs c.args.flows.now) c.deref.ensures.value c.in_default.ensures in
     let sums = AreBothSums-of_parts (the_view c.self.inside).network _ _ c.args.flows.now _ _ refl c.deref-2.ensures.value c.in_ok-sums.ensures.leaving c.in_ok-sums.ensures.entering in
     let flow : IsFlow (the_view c.self.inside).network c.args.flows.now =
-      record { within = within; conserved = conserved-from_sums _ _ _ _ sums c.in_default-first_unbalanced.ensures } in
+    record { within = within; conserved = conserved-from_sums _ _ _ _ sums c.in_default-first_unbalanced.ensures } in
     let negative = negative-from_sums _ _ _ _ sums c.self.invariant.state.network.source c.in_default-excess_at.ensures in
     subst (λ s. IsFlow s.network c.args.flows.now × (flow_value s.network c.args.flows.now <ℤ pos 0)) c.self.view_is (flow, negative)
 
@@ -27,7 +27,7 @@ returns-clause-flow c =
     let within = subst (λ arcs. AreWithinCapacities arcs c.args.flows.now) c.deref.ensures.value c.in_default.ensures in
     let sums = AreBothSums-of_parts (the_view c.self.inside).network _ _ c.args.flows.now _ _ refl c.deref-2.ensures.value c.in_ok-sums.ensures.leaving c.in_ok-sums.ensures.entering in
     let flow : IsFlow (the_view c.self.inside).network c.args.flows.now =
-      record { within = within; conserved = conserved-from_sums _ _ _ _ sums c.in_default-first_unbalanced.ensures } in
+    record { within = within; conserved = conserved-from_sums _ _ _ _ sums c.in_default-first_unbalanced.ensures } in
     subst (λ s. IsFlow s.network c.args.flows.now) c.self.view_is flow
 
 pub returns-clause-value : goal.returns-clause-value
