@@ -1,6 +1,6 @@
 -- A new last arc without flow leaves every sum of flows as it was.
-use Rattle.std.proofs.Common.{ℕ, ◌≡◌, ◌+◌, ◌^◌, ◌<◌, ◌≤◌, ◌==◌, List, [], ◌∷◌, ◌++◌, length, Bool, true, false, cond, refl, ap, ◌∙◌, sym, sum_by, pos, ◌≤ℤ◌, arith, add-zero, eq-eqb}
-use Rattle.std.specs.List.{zip, AllZip}
+use Rattle.std.proofs.Common.{ℕ, ◌≡◌, ◌+◌, ◌^◌, ◌<◌, ◌≤◌, ◌==◌, List, [], ◌∷◌, ◌++◌, length, Bool, true, false, cond, refl, ap, ◌∙◌, sym, sum_by, arith, add-zero, eq-eqb}
+use Rattle.std.specs.List.{zip}
 use Rattle.std.proofs.lemmas.List.Sums.{sum_by_push}
 use Rattle.std.proofs.lemmas.Grind.{common_steps}
 use Rattle.std.proofs.lemmas.Bool.Decides.{nat_tests}
@@ -9,9 +9,9 @@ use Rattle.std.proofs.lemmas.Slice.Zip.{AllZip-long, all_zipped_more}
 use Rattle.dmf_net.specs.declared.arc.Arc.{Arc}
 use Rattle.dmf_net.specs.declared.limits.TheConstants.{MAX_ARCS}
 use Rattle.dmf_net.specs.Node.{IsNode, is_node}
-use Rattle.dmf_net.specs.Arc.{IsArc, open_arc, capacity_sum}
-use Rattle.dmf_net.specs.Network.{Network, IsNetwork}
-use Rattle.dmf_net.specs.Flow.{flow_at, IsFlow, IsInnerNode, flow_value}
+use Rattle.dmf_net.specs.Arc.{IsArc, capacity_sum}
+use Rattle.dmf_net.specs.Network.{Network}
+use Rattle.dmf_net.specs.Flow.{flow_at, IsFlow, flow_value}
 use Rattle.dmf_net.specs.Edit.{differences}
 use Rattle.dmf_net.specs.NetworkState.{NetworkState, IsState, KeepsTotals, with_last_arc, with_idle_arc}
 

@@ -1,11 +1,8 @@
 -- What an edit made of a state gives that state back.
-use Rattle.std.proofs.Common.{ℕ, ◌≡◌, List, [], ◌∷◌, ◌++◌, ap}
+use Rattle.std.proofs.Common.{ap}
 use Rattle.std.proofs.lemmas.List.{same_from_push}
-use Rattle.dmf_net.specs.declared.arc.Arc.{Arc}
-use Rattle.dmf_net.specs.declared.edit.Edit.{Edit}
 use Rattle.dmf_net.specs.declared.edit.Edit.TheVariants.{Add}
-use Rattle.dmf_net.specs.NetworkState.{NetworkState}
-use Rattle.dmf_net.specs.Edit.{Fits, applied, HasOneBefore}
+use Rattle.dmf_net.specs.Edit.{HasOneBefore}
 
 pub before : HasOneBefore
 before (Add tail head cap) s t fits_s fits_t same =

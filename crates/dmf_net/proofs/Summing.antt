@@ -1,6 +1,6 @@
 -- Summing the flows at each node in one walk over the arcs.
-use Rattle.std.proofs.Common.{ℕ, ◌≡◌, ◌≢◌, ◌+◌, ◌-◌, ◌<◌, ◌≤◌, ◌==◌, List, [], ◌∷◌, length, get_or, set, take, replicate, Bool, true, false, cond, refl, ap, ◌∙◌, sym, sum_by, arith, add-zero, ⊎_elim}
-use Rattle.std.specs.List.{zip, AllZip}
+use Rattle.std.proofs.Common.{ℕ, ◌≡◌, ◌≢◌, ◌+◌, ◌-◌, ◌<◌, ◌≤◌, ◌==◌, List, [], ◌∷◌, length, get_or, set, take, replicate, Bool, true, false, cond, ap, ◌∙◌, sym, sum_by, arith, add-zero, ⊎_elim}
+use Rattle.std.specs.List.{zip}
 use Rattle.std.proofs.lemmas.Bool.Decides.{eqb_tells}
 use Rattle.std.proofs.lemmas.List.{get_or-set_same, get_or-set_other, get_or-replicate, length-replicate, length-set, take_all, get_or_read}
 use Rattle.std.proofs.lemmas.List.Sums.{sum_by-cons, sum_by_more, sum_by_more_le_part}
@@ -9,7 +9,7 @@ use Rattle.dmf_net.specs.declared.arc.Arc.{Arc}
 use Rattle.dmf_net.proofs.NoArc.{no_arc}
 use Rattle.dmf_net.specs.Node.{IsNode}
 use Rattle.dmf_net.specs.Arc.{capacity_sum}
-use Rattle.dmf_net.specs.Flow.{flow_at, AreWithinCapacities}
+use Rattle.dmf_net.specs.Flow.{AreWithinCapacities}
 use Rattle.dmf_net.specs.FlowSums.{AreFlowSums}
 
 -- what an arc with its flow adds at a node

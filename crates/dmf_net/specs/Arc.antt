@@ -1,5 +1,5 @@
 -- Arcs and sums over them.
-use Rattle.std.specs.Prelude.{ℕ, ◌≡◌, List, Bool, true, false, not, sum_by, count_by}
+use Rattle.std.specs.Prelude.{ℕ, ◌≡◌, List, true, false, not, sum_by, count_by}
 use Rattle.dmf_net.specs.declared.arc.Arc.{Arc}
 use Rattle.dmf_net.specs.Node.{IsNode}
 

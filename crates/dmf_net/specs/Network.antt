@@ -1,6 +1,6 @@
 -- Networks, as the textbooks have them (Ahuja, Magnanti and Orlin, Network Flows, chapter 6), with the limits
 -- of this program.
-use Rattle.std.specs.Prelude.{ℕ, ◌≡◌, ◌≢◌, ◌^◌, ◌<◌, ◌≤◌, List, length, All}
+use Rattle.std.specs.Prelude.{ℕ, ◌≢◌, ◌^◌, ◌<◌, ◌≤◌, List, length, All}
 use Rattle.dmf_net.specs.declared.arc.Arc.{Arc}
 use Rattle.dmf_net.specs.declared.limits.TheConstants.{MAX_NODES, MAX_ARCS}
 use Rattle.dmf_net.specs.Node.{IsNode}

@@ -1,4 +1,4 @@
-use Rattle.std.proofs.Common.{◌≡◌, length, arith, subst}
+use Rattle.std.proofs.Common.{arith}
 use Rattle.dmf_net.proofs.OverCapacity.{within-from_below}
 use Rattle.dmf_net.proofs.flow_sums.first_over_capacity.Goals as goal
 

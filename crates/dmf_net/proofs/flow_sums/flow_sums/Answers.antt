@@ -1,4 +1,4 @@
-use Rattle.std.proofs.Common.{arith, length, ◌≡◌, replicate, rules}
+use Rattle.std.proofs.Common.{arith, ◌≡◌, replicate, rules}
 use Rattle.std.proofs.lemmas.Slice.Zip.{AllZip-long}
 use Rattle.dmf_net.specs.declared.arc.Arc.{Arc}
 use Rattle.dmf_net.proofs.NoArc.{no_arc}

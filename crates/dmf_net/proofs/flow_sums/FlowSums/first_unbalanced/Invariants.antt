@@ -1,4 +1,4 @@
-use Rattle.std.proofs.Common.{◌≡◌, ℕ}
+use Rattle.std.proofs.Common.{ℕ}
 use Rattle.dmf_net.specs.FlowSums.{IsInnerUpTo, AreSameAt}
 use Rattle.dmf_net.proofs.flow_sums.FlowSums.first_unbalanced.Given as goal
 

@@ -1,5 +1,4 @@
-use Rattle.std.proofs.Common.{◌≡◌, true, false, length, arith, subst, rules}
-use Rattle.dmf_net.specs.declared.limits.TheConstants.{MAX_ARCS}
+use Rattle.std.proofs.Common.{◌≡◌, true, arith, subst, rules}
 use Rattle.dmf_net.specs.Node.{is_node}
 use Rattle.dmf_net.specs.Arc.{IsArc, open_arc}
 use Rattle.dmf_net.specs.NetworkState.{IsState, with_idle_arc}

@@ -1,4 +1,4 @@
-use Rattle.std.proofs.Common.{◌≡◌, ◌∙◌, pos, subst, sym}
+use Rattle.std.proofs.Common.{◌≡◌, pos, subst, sym}
 use Rattle.dmf_net.specs.contracts.state.State.{the_view}
 use Rattle.dmf_net.specs.Flow.{IsFlow, flow_value}
 use Rattle.dmf_net.proofs.Balance.{KeepsTotals-with_flows}
