@@ -9,4 +9,6 @@ pub use whole::WholeHistory;
 mod command;
 mod history;
 mod session;
+#[cfg(test)]
+mod tests;
 mod whole;
