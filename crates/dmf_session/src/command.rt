@@ -1,0 +1,109 @@
+use dmf_net::{NoMemory, PlanFault};
+use thiserror::Error;
+
+/// What a session is asked to do.
+#[derive(Clone, Copy, Debug, PartialEq, Eq)]
+pub enum Command {
+    /// Add an arc of this capacity from a tail to a head.
+    Add {
+        /// The node that the arc leaves.
+        tail: u64,
+        /// The node that the arc enters.
+        head: u64,
+        /// Its capacity.
+        cap: u64,
+    },
+    /// Go so many changes back.
+    Undo(u64),
+    /// Go so many undone changes forward.
+    Redo(u64),
+    /// Show the problem.
+    PrintProblem,
+}
+
+/// What a session answers to a command that it accepts.
+#[derive(Clone, Copy, Debug, PartialEq, Eq)]
+pub enum Reply {
+    /// The value of the present flow.
+    Value(u64),
+    /// The number of the new arc, and the value of the present flow.
+    Added(u32, u64),
+    /// The present problem is to be shown.
+    Problem,
+}
+
+/// Why a command is refused. The first four and the last are told by the reader of commands alone.
+#[derive(Clone, Copy, Debug, PartialEq, Eq, Error)]
+pub enum Refusal {
+    /// The first field is no command, or the field behind `print` names nothing to print.
+    #[error("unknown command")]
+    UnknownCommand,
+    /// The command has another number of fields.
+    #[error("wrong number of fields")]
+    FieldCount,
+    /// A field that should be a number has a byte that is no digit.
+    #[error("not a number")]
+    NotANumber,
+    /// A number is past 2^64 - 1.
+    #[error("number too large")]
+    TooLarge,
+    /// The arc's number is 0 or past the last arc.
+    #[error("no such arc")]
+    NoSuchArc,
+    /// The arc is closed.
+    #[error("arc is closed")]
+    Closed,
+    /// A node's number is 0 or past the last node.
+    #[error("no such node")]
+    NoSuchNode,
+    /// The network has as many arcs as it may have.
+    #[error("too many arcs")]
+    TooManyArcs,
+    /// The sum of the capacities would pass 2^64 - 1.
+    #[error("capacities past 64 bits")]
+    SumTooLarge,
+    /// There are not so many changes before the present state.
+    #[error("nothing to undo")]
+    NothingToUndo,
+    /// There are not so many undone changes.
+    #[error("nothing to redo")]
+    NothingToRedo,
+    /// A flow of larger value exists.
+    #[error("flow is not greatest")]
+    NotGreatest,
+    /// A request for memory was refused.
+    #[error("no memory")]
+    NoMemory,
+    /// The line has more bytes than a command line may have.
+    #[error("line too long")]
+    LineTooLong,
+}
+
+impl From<PlanFault> for Refusal {
+    ghost use Rattle.std.specs.Prelude.{◌≡◌};
+    ghost use Rattle.dmf_session.specs.Step.{refusal_of};
+
+    ghost from_gives = { λ fault refusal. refusal ≡ refusal_of fault };
+
+    fn from(fault: PlanFault) -> Refusal {
+        match fault {
+            PlanFault::NoSuchArc => Refusal::NoSuchArc,
+            PlanFault::Closed => Refusal::Closed,
+            PlanFault::NoSuchNode => Refusal::NoSuchNode,
+            PlanFault::TooManyArcs => Refusal::TooManyArcs,
+            PlanFault::SumTooLarge => Refusal::SumTooLarge,
+            PlanFault::NoMemory => Refusal::NoMemory,
+        }
+    }
+}
+
+impl From<NoMemory> for Refusal {
+    ghost use Rattle.std.specs.Prelude.{◌≡◌};
+    ghost use Rattle.dmf_session.specs.declared.command.Refusal.TheVariants as refusal;
+
+    ghost from_gives = { λ _ told. told ≡ refusal.NoMemory };
+
+    fn from(_error: NoMemory) -> Refusal {
+        Refusal::NoMemory
+    }
+}

@@ -1,0 +1,14 @@
+//! Sessions on networks: commands, and the states that can be stepped back to.
+#![tactic(auto)]
+
+pub use command::{Command, Refusal, Reply};
+pub use history::{History, MAX_CHANGES, NothingToUndo, RedoFault};
+pub use session::Session;
+pub use whole::WholeHistory;
+
+mod command;
+mod history;
+mod session;
+#[cfg(test)]
+mod tests;
+mod whole;

@@ -1,0 +1,104 @@
+use crate::{Command, History, MAX_CHANGES, Refusal, Reply, Session, WholeHistory};
+use dmf_net::{NetFault, State};
+use std::alloc::Global;
+use std::process::Abort;
+use std::test::Fail;
+
+/// A session on the network of four nodes and five arcs that the documentation uses.
+fn example(alloc: Global) -> Result<Session<WholeHistory>, NetFault> {
+    let mut state = State::new(alloc, 4, 1, 4);
+    for (tail, head, cap) in [(1, 2, 3), (1, 3, 2), (2, 3, 5), (2, 4, 2), (3, 4, 3)] {
+        state.push_arc(tail, head, cap)?;
+    }
+    Ok(Session::new(WholeHistory::new(alloc, state)?))
+}
+
+fn answer<H: History>(
+    rt: &impl Abort,
+    session: &mut Session<H>,
+    command: Command,
+) -> Result<Reply, Refusal> {
+    assert!(rt; session.past() < MAX_CHANGES);
+    session.step(command)
+}
+
+fn add(cap: u64) -> Command {
+    Command::Add {
+        tail: 1,
+        head: 4,
+        cap,
+    }
+}
+
+#[test]
+fn changes_are_undone_and_redone(rt: HostRuntime) -> Result<(), Fail> {
+    let mut session = example(rt.alloc())?;
+    assert_eq!(rt; answer(&rt, &mut session, add(1)), Ok(Reply::Added(6, 0)));
+    assert_eq!(rt; answer(&rt, &mut session, add(2)), Ok(Reply::Added(7, 0)));
+    assert_eq!(rt;
+        answer(&rt, &mut session, Command::Undo(2)),
+        Ok(Reply::Value(0))
+    );
+    assert_eq!(rt; (session.past(), session.future()), (0, 2));
+    assert_eq!(rt; session.present().arcs().len(), 5);
+    assert_eq!(rt;
+        answer(&rt, &mut session, Command::Redo(3)),
+        Err(Refusal::NothingToRedo)
+    );
+    assert_eq!(rt;
+        answer(&rt, &mut session, Command::Redo(2)),
+        Ok(Reply::Value(0))
+    );
+    assert_eq!(rt;
+        answer(&rt, &mut session, Command::PrintProblem),
+        Ok(Reply::Problem)
+    );
+    assert_eq!(rt; (session.past(), session.future()), (2, 0));
+    assert_eq!(rt; session.present().arcs().len(), 7);
+    Ok(())
+}
+
+#[test]
+fn a_change_drops_what_was_undone(rt: HostRuntime) -> Result<(), Fail> {
+    let mut session = example(rt.alloc())?;
+    assert_eq!(rt; answer(&rt, &mut session, add(4)), Ok(Reply::Added(6, 0)));
+    assert_eq!(rt;
+        answer(&rt, &mut session, Command::Undo(1)),
+        Ok(Reply::Value(0))
+    );
+    assert_eq!(rt; answer(&rt, &mut session, add(7)), Ok(Reply::Added(6, 0)));
+    assert_eq!(rt;
+        answer(&rt, &mut session, Command::Redo(1)),
+        Err(Refusal::NothingToRedo)
+    );
+    assert_eq!(rt;
+        answer(&rt, &mut session, Command::Undo(2)),
+        Err(Refusal::NothingToUndo)
+    );
+    assert_eq!(rt; (session.past(), session.future()), (1, 0));
+    assert_eq!(rt;
+        answer(&rt, &mut session, Command::Undo(0)),
+        Ok(Reply::Value(0))
+    );
+    Ok(())
+}
+
+#[test]
+fn a_refused_change_is_no_state(rt: HostRuntime) -> Result<(), Fail> {
+    let mut session = example(rt.alloc())?;
+    let to_nowhere = Command::Add {
+        tail: 1,
+        head: 5,
+        cap: 1,
+    };
+    assert_eq!(rt;
+        answer(&rt, &mut session, to_nowhere),
+        Err(Refusal::NoSuchNode)
+    );
+    assert_eq!(rt;
+        answer(&rt, &mut session, add(u64::MAX)),
+        Err(Refusal::SumTooLarge)
+    );
+    assert_eq!(rt; (session.past(), session.future()), (0, 0));
+    Ok(())
+}
