@@ -1,0 +1,9 @@
+pub mod FieldLemmas
+pub mod LineLemmas
+pub mod NumberLemmas
+pub mod ProblemLemmas
+pub mod ReadingLemmas
+pub mod RoundTrip
+pub mod WritingLemmas
+pub mod WrittenLemmas
+pub mod WrittenLines

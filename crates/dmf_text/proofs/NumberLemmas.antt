@@ -1,0 +1,77 @@
+-- Numbers that grow digit by digit, and where they pass 2^64.
+use Rattle.std.proofs.Common.{◌≡◌, ℕ, ◌+◌, ◌*◌, ◌^◌, ◌<◌, ◌≤◌, Option, Some, None, List, [], ◌∷◌, length, take, take_all, get_or, ◌-◌, true, false, Err, ok_or, arith, sym, ap, ◌∙◌, ⊎_elim, refl, Ok}
+use Rattle.std.proofs.lemmas.Bool.{cond-true, cond-false, lt-ltb, le-ltb, cases_lt, and_right, and_from, and_parts, leb-true}
+use Rattle.std.proofs.lemmas.List.Folds.{list_all_at, list_all_more}
+use Rattle.std.proofs.lemmas.Int.Digits.{digits_value_more}
+use Rattle.std.proofs.lemmas.Str.{digit_value_digit}
+use Rattle.std.specs.List.{list_all}
+use Rattle.std.specs.Char.{is_ascii_digit}
+use Rattle.std.specs.Int.{IsInRange}
+use Rattle.std.specs.Str.Parse.{digits_value}
+use Rattle.dmf_text.specs.declared.digits.NumberFault.TheVariants.{NotANumber, TooLarge}
+use Rattle.std.specs.Option.{SomeIff}
+use Rattle.dmf_text.specs.Number.{within, number_of}
+
+pub within-below : (n : ℕ) → n < 2 ^ 64 → within n ≡ Some n
+unfolding within
+within-below n below = cond-true _ _ _ (lt-ltb n (2 ^ 64) below)
+
+pub within-past : (n : ℕ) → 2 ^ 64 ≤ n → within n ≡ None
+unfolding within
+within-past n past = cond-false _ _ _ (le-ltb n (2 ^ 64) past)
+
+pub past-within : (n : ℕ) → None ≡ within n → 2 ^ 64 ≤ n
+past-within n e = ⊎_elim (λ below. let is = within-below n below in cc) (λ past. past) (cases_lt n (2 ^ 64))
+
+pub value-within : (n value : ℕ) → Some value ≡ within n → n ≡ value
+value-within n value e = ⊎_elim (λ below. let is = within-below n below in cc) (λ past. let is = within-past n past in cc) (cases_lt n (2 ^ 64))
+
+-- what a checked sum of the number's tenfold and a digit gives
+pub within-sum : (n value digit : ℕ) (sum : Option ℕ) → Some value ≡ within n → SomeIff sum (value * 10 + digit < 2 ^ 64) (value * 10 + digit) → sum ≡ within (n * 10 + digit)
+within-sum n value digit None e past =
+    let same = value-within n value e in
+    let at_least : 2 ^ 64 ≤ n * 10 + digit = ⊎_elim (λ below. absurd (past (omega arith))) (λ h. h) (cases_lt (n * 10 + digit) (2 ^ 64)) in
+    sym (within-past _ at_least)
+within-sum n value digit (Some sum) e fits =
+    let same = value-within n value e in
+    let below : n * 10 + digit < 2 ^ 64 = omega (arith, fits.0) in
+    let is : n * 10 + digit ≡ sum = omega (arith, fits.1) in
+    ap (λ x. Some x) (sym is) ∙ sym (within-below _ below)
+
+pub number_of-empty : (field : List ℕ) → length field ≡ 0 → number_of field ≡ Err NotANumber
+unfolding number_of
+number_of-empty [] e = refl
+number_of-empty (b ∷ bs) e = absurd (omega arith)
+
+pub number_of-other : (field : List ℕ) (i : ℕ) → i < length field → is_ascii_digit (get_or field i 0) ≡ false → number_of field ≡ Err NotANumber
+unfolding number_of
+number_of-other field i below other = cond-false _ _ _ (and_right _ _ (list_all_at is_ascii_digit field i 0 below other))
+
+pub number_of-digits : (field : List ℕ) → 0 < length field → list_all is_ascii_digit field ≡ true → number_of field ≡ ok_or (within (digits_value 10 field)) TooLarge
+unfolding number_of
+number_of-digits field some all = cond-true _ _ _ (and_from _ _ (lt-ltb 0 _ some) all)
+
+-- the first digits of a field, and one more
+module _ (field : List ℕ) (i : ℕ) (below : i < length field) (digit : is_ascii_digit (get_or field i 0) ≡ true) where
+  pub digits-more : list_all is_ascii_digit (take i field) ≡ true → list_all is_ascii_digit (take (i + 1) field) ≡ true
+  digits-more before = list_all_more is_ascii_digit field i 0 below ∙ and_from _ _ before digit
+
+  pub value-more : digits_value 10 (take i field) * 10 + (get_or field i 0 - 48) ≡ digits_value 10 (take (i + 1) field)
+  value-more =
+      let parts = and_parts _ _ digit in
+      let range : IsInRange 48 57 (get_or field i 0) = (leb-true _ _ parts.0, leb-true _ _ parts.1) in
+      let value = digit_value_digit (get_or field i 0) range in
+      let more = digits_value_more 10 field i below in
+      omega arith
+
+  pub within-more : within (digits_value 10 (take i field) * 10 + (get_or field i 0 - 48)) ≡ within (digits_value 10 (take (i + 1) field))
+  within-more = ap within value-more
+
+-- all of them
+pub number_of-all : (field : List ℕ) (i : ℕ) (value : Option ℕ) → 0 < length field → length field ≤ i → list_all is_ascii_digit (take i field) ≡ true → value ≡ within (digits_value 10 (take i field)) → ok_or value TooLarge ≡ number_of field
+number_of-all field i value some end all is =
+    let whole = take_all i field end in
+    ap (λ v. ok_or v TooLarge) (is ∙ ap (λ ds. within (digits_value 10 ds)) whole) ∙ sym (number_of-digits field some (sym (ap (λ ds. list_all is_ascii_digit ds) whole) ∙ all))
+
+pub number_of-short : (field : List ℕ) (i value : ℕ) → 0 < length field → length field ≤ i → list_all is_ascii_digit (take i field) ≡ true → value ≡ digits_value 10 (take i field) → value < 2 ^ 64 → Ok value ≡ number_of field
+number_of-short field i value some end all is small = number_of-all field i (Some value) some end all (sym (within-below value small) ∙ ap within is)

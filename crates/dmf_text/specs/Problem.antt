@@ -1,0 +1,226 @@
+-- Problem texts, in the format of the First DIMACS Implementation Challenge (Problem Definitions and Specifications,
+-- 1990, maximum flow): which line is at fault, and what a text stands for.
+use Rattle.std.specs.Prelude.{ℕ, List, [], ◌∷◌, ◌++◌, ◌+◌, ◌^◌, ◌==◌, ◌&&◌, ◌||◌, Bool, true, false, not, Option, Some, None, is_some, is_none, unwrap_or, Result, Ok, Err, if◌then◌else◌, length, replicate, map, codes, slice_get, nat_eq, nat_lt, nat_le}
+use Rattle.std.specs.Option.{option_or, option_map}
+use Rattle.std.specs.Result.{result_unwrap_or}
+use Rattle.std.specs.List.{filter_map, starts_with}
+use Rattle.std.specs.Str.{bytes_eq}
+use Rattle.std.specs.Str.Lines.{lines}
+use Rattle.dmf_net.specs.declared.arc.Arc.{Arc}
+use Rattle.dmf_net.specs.declared.limits.TheConstants.{MAX_NODES, MAX_ARCS}
+use Rattle.dmf_net.specs.Node.{is_node}
+use Rattle.dmf_net.specs.Arc.{open_arc, capacity_sum}
+use Rattle.dmf_net.specs.NetworkState.{NetworkState}
+use Rattle.dmf_text.specs.declared.digits.NumberFault.{NumberFault}
+use Rattle.dmf_text.specs.declared.digits.NumberFault.TheVariants as digits
+use Rattle.dmf_text.specs.declared.fault.ProblemFault.{ProblemFault}
+use Rattle.dmf_text.specs.declared.fault.ProblemFaultKind.{ProblemFaultKind}
+use Rattle.dmf_text.specs.declared.fault.ProblemFaultKind.TheVariants.{ProblemLineExpected, SecondProblemLine, UnknownLine, NotMax, FieldCount, NotANumber, TooLarge, CountOutOfRange, NodeOutOfRange, NotSourceOrSink, SecondTerminal, SameTerminals, ArcBeforeTerminals, TooManyArcs, TooFewArcs, TerminalMissing, SumTooLarge}
+use Rattle.dmf_text.specs.Fields.{fields}
+use Rattle.dmf_text.specs.Number.{number_of}
+
+-- ---- lines
+
+-- A line is a list of fields. Its first field tells its kind; the fields behind that are counted from 0.
+abbrev pub Line : Type 0
+Line = List (List ℕ)
+
+-- field i, nothing where there is none
+abbrev pub field : ℕ → List (List ℕ) → List ℕ
+field i behind = unwrap_or (slice_get behind i) []
+
+-- the number that field i spells, 0 where it spells none
+abbrev pub number_at : ℕ → List (List ℕ) → ℕ
+number_at i behind = result_unwrap_or (number_of (field i behind)) 0
+
+-- ---- what good lines say
+
+-- NODES and ARCS
+pub record Counts : Type 0 where
+  pub nodes : ℕ
+  pub arcs : ℕ
+
+-- `p max NODES ARCS`
+abbrev pub counts_in : Line → Option Counts
+counts_in [] = None
+counts_in (kind ∷ behind) =
+    if bytes_eq kind (codes "p") then Some (record { nodes = number_at 1 behind; arcs = number_at 2 behind }) else None
+
+-- `n ID LETTER`, for this letter
+abbrev pub terminal_in : List ℕ → Line → Option ℕ
+terminal_in letter [] = None
+terminal_in letter (kind ∷ behind) =
+    if bytes_eq kind (codes "n") && bytes_eq (field 1 behind) letter then Some (number_at 0 behind) else None
+
+-- `a SRC DST CAP`
+abbrev pub arc_in : Line → Option Arc
+arc_in [] = None
+arc_in (kind ∷ behind) =
+    if bytes_eq kind (codes "a") then Some (open_arc (number_at 0 behind) (number_at 1 behind) (number_at 2 behind)) else None
+
+-- what the first line says that says it
+abbrev pub first_said : {X : Type 0} → (Line → Option X) → List Line → Option X
+first_said say [] = None
+first_said say (line ∷ more) = option_or (say line) (first_said say more)
+
+-- what lines say together
+pub record Said : Type 0 where
+  pub counts : Option Counts
+  pub source : Option ℕ
+  pub sink : Option ℕ
+  pub arcs : List Arc
+
+abbrev pub said_by : List Line → Said
+said_by lines = record {
+  counts = first_said counts_in lines;
+  source = first_said (terminal_in (codes "s")) lines;
+  sink = first_said (terminal_in (codes "t")) lines;
+  arcs = filter_map arc_in lines;
+}
+
+-- NODES and ARCS, 0 where no line says them
+abbrev pub node_count : Said → ℕ
+node_count said = unwrap_or (option_map (λ counts. counts.nodes) said.counts) 0
+
+abbrev pub arc_count : Said → ℕ
+arc_count said = unwrap_or (option_map (λ counts. counts.arcs) said.counts) 0
+
+-- ---- the judgement of a line, given what the lines before it say
+
+infixl 10 ◌>>=◌
+abbrev pub ◌>>=◌ : {A B E : Type 0} → Result A E → (A → Result B E) → Result B E
+(Ok x) >>= next = next x
+(Err e) >>= next = Err e
+
+infixl 10 ◌>>◌
+abbrev pub ◌>>◌ : {A B E : Type 0} → Result A E → Result B E → Result B E
+(Ok x) >> next = next
+(Err e) >> next = Err e
+
+-- the fault, unless the test holds
+abbrev pub expect : Bool → ProblemFaultKind → Result (Unit {0}) ProblemFaultKind
+expect true kind = Ok tt
+expect false kind = Err kind
+
+-- why a field is no number, as the fault of a line
+abbrev pub number_fault : NumberFault → ProblemFaultKind
+number_fault digits.NotANumber = NotANumber
+number_fault digits.TooLarge = TooLarge
+
+abbrev pub told : Result ℕ NumberFault → Result ℕ ProblemFaultKind
+told (Ok n) = Ok n
+told (Err fault) = Err (number_fault fault)
+
+-- the number that field i spells
+abbrev pub number_in : ℕ → List (List ℕ) → Result ℕ ProblemFaultKind
+number_in i behind = told (number_of (field i behind))
+
+-- `max NODES ARCS`
+unfoldable pub counts_named : List (List ℕ) → Result Counts ProblemFaultKind
+counts_named behind = do
+  expect (length behind == 3) FieldCount
+  expect (bytes_eq (field 0 behind) (codes "max")) NotMax
+  nodes ← number_in 1 behind
+  arcs ← number_in 2 behind
+  expect (nat_le 2 nodes && nat_le nodes MAX_NODES) CountOutOfRange
+  expect (nat_le arcs MAX_ARCS) CountOutOfRange
+  Ok (record { nodes = nodes; arcs = arcs })
+
+-- `p`, and behind it `max NODES ARCS`
+unfoldable pub problem_line : Said → List (List ℕ) → Result (Unit {0}) ProblemFaultKind
+problem_line said behind = do
+  expect (is_none said.counts) SecondProblemLine
+  counts ← counts_named behind
+  Ok tt
+
+-- `ID s` or `ID t`, where ID is one of so many nodes
+unfoldable pub node_named : ℕ → List (List ℕ) → Result ℕ ProblemFaultKind
+node_named nodes behind = do
+  expect (length behind == 2) FieldCount
+  node ← number_in 0 behind
+  expect (bytes_eq (field 1 behind) (codes "s") || bytes_eq (field 1 behind) (codes "t")) NotSourceOrSink
+  expect (is_node nodes node) NodeOutOfRange
+  Ok node
+
+-- of the two terminals, that of this letter, and the other one
+abbrev pub own : List ℕ → Said → Option ℕ
+own letter said = if bytes_eq letter (codes "s") then said.source else said.sink
+
+abbrev pub other : List ℕ → Said → Option ℕ
+other letter said = if bytes_eq letter (codes "s") then said.sink else said.source
+
+-- the node is not this terminal
+abbrev pub differs : ℕ → Option ℕ → Bool
+differs node None = true
+differs node (Some terminal) = not (node == terminal)
+
+-- `n`, and behind it `ID s` or `ID t`
+unfoldable pub terminal_line : Said → List (List ℕ) → Result (Unit {0}) ProblemFaultKind
+terminal_line said behind = do
+  expect (is_some said.counts) ProblemLineExpected
+  node ← node_named (node_count said) behind
+  expect (is_none (own (field 1 behind) said)) SecondTerminal
+  expect (differs node (other (field 1 behind) said)) SameTerminals
+
+-- `a`, and behind it `SRC DST CAP`
+unfoldable pub arc_line : Said → List (List ℕ) → Result (Unit {0}) ProblemFaultKind
+arc_line said behind = do
+  expect (is_some said.counts) ProblemLineExpected
+  expect (is_some said.source && is_some said.sink) ArcBeforeTerminals
+  expect (nat_lt (length said.arcs) (arc_count said)) TooManyArcs
+  expect (length behind == 3) FieldCount
+  tail ← number_in 0 behind
+  head ← number_in 1 behind
+  cap ← number_in 2 behind
+  expect (is_node (node_count said) tail) NodeOutOfRange
+  expect (is_node (node_count said) head) NodeOutOfRange
+  expect (nat_lt (capacity_sum said.arcs + cap) (2 ^ 64)) SumTooLarge
+
+-- a line of any kind: a line without fields is blank and one whose first field begins with `c` is a comment, and
+-- these have no fault
+abbrev pub judged : Said → Line → Result (Unit {0}) ProblemFaultKind
+judged said [] = Ok tt
+judged said (kind ∷ behind) =
+    if bytes_eq kind (codes "a") then arc_line said behind
+    else if bytes_eq kind (codes "n") then terminal_line said behind
+    else if bytes_eq kind (codes "p") then problem_line said behind
+    else if starts_with nat_eq kind (codes "c") then Ok tt
+    else Err UnknownLine
+
+-- ---- what a text stands for
+
+-- the network that lines say, with no flow on it
+abbrev pub state_of : Said → NetworkState
+state_of said = record {
+  network = record {
+    nodes = node_count said;
+    source = unwrap_or said.source 0;
+    sink = unwrap_or said.sink 0;
+    arcs = said.arcs;
+  };
+  flows = replicate (length said.arcs) 0;
+}
+
+-- the end of a text, given what its lines say
+unfoldable pub ended : Said → Result NetworkState ProblemFaultKind
+ended said = do
+  expect (is_some said.counts) ProblemLineExpected
+  expect (is_some said.source && is_some said.sink) TerminalMissing
+  expect (nat_le (arc_count said) (length said.arcs)) TooFewArcs
+  Ok (state_of said)
+
+-- a fault of the line with this number
+abbrev pub at_line : {A : Type 0} → ℕ → Result A ProblemFaultKind → Result A ProblemFault
+at_line number (Ok x) = Ok x
+at_line number (Err kind) = Err (record { line = number; kind = kind })
+
+-- what a text stands for, of which `before` are the first lines, each good, and these are the others: the first
+-- fault of a line, or that of the end, which has the number of lines plus one, or a state
+unfoldable pub outcome_after : List Line → List Line → Result NetworkState ProblemFault
+outcome_after before [] = at_line (length before + 1) (ended (said_by before))
+outcome_after before (line ∷ more) =
+    at_line (length before + 1) (judged (said_by before) line) >> outcome_after (before ++ line ∷ []) more
+
+-- what a problem text stands for
+abbrev pub problem_of : List ℕ → Result NetworkState ProblemFault
+problem_of text = outcome_after [] (map fields (lines text))

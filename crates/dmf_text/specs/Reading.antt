@@ -1,0 +1,71 @@
+-- What the reader of a problem text keeps of the lines that it took.
+use Rattle.std.specs.Prelude.{◌≡◌, ◌⊎◌, [], ◌++◌, Some, None, Result, Ok, Err, MatchResult, codes}
+use Rattle.std.specs.Option.{option_or, option_to_list}
+use Rattle.dmf_net.specs.declared.fault.NetFault.{NetFault}
+use Rattle.dmf_net.specs.declared.fault.NetFault.TheVariants as net
+use Rattle.dmf_text.specs.declared.fault.ProblemFault.{ProblemFault}
+use Rattle.dmf_text.specs.declared.fault.ProblemFaultKind.{ProblemFaultKind}
+use Rattle.dmf_text.specs.declared.fault.ProblemFaultKind.TheVariants.{NodeOutOfRange, TooManyArcs, SumTooLarge, NoMemory}
+use Rattle.dmf_text.specs.declared.reading.Head.{Head}
+use Rattle.dmf_text.specs.declared.reading.Body.{Body}
+use Rattle.dmf_text.specs.declared.reading.Reading.{Reading}
+use Rattle.dmf_text.specs.declared.reading.Reading.TheVariants.{Start, Terminals, Arcs}
+use Rattle.dmf_text.specs.Problem.{Line, Said, counts_in, terminal_in, arc_in}
+
+-- the fault of an arc line whose arc a network does not take
+abbrev pub arc_kind : NetFault → ProblemFaultKind
+arc_kind net.NoSuchNode = NodeOutOfRange
+arc_kind net.TooManyArcs = TooManyArcs
+arc_kind net.SumTooLarge = SumTooLarge
+arc_kind net.NoMemory = NoMemory
+
+abbrev pub out_of_memory : ProblemFault
+out_of_memory = record { line = 0; kind = NoMemory }
+
+-- what is said before any line is taken
+abbrev pub nothing_said : Said
+nothing_said = record { counts = None; source = None; sink = None; arcs = [] }
+
+-- what the lines say that were taken before both terminals are named
+abbrev pub said_in_head : Head → Said
+said_in_head head = record {
+  counts = Some (record { nodes = head.nodes; arcs = head.arcs });
+  source = head.source;
+  sink = head.sink;
+  arcs = [];
+}
+
+-- and after that
+abbrev pub said_in_body : Body → Said
+said_in_body body = record {
+  counts = Some (record { nodes = body.state.network.nodes; arcs = body.arcs });
+  source = Some body.state.network.source;
+  sink = Some body.state.network.sink;
+  arcs = body.state.network.arcs;
+}
+
+abbrev pub said_in : Reading → Said
+said_in Start = nothing_said
+said_in (Terminals head) = said_in_head head
+said_in (Arcs body) = said_in_body body
+
+-- what lines say, and one more line
+abbrev pub with_line : Said → Line → Said
+with_line said line = record {
+  counts = option_or said.counts (counts_in line);
+  source = option_or said.source (terminal_in (codes "s") line);
+  sink = option_or said.sink (terminal_in (codes "t") line);
+  arcs = said.arcs ++ option_to_list (arc_in line);
+}
+
+-- The line was taken, of which this is the judgement, by a reader that had what was `said` before it and has what is
+-- said `now`; or its fault is told.
+abbrev pub Takes : {A : Type 0} → Said → Line → Result (Unit {0}) ProblemFaultKind → Said → Result A ProblemFaultKind → Type 0
+Takes said line judgement now outcome =
+    MatchResult outcome (λ _. (judgement ≡ Ok tt) × (now ≡ with_line said line)) (λ kind. judgement ≡ Err kind)
+
+-- the same, where memory may be refused
+abbrev pub TakesInMemory : {A : Type 0} → Said → Line → Result (Unit {0}) ProblemFaultKind → Said → Result A ProblemFaultKind → Type 0
+TakesInMemory said line judgement now outcome =
+    MatchResult outcome (λ _. (judgement ≡ Ok tt) × (now ≡ with_line said line))
+    (λ kind. (kind ≡ NoMemory) ⊎ (judgement ≡ Err kind))

@@ -1,0 +1,47 @@
+-- The bytes of written texts.
+use Rattle.std.specs.Prelude.{ℕ, List, [], ◌∷◌, ◌++◌, not, codes, decimal, filter, length, map, replicate}
+use Rattle.std.specs.List.{join_with_byte, flat_map}
+use Rattle.dmf_net.specs.declared.arc.Arc.{Arc}
+use Rattle.dmf_net.specs.Arc.{open_count}
+use Rattle.dmf_net.specs.Network.{Network}
+use Rattle.dmf_net.specs.NetworkState.{NetworkState}
+use Rattle.dmf_text.specs.Problem.{Line}
+
+-- a line: its fields with one space between each two, and a line feed
+unfoldable pub written_line : Line → List ℕ
+written_line line = join_with_byte 32 line ++ 10 ∷ []
+
+-- lines, one after the other
+unfoldable pub written : List Line → List ℕ
+written lines = flat_map written_line lines
+
+-- the arcs that are not closed
+abbrev pub open_arcs : List Arc → List Arc
+open_arcs arcs = filter (λ arc. not arc.closed) arcs
+
+-- `a TAIL HEAD CAP`
+abbrev pub arc_fields : Arc → Line
+arc_fields arc = codes "a" ∷ decimal arc.tail ∷ decimal arc.head ∷ decimal arc.cap ∷ []
+
+-- the lines of the arcs that are open
+abbrev pub arcs_text : List Arc → List ℕ
+arcs_text arcs = written (map arc_fields (open_arcs arcs))
+
+-- the problem of a network: its open arcs in order, with the problem line and the node lines before them
+abbrev pub problem_lines : Network → List Line
+problem_lines n =
+    (codes "p" ∷ codes "max" ∷ decimal n.nodes ∷ decimal (open_count n.arcs) ∷ [])
+    ∷ (codes "n" ∷ decimal n.source ∷ codes "s" ∷ [])
+    ∷ (codes "n" ∷ decimal n.sink ∷ codes "t" ∷ [])
+    ∷ map arc_fields (open_arcs n.arcs)
+
+abbrev pub problem_text : Network → List ℕ
+problem_text n = written (problem_lines n)
+
+-- the network without its closed arcs
+abbrev pub open_network : Network → Network
+open_network n = record { nodes = n.nodes; source = n.source; sink = n.sink; arcs = open_arcs n.arcs }
+
+-- a network with no flow on it
+abbrev pub idle_state : Network → NetworkState
+idle_state n = record { network = n; flows = replicate (length n.arcs) 0 }

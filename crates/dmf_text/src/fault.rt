@@ -1,0 +1,103 @@
+//! Why a text is no problem text.
+use crate::digits::NumberFault;
+use dmf_net::NetFault;
+use thiserror::Error;
+
+/// What is wrong with a line of a problem text, or with its end.
+#[derive(Clone, Copy, Debug, PartialEq, Eq, Error)]
+pub enum ProblemFaultKind {
+    /// A node or arc line comes before the problem line, or the text has none.
+    #[error("problem line expected")]
+    ProblemLineExpected = 1,
+    /// A problem line comes after the problem line.
+    #[error("second problem line")]
+    SecondProblemLine = 2,
+    /// The first field is not `p`, `n` or `a`, and does not begin with `c`.
+    #[error("unknown line")]
+    UnknownLine = 3,
+    /// The second field of the problem line is not `max`.
+    #[error("not a max problem")]
+    NotMax = 4,
+    /// The line has too few or too many fields.
+    #[error("wrong number of fields")]
+    FieldCount = 5,
+    /// A byte of a number's field is no digit.
+    #[error("not a number")]
+    NotANumber = 6,
+    /// A number is past 2^64 - 1.
+    #[error("number too large")]
+    TooLarge = 7,
+    /// A count of nodes is not from 2 to [`dmf_net::MAX_NODES`], or one of arcs is past [`dmf_net::MAX_ARCS`].
+    #[error("count out of range")]
+    CountOutOfRange = 8,
+    /// A node is 0 or past the number of nodes.
+    #[error("no such node")]
+    NodeOutOfRange = 9,
+    /// The letter of a node line is not `s` or `t`.
+    #[error("neither source nor sink")]
+    NotSourceOrSink = 10,
+    /// The letter of a node line was named before.
+    #[error("terminal named twice")]
+    SecondTerminal = 11,
+    /// The node of a node line is the other terminal's.
+    #[error("source and sink are the same")]
+    SameTerminals = 12,
+    /// An arc line comes before both terminals are named.
+    #[error("arc before source and sink")]
+    ArcBeforeTerminals = 13,
+    /// As many arc lines as the problem line says came before.
+    #[error("too many arcs")]
+    TooManyArcs = 14,
+    /// The text ends before as many arc lines as the problem line says.
+    #[error("too few arcs")]
+    TooFewArcs = 15,
+    /// The text ends before both terminals are named.
+    #[error("source or sink missing")]
+    TerminalMissing = 16,
+    /// The sum of the capacities up to this line is past 2^64 - 1.
+    #[error("capacities past 64 bits")]
+    SumTooLarge = 17,
+    /// A request for memory was refused.
+    #[error("no memory")]
+    NoMemory = 18,
+}
+
+impl From<NumberFault> for ProblemFaultKind {
+    ghost use Rattle.std.specs.Prelude.{◌≡◌};
+    ghost use Rattle.dmf_text.specs.Problem.{number_fault};
+
+    ghost from_gives = { λ fault kind. kind ≡ number_fault fault };
+
+    fn from(fault: NumberFault) -> ProblemFaultKind {
+        match fault {
+            NumberFault::NotANumber => ProblemFaultKind::NotANumber,
+            NumberFault::TooLarge => ProblemFaultKind::TooLarge,
+        }
+    }
+}
+
+impl From<NetFault> for ProblemFaultKind {
+    ghost use Rattle.std.specs.Prelude.{◌≡◌};
+    ghost use Rattle.dmf_text.specs.Reading.{arc_kind};
+
+    ghost from_gives = { λ fault kind. kind ≡ arc_kind fault };
+
+    fn from(fault: NetFault) -> ProblemFaultKind {
+        match fault {
+            NetFault::NoSuchNode => ProblemFaultKind::NodeOutOfRange,
+            NetFault::TooManyArcs => ProblemFaultKind::TooManyArcs,
+            NetFault::SumTooLarge => ProblemFaultKind::SumTooLarge,
+            NetFault::NoMemory => ProblemFaultKind::NoMemory,
+        }
+    }
+}
+
+/// The first fault of a problem text.
+#[derive(Clone, Copy, Debug, PartialEq, Eq, Error)]
+#[error("line {line}: {kind}")]
+pub struct ProblemFault {
+    /// The number of the line, from 1. A fault of the end has the number of lines plus one, and
+    /// [`ProblemFaultKind::NoMemory`] has 0.
+    pub line: u64,
+    pub kind: ProblemFaultKind,
+}

@@ -1,0 +1,29 @@
+//! Texts of networks: lines, fields and numbers, what texts are read from and written to, and problem texts.
+#![tactic(auto)]
+
+mod behind;
+mod digits;
+mod fault;
+mod field;
+mod line;
+mod line_buffer;
+mod problem;
+#[cfg(test)]
+mod problem_tests;
+mod reader;
+mod reading;
+mod terminal;
+#[cfg(test)]
+mod tests;
+mod writer;
+mod written;
+
+pub use digits::{NumberFault, number};
+pub use fault::{ProblemFault, ProblemFaultKind};
+pub use field::Fields;
+pub use line::Lines;
+pub use line_buffer::LineBuffer;
+pub use problem::read_problem;
+pub use reader::{Failed, Source, StdSource};
+pub use writer::{Sink, StdSink, WriteFault, put_all};
+pub use written::write_problem;

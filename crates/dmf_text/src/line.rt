@@ -1,0 +1,52 @@
+//! The lines of a text.
+ghost use Rattle.std.specs.Prelude.{◌≡◌, ℕ, ◌+◌, ◌<◌, ◌≤◌, ◌^◌, List, length};
+ghost use Rattle.std.specs.Iterator.{YieldsFirstBy, item_count};
+ghost use Rattle.std.specs.List.{enumerate_from};
+ghost use Rattle.dmf_text.specs.Lines.{numbered_lines};
+
+use bstr::ByteSlice;
+use std::marker::Model;
+
+/// The lines of a text, in order, each with its number, from 1. A line ends at a line feed or at the end of the text;
+/// one carriage return directly before the line feed is no part of it, and an empty rest after the last line feed is
+/// no line. Each line is a slice of the text. It takes no memory.
+#[derive(Drop)]
+pub struct Lines<'a> {
+    given: u64,
+    left: bstr::Lines<'a>,
+}
+
+impl<'a> Model for Lines<'a> {
+    ghost Value = { List (ℕ × List ℕ) };
+
+    ghost view = { λ s. enumerate_from (s.given + 1) s.left };
+
+    ghost invariant = { λ s. s.given + length s.left < 2 ^ 64 };
+}
+
+impl<'a> Lines<'a> {
+    /// The lines of this text.
+    pub fn new(text: &'a [u8]) -> Lines<'a>
+        ensures lines { result ≡ numbered_lines text.now }
+        ensures len { length result ≤ length text.now }
+    {
+        Lines {
+            given: 0,
+            left: text.lines(),
+        }
+    }
+}
+
+impl<'a> Iterator for Lines<'a> {
+    type Item = (u64, &'a [u8]);
+
+    ghost next_gives = { YieldsFirstBy (λ item. (item.0, item.1.now)) (λ left. left) };
+
+    ghost remaining = { item_count (λ left. left) };
+
+    fn next(&mut self) -> Option<(u64, &'a [u8])> {
+        let line = self.left.next()?;
+        self.given += 1;
+        Some((self.given, line))
+    }
+}

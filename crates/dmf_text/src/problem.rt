@@ -1,0 +1,44 @@
+//! Problem texts.
+ghost use Rattle.std.specs.Prelude.{◌≡◌, ◌⊎◌, IsErrOf};
+ghost use Rattle.dmf_text.specs.Problem.{problem_of};
+ghost use Rattle.dmf_text.specs.Reading.{out_of_memory};
+
+use crate::fault::{ProblemFault, ProblemFaultKind};
+use crate::line::Lines;
+use crate::reading::Reading;
+use dmf_net::State;
+use std::alloc::Global;
+
+/// Reads a problem text, in the format of the First DIMACS Implementation Challenge (1990), maximum flow.
+///
+/// The arcs are those of the arc lines, in order, with no flow on them. A text with a fault is told by the first one;
+/// want of memory may be told instead, with line 0.
+pub fn read_problem(alloc: Global, text: &[u8]) -> Result<State, ProblemFault>
+    ensures { IsErrOf result out_of_memory ⊎ (result ≡ problem_of text.now) }
+{
+    let mut reading = Reading::Start;
+    let mut last = 0;
+    for (number, line) in Lines::new(text) {
+        if let Err(kind) = reading.take_line(alloc, line) {
+            return Err(fault_at(number, kind));
+        }
+        last = number;
+    }
+    match reading.finish() {
+        Ok(state) => Ok(state),
+        Err(kind) => Err(fault_at(last + 1, kind)),
+    }
+}
+
+// The fault of a line, or of no line where memory was refused.
+fn fault_at(line: u64, kind: ProblemFaultKind) -> ProblemFault
+    ensures memory { kind ≡ ProblemFaultKind.NoMemory → result ≡ out_of_memory }
+    ensures told { (result ≡ out_of_memory) ⊎ (result ≡ record { line = line; kind = kind }) }
+{
+    let line = if kind == ProblemFaultKind::NoMemory {
+        0
+    } else {
+        line
+    };
+    ProblemFault { line, kind }
+}

@@ -1,0 +1,230 @@
+//! The lines of a problem text, taken one after the other.
+ghost use Rattle.std.specs.Prelude.{◌≡◌, ◌≢◌, ◌≤◌, ◌&&◌, ◌∷◌, [], ℕ, false, true, codes, length, replicate, is_some, IsTrue, MatchResult, Ok, Err, Some, None};
+ghost use Rattle.std.specs.Option.{ForSome};
+ghost use Rattle.dmf_net.specs.declared.limits.TheConstants.{MAX_NODES, MAX_ARCS};
+ghost use Rattle.dmf_net.specs.Node.{is_node};
+
+use crate::behind::three_fields;
+use crate::digits::number;
+use crate::fault::ProblemFaultKind;
+use crate::field::Fields;
+use crate::terminal::{Terminal, named};
+use dmf_net::{MAX_ARCS, MAX_NODES, State};
+use std::alloc::Global;
+
+/// What the problem line says, and the terminals that are named, not yet both.
+#[derive(Drop)]
+pub(crate) struct Head {
+    nodes: u32,
+    arcs: u32,
+    source: Option<u32>,
+    sink: Option<u32>,
+    ghost at_least_two: { 2 ≤ nodes },
+    ghost at_most_nodes: { nodes ≤ MAX_NODES },
+    ghost at_most_arcs: { arcs ≤ MAX_ARCS },
+    ghost source_is_node: { ForSome source (λ v. IsTrue (is_node nodes v)) },
+    ghost sink_is_node: { ForSome sink (λ v. IsTrue (is_node nodes v)) },
+    ghost not_both: { (is_some source && is_some sink) ≡ false },
+}
+
+/// The network so far, and the number of arcs that the problem line says.
+#[derive(Drop)]
+pub(crate) struct Body {
+    arcs: u32,
+    state: State,
+    ghost at_most_arcs: { arcs ≤ MAX_ARCS },
+    ghost room: { length state.network.arcs ≤ arcs },
+    ghost idle: { state.flows ≡ replicate (length state.network.arcs) 0 },
+}
+
+/// What the lines of a problem text say that were taken so far.
+#[derive(Drop)]
+pub(crate) enum Reading {
+    /// There was no problem line.
+    Start,
+    /// Not both terminals are named.
+    Terminals(Head),
+    /// Both terminals are named.
+    Arcs(Body),
+}
+
+impl Reading {
+    ghost use Rattle.dmf_text.specs.Fields.{fields};
+    ghost use Rattle.dmf_text.specs.Problem.{judged, problem_line, terminal_line, arc_line, ended};
+    ghost use Rattle.dmf_text.specs.Reading.{said_in, Takes, TakesInMemory};
+
+    /// Takes the next line, unless it has a fault or memory is refused.
+    pub(crate) fn take_line(&mut self, alloc: Global, line: &[u8]) -> Result<(), ProblemFaultKind>
+        ensures { TakesInMemory (said_in self.old) (fields line.now)
+            (judged (said_in self.old) (fields line.now)) (said_in self.new) result }
+    {
+        let mut behind = Fields::new(line);
+        let Some(kind) = behind.next() else {
+            return Ok(());
+        };
+        if kind == b"a".as_slice() {
+            self.take_arc(behind)
+        } else if kind == b"n".as_slice() {
+            self.take_terminal(alloc, behind)
+        } else if kind == b"p".as_slice() {
+            self.take_counts(behind)
+        } else if kind.starts_with(b"c") {
+            Ok(())
+        } else {
+            Err(ProblemFaultKind::UnknownLine)
+        }
+    }
+
+    /// Takes a problem line, of which these are the fields behind the first.
+    #[tactic(auto, unfolding(crate::specs::Problem::problem_line))]
+    fn take_counts(&mut self, behind: Fields<'_>) -> Result<(), ProblemFaultKind>
+        ensures { Takes (said_in self.old) (codes "p" ∷ behind.entry)
+            (problem_line (said_in self.old) behind.entry) (said_in self.new) result }
+    {
+        let Reading::Start = self else {
+            return Err(ProblemFaultKind::SecondProblemLine);
+        };
+        *self = Reading::Terminals(Head::of_problem_line(behind)?);
+        Ok(())
+    }
+
+    /// Takes a node line, of which these are the fields behind the first.
+    #[tactic(auto, unfolding(crate::specs::Problem::terminal_line))]
+    fn take_terminal(&mut self, alloc: Global, behind: Fields<'_>) -> Result<(), ProblemFaultKind>
+        ensures { Takes (said_in self.old) (codes "n" ∷ behind.entry)
+            (terminal_line (said_in self.old) behind.entry) (said_in self.new) result }
+    {
+        match self {
+            Reading::Start => Err(ProblemFaultKind::ProblemLineExpected),
+            Reading::Terminals(head) => {
+                *self = head.with_terminal(alloc, behind)?;
+                Ok(())
+            }
+            Reading::Arcs(body) => {
+                named(body.state.nodes(), behind)?;
+                Err(ProblemFaultKind::SecondTerminal)
+            }
+        }
+    }
+
+    /// Takes an arc line, of which these are the fields behind the first.
+    #[tactic(auto, unfolding(crate::specs::Problem::arc_line))]
+    fn take_arc(&mut self, behind: Fields<'_>) -> Result<(), ProblemFaultKind>
+        ensures { TakesInMemory (said_in self.old) (codes "a" ∷ behind.entry)
+            (arc_line (said_in self.old) behind.entry) (said_in self.new) result }
+    {
+        match self {
+            Reading::Start => Err(ProblemFaultKind::ProblemLineExpected),
+            Reading::Terminals(_) => Err(ProblemFaultKind::ArcBeforeTerminals),
+            Reading::Arcs(body) => body.take_arc(behind),
+        }
+    }
+
+    /// The state that the lines stand for, at the end of the text.
+    #[tactic(auto, unfolding(crate::specs::Problem::ended))]
+    pub(crate) fn finish(self) -> Result<State, ProblemFaultKind>
+        ensures { result ≡ ended (said_in self) }
+    {
+        match self {
+            Reading::Start => Err(ProblemFaultKind::ProblemLineExpected),
+            Reading::Terminals(_) => Err(ProblemFaultKind::TerminalMissing),
+            Reading::Arcs(body) => body.finish(),
+        }
+    }
+}
+
+impl Head {
+    ghost use Rattle.dmf_text.specs.Problem.{counts_named, terminal_line};
+    ghost use Rattle.dmf_text.specs.Reading.{said_in, said_in_head, with_line, nothing_said, Takes};
+
+    /// What a problem line says, of which these are the fields behind the first.
+    #[tactic(auto, unfolding(crate::specs::Problem::counts_named))]
+    fn of_problem_line(behind: Fields<'_>) -> Result<Head, ProblemFaultKind>
+        ensures { MatchResult result
+            (λ head. (counts_named behind.entry ≡ Ok (record { nodes = head.nodes; arcs = head.arcs }))
+            × (said_in_head head ≡ with_line nothing_said (codes "p" ∷ behind.entry)))
+            (λ kind. counts_named behind.entry ≡ Err kind) }
+    {
+        let (word, nodes, arcs) = three_fields(behind)?;
+        if word != b"max".as_slice() {
+            return Err(ProblemFaultKind::NotMax);
+        }
+        let nodes = number(nodes)?;
+        let arcs = number(arcs)?;
+        if nodes < 2 || nodes > u64::from(MAX_NODES) || arcs > u64::from(MAX_ARCS) {
+            return Err(ProblemFaultKind::CountOutOfRange);
+        }
+        Ok(Head {
+            nodes: nodes as u32,
+            arcs: arcs as u32,
+            source: None,
+            sink: None,
+        })
+    }
+
+    /// Takes a node line, of which these are the fields behind the first. With both terminals there is a network.
+    #[tactic(auto, unfolding(crate::specs::Problem::terminal_line))]
+    fn with_terminal(&self, alloc: Global, behind: Fields<'_>) -> Result<Reading, ProblemFaultKind>
+        ensures { MatchResult result
+            (λ reading. (terminal_line (said_in_head self.now) behind.entry ≡ Ok tt)
+            × (said_in reading ≡ with_line (said_in_head self.now) (codes "n" ∷ behind.entry)))
+            (λ kind. terminal_line (said_in_head self.now) behind.entry ≡ Err kind) }
+    {
+        let (terminal, node) = named(self.nodes, behind)?;
+        let (own, source, sink) = match terminal {
+            Terminal::Source => (self.source, Some(node), self.sink),
+            Terminal::Sink => (self.sink, self.source, Some(node)),
+        };
+        if own.is_some() {
+            return Err(ProblemFaultKind::SecondTerminal);
+        }
+        let (nodes, arcs) = (self.nodes, self.arcs);
+        match (source, sink) {
+            (Some(source), Some(sink)) if source == sink => Err(ProblemFaultKind::SameTerminals),
+            (Some(source), Some(sink)) => Ok(Reading::Arcs(Body {
+                arcs,
+                state: State::new(alloc, nodes, source, sink),
+            })),
+            _ => Ok(Reading::Terminals(Head {
+                nodes,
+                arcs,
+                source,
+                sink,
+            })),
+        }
+    }
+}
+
+impl Body {
+    ghost use Rattle.dmf_text.specs.Problem.{arc_line, ended};
+    ghost use Rattle.dmf_text.specs.Reading.{said_in_body, TakesInMemory};
+
+    /// Takes an arc line, of which these are the fields behind the first.
+    #[tactic(auto, unfolding(crate::specs::Problem::arc_line))]
+    fn take_arc(&mut self, behind: Fields<'_>) -> Result<(), ProblemFaultKind>
+        ensures { TakesInMemory (said_in_body self.old) (codes "a" ∷ behind.entry)
+            (arc_line (said_in_body self.old) behind.entry) (said_in_body self.new) result }
+    {
+        if self.state.arcs().len() >= self.arcs as usize {
+            return Err(ProblemFaultKind::TooManyArcs);
+        }
+        let (tail, head, cap) = three_fields(behind)?;
+        let tail = number(tail)?;
+        let head = number(head)?;
+        let cap = number(cap)?;
+        self.state.push_arc(tail, head, cap)?;
+        Ok(())
+    }
+
+    /// The state that the lines stand for, at the end of the text.
+    #[tactic(auto, unfolding(crate::specs::Problem::ended))]
+    fn finish(self) -> Result<State, ProblemFaultKind>
+        ensures { result ≡ ended (said_in_body self) }
+    {
+        if self.state.arcs().len() < self.arcs as usize {
+            return Err(ProblemFaultKind::TooFewArcs);
+        }
+        let Body { state, .. } = self;
+        Ok(state)
+    }
+}

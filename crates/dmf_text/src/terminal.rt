@@ -1,0 +1,36 @@
+//! The terminals that node lines name.
+ghost use Rattle.std.specs.Prelude.{◌≡◌, MatchResult, Err};
+ghost use Rattle.dmf_text.specs.Problem.{node_named};
+ghost use Rattle.dmf_text.specs.Terminal.{Names};
+
+use crate::behind::two_fields;
+use crate::digits::number;
+use crate::fault::ProblemFaultKind;
+use crate::field::Fields;
+
+/// One of the two terminals.
+#[derive(Clone, Copy)]
+pub(crate) enum Terminal {
+    Source,
+    Sink,
+}
+
+/// The terminal and the node that a node line names, of which these are the fields behind the first.
+#[tactic(auto, unfolding(crate::specs::Problem::node_named))]
+pub(crate) fn named(nodes: u32, behind: Fields<'_>) -> Result<(Terminal, u32), ProblemFaultKind>
+    ensures { MatchResult result (λ named. Names nodes behind.entry named.0 named.1) (λ kind. node_named nodes behind.entry ≡ Err kind) }
+{
+    let (node, letter) = two_fields(behind)?;
+    let node = number(node)?;
+    let terminal = if letter == b"s".as_slice() {
+        Terminal::Source
+    } else if letter == b"t".as_slice() {
+        Terminal::Sink
+    } else {
+        return Err(ProblemFaultKind::NotSourceOrSink);
+    };
+    if node < 1 || node > u64::from(nodes) {
+        return Err(ProblemFaultKind::NodeOutOfRange);
+    }
+    Ok((terminal, node as u32))
+}

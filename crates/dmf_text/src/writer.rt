@@ -1,0 +1,96 @@
+//! What texts are written to.
+ghost use Rattle.std.specs.Prelude.{◌≡◌, ℕ, ◌≤◌, ◌<◌, ◌||◌, List, length, Bool, false, Option, None, IfOk, is_err};
+ghost use Rattle.std.specs.Io.KnownBytes.{Keeps, WriteAppends};
+ghost use Rattle.dmf_text.specs.Writing.{Writes};
+
+use super::reader::Failed;
+use std::io::Write;
+use thiserror::Error;
+
+/// A put failed, so that only a front of the text was written.
+#[derive(Clone, Copy, Debug, PartialEq, Eq, Error)]
+#[error("write failed")]
+pub struct WriteFault;
+
+/// A writer of bytes.
+pub trait Sink {
+    // The bytes that the writer holds, where they are known.
+    ghost contents: { Self → Option (List ℕ) } = { λ _. None };
+
+    // The mark: whether a call has failed.
+    ghost has_failed: { Self → Bool };
+
+    /// Writes a front of the bytes, and answers its length, which is 0 only where there are no bytes.
+    /// `Failed` takes no byte.
+    fn put(&mut self, bytes: &[u8]) -> Result<usize, Failed>
+        ensures bound { IfOk result (λ n. n ≤ length bytes.now) }
+        ensures some { IfOk result (λ n. 0 < length bytes.now → 0 < n) }
+        ensures bytes { WriteAppends (contents self.old) (contents self.new) result bytes.now }
+        ensures mark { has_failed self.new ≡ (is_err result || has_failed self.old) };
+
+    /// Passes on what was written so far.
+    fn flush(&mut self) -> Result<(), Failed>
+        ensures bytes { Keeps (contents self.old) (contents self.new) }
+        ensures mark { has_failed self.new ≡ (is_err result || has_failed self.old) };
+}
+
+/// One of std's writers as a sink. Each of its errors is `Failed`, one of kind `Interrupted` too, and so is a write
+/// of some bytes that takes none.
+#[derive(Drop)]
+pub struct StdSink<W> {
+    writer: W,
+    failed: bool,
+}
+
+impl<W: Write> StdSink<W> {
+    /// A sink into the writer. It takes no memory.
+    pub fn new(writer: W) -> StdSink<W>
+        ensures bytes { ⟦<StdSink<W> as Sink>⟧.contents result ≡ W.contents writer }
+        ensures mark { ⟦<StdSink<W> as Sink>⟧.has_failed result ≡ false }
+    {
+        StdSink {
+            writer,
+            failed: false,
+        }
+    }
+}
+
+impl<W: Write> Sink for StdSink<W> {
+    ghost contents = { λ s. W.contents s.writer };
+
+    ghost has_failed = { λ s. s.failed };
+
+    fn put(&mut self, bytes: &[u8]) -> Result<usize, Failed> {
+        match self.writer.write(bytes) {
+            Ok(n) if n > 0 || bytes.is_empty() => Ok(n),
+            _ => {
+                self.failed = true;
+                Err(Failed)
+            }
+        }
+    }
+
+    fn flush(&mut self) -> Result<(), Failed> {
+        match self.writer.flush() {
+            Ok(()) => Ok(()),
+            Err(_) => {
+                self.failed = true;
+                Err(Failed)
+            }
+        }
+    }
+}
+
+/// Writes the whole text, by as many puts as it takes. It takes no memory and does not flush.
+pub fn put_all<W: Sink>(out: &mut W, text: &[u8]) -> Result<(), WriteFault>
+    ensures { Writes W.contents W.has_failed out.old out.new result text.now }
+{
+    let mut rest = text;
+    while !rest.is_empty() {
+        let Ok(taken) = out.put(rest) else {
+            return Err(WriteFault);
+        };
+        rest = &rest[taken..];
+    }
+    Ok(())
+}
