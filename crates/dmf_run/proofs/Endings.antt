@@ -1,0 +1,298 @@
+-- How a run of command lines ends.
+use Rattle.std.proofs.Common.{ℕ, ◌≡◌, ◌+◌, ◌-◌, ◌<◌, ◌≤◌, List, [], ◌∷◌, ◌++◌, length, take, Bool, true, false, ◌||◌, Option, Some, None, Result, Ok, Err, inl, inr, refl, sym, ap, ◌∙◌, subst, arith, append_assoc, append-nil}
+use Rattle.std.specs.List.{All}
+use Rattle.std.specs.Io.KnownBytes.{Consumes, Appends, append_known}
+use Rattle.std.proofs.KnownBytes.{Appends-trans}
+use Rattle.std.proofs.lemmas.List.{length-append, take_at, length_push}
+use Rattle.std.proofs.lemmas.List.Elements.{All-push, All-nil}
+use Rattle.dmf_text.specs.declared.writer.WriteFault.{WriteFault}
+use Rattle.dmf_session.specs.declared.command.Command.{Command}
+use Rattle.dmf_session.specs.declared.command.Refusal.{Refusal}
+use Rattle.dmf_session.specs.Timeline.{Timeline}
+use Rattle.dmf_run.specs.declared.fault.Status.{Status}
+use Rattle.dmf_run.specs.declared.fault.EngineFault.{EngineFault}
+use Rattle.dmf_run.specs.declared.fault.EngineFault.TheVariants as fault
+use Rattle.dmf_run.specs.declared.input.Next.TheVariants.{Line, Last, End}
+use Rattle.dmf_run.specs.declared.input.TheConstants.{MAX_BYTES}
+use Rattle.dmf_run.specs.declared.session.TheConstants.{MAX_LINES}
+use Rattle.dmf_run.specs.Pending.{Pending}
+use Rattle.dmf_run.specs.Line.{HasNoFeed, fed, IsCut, line_meaning}
+use Rattle.dmf_run.specs.Run.{LineRuns, Runs}
+use Rattle.dmf_run.specs.Input.{Feed, Takes, HasEnded, HasFailed, IsPastLimit, GivesLine, GivesEnd, left}
+use Rattle.dmf_run.specs.Outcome.{Streams, RestRuns, RunsAll, RunsFed, RunsFront, RunsWithin, NoneFailed, IsWithin, Gave, RunsCommands, status_if, line_count}
+use Rattle.dmf_run.proofs.FeedLemmas.{Takes-trans}
+use Rattle.dmf_run.proofs.Progress.{Held, streams, IsFresh, Progress, Carried, fed-push, Progress-more}
+
+-- a writer that took a text
+Appends-known : (known : Option (List ℕ)) (text : List ℕ) → Appends known (append_known known text) text
+Appends-known None text = tt
+Appends-known (Some xs) text = refl
+
+-- what was given, by what was taken
+Consumes-given : (p q : Pending) (known after : Option (List ℕ)) (bytes : List ℕ) → p.bytes ≡ [] → Consumes (left p known) (left q after) bytes → Consumes known after (bytes ++ q.bytes)
+Consumes-given p q None after bytes none c = tt
+Consumes-given p q (Some xs) None bytes none c = absurd c
+Consumes-given p q (Some xs) (Some ys) bytes none c =
+    sym (ap (λ front. front ++ xs) none) ∙ c ∙ sym (append_assoc bytes q.bytes ys)
+
+given-by : (before now : Feed) (bytes : List ℕ) → IsFresh before → Takes before now bytes → Consumes before.known now.known (bytes ++ now.pending.bytes)
+given-by before now bytes fresh takes = Consumes-given before.pending now.pending before.known now.known bytes fresh.none_pending takes.consumes
+
+or-false : (b : Bool) → b ≡ (b || false)
+or-false true = refl
+or-false false = refl
+
+-- the lines so far are all
+abbrev all-so-far : (t : Timeline) (lines : List (List ℕ)) (written : List ℕ) (is_refused : Bool) (u : Timeline) → All HasNoFeed lines → Runs 1 t lines written is_refused u → RunsAll t (fed lines) written is_refused
+all-so-far t lines written is_refused u each runs = record {
+  lines = lines;
+  rest = [];
+  cut = record { whole = sym (append-nil (fed lines)); each = each; last = All-nil (λ (b : ℕ). b ≡ 10 → ⊥) };
+  between = u;
+  first = written;
+  here = is_refused;
+  last = [];
+  later = false;
+  runs = runs;
+  rest_runs = (refl, refl);
+  text_is = sym (append-nil written);
+  refused_is = or-false is_refused;
+}
+
+-- the end of the input
+pub RunsCommands-end : (t : Timeline) (before now then : Feed) (held holds : Held) (number : ℕ) (u : Timeline) (is_refused : Bool) (status : Status) → number ≤ MAX_LINES + 1 → status ≡ status_if is_refused
+    → Progress t before now held holds number u is_refused → Takes now then [] → HasEnded now then → RunsCommands t (streams before held) (streams then holds) (Ok status)
+RunsCommands-end t before now then held holds number u is_refused status few told p takes ended =
+    let bytes = fed p.lines in
+    let all = subst (λ x. Takes before then x) (append-nil bytes) (Takes-trans before now then bytes [] p.takes takes) in
+    let nothing : bytes ++ then.pending.bytes ≡ bytes = ap (λ x. bytes ++ x) ended.none_pending ∙ append-nil bytes in (
+      bytes,
+      p.written,
+      subst (λ x. Consumes before.known then.known x) nothing (given-by before then bytes p.fresh all),
+      p.appends,
+      (
+        is_refused,
+        all-so-far t p.lines p.written is_refused u p.each p.runs,
+        told,
+        record { at_end = ended.at_end; bytes = omega (arith, all.counts, p.fresh.none_taken, ended.within); lines = omega (arith, p.counted) },
+        record { reader = ended.mark ∙ p.reader; writer = p.writer },
+      ),
+    )
+
+-- a failed read
+pub RunsCommands-read : (t : Timeline) (before now then : Feed) (held holds : Held) (number : ℕ) (u : Timeline) (is_refused : Bool) (rest : List ℕ)
+    → Progress t before now held holds number u is_refused → HasNoFeed rest → Takes now then rest → HasFailed then → RunsCommands t (streams before held) (streams then holds) (Err fault.Read)
+RunsCommands-read t before now then held holds number u is_refused rest p no_feed takes failed =
+    let bytes = fed p.lines ++ rest in
+    let all = Takes-trans before now then (fed p.lines) rest p.takes takes in
+    let nothing : bytes ++ then.pending.bytes ≡ bytes = ap (λ x. bytes ++ x) failed.none_pending ∙ append-nil bytes in (
+      bytes,
+      p.written,
+      subst (λ x. Consumes before.known then.known x) nothing (given-by before then bytes p.fresh all),
+      p.appends,
+      (
+        record {
+          lines = p.lines;
+          rest = rest;
+          cut = record { whole = refl; each = p.each; last = no_feed };
+          refused = is_refused;
+          after = u;
+          runs = p.runs;
+        },
+        failed.mark,
+        p.writer,
+      ),
+    )
+
+-- more bytes than may be
+pub RunsCommands-bytes : (t : Timeline) (before now then : Feed) (held holds : Held) (number : ℕ) (u : Timeline) (is_refused : Bool) (rest : List ℕ) → number ≤ MAX_LINES + 1
+    → Progress t before now held holds number u is_refused → HasNoFeed rest → Takes now then rest → IsPastLimit now then → RunsCommands t (streams before held) (streams then holds) (Err fault.TooMuchInput)
+RunsCommands-bytes t before now then held holds number u is_refused rest few p no_feed takes past =
+    let bytes = fed p.lines ++ rest in
+    let all = Takes-trans before now then (fed p.lines) rest p.takes takes in
+    let long : length (fed p.lines) + length rest ≡ MAX_BYTES = omega (arith, all.counts, p.fresh.none_taken, past.at_limit, length-append (fed p.lines) rest) in
+    let room : MAX_BYTES - length (fed p.lines) ≡ length rest = omega (arith, long) in
+    let cut : take (MAX_BYTES - length (fed p.lines)) (rest ++ then.pending.bytes) ≡ rest = ap (λ n. take n (rest ++ then.pending.bytes)) room ∙ take_at rest then.pending.bytes (length rest) refl in (
+      bytes ++ then.pending.bytes,
+      p.written,
+      given-by before then bytes p.fresh all,
+      p.appends,
+      (
+        record {
+          lines = p.lines;
+          rest = rest ++ then.pending.bytes;
+          given_is = append_assoc (fed p.lines) rest then.pending.bytes;
+          each = p.each;
+          at_most_lines = omega (arith, p.counted);
+          at_most_bytes = omega (arith, long);
+          past = inr (omega (arith, long, past.pending, length-append bytes then.pending.bytes, length-append (fed p.lines) rest), subst HasNoFeed (sym cut) no_feed);
+          refused = is_refused;
+          after = u;
+          runs = p.runs;
+        },
+        record { reader = past.mark ∙ p.reader; writer = p.writer },
+      ),
+    )
+
+-- more lines than may be
+pub RunsCommands-lines : (t : Timeline) (before now then : Feed) (held holds : Held) (u : Timeline) (is_refused : Bool) (more : List ℕ)
+    → Progress t before now held holds (MAX_LINES + 1) u is_refused → 0 < length (more ++ then.pending.bytes) → Takes now then more → then.pending.count ≤ MAX_BYTES → then.has_failed ≡ now.has_failed
+    → RunsCommands t (streams before held) (streams then holds) (Err fault.TooMuchInput)
+RunsCommands-lines t before now then held holds u is_refused more p some takes within mark =
+    let bytes = fed p.lines ++ more in
+    let all = Takes-trans before now then (fed p.lines) more p.takes takes in (
+      bytes ++ then.pending.bytes,
+      p.written,
+      given-by before then bytes p.fresh all,
+      p.appends,
+      (
+        record {
+          lines = p.lines;
+          rest = more ++ then.pending.bytes;
+          given_is = append_assoc (fed p.lines) more then.pending.bytes;
+          each = p.each;
+          at_most_lines = omega (arith, p.counted);
+          at_most_bytes = omega (arith, all.counts, p.fresh.none_taken, within, length-append (fed p.lines) more);
+          past = inl (omega (arith, p.counted), some);
+          refused = is_refused;
+          after = u;
+          runs = p.runs;
+        },
+        record { reader = mark ∙ p.reader; writer = p.writer },
+      ),
+    )
+
+-- asking for a line was refused
+pub RunsCommands-refused : (t : Timeline) (before now then : Feed) (held holds : Held) (number : ℕ) (u : Timeline) (is_refused : Bool) (told : EngineFault) → number ≤ MAX_LINES + 1
+    → Progress t before now held holds number u is_refused → GivesLine now then (Err told) → RunsCommands t (streams before held) (streams then holds) (Err told)
+RunsCommands-refused t before now then held holds number u is_refused fault.Read few p gave = RunsCommands-read t before now then held holds number u is_refused gave.0 p gave.1 gave.2 gave.3
+RunsCommands-refused t before now then held holds number u is_refused fault.TooMuchInput few p gave = RunsCommands-bytes t before now then held holds number u is_refused gave.0 few p gave.1 gave.2 gave.3
+RunsCommands-refused t before now then held holds number u is_refused fault.Write few p gave = absurd gave
+RunsCommands-refused t before now then held holds number u is_refused (fault.Problem f) few p gave = absurd gave
+RunsCommands-refused t before now then held holds number u is_refused fault.NoMemory few p gave = absurd gave
+
+-- asking for the end was refused
+pub RunsCommands-past : (t : Timeline) (before now then : Feed) (held holds : Held) (u : Timeline) (is_refused : Bool) (told : EngineFault)
+    → Progress t before now held holds (MAX_LINES + 1) u is_refused → GivesEnd now then (Err told) → RunsCommands t (streams before held) (streams then holds) (Err told)
+RunsCommands-past t before now then held holds u is_refused fault.Read p gave = RunsCommands-read t before now then held holds (MAX_LINES + 1) u is_refused [] p (All-nil (λ (b : ℕ). b ≡ 10 → ⊥)) gave.0 gave.1
+RunsCommands-past t before now then held holds u is_refused fault.TooMuchInput p gave = RunsCommands-lines t before now then held holds u is_refused gave.0 p gave.1 gave.2 gave.3 gave.4
+RunsCommands-past t before now then held holds u is_refused fault.Write p gave = absurd gave
+RunsCommands-past t before now then held holds u is_refused (fault.Problem f) p gave = absurd gave
+RunsCommands-past t before now then held holds u is_refused fault.NoMemory p gave = absurd gave
+
+-- the rest is a line that no line feed ended
+rest-runs : (number : ℕ) (u : Timeline) (line text : List ℕ) (refused : Bool) (v : Timeline) → 0 < length line → LineRuns number u (line_meaning false line) text refused v → RestRuns number u line text refused
+rest-runs number u [] text refused v some runs = absurd (omega (arith, some))
+rest-runs number u (byte ∷ line) text refused v some runs = (v, runs)
+
+count-le : (lines : List (List ℕ)) (rest : List ℕ) → line_count lines rest ≤ length lines + 1
+count-le lines [] = omega arith
+count-le lines (byte ∷ rest) = omega arith
+
+-- the lines so far, and a last line
+abbrev all-with-last : (t : Timeline) (lines : List (List ℕ)) (line : List ℕ) (written text : List ℕ) (is_refused refused : Bool) (u v : Timeline) → All HasNoFeed lines → HasNoFeed line → 0 < length line
+    → Runs 1 t lines written is_refused u → LineRuns (length lines + 1) u (line_meaning false line) text refused v → RunsAll t (fed lines ++ line) (written ++ text) (is_refused || refused)
+all-with-last t lines line written text is_refused refused u v each no_feed some runs then = record {
+  lines = lines;
+  rest = line;
+  cut = record { whole = refl; each = each; last = no_feed };
+  between = u;
+  first = written;
+  here = is_refused;
+  last = text;
+  later = refused;
+  runs = runs;
+  rest_runs = rest-runs (length lines + 1) u line text refused v some then;
+  text_is = refl;
+  refused_is = refl;
+}
+
+-- a last line was carried out
+pub RunsCommands-last : (t : Timeline) (before now then : Feed) (held holds next : Held) (number : ℕ) (u : Timeline) (is_refused : Bool) (meaning : Result (Option Command) Refusal) (refused : Bool) (v : Timeline) (status : Status) → number ≤ MAX_LINES → status ≡ status_if (is_refused || refused)
+    → Progress t before now held holds number u is_refused → GivesLine now then (Ok (Last meaning)) → Carried u meaning number holds next refused v → RunsCommands t (streams before held) (streams then next) (Ok status)
+RunsCommands-last t before now then held holds next number u is_refused meaning refused v status few told p gave c =
+    let line : List ℕ = gave.0 in
+    let ended = gave.5 in
+    let bytes = fed p.lines ++ line in
+    let all = Takes-trans before now then (fed p.lines) line p.takes gave.2 in
+    let nothing : bytes ++ then.pending.bytes ≡ bytes = ap (λ x. bytes ++ x) ended.none_pending ∙ append-nil bytes in
+    let runs = subst (λ n. LineRuns n u (line_meaning false line) c.text refused v) (sym p.counted) (subst (λ m. LineRuns number u m c.text refused v) gave.3 c.runs) in (
+      bytes,
+      p.written ++ c.text,
+      subst (λ x. Consumes before.known then.known x) nothing (given-by before then bytes p.fresh all),
+      Appends-trans _ _ _ p.written c.text p.appends c.appends,
+      (
+        is_refused || refused,
+        all-with-last t p.lines line p.written c.text is_refused refused u v p.each gave.1 gave.4 p.runs runs,
+        told,
+        record { at_end = ended.at_end; bytes = omega (arith, all.counts, p.fresh.none_taken, ended.within); lines = omega (arith, count-le p.lines line, p.counted) },
+        record { reader = ended.mark ∙ p.reader; writer = c.writer ∙ p.writer },
+      ),
+    )
+
+-- A line of which a front was written, and then a put or the flush failed.
+pub record Broken (u : Timeline) (meaning : Result (Option Command) Refusal) (number : ℕ) (holds next : Held) (v : Timeline) : Type 0 where
+  pub text : List ℕ
+  pub refused : Bool
+  pub runs : LineRuns number u meaning text refused v
+  pub front : List ℕ
+  pub rest : List ℕ
+  pub text_is : text ≡ front ++ rest
+  pub appends : Appends holds.contents next.contents front
+  pub writer : next.has_failed ≡ true
+
+-- a failed write of the reply to a line
+pub RunsCommands-write : (t : Timeline) (before now then : Feed) (held holds next : Held) (number : ℕ) (u : Timeline) (is_refused : Bool) (meaning : Result (Option Command) Refusal) (v : Timeline)
+    → Progress t before now held holds number u is_refused → GivesLine now then (Ok (Line meaning)) → Broken u meaning number holds next v → RunsCommands t (streams before held) (streams then next) (Err fault.Write)
+RunsCommands-write t before now then held holds next number u is_refused meaning v p gave b =
+    let carried : Carried u meaning number holds (record { contents = append_known holds.contents b.text; has_failed = holds.has_failed }) b.refused v =
+    record { text = b.text; runs = b.runs; appends = Appends-known holds.contents b.text; writer = refl } in
+    let more = Progress-more t before now then held holds _ number u is_refused meaning b.refused v p gave carried in
+    let bytes = fed (p.lines ++ gave.0 ∷ []) in (
+      bytes ++ then.pending.bytes,
+      p.written ++ b.front,
+      given-by before then bytes p.fresh more.takes,
+      Appends-trans _ _ _ p.written b.front p.appends b.appends,
+      (
+        record {
+          front = bytes;
+          behind = then.pending.bytes;
+          given_is = refl;
+          whole = p.written ++ b.text;
+          refused = is_refused || b.refused;
+          runs = all-so-far t (p.lines ++ gave.0 ∷ []) (p.written ++ b.text) (is_refused || b.refused) v more.each more.runs;
+          rest = b.rest;
+          text_is = ap (λ x. p.written ++ x) b.text_is ∙ sym (append_assoc p.written b.front b.rest);
+        },
+        b.writer,
+        gave.4 ∙ p.reader,
+      ),
+    )
+
+-- and to a last line
+pub RunsCommands-write_last : (t : Timeline) (before now then : Feed) (held holds next : Held) (number : ℕ) (u : Timeline) (is_refused : Bool) (meaning : Result (Option Command) Refusal) (v : Timeline)
+    → Progress t before now held holds number u is_refused → GivesLine now then (Ok (Last meaning)) → Broken u meaning number holds next v → RunsCommands t (streams before held) (streams then next) (Err fault.Write)
+RunsCommands-write_last t before now then held holds next number u is_refused meaning v p gave b =
+    let line : List ℕ = gave.0 in
+    let bytes = fed p.lines ++ line in
+    let all = Takes-trans before now then (fed p.lines) line p.takes gave.2 in
+    let runs = subst (λ n. LineRuns n u (line_meaning false line) b.text b.refused v) (sym p.counted) (subst (λ m. LineRuns number u m b.text b.refused v) gave.3 b.runs) in (
+      bytes ++ then.pending.bytes,
+      p.written ++ b.front,
+      given-by before then bytes p.fresh all,
+      Appends-trans _ _ _ p.written b.front p.appends b.appends,
+      (
+        record {
+          front = bytes;
+          behind = then.pending.bytes;
+          given_is = refl;
+          whole = p.written ++ b.text;
+          refused = is_refused || b.refused;
+          runs = all-with-last t p.lines line p.written b.text is_refused b.refused u v p.each gave.1 gave.4 p.runs runs;
+          rest = b.rest;
+          text_is = ap (λ x. p.written ++ x) b.text_is ∙ sym (append_assoc p.written b.front b.rest);
+        },
+        b.writer,
+        gave.5.mark ∙ p.reader,
+      ),
+    )

@@ -1,0 +1,7 @@
+pub mod RoomLemmas
+pub mod FeedLemmas
+pub mod ReplyLemmas
+pub mod LineLemmas
+pub mod Progress
+pub mod Endings
+pub mod SessionLemmas

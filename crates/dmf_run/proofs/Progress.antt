@@ -1,0 +1,103 @@
+-- A run of command lines, up to some line, and how it ends.
+use Rattle.std.proofs.Common.{ℕ, ◌≡◌, ◌+◌, ◌-◌, ◌<◌, ◌≤◌, List, [], ◌∷◌, ◌++◌, length, take, Bool, true, false, ◌||◌, Option, Some, None, Result, Ok, Err, inl, inr, refl, sym, ap, ◌∙◌, subst, arith, append_assoc, append-nil}
+use Rattle.std.specs.List.{flat_map, All}
+use Rattle.std.specs.Io.KnownBytes.{Consumes, Appends}
+use Rattle.std.proofs.KnownBytes.{Consumes-nil, Appends-nil, Appends-trans}
+use Rattle.std.proofs.lemmas.Grind.{flat_map-append}
+use Rattle.std.proofs.lemmas.List.{length-append, length_push, take_at}
+use Rattle.std.proofs.lemmas.List.Elements.{All-push, All-nil}
+use Rattle.dmf_text.specs.declared.writer.WriteFault.{WriteFault}
+use Rattle.dmf_session.specs.declared.command.Command.{Command}
+use Rattle.dmf_session.specs.declared.command.Refusal.{Refusal}
+use Rattle.dmf_session.specs.Timeline.{Timeline}
+use Rattle.dmf_run.specs.declared.fault.Status.{Status}
+use Rattle.dmf_run.specs.declared.fault.EngineFault.{EngineFault}
+use Rattle.dmf_run.specs.declared.fault.EngineFault.TheVariants as fault
+use Rattle.dmf_run.specs.declared.input.Next.{Next}
+use Rattle.dmf_run.specs.declared.input.Next.TheVariants.{Line, Last, End}
+use Rattle.dmf_run.specs.declared.input.TheConstants.{MAX_BYTES}
+use Rattle.dmf_run.specs.declared.session.TheConstants.{MAX_LINES}
+use Rattle.dmf_run.specs.Pending.{Pending}
+use Rattle.dmf_run.specs.Line.{HasNoFeed, fed, IsCut, line_meaning}
+use Rattle.dmf_run.specs.Run.{LineRuns, Runs}
+use Rattle.dmf_run.specs.Input.{Feed, Takes, HasEnded, HasFailed, IsPastLimit, GivesLine, GivesEnd, left}
+use Rattle.dmf_run.specs.Outcome.{Streams, RestRuns, RunsAll, RunsFed, RunsFront, RunsWithin, NoneFailed, IsWithin, Gave, RunsCommands, status_if, line_count}
+use Rattle.dmf_run.proofs.FeedLemmas.{Takes-trans}
+use Rattle.dmf_run.proofs.LineLemmas.{LineRuns-grows, Runs-push}
+
+-- what a writer holds, where it is known, and its mark
+pub record Held : Type 0 where
+  pub contents : Option (List ℕ)
+  pub has_failed : Bool
+
+abbrev pub streams : Feed → Held → Streams
+streams feed held = record { known = feed.known; reader_failed = feed.has_failed; contents = held.contents; writer_failed = held.has_failed }
+
+-- a feed from which nothing was taken yet
+pub record IsFresh (feed : Feed) : Type 0 where
+  pub none_pending : feed.pending.bytes ≡ []
+  pub none_taken : feed.pending.count ≡ 0
+
+-- So many lines were carried out from the timeline `t`, and `u` is the timeline now.
+pub record Progress (t : Timeline) (before now : Feed) (held holds : Held) (number : ℕ) (u : Timeline) (is_refused : Bool) : Type 0 where
+  pub fresh : IsFresh before
+  pub lines : List (List ℕ)
+  pub each : All HasNoFeed lines
+  pub counted : length lines + 1 ≡ number
+  pub takes : Takes before now (fed lines)
+  pub reader : now.has_failed ≡ before.has_failed
+  pub written : List ℕ
+  pub appends : Appends held.contents holds.contents written
+  pub writer : holds.has_failed ≡ held.has_failed
+  pub runs : Runs 1 t lines written is_refused u
+  pub place : u.place < length u.states
+  pub at_most : length u.states ≤ number
+
+pub Progress-none : (t : Timeline) (feed : Feed) (held : Held) → IsFresh feed → t.place ≡ 0 → length t.states ≡ 1 → Progress t feed feed held held 1 t false
+Progress-none t feed held fresh first one = record {
+  fresh = fresh;
+  lines = [];
+  each = All-nil HasNoFeed;
+  counted = omega arith;
+  takes = record { consumes = Consumes-nil (left feed.pending feed.known); counts = omega arith };
+  reader = refl;
+  written = [];
+  appends = Appends-nil held.contents;
+  writer = refl;
+  runs = (refl, refl, refl);
+  place = omega arith;
+  at_most = omega arith;
+}
+
+pub fed-push : (lines : List (List ℕ)) (line : List ℕ) → fed (lines ++ line ∷ []) ≡ fed lines ++ (line ++ 10 ∷ [])
+fed-push lines line = flat_map-append (λ l. l ++ 10 ∷ []) lines (line ∷ []) ∙ ap (λ x. fed lines ++ x) (append-nil (line ++ 10 ∷ []))
+
+-- A line that was carried out.
+pub record Carried (u : Timeline) (meaning : Result (Option Command) Refusal) (number : ℕ) (holds next : Held) (refused : Bool) (v : Timeline) : Type 0 where
+  pub text : List ℕ
+  pub runs : LineRuns number u meaning text refused v
+  pub appends : Appends holds.contents next.contents text
+  pub writer : next.has_failed ≡ holds.has_failed
+
+abbrev pub Progress-more : (t : Timeline) (before now then : Feed) (held holds next : Held) (number : ℕ) (u : Timeline) (is_refused : Bool) (meaning : Result (Option Command) Refusal) (refused : Bool) (v : Timeline)
+    → Progress t before now held holds number u is_refused → GivesLine now then (Ok (Line meaning)) → Carried u meaning number holds next refused v
+    → Progress t before then held next (number + 1) v (is_refused || refused)
+Progress-more t before now then held holds next number u is_refused meaning refused v p gave c =
+    let line : List ℕ = gave.0 in
+    let place : 1 + length p.lines ≡ number = omega (arith, p.counted) in
+    let runs = subst (λ m. LineRuns number u m c.text refused v) gave.3 c.runs in
+    let grows = LineRuns-grows number u meaning c.text refused v p.place c.runs in
+    record {
+      fresh = p.fresh;
+      lines = p.lines ++ line ∷ [];
+      each = All-push HasNoFeed p.lines line p.each gave.1;
+      counted = omega (arith, length_push p.lines line, p.counted);
+      takes = subst (λ bytes. Takes before then bytes) (sym (fed-push p.lines line)) (Takes-trans before now then (fed p.lines) (line ++ 10 ∷ []) p.takes gave.2);
+      reader = gave.4 ∙ p.reader;
+      written = p.written ++ c.text;
+      appends = Appends-trans _ _ _ p.written c.text p.appends c.appends;
+      writer = c.writer ∙ p.writer;
+      runs = Runs-push 1 t p.lines p.written is_refused u line c.text refused v p.runs (subst (λ n. LineRuns n u (line_meaning true line) c.text refused v) (sym place) runs);
+      place = grows.place;
+      at_most = omega (arith, grows.at_most, p.at_most);
+    }

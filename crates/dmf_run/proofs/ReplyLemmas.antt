@@ -1,0 +1,26 @@
+-- The bytes of replies, field by field.
+use Rattle.std.proofs.Common.{◌≡◌, ℕ, List, [], ◌∷◌, ◌++◌, Bool, Option, Result, Ok, Err, append_assoc, append-nil, subst, sym, ap, ◌∙◌}
+use Rattle.std.specs.Io.KnownBytes.{Appends}
+use Rattle.std.proofs.KnownBytes.{Appends-trans}
+use Rattle.dmf_text.specs.Writing.{Writes}
+use Rattle.dmf_text.specs.Written.{written_line}
+
+pub line-of_four : (w x y z : List ℕ) → written_line (w ∷ x ∷ y ∷ z ∷ []) ≡ w ++ (32 ∷ (x ++ (32 ∷ (y ++ (32 ∷ (z ++ 10 ∷ []))))))
+unfolding written_line
+line-of_four w x y z = simp append_assoc
+
+pub line-of_five : (v w x y z : List ℕ) → written_line (v ∷ w ∷ x ∷ y ∷ z ∷ []) ≡ v ++ (32 ∷ (w ++ (32 ∷ (x ++ (32 ∷ (y ++ (32 ∷ (z ++ 10 ∷ []))))))))
+unfolding written_line
+line-of_five v w x y z = simp append_assoc
+
+-- A text that was put and then flushed.
+pub Writes-flushed : {S V E : Type 0} (contents : S → Option (List ℕ)) (has_failed : S → Bool) (a b c : S) (outcome : Result V E) (text : List ℕ) → Appends (contents a) (contents b) text → has_failed b ≡ has_failed a → Writes contents has_failed b c outcome [] → Writes contents has_failed a c outcome text
+Writes-flushed contents has_failed a b c (Ok v) text held mark then =
+    (subst (λ t. Appends (contents a) (contents c) t) (append-nil text) (Appends-trans _ _ _ text [] held then.0), then.1 ∙ mark)
+Writes-flushed contents has_failed a b c (Err e) text held mark then = (
+  text ++ then.0,
+  then.1,
+  sym (append-nil text) ∙ ap (λ t. text ++ t) then.2 ∙ sym (append_assoc text then.0 then.1),
+  Appends-trans _ _ _ text then.0 held then.3,
+  then.4,
+)

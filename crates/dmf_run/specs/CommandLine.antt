@@ -1,0 +1,55 @@
+-- What a command line means.
+use Rattle.std.specs.Prelude.{ℕ, List, [], ◌∷◌, if◌then◌else◌, codes, Option, Some, None, Result, Ok, Err}
+use Rattle.std.specs.Str.{bytes_eq}
+use Rattle.dmf_text.specs.declared.digits.NumberFault.{NumberFault}
+use Rattle.dmf_text.specs.declared.digits.NumberFault.TheVariants as digits
+use Rattle.dmf_text.specs.Fields.{fields}
+use Rattle.dmf_text.specs.Number.{number_of}
+use Rattle.dmf_session.specs.declared.command.Command.{Command}
+use Rattle.dmf_session.specs.declared.command.Command.TheVariants.{Add, Undo, Redo, PrintProblem}
+use Rattle.dmf_session.specs.declared.command.Refusal.{Refusal}
+use Rattle.dmf_session.specs.declared.command.Refusal.TheVariants.{UnknownCommand, FieldCount, NotANumber, TooLarge}
+
+-- what follows from the number that a field spells, or why it spells none
+abbrev pub with_number : {X : Type 0} → Result ℕ NumberFault → (ℕ → Result X Refusal) → Result X Refusal
+with_number (Ok n) next = next n
+with_number (Err digits.NotANumber) next = Err NotANumber
+with_number (Err digits.TooLarge) next = Err TooLarge
+
+-- `V W U`, the fields behind `add`
+unfoldable pub addition : List (List ℕ) → Result Command Refusal
+addition (tail ∷ head ∷ cap ∷ []) =
+    with_number (number_of tail) (λ tail.
+    with_number (number_of head) (λ head. with_number (number_of cap) (λ cap. Ok (Add tail head cap))))
+addition fields = Err FieldCount
+
+-- nothing or `K`, the fields behind `undo` and `redo`
+unfoldable pub steps : List (List ℕ) → Result ℕ Refusal
+steps [] = Ok 1
+steps (count ∷ []) = with_number (number_of count) (λ n. Ok n)
+steps (count ∷ field ∷ fields) = Err FieldCount
+
+-- what to print, the field behind `print`
+unfoldable pub printing : List (List ℕ) → Result Command Refusal
+printing (what ∷ []) = if bytes_eq what (codes "problem") then Ok PrintProblem else Err UnknownCommand
+printing fields = Err FieldCount
+
+-- a command made of what its fields say
+abbrev pub made_of : {X : Type 0} → (X → Command) → Result X Refusal → Result (Option Command) Refusal
+made_of make (Ok x) = Ok (Some (make x))
+made_of make (Err refusal) = Err refusal
+
+-- A line without fields is blank, and one whose first field is `c` is a comment: they mean nothing.
+abbrev pub meaning_of : List (List ℕ) → Result (Option Command) Refusal
+meaning_of [] = Ok None
+meaning_of (word ∷ behind) =
+    if bytes_eq word (codes "c") then Ok None
+    else if bytes_eq word (codes "add") then made_of (λ command. command) (addition behind)
+    else if bytes_eq word (codes "undo") then made_of Undo (steps behind)
+    else if bytes_eq word (codes "redo") then made_of Redo (steps behind)
+    else if bytes_eq word (codes "print") then made_of (λ command. command) (printing behind)
+    else Err UnknownCommand
+
+-- what a line without its end means: nothing, a command, or why it is refused
+abbrev pub command_of : List ℕ → Result (Option Command) Refusal
+command_of line = meaning_of (fields line)

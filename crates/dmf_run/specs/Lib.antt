@@ -1,0 +1,9 @@
+pub mod CommandLine
+pub mod RefusalText
+pub mod Pending
+pub mod Line
+pub mod Run
+pub mod Input
+pub mod Outcome
+pub mod Session
+pub mod Status

@@ -1,0 +1,30 @@
+-- How a command text is cut into lines, and what a line means.
+use Rattle.std.specs.Prelude.{ℕ, ◌≡◌, ◌≢◌, List, [], ◌∷◌, ◌++◌, length, nat_lt, if◌then◌else◌, All, Bool, Option, Result, Err}
+use Rattle.std.specs.List.{flat_map}
+use Rattle.std.specs.Str.Lines.{strip_carriage_return}
+use Rattle.dmf_session.specs.declared.command.Command.{Command}
+use Rattle.dmf_session.specs.declared.command.Refusal.{Refusal}
+use Rattle.dmf_session.specs.declared.command.Refusal.TheVariants.{LineTooLong}
+use Rattle.dmf_run.specs.declared.input.TheConstants.{MAX_LINE}
+use Rattle.dmf_run.specs.CommandLine.{command_of}
+
+-- No byte is a line feed.
+abbrev pub HasNoFeed : List ℕ → Type 0
+HasNoFeed bytes = All (λ b. b ≢ 10) bytes
+
+-- the bytes of lines of which each is ended by a line feed
+abbrev pub fed : List (List ℕ) → List ℕ
+fed lines = flat_map (λ line. line ++ 10 ∷ []) lines
+
+-- The text is these lines, each ended by a line feed, and a rest without one.
+pub record IsCut (text : List ℕ) (lines : List (List ℕ)) (rest : List ℕ) : Type 0 where
+  pub whole : text ≡ fed lines ++ rest
+  pub each : All HasNoFeed lines
+  pub last : HasNoFeed rest
+
+-- What a line means, of which these are the bytes before the line feed, if one ended it. A carriage return directly
+-- before the line feed is counted in its length, and is no part of its fields.
+abbrev pub line_meaning : Bool → List ℕ → Result (Option Command) Refusal
+line_meaning ended line =
+    if nat_lt MAX_LINE (length line) then Err LineTooLong
+    else command_of (if ended then strip_carriage_return line else line)

@@ -1,0 +1,124 @@
+-- What a run of command lines gave, by the bytes that it was given and those that it wrote.
+use Rattle.std.specs.Prelude.{ℕ, ◌≡◌, ◌⊎◌, ◌+◌, ◌-◌, ◌<◌, ◌≤◌, List, [], ◌∷◌, ◌++◌, length, take, All, Bool, true, false, ◌||◌, if◌then◌else◌, Option, Result, Ok, Err, IfOk}
+use Rattle.std.specs.Io.KnownBytes.{Consumes, Appends, IsAtEnd}
+use Rattle.dmf_text.specs.declared.writer.WriteFault.{WriteFault}
+use Rattle.dmf_text.specs.Writing.{Writes}
+use Rattle.dmf_session.specs.declared.command.Command.{Command}
+use Rattle.dmf_session.specs.declared.command.Refusal.{Refusal}
+use Rattle.dmf_session.specs.Timeline.{Timeline}
+use Rattle.dmf_run.specs.declared.fault.Status.{Status}
+use Rattle.dmf_run.specs.declared.fault.Status.TheVariants.{Well, SomeRefused}
+use Rattle.dmf_run.specs.declared.fault.EngineFault.{EngineFault}
+use Rattle.dmf_run.specs.declared.fault.EngineFault.TheVariants as fault
+use Rattle.dmf_run.specs.declared.input.TheConstants.{MAX_BYTES}
+use Rattle.dmf_run.specs.declared.session.TheConstants.{MAX_LINES}
+use Rattle.dmf_run.specs.Line.{HasNoFeed, fed, IsCut, line_meaning}
+use Rattle.dmf_run.specs.Run.{LineRuns, Runs}
+
+-- Carrying out one line, which means this, wrote its text or, where the writer failed, a front of it; on success the
+-- answer is whether the line was refused.
+abbrev pub WritesLine : {S : Type 0} → (S → Option (List ℕ)) → (S → Bool) → S → S → ℕ → Timeline → Result (Option Command) Refusal → Timeline → Result Bool WriteFault → Type 0
+WritesLine contents has_failed old new number t meaning u result =
+    (text : List ℕ) × (refused : Bool) × LineRuns number t meaning text refused u
+    × Writes contents has_failed old new result text × IfOk result (λ is_refused. is_refused ≡ refused)
+
+-- What a run ends on: what its reader has left and its writer holds, where they are known, and their marks.
+pub record Streams : Type 0 where
+  pub known : Option (List ℕ)
+  pub reader_failed : Bool
+  pub contents : Option (List ℕ)
+  pub writer_failed : Bool
+
+-- a last line, which no line feed ended, if there is one
+abbrev pub RestRuns : ℕ → Timeline → List ℕ → List ℕ → Bool → Type 0
+RestRuns number t [] text refused = (text ≡ []) × (refused ≡ false)
+RestRuns number t (byte ∷ rest) text refused =
+    (u : Timeline) × LineRuns number t (line_meaning false (byte ∷ rest)) text refused u
+
+-- All lines of the text that was given were carried out, and this was written.
+pub record RunsAll (t : Timeline) (given text : List ℕ) (refused : Bool) : Type 0 where
+  pub lines : List (List ℕ)
+  pub rest : List ℕ
+  pub cut : IsCut given lines rest
+  pub between : Timeline
+  pub first : List ℕ
+  pub here : Bool
+  pub last : List ℕ
+  pub later : Bool
+  pub runs : Runs 1 t lines first here between
+  pub rest_runs : RestRuns (length lines + 1) between rest last later
+  pub text_is : text ≡ first ++ last
+  pub refused_is : refused ≡ (here || later)
+
+-- Just the lines that a line feed ended were carried out, of the text that was given, and this was written.
+pub record RunsFed (t : Timeline) (given text : List ℕ) : Type 0 where
+  pub lines : List (List ℕ)
+  pub rest : List ℕ
+  pub cut : IsCut given lines rest
+  pub refused : Bool
+  pub after : Timeline
+  pub runs : Runs 1 t lines text refused after
+
+-- The first lines of the text that was given were carried out, and this is a front of what they write.
+pub record RunsFront (t : Timeline) (given text : List ℕ) : Type 0 where
+  pub front : List ℕ
+  pub behind : List ℕ
+  pub given_is : given ≡ front ++ behind
+  pub whole : List ℕ
+  pub refused : Bool
+  pub runs : RunsAll t front whole refused
+  pub rest : List ℕ
+  pub text_is : whole ≡ text ++ rest
+
+-- Just the lines that end within the limits were carried out, of the text that was given, and this was written: there
+-- are as many as may be and one byte more, or the bytes up to the limit do not end the next line.
+pub record RunsWithin (t : Timeline) (given text : List ℕ) : Type 0 where
+  pub lines : List (List ℕ)
+  pub rest : List ℕ
+  pub given_is : given ≡ fed lines ++ rest
+  pub each : All HasNoFeed lines
+  pub at_most_lines : length lines ≤ MAX_LINES
+  pub at_most_bytes : length (fed lines) ≤ MAX_BYTES
+  pub past : ((length lines ≡ MAX_LINES) × (0 < length rest))
+      ⊎ ((MAX_BYTES < length given) × HasNoFeed (take (MAX_BYTES - length (fed lines)) rest))
+  pub refused : Bool
+  pub after : Timeline
+  pub runs : Runs 1 t lines text refused after
+
+-- The answer tells whether a line was refused.
+abbrev pub status_if : Bool → Status
+status_if refused = if refused then SomeRefused else Well
+
+-- Neither stream failed.
+pub record NoneFailed (old new : Streams) : Type 0 where
+  pub reader : new.reader_failed ≡ old.reader_failed
+  pub writer : new.writer_failed ≡ old.writer_failed
+
+-- how many lines these are, with a rest that no line feed ended
+abbrev pub line_count : List (List ℕ) → List ℕ → ℕ
+line_count lines [] = length lines
+line_count lines (byte ∷ rest) = length lines + 1
+
+-- All that was to be read was given, and it is within the limits.
+pub record IsWithin (new : Streams) (given : List ℕ) (count : ℕ) : Type 0 where
+  pub at_end : IsAtEnd new.known
+  pub bytes : length given ≤ MAX_BYTES
+  pub lines : count ≤ MAX_LINES
+
+-- what a run of command lines answers, where these bytes were given and written; no answer but these is given
+abbrev pub Gave : Timeline → Streams → Streams → List ℕ → List ℕ → Result Status EngineFault → Type 0
+Gave t old new given written (Ok status) =
+    (refused : Bool) × (all : RunsAll t given written refused) × (status ≡ status_if refused)
+    × IsWithin new given (line_count all.lines all.rest) × NoneFailed old new
+Gave t old new given written (Err fault.Read) =
+    RunsFed t given written × (new.reader_failed ≡ true) × (new.writer_failed ≡ old.writer_failed)
+Gave t old new given written (Err fault.Write) =
+    RunsFront t given written × (new.writer_failed ≡ true) × (new.reader_failed ≡ old.reader_failed)
+Gave t old new given written (Err fault.TooMuchInput) = RunsWithin t given written × NoneFailed old new
+Gave t old new given written (Err fault) = ⊥
+
+-- A run of command lines from the timeline `t`.
+abbrev pub RunsCommands : Timeline → Streams → Streams → Result Status EngineFault → Type 0
+RunsCommands t old new result =
+    (given : List ℕ) × (written : List ℕ) × Consumes old.known new.known given × Appends old.contents new.contents written
+    × Gave t old new given written result

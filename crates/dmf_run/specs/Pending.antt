@@ -1,0 +1,18 @@
+-- What an input holds between two bytes, and what is kept of a line.
+use Rattle.std.specs.Prelude.{ℕ, ◌≡◌, List, length, take, nat_lt, Bool}
+use Rattle.dmf_run.specs.declared.input.TheConstants.{MAX_LINE}
+
+-- the bytes that were read and not yet taken, and how many were taken
+pub record Pending : Type 0 where
+  pub bytes : List ℕ
+  pub count : ℕ
+
+-- the first bytes of a line, and whether it has more than a line may have
+pub record Room : Type 0 where
+  pub kept : List ℕ
+  pub is_long : Bool
+
+-- The room has what it keeps of a line with these bytes.
+pub record Holds (room : Room) (line : List ℕ) : Type 0 where
+  pub kept_is : room.kept ≡ take MAX_LINE line
+  pub long_is : room.is_long ≡ nat_lt MAX_LINE (length line)

@@ -1,0 +1,74 @@
+-- What a run of command lines writes.
+use Rattle.std.specs.Prelude.{ℕ, ◌≡◌, ◌+◌, List, [], ◌∷◌, ◌++◌, codes, decimal, Bool, true, false, ◌||◌, Option, Some, None, Result, Ok, Err}
+use Rattle.dmf_net.specs.NetworkState.{NetworkState}
+use Rattle.dmf_text.specs.Written.{written_line, problem_text}
+use Rattle.dmf_session.specs.declared.command.Command.{Command}
+use Rattle.dmf_session.specs.declared.command.Command.TheVariants.{Add, Undo, Redo, PrintProblem}
+use Rattle.dmf_session.specs.declared.command.Reply.{Reply}
+use Rattle.dmf_session.specs.declared.command.Reply.TheVariants.{Value, Added, Problem}
+use Rattle.dmf_session.specs.declared.command.Refusal.{Refusal}
+use Rattle.dmf_session.specs.Timeline.{Timeline, IsPresent}
+use Rattle.dmf_session.specs.Step.{Answers}
+use Rattle.dmf_run.specs.RefusalText.{refusal_text}
+use Rattle.dmf_run.specs.Line.{line_meaning}
+
+-- the word of a command
+abbrev pub word_of : Command → List ℕ
+word_of (Add tail head cap) = codes "add"
+word_of (Undo steps) = codes "undo"
+word_of (Redo steps) = codes "redo"
+word_of PrintProblem = codes "print"
+
+-- `c WORD value V`
+abbrev pub value_text : Command → ℕ → List ℕ
+value_text command value = written_line (codes "c" ∷ word_of command ∷ codes "value" ∷ decimal value ∷ [])
+
+-- `c WORD I value V`
+abbrev pub added_text : Command → ℕ → ℕ → List ℕ
+added_text command arc value =
+    written_line (codes "c" ∷ word_of command ∷ decimal arc ∷ codes "value" ∷ decimal value ∷ [])
+
+-- what is written in reply to a command, where `s` is the state that is present after it
+abbrev pub reply_text : Command → Reply → NetworkState → List ℕ
+reply_text command (Value value) s = value_text command value
+reply_text command (Added arc value) s = added_text command arc value
+reply_text command Problem s = problem_text s.network
+
+-- what is written of a refused line
+abbrev pub refused_text : ℕ → Refusal → List ℕ
+refused_text number refusal = written_line (codes "c" ∷ codes "refused" ∷ decimal number ∷ refusal_text refusal ∷ [])
+
+-- The text is that of a command that was given to a session in line `number`, was answered so and left `u`; `refused`
+-- says whether it was refused.
+abbrev pub Shows : ℕ → Command → Result Reply Refusal → Timeline → List ℕ → Bool → Type 0
+Shows number command (Ok reply) u text refused =
+    (s : NetworkState) × IsPresent u s × (text ≡ reply_text command reply s) × (refused ≡ false)
+Shows number command (Err refusal) u text refused = (text ≡ refused_text number refusal) × (refused ≡ true)
+
+-- A line that means this, in line `number`, turns the timeline `t` into `u` and writes the text.
+abbrev pub LineRuns : ℕ → Timeline → Result (Option Command) Refusal → List ℕ → Bool → Timeline → Type 0
+LineRuns number t (Ok None) text refused u = (text ≡ []) × (refused ≡ false) × (u ≡ t)
+LineRuns number t (Ok (Some command)) text refused u =
+    (result : Result Reply Refusal) × Answers t command result u × Shows number command result u text refused
+LineRuns number t (Err refusal) text refused u = (text ≡ refused_text number refusal) × (refused ≡ true) × (u ≡ t)
+
+-- A first line, and the lines after it.
+pub record FirstAndMore (First : List ℕ → Bool → Timeline → Type 0) (More : Timeline → List ℕ → Bool → Type 0)
+    (text : List ℕ) (refused : Bool) : Type 0 where
+  pub between : Timeline
+  pub first : List ℕ
+  pub here : Bool
+  pub more : List ℕ
+  pub later : Bool
+  pub runs : First first here between
+  pub goes_on : More between more later
+  pub text_is : text ≡ first ++ more
+  pub refused_is : refused ≡ (here || later)
+
+-- Lines, each ended by a line feed, of which the first has this number, turn the timeline `t` into `u` and write the
+-- text; `refused` says whether one was refused. A line that wants memory may be refused it.
+abbrev pub Runs : ℕ → Timeline → List (List ℕ) → List ℕ → Bool → Timeline → Type 0
+Runs number t [] text refused u = (text ≡ []) × (refused ≡ false) × (u ≡ t)
+Runs number t (line ∷ lines) text refused u =
+    FirstAndMore (LineRuns number t (line_meaning true line))
+    (λ between more later. Runs (number + 1) between lines more later u) text refused

@@ -1,0 +1,69 @@
+-- What a session gave: the problem is read, and then the command lines are carried out on it.
+use Rattle.std.specs.Prelude.{ℕ, ◌≡◌, ◌⊎◌, ◌<◌, ◌≤◌, List, length, Bool, true, Option, Result, Ok, Err}
+use Rattle.std.specs.Io.KnownBytes.{Consumes, IsAtEnd}
+use Rattle.dmf_net.specs.NetworkState.{NetworkState}
+use Rattle.dmf_text.specs.declared.fault.ProblemFault.{ProblemFault}
+use Rattle.dmf_text.specs.Problem.{problem_of}
+use Rattle.dmf_session.specs.Timeline.{start}
+use Rattle.dmf_run.specs.declared.fault.Status.{Status}
+use Rattle.dmf_run.specs.declared.fault.EngineFault.{EngineFault}
+use Rattle.dmf_run.specs.declared.fault.EngineFault.TheVariants as fault
+use Rattle.dmf_run.specs.declared.input.TheConstants.{MAX_BYTES}
+use Rattle.dmf_run.specs.Outcome.{Streams, RunsCommands}
+
+-- a reader: what it has left, where that is known, and its mark
+pub record Reader : Type 0 where
+  pub known : Option (List ℕ)
+  pub has_failed : Bool
+
+-- This text was given, it is the whole of what the reader had left, and it is within the limit.
+pub record GaveWhole (old new : Reader) (text : List ℕ) : Type 0 where
+  pub at_end : IsAtEnd new.known
+  pub within : length text ≤ MAX_BYTES
+  pub mark : new.has_failed ≡ old.has_failed
+
+-- More was given than may be.
+pub record GaveTooMuch (old new : Reader) (text : List ℕ) : Type 0 where
+  pub past : MAX_BYTES < length text
+  pub mark : new.has_failed ≡ old.has_failed
+
+-- what reading a whole text gives, of which this much was given; no answer but these is given
+abbrev pub ReadsText : Reader → Reader → List ℕ → Result (List ℕ) EngineFault → Type 0
+ReadsText old new text (Ok whole) = GaveWhole old new text × (whole ≡ text)
+ReadsText old new text (Err fault.Read) = new.has_failed ≡ true
+ReadsText old new text (Err fault.TooMuchInput) = GaveTooMuch old new text
+ReadsText old new text (Err fault.NoMemory) = new.has_failed ≡ old.has_failed
+ReadsText old new text (Err fault) = ⊥
+
+-- what reading a problem gives, of whose text this much was given; no answer but these is given
+abbrev pub ReadsProblem : Reader → Reader → List ℕ → Result NetworkState EngineFault → Type 0
+ReadsProblem old new text (Ok s) = GaveWhole old new text × (problem_of text ≡ Ok s)
+ReadsProblem old new text (Err (fault.Problem f)) = GaveWhole old new text × (problem_of text ≡ Err f)
+ReadsProblem old new text (Err fault.Read) = new.has_failed ≡ true
+ReadsProblem old new text (Err fault.TooMuchInput) = GaveTooMuch old new text
+ReadsProblem old new text (Err fault.NoMemory) = new.has_failed ≡ old.has_failed
+ReadsProblem old new text (Err fault.Write) = ⊥
+
+-- No command byte was taken, and nothing was written.
+abbrev pub Untouched : Streams → Streams → Type 0
+Untouched old new = new ≡ old
+
+-- The problem was read, and its command lines were run.
+pub record RunsOn (from to : Reader) (old new : Streams) (text : List ℕ) (result : Result Status EngineFault) : Type 0 where
+  pub state : NetworkState
+  pub problem : ReadsProblem from to text (Ok state)
+  pub runs : RunsCommands (start state) old new result
+
+-- What a session answers that was given this much of the problem's text. What it answers without having run a line it
+-- answers with nothing written and no command byte taken.
+abbrev pub Answered : Reader → Reader → Streams → Streams → List ℕ → Result Status EngineFault → Type 0
+Answered from to old new text (Ok status) = RunsOn from to old new text (Ok status)
+Answered from to old new text (Err fault.Write) = RunsOn from to old new text (Err fault.Write)
+Answered from to old new text (Err fault.NoMemory) = Untouched old new × (to.has_failed ≡ from.has_failed)
+Answered from to old new text (Err told) =
+    (ReadsProblem from to text (Err told) × Untouched old new) ⊎ RunsOn from to old new text (Err told)
+
+-- A session, from the bytes that its two readers gave to those that its writer took.
+abbrev pub RunsSession : Reader → Reader → Streams → Streams → Result Status EngineFault → Type 0
+RunsSession from to old new result =
+    (text : List ℕ) × Consumes from.known to.known text × Answered from to old new text result

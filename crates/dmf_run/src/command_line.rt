@@ -1,0 +1,84 @@
+ghost use Rattle.std.specs.Prelude.{◌≡◌};
+ghost use Rattle.dmf_text.specs.Number.{number_of};
+ghost use Rattle.dmf_run.specs.CommandLine.{command_of, addition, steps, printing, with_number};
+
+use dmf_session::{Command, Refusal};
+use dmf_text::{Fields, NumberFault, number};
+
+/// Reads a command line, given without its end. A blank line and a comment, whose first field is `c`, mean nothing.
+///
+/// Refused, in this order, by [`Refusal::UnknownCommand`] for the first field, [`Refusal::FieldCount`],
+/// [`Refusal::UnknownCommand`] for what is to be printed, and for each number from left to right
+/// [`Refusal::NotANumber`] and [`Refusal::TooLarge`]. Takes no memory.
+pub fn read_command(line: &[u8]) -> Result<Option<Command>, Refusal>
+    ensures { result ≡ command_of line.now }
+{
+    let mut fields = Fields::new(line);
+    let Some(word) = fields.next() else {
+        return Ok(None);
+    };
+    if word == b"c".as_slice() {
+        return Ok(None);
+    }
+    let command = if word == b"add".as_slice() {
+        read_addition(fields)?
+    } else if word == b"undo".as_slice() {
+        Command::Undo(read_steps(fields)?)
+    } else if word == b"redo".as_slice() {
+        Command::Redo(read_steps(fields)?)
+    } else if word == b"print".as_slice() {
+        read_printing(fields)?
+    } else {
+        return Err(Refusal::UnknownCommand);
+    };
+    Ok(Some(command))
+}
+
+/// The fields behind `add`.
+#[tactic(auto, unfolding(crate::specs::CommandLine::addition))]
+fn read_addition(mut fields: Fields<'_>) -> Result<Command, Refusal>
+    ensures { result ≡ addition fields.entry }
+{
+    match (fields.next(), fields.next(), fields.next(), fields.next()) {
+        (Some(tail), Some(head), Some(cap), None) => Ok(Command::Add {
+            tail: read_number(tail)?,
+            head: read_number(head)?,
+            cap: read_number(cap)?,
+        }),
+        _ => Err(Refusal::FieldCount),
+    }
+}
+
+/// The fields behind `undo` and `redo`.
+#[tactic(auto, unfolding(crate::specs::CommandLine::steps))]
+fn read_steps(mut fields: Fields<'_>) -> Result<u64, Refusal>
+    ensures { result ≡ steps fields.entry }
+{
+    match (fields.next(), fields.next()) {
+        (None, _) => Ok(1),
+        (Some(count), None) => read_number(count),
+        _ => Err(Refusal::FieldCount),
+    }
+}
+
+/// The field behind `print`.
+#[tactic(auto, unfolding(crate::specs::CommandLine::printing))]
+fn read_printing(mut fields: Fields<'_>) -> Result<Command, Refusal>
+    ensures { result ≡ printing fields.entry }
+{
+    match (fields.next(), fields.next()) {
+        (Some(what), None) if what == b"problem".as_slice() => Ok(Command::PrintProblem),
+        (Some(_), None) => Err(Refusal::UnknownCommand),
+        _ => Err(Refusal::FieldCount),
+    }
+}
+
+fn read_number(field: &[u8]) -> Result<u64, Refusal>
+    ensures { result ≡ with_number (number_of field.now) Ok }
+{
+    match number(field) {
+        Ok(n) => Ok(n),
+        Err(NumberFault::NotANumber) => Err(Refusal::NotANumber),
+        Err(NumberFault::TooLarge) => Err(Refusal::TooLarge),
+    }
+}

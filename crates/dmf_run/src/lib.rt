@@ -1,0 +1,16 @@
+//! The runs of `dmf` over any reader and writer: from the bytes that come in to the bytes that go out.
+#![tactic(auto)]
+
+pub use command_line::read_command;
+pub use fault::{EngineFault, Status, status_of};
+pub use input::{MAX_BYTES, MAX_LINE};
+pub use refusal::refusal_text;
+pub use session::{MAX_LINES, run_commands, run_session};
+
+mod command_line;
+mod fault;
+mod input;
+mod problem;
+mod refusal;
+mod reply;
+mod session;

@@ -1,0 +1,110 @@
+//! Replies to command lines, each written and then flushed.
+ghost use Rattle.std.specs.Prelude.{◌≡◌, ◌≤◌, [], length, true, IfOk};
+ghost use Rattle.dmf_text.specs.Writing.{Writes};
+ghost use Rattle.dmf_text.specs.Written.{problem_text};
+ghost use Rattle.dmf_run.specs.Run as run;
+
+use crate::refusal::refusal_text;
+use dmf_net::State;
+use dmf_session::{Command, Refusal, Reply};
+use dmf_text::{LineBuffer, Sink, WriteFault, put_all, write_problem};
+
+/// Tells that a line was refused, and answers true.
+pub fn refuse<W: Sink>(number: u32, refusal: &Refusal, out: &mut W) -> Result<bool, WriteFault>
+    ensures text { Writes W.contents W.has_failed out.old out.new result (run.refused_text number refusal.now) }
+    ensures refused { IfOk result (λ is_refused. is_refused ≡ true) }
+{
+    put_line(&refused_line(number, refusal), out)?;
+    Ok(true)
+}
+
+fn put_line<W: Sink>(line: &LineBuffer, out: &mut W) -> Result<(), WriteFault>
+    ensures { Writes W.contents W.has_failed out.old out.new result line.now }
+{
+    let Ok(()) = put_all(out, line.as_bytes()) else {
+        return Err(WriteFault);
+    };
+    flush(out)
+}
+
+fn put_problem<W: Sink>(state: &State, out: &mut W) -> Result<(), WriteFault>
+    ensures { Writes W.contents W.has_failed out.old out.new result (problem_text state.now.network) }
+{
+    let Ok(()) = write_problem(state, out) else {
+        return Err(WriteFault);
+    };
+    flush(out)
+}
+
+/// Passes on what was written.
+fn flush<W: Sink>(out: &mut W) -> Result<(), WriteFault>
+    ensures { Writes W.contents W.has_failed out.old out.new result [] }
+{
+    let Ok(()) = out.flush() else {
+        return Err(WriteFault);
+    };
+    Ok(())
+}
+
+fn refused_line(number: u32, refusal: &Refusal) -> LineBuffer
+    ensures { result ≡ run.refused_text number refusal.now }
+{
+    let mut line = LineBuffer::new();
+    line.add_text(refusal_text(refusal));
+    line.add_text(b" ");
+    line.add_number(u64::from(number));
+    line.add_text(b"c refused ");
+    line
+}
+
+/// Writes the reply to a command.
+pub fn show<W: Sink>(
+    command: Command,
+    reply: Reply,
+    present: &State,
+    out: &mut W,
+) -> Result<(), WriteFault>
+    ensures { Writes W.contents W.has_failed out.old out.new result (run.reply_text command reply present.now) }
+{
+    match reply {
+        Reply::Value(value) => { put_line(&value_line(command, value), out) }
+        Reply::Added(arc, value) => { put_line(&added_line(command, arc, value), out) }
+        Reply::Problem => put_problem(present, out),
+    }
+}
+
+fn value_line(command: Command, value: u64) -> LineBuffer
+    ensures { result ≡ run.value_text command value }
+{
+    let mut line = LineBuffer::new();
+    line.add_number(value);
+    line.add_text(b" value ");
+    line.add_text(word_of(command));
+    line.add_text(b"c ");
+    line
+}
+
+fn added_line(command: Command, arc: u32, value: u64) -> LineBuffer
+    ensures { result ≡ run.added_text command arc value }
+{
+    let mut line = LineBuffer::new();
+    line.add_number(value);
+    line.add_text(b" value ");
+    line.add_number(u64::from(arc));
+    line.add_text(b" ");
+    line.add_text(word_of(command));
+    line.add_text(b"c ");
+    line
+}
+
+fn word_of(command: Command) -> &'static [u8]
+    ensures word { result.now ≡ run.word_of command }
+    ensures short { length result.now ≤ 5 }
+{
+    match command {
+        Command::Add { .. } => b"add",
+        Command::Undo(_) => b"undo",
+        Command::Redo(_) => b"redo",
+        Command::PrintProblem => b"print",
+    }
+}

@@ -1,0 +1,144 @@
+//! A session from bytes to bytes.
+ghost use Rattle.std.specs.Prelude.{◌≡◌, ◌<◌, Ok, Some, length};
+ghost use Rattle.dmf_session.specs.declared.history.TheConstants.{MAX_CHANGES};
+ghost use Rattle.dmf_run.specs.Outcome.{WritesLine, RunsCommands, status_if};
+ghost use Rattle.dmf_run.specs.Session.{RunsSession};
+
+use crate::fault::{EngineFault, Status};
+use crate::input::{Input, Meaning, Next};
+use crate::problem::read_state;
+use crate::reply::{refuse, show};
+use dmf_session::{Command, History, Session, WholeHistory};
+use dmf_text::{Sink, Source, WriteFault};
+use std::alloc::Global;
+
+/// The largest number of command lines of a session.
+pub const MAX_LINES: u32 = 1_000_000;
+
+/// Carries out command lines, one after the other, on a session that stands at its start.
+///
+/// A line's reply is written and flushed before the next line is asked for. A line without a reply flushes nothing.
+pub fn run_commands<H: History + Drop, C: Source, W: Sink>(
+    session: Session<H>,
+    commands: &mut C,
+    out: &mut W,
+) -> Result<Status, EngineFault>
+    requires at_first { (H.timeline session).place ≡ 0 }
+    requires one_state { length (H.timeline session).states ≡ 1 }
+    ensures { RunsCommands (H.timeline session)
+        (record {
+          known = C.remaining commands.old;
+          reader_failed = C.has_failed commands.old;
+          contents = W.contents out.old;
+          writer_failed = W.has_failed out.old;
+        })
+        (record {
+          known = C.remaining commands.new;
+          reader_failed = C.has_failed commands.new;
+          contents = W.contents out.new;
+          writer_failed = W.has_failed out.new;
+        })
+        result }
+{
+    let mut session = session;
+    let mut input = Input::new();
+    let mut is_refused = false;
+    for number in 1..MAX_LINES + 1 {
+        match input.next_line(commands)? {
+            Next::Line(meaning) => {
+                let Ok(refused) = answer(&mut session, number, meaning, out) else {
+                    return Err(EngineFault::Write);
+                };
+                is_refused |= refused;
+            }
+            Next::Last(meaning) => {
+                let Ok(refused) = answer(&mut session, number, meaning, out) else {
+                    return Err(EngineFault::Write);
+                };
+                is_refused |= refused;
+                return Ok(status(is_refused));
+            }
+            Next::End => return Ok(status(is_refused)),
+        }
+    }
+    input.expect_end(commands)?;
+    Ok(status(is_refused))
+}
+
+/// Reads the problem, and then carries out command lines on it.
+pub fn run_session<P: Source, C: Source, W: Sink>(
+    alloc: Global,
+    problem: &mut P,
+    commands: &mut C,
+    out: &mut W,
+) -> Result<Status, EngineFault>
+    ensures { RunsSession
+        (record { known = P.remaining problem.old; has_failed = P.has_failed problem.old })
+        (record { known = P.remaining problem.new; has_failed = P.has_failed problem.new })
+        (record {
+          known = C.remaining commands.old;
+          reader_failed = C.has_failed commands.old;
+          contents = W.contents out.old;
+          writer_failed = W.has_failed out.old;
+        })
+        (record {
+          known = C.remaining commands.new;
+          reader_failed = C.has_failed commands.new;
+          contents = W.contents out.new;
+          writer_failed = W.has_failed out.new;
+        })
+        result }
+{
+    let state = read_state(alloc, problem)?;
+    let Ok(history) = WholeHistory::new(alloc, state) else {
+        return Err(EngineFault::NoMemory);
+    };
+    run_commands(Session::new(history), commands, out)
+}
+
+fn status(is_refused: bool) -> Status
+    ensures { result ≡ status_if is_refused }
+{
+    if is_refused {
+        Status::SomeRefused
+    } else {
+        Status::Well
+    }
+}
+
+/// Carries out a line, and writes and flushes its reply, if it has one. Whether it was refused.
+fn answer<H: History, W: Sink>(
+    session: &mut Session<H>,
+    number: u32,
+    meaning: Meaning,
+    out: &mut W,
+) -> Result<bool, WriteFault>
+    requires room { (H.timeline session.old).place < MAX_CHANGES }
+    ensures { WritesLine W.contents W.has_failed out.old out.new number
+        (H.timeline session.old) meaning (H.timeline session.new) result }
+{
+    match meaning {
+        Ok(None) => Ok(false),
+        Ok(Some(command)) => answer_command(session, number, command, out),
+        Err(refusal) => refuse(number, &refusal, out),
+    }
+}
+
+fn answer_command<H: History, W: Sink>(
+    session: &mut Session<H>,
+    number: u32,
+    command: Command,
+    out: &mut W,
+) -> Result<bool, WriteFault>
+    requires room { (H.timeline session.old).place < MAX_CHANGES }
+    ensures { WritesLine W.contents W.has_failed out.old out.new number
+        (H.timeline session.old) (Ok (Some command)) (H.timeline session.new) result }
+{
+    match session.step(command) {
+        Ok(reply) => {
+            show(command, reply, session.present(), out)?;
+            Ok(false)
+        }
+        Err(refusal) => refuse(number, &refusal, out),
+    }
+}
