@@ -1,0 +1,54 @@
+//! The program `dmf`: opens what a run needs, calls the run, and tells how it ended.
+#![tactic(auto)]
+
+mod fault;
+mod words;
+
+use dmf_run::{Status, run_session, status_of};
+use dmf_text::{StdSink, StdSource};
+use fault::Fault;
+use std::fs::File;
+use std::io::BufWriter;
+use std::process::ExitCode;
+
+fn main(rt: HostRuntime) -> ExitCode {
+    let outcome = run(&rt);
+    if let Err(fault) = &outcome {
+        // Where this cannot be told, the status still tells it.
+        let _ = eprintln!(rt; "dmf: {fault}");
+    }
+    ExitCode::from(program_status(outcome))
+}
+
+fn run(rt: &HostRuntime) -> Result<Status, Fault> {
+    let problem = words::problem_path(rt)?;
+    hold_session(rt, problem.as_str())
+}
+
+/// Holds a session on the problem in the file at the path, with the commands from standard input.
+fn hold_session(rt: &HostRuntime, path: &str) -> Result<Status, Fault> {
+    let Ok(file) = File::open(rt, path) else {
+        return Err(Fault::Open);
+    };
+    let Ok(writer) = BufWriter::new(rt.alloc(), rt.stdout()) else {
+        return Err(Fault::NO_MEMORY);
+    };
+    let mut problem = StdSource::new(file);
+    let mut commands = StdSource::new(rt.stdin());
+    let mut out = StdSink::new(writer);
+    match run_session(rt.alloc(), &mut problem, &mut commands, &mut out) {
+        Ok(status) => Ok(status),
+        Err(fault) => Err(Fault::Run(fault)),
+    }
+}
+
+/// The status with which the program ends: 2 for words that it does not take, 4 where the problem cannot be opened,
+/// and else that of the run's end.
+fn program_status(outcome: Result<Status, Fault>) -> u8 {
+    match outcome {
+        Ok(status) => status_of(&Ok(status)),
+        Err(Fault::Usage) => 2,
+        Err(Fault::Open) => 4,
+        Err(Fault::Run(fault)) => status_of(&Err(fault)),
+    }
+}

@@ -1,0 +1,131 @@
+//! Single calls: command lines, the texts of refusals and faults, statuses.
+use crate::streams::Outcome;
+use dmf_run::{EngineFault, Status, read_command, refusal_text, status_of};
+use dmf_session::{Command, Refusal};
+use dmf_text::{ProblemFault, ProblemFaultKind};
+use std::test::Fail;
+
+/// A problem fault as a run tells it.
+fn problem_fault(line: u64, kind: ProblemFaultKind) -> EngineFault {
+    EngineFault::Problem(ProblemFault { line, kind })
+}
+
+#[test]
+fn command_lines_are_read(rt: HostRuntime) {
+    let addition = Command::Add {
+        tail: 1,
+        head: 4,
+        cap: 7,
+    };
+    let table: [(&[u8], Command); 8] = [
+        (b"add 1 4 7", addition),
+        (b"\tadd  01 4   7 ", addition),
+        (b"undo", Command::Undo(1)),
+        (b"undo 3", Command::Undo(3)),
+        (b"undo 0", Command::Undo(0)),
+        (b"redo", Command::Redo(1)),
+        (b"redo 18446744073709551615", Command::Redo(u64::MAX)),
+        (b"print problem", Command::PrintProblem),
+    ];
+    for (line, command) in table {
+        assert_eq!(rt; read_command(line), Ok(Some(command)), "{line:?}");
+    }
+    let nothing: [&[u8]; 5] = [b"", b" \t ", b"c", b"c undo", b"\tc undo"];
+    for line in nothing {
+        assert_eq!(rt; read_command(line), Ok(None), "{line:?}");
+    }
+}
+
+#[test]
+fn command_lines_are_refused(rt: HostRuntime) {
+    let table: [(&[u8], Refusal); 18] = [
+        (b"cNote", Refusal::UnknownCommand),
+        (b"Undo", Refusal::UnknownCommand),
+        (b"undo\r", Refusal::UnknownCommand),
+        (b"undo\0", Refusal::UnknownCommand),
+        (b"solved 1 2 3", Refusal::UnknownCommand),
+        (b"add 1 1", Refusal::FieldCount),
+        (b"add 1 1 1 x", Refusal::FieldCount),
+        (b"undo 1 1", Refusal::FieldCount),
+        (b"redo x 1", Refusal::FieldCount),
+        (b"print", Refusal::FieldCount),
+        (b"print side x", Refusal::FieldCount),
+        (b"print side", Refusal::UnknownCommand),
+        (b"print Problem", Refusal::UnknownCommand),
+        (b"undo -1", Refusal::NotANumber),
+        (b"undo 1\r", Refusal::NotANumber),
+        (b"redo 18446744073709551616", Refusal::TooLarge),
+        (b"add x 18446744073709551616 1", Refusal::NotANumber),
+        (b"add 18446744073709551616 x 1", Refusal::TooLarge),
+    ];
+    for (line, refusal) in table {
+        assert_eq!(rt; read_command(line), Err(refusal), "{line:?}");
+    }
+}
+
+#[test]
+fn refusals_have_texts(rt: HostRuntime) {
+    let table: [(Refusal, &[u8]); 14] = [
+        (Refusal::UnknownCommand, b"unknown command"),
+        (Refusal::FieldCount, b"wrong number of fields"),
+        (Refusal::NotANumber, b"not a number"),
+        (Refusal::TooLarge, b"number too large"),
+        (Refusal::NoSuchArc, b"no such arc"),
+        (Refusal::Closed, b"arc is closed"),
+        (Refusal::NoSuchNode, b"no such node"),
+        (Refusal::TooManyArcs, b"too many arcs"),
+        (Refusal::SumTooLarge, b"capacities past 64 bits"),
+        (Refusal::NothingToUndo, b"nothing to undo"),
+        (Refusal::NothingToRedo, b"nothing to redo"),
+        (Refusal::NotGreatest, b"flow is not greatest"),
+        (Refusal::NoMemory, b"no memory"),
+        (Refusal::LineTooLong, b"line too long"),
+    ];
+    for (refusal, text) in table {
+        assert!(rt; refusal_text(&refusal) == text, "{refusal}");
+    }
+}
+
+#[test]
+fn outcomes_have_statuses(rt: HostRuntime) {
+    let fault = problem_fault(5, ProblemFaultKind::SumTooLarge);
+    let table: [(Outcome, u8); 7] = [
+        (Ok(Status::Well), 0),
+        (Ok(Status::SomeRefused), 1),
+        (Err(fault), 3),
+        (Err(EngineFault::Read), 4),
+        (Err(EngineFault::Write), 4),
+        (Err(EngineFault::TooMuchInput), 4),
+        (Err(EngineFault::NoMemory), 5),
+    ];
+    for (outcome, status) in table {
+        assert_eq!(rt; status_of(&outcome), status, "{outcome:?}");
+    }
+}
+
+#[test]
+fn faults_have_texts(rt: HostRuntime) -> Result<(), Fail> {
+    let table = [
+        (EngineFault::Read, "read failed"),
+        (EngineFault::Write, "write failed"),
+        (EngineFault::TooMuchInput, "too much input"),
+        (EngineFault::NoMemory, "no memory"),
+        (
+            problem_fault(5, ProblemFaultKind::SumTooLarge),
+            "line 5: capacities past 64 bits",
+        ),
+        (
+            problem_fault(8, ProblemFaultKind::TooFewArcs),
+            "line 8: too few arcs",
+        ),
+        (
+            problem_fault(1, ProblemFaultKind::ProblemLineExpected),
+            "line 1: problem line expected",
+        ),
+    ];
+    for (fault, text) in table {
+        let told = format!(in rt.alloc(); "{fault}")?;
+        assert_eq!(rt; told.as_str(), text);
+    }
+    Ok(())
+}

@@ -1,0 +1,17 @@
+//! Tests that cross the libraries: worked sessions over memory, from the bytes that come in to the bytes that go out.
+#![tactic(auto)]
+
+#[cfg(test)]
+mod calls;
+#[cfg(test)]
+mod failures;
+#[cfg(test)]
+mod limits;
+#[cfg(test)]
+mod networks;
+#[cfg(test)]
+mod order;
+#[cfg(test)]
+mod sessions;
+#[cfg(test)]
+mod streams;

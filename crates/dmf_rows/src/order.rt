@@ -1,0 +1,117 @@
+//! The order in which a session calls its reader and its writer.
+use crate::networks::NETWORK_A;
+use crate::streams::hold_over;
+use dmf_run::{EngineFault, Status};
+use std::cell::Cell;
+use std::io;
+use std::io::{ErrorKind, Read, Write};
+use std::test::Fail;
+
+/// What a reader and a writer tell each other.
+#[derive(Drop)]
+struct Watch {
+    /// The writer holds bytes that were not flushed.
+    unflushed: Cell<bool>,
+    /// The writer has failed.
+    failed: Cell<bool>,
+    /// The reader was called at a time at which it should not be.
+    misused: Cell<bool>,
+}
+
+impl Watch {
+    fn new() -> Self {
+        Watch {
+            unflushed: Cell::new(false),
+            failed: Cell::new(false),
+            misused: Cell::new(false),
+        }
+    }
+}
+
+/// Gives one byte a call, and notes a call while bytes are unflushed or after the writer failed.
+#[derive(Drop)]
+struct WatchedReader<'a> {
+    text: &'a [u8],
+    watch: &'a Watch,
+}
+
+impl<'a> Read for WatchedReader<'a> {
+    fn read(&mut self, buffer: &mut [u8]) -> io::Result<usize> {
+        if self.watch.unflushed.get() || self.watch.failed.get() {
+            self.watch.misused.set(true);
+        }
+        match (self.text.split_first(), buffer.first_mut()) {
+            (Some((first, rest)), Some(room)) => {
+                *room = *first;
+                self.text = rest;
+                Ok(1)
+            }
+            _ => Ok(0),
+        }
+    }
+}
+
+/// Takes all bytes of a call, and fails where there is no room for them.
+#[derive(Drop)]
+struct WatchedWriter<'a> {
+    room: usize,
+    watch: &'a Watch,
+}
+
+impl<'a> Write for WatchedWriter<'a> {
+    fn write(&mut self, bytes: &[u8]) -> io::Result<usize> {
+        if bytes.len() > self.room {
+            self.watch.failed.set(true);
+            return Err(io::Error::from(ErrorKind::StorageFull));
+        }
+        self.room -= bytes.len();
+        self.watch.unflushed.set(true);
+        Ok(bytes.len())
+    }
+
+    fn flush(&mut self) -> io::Result<()> {
+        self.watch.unflushed.set(false);
+        Ok(())
+    }
+}
+
+#[test]
+fn a_reply_is_flushed_before_more_is_read(rt: HostRuntime) -> Result<(), Fail> {
+    let watch = Watch::new();
+    let outcome = hold_over(
+        rt.alloc(),
+        NETWORK_A,
+        WatchedReader {
+            text: b"add 1 4 7\nc\nundo\n\nprint problem\nsolve\nundo",
+            watch: &watch,
+        },
+        WatchedWriter {
+            room: 1000,
+            watch: &watch,
+        },
+    );
+    assert_eq!(rt; outcome, Ok(Status::SomeRefused));
+    assert!(rt; !watch.misused.get());
+    Ok(())
+}
+
+#[test]
+fn nothing_is_read_once_a_write_failed(rt: HostRuntime) -> Result<(), Fail> {
+    let watch = Watch::new();
+    let outcome = hold_over(
+        rt.alloc(),
+        NETWORK_A,
+        WatchedReader {
+            text: b"add 1 4 7\nundo\nprint problem\n",
+            watch: &watch,
+        },
+        WatchedWriter {
+            room: 20,
+            watch: &watch,
+        },
+    );
+    assert_eq!(rt; outcome, Err(EngineFault::Write));
+    assert!(rt; watch.failed.get());
+    assert!(rt; !watch.misused.get());
+    Ok(())
+}

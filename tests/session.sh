@@ -1,0 +1,128 @@
+#!/usr/bin/env bash
+# Tests the built program by what its caller sees: statuses, standard output and standard error. Each failed case is
+# named. The last line is 'N passed, M failed', and the status is 0 only if nothing failed.
+set -u
+cd "$(dirname "$0")/.." || exit 1
+
+work=$(mktemp -d)
+trap 'rm -rf "$work"' EXIT
+passed=0
+failed=0
+
+pass() {
+    passed=$((passed + 1))
+}
+
+fail() {
+    failed=$((failed + 1))
+    echo "failed: $*"
+}
+
+finish() {
+    echo "$passed passed, $failed failed"
+    [ "$failed" -eq 0 ]
+    exit
+}
+
+# Judges a run that left its output in the files out and err: the case's name, its status and the wanted one, and what
+# is wanted on standard output and on standard error.
+judge() {
+    local name=$1 status=$2 wanted=$3
+    printf '%s' "$4" >"$work/wanted_out"
+    printf '%s' "$5" >"$work/wanted_err"
+    if [ "$status" -ne "$wanted" ]; then
+        fail "$name: status $status, and not $wanted"
+    elif ! cmp -s "$work/out" "$work/wanted_out"; then
+        fail "$name: standard output: $(head -c 300 "$work/out")"
+    elif ! cmp -s "$work/err" "$work/wanted_err"; then
+        fail "$name: standard error: $(head -c 300 "$work/err")"
+    else
+        pass
+    fi
+}
+
+# Runs the program on the words after the first four, and judges it: the case's name, the status, what is written and
+# what is told. Its standard input is the caller's.
+run() {
+    local name=$1 wanted=$2 out=$3 err=$4 status
+    shift 4
+    timeout 60 ./dmf "$@" >"$work/out" 2>"$work/err"
+    status=$?
+    judge "$name" "$status" "$wanted" "$out" "$err"
+}
+
+# Judges a script in Python: the case's name, the script and its arguments. It says on standard output what failed.
+run_script() {
+    local name=$1
+    shift
+    if python3 "$@" >"$work/said" 2>&1; then
+        pass
+    else
+        fail "$name: $(head -c 2000 "$work/said")"
+    fi
+}
+
+network_a=$'p max 4 5\nn 1 s\nn 4 t\na 1 2 3\na 1 3 2\na 2 3 5\na 2 4 2\na 3 4 3\n'
+
+if ! ./dmf session examples/a.max </dev/null >"$work/out" 2>"$work/err"; then
+    fail "the program is built: $(tail -c 3000 "$work/err")"
+    finish
+fi
+
+# Words.
+run "no words" 2 "" $'dmf: usage\n' </dev/null
+run "an unknown word" 2 "" $'dmf: usage\n' wash </dev/null
+run "no problem is named" 2 "" $'dmf: usage\n' session </dev/null
+run "two problems are named" 2 "" $'dmf: usage\n' session examples/a.max examples/b.max </dev/null
+
+# The problem.
+run "there is no such problem" 4 "" $'dmf: cannot open the problem\n' session "$work/missing" </dev/null
+run "the problem is a folder" 4 "" $'dmf: read failed\n' session examples </dev/null
+printf 'p max 2 2\nn 1 s\nn 2 t\na 1 2 18446744073709551615\na 1 2 1\n' >"$work/full.max"
+run "the problem has a fault" 3 "" $'dmf: line 5: capacities past 64 bits\n' session "$work/full.max" <<<"undo"
+run "an empty problem" 3 "" $'dmf: line 1: problem line expected\n' session /dev/null </dev/null
+
+# Sessions.
+run "no commands" 0 "" "" session examples/a.max </dev/null
+run "a refused command" 1 $'c refused 1 nothing to undo\n' "" session examples/a.max <<<"undo"
+run "an arc is added, taken back, and the problem printed" 0 \
+    $'c add 6 value 0\nc undo value 0\n'"$network_a" "" \
+    session examples/a.max <<<$'add 1 4 7\nundo\nprint problem'
+run "a lenient text is written plainly" 0 \
+    $'p max 3 5\nn 1 s\nn 3 t\na 1 2 4\na 2 2 9\na 1 2 7\na 2 1 6\na 2 3 9\n' "" \
+    session examples/n.max <<<"print problem"
+run "standard input is a folder" 4 "" $'dmf: read failed\n' session examples/a.max <examples
+run_script "each reply is seen before the next line is sent" tests/live_session.py
+
+# The script finds the program from any folder and through a link, and the program finds the caller's files.
+ln -s "$PWD/dmf" "$work/linked"
+printf '%s' "$network_a" >"$work/here.max"
+(cd "$work" && ./linked session here.max <<<"print problem" >out 2>err)
+judge "through a link from another folder" "$?" 0 "$network_a" ""
+
+# Failing outputs.
+./dmf session examples/a.max <<<"print problem" >/dev/full 2>"$work/err"
+status=$?
+: >"$work/out"
+judge "a full device" "$status" 4 "" $'dmf: write failed\n'
+run_script "a closed pipe" tests/closed_pipe.py
+./dmf wash 2>&- >"$work/out" </dev/null
+status=$?
+: >"$work/err"
+judge "standard error is closed" "$status" 2 "" ""
+./dmf session "$work/full.max" 2>/dev/full >"$work/out" </dev/null
+status=$?
+judge "standard error is full" "$status" 3 "" ""
+
+# Each request for memory refused in turn.
+if command -v gcc >/dev/null; then
+    if gcc -shared -fPIC -O1 -o "$work/refuse.so" tests/refuse.c 2>"$work/err"; then
+        run_script "each request for memory refused in turn" tests/refusals.py "$work/refuse.so"
+    else
+        fail "tests/refuse.c does not compile: $(head -c 1000 "$work/err")"
+    fi
+else
+    echo "skipped: no gcc, so no request for memory was refused"
+fi
+
+finish
