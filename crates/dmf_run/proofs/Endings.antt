@@ -261,6 +261,7 @@ RunsCommands-write t before now then held holds next number u is_refused meaning
           whole = p.written ++ b.text;
           refused = is_refused || b.refused;
           runs = all-so-far t (p.lines ++ gave.0 ∷ []) (p.written ++ b.text) (is_refused || b.refused) v more.each more.runs;
+          ends = inl refl;
           rest = b.rest;
           text_is = ap (λ x. p.written ++ x) b.text_is ∙ sym (append_assoc p.written b.front b.rest);
         },
@@ -289,6 +290,7 @@ RunsCommands-write_last t before now then held holds next number u is_refused me
           whole = p.written ++ b.text;
           refused = is_refused || b.refused;
           runs = all-with-last t p.lines line p.written b.text is_refused b.refused u v p.each gave.1 gave.4 p.runs runs;
+          ends = inr (gave.5.none_pending, gave.5.at_end);
           rest = b.rest;
           text_is = ap (λ x. p.written ++ x) b.text_is ∙ sym (append_assoc p.written b.front b.rest);
         },

@@ -59,14 +59,16 @@ pub record RunsFed (t : Timeline) (given text : List ℕ) : Type 0 where
   pub after : Timeline
   pub runs : Runs 1 t lines text refused after
 
--- The first lines of the text that was given were carried out, and this is a front of what they write.
-pub record RunsFront (t : Timeline) (given text : List ℕ) : Type 0 where
+-- First lines of the text that was given were carried out, and this is a front of what they write. The last of them was
+-- ended by a line feed, or it is the last line of all, and the reader is at its end.
+pub record RunsFront (t : Timeline) (known : Option (List ℕ)) (given text : List ℕ) : Type 0 where
   pub front : List ℕ
   pub behind : List ℕ
   pub given_is : given ≡ front ++ behind
   pub whole : List ℕ
   pub refused : Bool
   pub runs : RunsAll t front whole refused
+  pub ends : (runs.rest ≡ []) ⊎ ((behind ≡ []) × IsAtEnd known)
   pub rest : List ℕ
   pub text_is : whole ≡ text ++ rest
 
@@ -113,7 +115,7 @@ Gave t old new given written (Ok status) =
 Gave t old new given written (Err fault.Read) =
     RunsFed t given written × (new.reader_failed ≡ true) × (new.writer_failed ≡ old.writer_failed)
 Gave t old new given written (Err fault.Write) =
-    RunsFront t given written × (new.writer_failed ≡ true) × (new.reader_failed ≡ old.reader_failed)
+    RunsFront t new.known given written × (new.writer_failed ≡ true) × (new.reader_failed ≡ old.reader_failed)
 Gave t old new given written (Err fault.TooMuchInput) = RunsWithin t given written × NoneFailed old new
 Gave t old new given written (Err fault) = ⊥
 
