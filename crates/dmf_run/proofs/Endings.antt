@@ -3,25 +3,24 @@ use Rattle.std.proofs.Common.{ℕ, ◌≡◌, ◌+◌, ◌-◌, ◌<◌, ◌≤�
 use Rattle.std.specs.List.{All}
 use Rattle.std.specs.Io.KnownBytes.{Consumes, Appends, append_known}
 use Rattle.std.proofs.KnownBytes.{Appends-trans}
-use Rattle.std.proofs.lemmas.List.{length-append, take_at, length_push}
-use Rattle.std.proofs.lemmas.List.Elements.{All-push, All-nil}
-use Rattle.dmf_text.specs.declared.writer.WriteFault.{WriteFault}
+use Rattle.std.proofs.lemmas.List.{length-append, take_at}
+use Rattle.std.proofs.lemmas.List.Elements.{All-nil}
 use Rattle.dmf_session.specs.declared.command.Command.{Command}
 use Rattle.dmf_session.specs.declared.command.Refusal.{Refusal}
 use Rattle.dmf_session.specs.Timeline.{Timeline}
 use Rattle.dmf_run.specs.declared.fault.Status.{Status}
 use Rattle.dmf_run.specs.declared.fault.EngineFault.{EngineFault}
 use Rattle.dmf_run.specs.declared.fault.EngineFault.TheVariants as fault
-use Rattle.dmf_run.specs.declared.input.Next.TheVariants.{Line, Last, End}
+use Rattle.dmf_run.specs.declared.input.Next.TheVariants.{Line, Last}
 use Rattle.dmf_run.specs.declared.input.TheConstants.{MAX_BYTES}
 use Rattle.dmf_run.specs.declared.session.TheConstants.{MAX_LINES}
 use Rattle.dmf_run.specs.Pending.{Pending}
-use Rattle.dmf_run.specs.Line.{HasNoFeed, fed, IsCut, line_meaning}
+use Rattle.dmf_run.specs.Line.{HasNoFeed, fed, line_meaning}
 use Rattle.dmf_run.specs.Run.{LineRuns, Runs}
 use Rattle.dmf_run.specs.Input.{Feed, Takes, HasEnded, HasFailed, IsPastLimit, GivesLine, GivesEnd, left}
-use Rattle.dmf_run.specs.Outcome.{Streams, RestRuns, RunsAll, RunsFed, RunsFront, RunsWithin, NoneFailed, IsWithin, Gave, RunsCommands, status_if, line_count}
+use Rattle.dmf_run.specs.Outcome.{RestRuns, RunsAll, RunsCommands, status_if, line_count}
 use Rattle.dmf_run.proofs.FeedLemmas.{Takes-trans}
-use Rattle.dmf_run.proofs.Progress.{Held, streams, IsFresh, Progress, Carried, fed-push, Progress-more}
+use Rattle.dmf_run.proofs.Progress.{Held, streams, IsFresh, Progress, Carried, Progress-more}
 
 -- a writer that took a text
 Appends-known : (known : Option (List ℕ)) (text : List ℕ) → Appends known (append_known known text) text

@@ -1,5 +1,5 @@
 -- Taking bytes from an input and its reader.
-use Rattle.std.proofs.Common.{ℕ, ◌≡◌, ◌+◌, ◌-◌, ◌<◌, ◌≤◌, List, [], ◌∷◌, ◌++◌, length, take, drop, get_or, Option, Some, None, arith, sym, ap, ◌∙◌, refl, suc, subst}
+use Rattle.std.proofs.Common.{ℕ, ◌≡◌, ◌+◌, ◌-◌, ◌<◌, ◌≤◌, List, [], ◌∷◌, ◌++◌, length, get_or, Option, Some, None, arith, refl, suc, subst}
 use Rattle.std.specs.List.{slice_range}
 use Rattle.std.specs.Io.KnownBytes.{prepend_known, Consumes}
 use Rattle.std.proofs.KnownBytes.{Consumes-trans}

@@ -1,27 +1,19 @@
 -- A run of command lines, up to some line, and how it ends.
-use Rattle.std.proofs.Common.{ℕ, ◌≡◌, ◌+◌, ◌-◌, ◌<◌, ◌≤◌, List, [], ◌∷◌, ◌++◌, length, take, Bool, true, false, ◌||◌, Option, Some, None, Result, Ok, Err, inl, inr, refl, sym, ap, ◌∙◌, subst, arith, append_assoc, append-nil}
-use Rattle.std.specs.List.{flat_map, All}
-use Rattle.std.specs.Io.KnownBytes.{Consumes, Appends}
+use Rattle.std.proofs.Common.{ℕ, ◌≡◌, ◌+◌, ◌<◌, ◌≤◌, List, [], ◌∷◌, ◌++◌, length, Bool, true, false, ◌||◌, Option, Result, Ok, refl, sym, ap, ◌∙◌, subst, arith, append-nil}
+use Rattle.std.specs.List.{All}
+use Rattle.std.specs.Io.KnownBytes.{Appends}
 use Rattle.std.proofs.KnownBytes.{Consumes-nil, Appends-nil, Appends-trans}
 use Rattle.std.proofs.lemmas.Grind.{flat_map-append}
-use Rattle.std.proofs.lemmas.List.{length-append, length_push, take_at}
+use Rattle.std.proofs.lemmas.List.{length_push}
 use Rattle.std.proofs.lemmas.List.Elements.{All-push, All-nil}
-use Rattle.dmf_text.specs.declared.writer.WriteFault.{WriteFault}
 use Rattle.dmf_session.specs.declared.command.Command.{Command}
 use Rattle.dmf_session.specs.declared.command.Refusal.{Refusal}
 use Rattle.dmf_session.specs.Timeline.{Timeline}
-use Rattle.dmf_run.specs.declared.fault.Status.{Status}
-use Rattle.dmf_run.specs.declared.fault.EngineFault.{EngineFault}
-use Rattle.dmf_run.specs.declared.fault.EngineFault.TheVariants as fault
-use Rattle.dmf_run.specs.declared.input.Next.{Next}
-use Rattle.dmf_run.specs.declared.input.Next.TheVariants.{Line, Last, End}
-use Rattle.dmf_run.specs.declared.input.TheConstants.{MAX_BYTES}
-use Rattle.dmf_run.specs.declared.session.TheConstants.{MAX_LINES}
-use Rattle.dmf_run.specs.Pending.{Pending}
-use Rattle.dmf_run.specs.Line.{HasNoFeed, fed, IsCut, line_meaning}
+use Rattle.dmf_run.specs.declared.input.Next.TheVariants.{Line}
+use Rattle.dmf_run.specs.Line.{HasNoFeed, fed, line_meaning}
 use Rattle.dmf_run.specs.Run.{LineRuns, Runs}
-use Rattle.dmf_run.specs.Input.{Feed, Takes, HasEnded, HasFailed, IsPastLimit, GivesLine, GivesEnd, left}
-use Rattle.dmf_run.specs.Outcome.{Streams, RestRuns, RunsAll, RunsFed, RunsFront, RunsWithin, NoneFailed, IsWithin, Gave, RunsCommands, status_if, line_count}
+use Rattle.dmf_run.specs.Input.{Feed, Takes, GivesLine, left}
+use Rattle.dmf_run.specs.Outcome.{Streams}
 use Rattle.dmf_run.proofs.FeedLemmas.{Takes-trans}
 use Rattle.dmf_run.proofs.LineLemmas.{LineRuns-grows, Runs-push}
 

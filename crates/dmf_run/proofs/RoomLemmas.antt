@@ -1,5 +1,5 @@
 -- A line as far as it is kept.
-use Rattle.std.proofs.Common.{ℕ, ◌≡◌, ◌+◌, ◌<◌, ◌≤◌, List, [], ◌∷◌, ◌++◌, length, take, ltb, Bool, true, false, cond, Err, arith, sym, ap, ◌∙◌, subst}
+use Rattle.std.proofs.Common.{ℕ, ◌≡◌, ◌<◌, ◌≤◌, List, [], ◌∷◌, ◌++◌, length, ltb, Bool, true, false, cond, arith, sym, ap, ◌∙◌}
 use Rattle.std.proofs.lemmas.List.{length-take, length_push, take_all, take-append-le}
 use Rattle.std.proofs.lemmas.Bool.{lt-ltb, le-ltb, ltb-false}
 use Rattle.std.specs.Str.Lines.{strip_carriage_return}

@@ -1,9 +1,7 @@
 -- What is taken from a reader of command lines, byte by byte.
-use Rattle.std.specs.Prelude.{ℕ, ◌≡◌, ◌+◌, ◌<◌, ◌≤◌, List, [], ◌∷◌, ◌++◌, length, take, nat_lt, Bool, true, false, Option, Some, None, Result, Ok, Err}
+use Rattle.std.specs.Prelude.{ℕ, ◌≡◌, ◌+◌, ◌<◌, ◌≤◌, List, [], ◌∷◌, ◌++◌, length, Bool, true, false, Option, Some, None, Result, Ok, Err}
 use Rattle.std.specs.Io.KnownBytes.{prepend_known, Consumes, IsAtEnd}
-use Rattle.dmf_session.specs.declared.command.Command.{Command}
-use Rattle.dmf_session.specs.declared.command.Refusal.{Refusal}
-use Rattle.dmf_run.specs.declared.input.TheConstants.{MAX_LINE, MAX_BYTES}
+use Rattle.dmf_run.specs.declared.input.TheConstants.{MAX_BYTES}
 use Rattle.dmf_run.specs.declared.input.Next.{Next}
 use Rattle.dmf_run.specs.declared.input.Next.TheVariants.{Line, Last, End}
 use Rattle.dmf_run.specs.declared.fault.EngineFault.{EngineFault}

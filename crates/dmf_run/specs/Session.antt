@@ -2,7 +2,6 @@
 use Rattle.std.specs.Prelude.{ℕ, ◌≡◌, ◌⊎◌, ◌<◌, ◌≤◌, List, length, Bool, true, Option, Result, Ok, Err}
 use Rattle.std.specs.Io.KnownBytes.{Consumes, IsAtEnd}
 use Rattle.dmf_net.specs.NetworkState.{NetworkState}
-use Rattle.dmf_text.specs.declared.fault.ProblemFault.{ProblemFault}
 use Rattle.dmf_text.specs.Problem.{problem_of}
 use Rattle.dmf_session.specs.Timeline.{start}
 use Rattle.dmf_run.specs.declared.fault.Status.{Status}

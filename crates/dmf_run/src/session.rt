@@ -18,6 +18,9 @@ pub const MAX_LINES: u32 = 1_000_000;
 /// Carries out command lines, one after the other, on a session that stands at its start.
 ///
 /// A line's reply is written and flushed before the next line is asked for. A line without a reply flushes nothing.
+/// Stopped by [`EngineFault::Read`] and [`EngineFault::Write`] where a call of the reader or the writer failed, and by
+/// [`EngineFault::TooMuchInput`] past [`MAX_LINES`] lines or [`crate::MAX_BYTES`] bytes. Takes no memory but that of
+/// changes: a command that is refused it is answered so, and the run goes on.
 pub fn run_commands<H: History + Drop, C: Source, W: Sink>(
     session: Session<H>,
     commands: &mut C,
@@ -65,7 +68,10 @@ pub fn run_commands<H: History + Drop, C: Source, W: Sink>(
     Ok(status(is_refused))
 }
 
-/// Reads the problem, and then carries out command lines on it.
+/// Reads the problem, and then carries out command lines on it, as [`run_commands`] does.
+///
+/// Stopped before the first command byte by [`EngineFault::Problem`], where the problem text has a fault, and by
+/// [`EngineFault::Read`], [`EngineFault::TooMuchInput`] and [`EngineFault::NoMemory`] in reading it; nothing is written then.
 pub fn run_session<P: Source, C: Source, W: Sink>(
     alloc: Global,
     problem: &mut P,

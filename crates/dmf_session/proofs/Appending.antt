@@ -1,6 +1,5 @@
 -- What a change appends is the present state.
-use Rattle.std.proofs.Common.{ℕ, ◌≡◌, ◌+◌, ◌<◌, List, ◌∷◌, [], ◌++◌, length, take, Some, Ok, pos, nat_abs, arith, sym, ap, ◌∙◌, subst, Result}
-use Rattle.std.specs.List.{slice_get}
+use Rattle.std.proofs.Common.{ℕ, ◌≡◌, ◌+◌, ◌<◌, List, ◌∷◌, [], ◌++◌, length, take, Ok, pos, nat_abs, arith, sym, ap, ◌∙◌, subst}
 use Rattle.std.proofs.lemmas.List.{get_or_at, length-take-le}
 use Rattle.std.proofs.lemmas.Option.{get_or_from_slice_get}
 use Rattle.dmf_net.specs.declared.edit.Edit.{Edit}
@@ -8,7 +7,6 @@ use Rattle.dmf_net.specs.Flow.{flow_value}
 use Rattle.dmf_net.specs.NetworkState.{NetworkState}
 use Rattle.dmf_net.specs.Change.{Change, Becomes}
 use Rattle.dmf_net.specs.Edit.{applied}
-use Rattle.dmf_session.specs.declared.command.Reply.{Reply}
 use Rattle.dmf_session.specs.declared.command.Reply.TheVariants.{Added}
 use Rattle.dmf_session.specs.Timeline.{Timeline, IsPresent, appended, Appends}
 use Rattle.dmf_session.specs.Step.{IsChanged, value_of}

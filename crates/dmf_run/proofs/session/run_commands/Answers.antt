@@ -1,4 +1,4 @@
-use Rattle.std.proofs.Common.{◌≡◌, ◌+◌, ◌≤◌, [], Ok, Err, refl, sym, ap, ◌∙◌, subst, arith, false}
+use Rattle.std.proofs.Common.{◌≡◌, ◌+◌, [], Err, refl, sym, ap, ◌∙◌, subst, arith, false}
 use Rattle.std.proofs.lemmas.Result.{err_from_is_err_and}
 use Rattle.dmf_run.specs.declared.session.TheConstants.{MAX_LINES}
 use Rattle.dmf_run.specs.Input.{Feed}
@@ -6,7 +6,6 @@ use Rattle.dmf_run.specs.Run.{LineRuns}
 use Rattle.dmf_run.specs.Outcome.{RunsCommands}
 use Rattle.dmf_run.proofs.Progress.{Held, Carried, Progress, Progress-none, Progress-more, streams}
 use Rattle.dmf_run.proofs.Endings.{Broken, RunsCommands-end, RunsCommands-refused, RunsCommands-past, RunsCommands-last, RunsCommands-write, RunsCommands-write_last}
-use Rattle.dmf_run.proofs.session.run_commands.Given.{Over}
 use Rattle.dmf_run.proofs.session.run_commands.Goals as goal
 
 pub loop-number-init : goal.loop-number-init

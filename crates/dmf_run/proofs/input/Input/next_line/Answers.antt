@@ -1,7 +1,7 @@
-use Rattle.std.proofs.Common.{◌≡◌, ◌<◌, ◌∷◌, [], ◌++◌, length, subst, sym, ap, ◌∙◌, arith, List, ℕ}
+use Rattle.std.proofs.Common.{◌≡◌, ◌<◌, ◌∷◌, [], ◌++◌, length, subst, sym, ◌∙◌, ℕ}
 use Rattle.std.proofs.lemmas.Bool.{false≢true}
 use Rattle.std.proofs.lemmas.List.Elements.{All-push}
-use Rattle.dmf_run.specs.Input.{Feed, Takes}
+use Rattle.dmf_run.specs.Input.{Takes}
 use Rattle.dmf_run.proofs.FeedLemmas.{Takes-trans, Takes-nil, some-length}
 use Rattle.dmf_run.proofs.input.Input.next_line.Goals as goal
 

@@ -1,4 +1,4 @@
-use Rattle.std.proofs.Common.{◌≡◌, List, ℕ, cond, subst, sym, ap, ◌∙◌}
+use Rattle.std.proofs.Common.{◌≡◌, cond, subst, sym, ap, ◌∙◌}
 use Rattle.std.specs.Str.Lines.{strip_carriage_return}
 use Rattle.dmf_run.specs.contracts.input.LineRoom.{the_view}
 use Rattle.dmf_run.specs.Pending.{Holds}

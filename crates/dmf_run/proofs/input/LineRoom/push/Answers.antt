@@ -1,4 +1,4 @@
-use Rattle.std.proofs.Common.{◌≡◌, ◌<◌, length, arith, subst, sym, min}
+use Rattle.std.proofs.Common.{◌<◌, length, arith, subst, sym}
 use Rattle.std.proofs.lemmas.List.{length-take, take_more_set}
 use Rattle.dmf_run.specs.contracts.input.LineRoom.{the_view}
 use Rattle.dmf_run.specs.Pending.{Holds}

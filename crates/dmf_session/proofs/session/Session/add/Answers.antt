@@ -1,4 +1,4 @@
-use Rattle.std.proofs.Common.{◌≡◌, length, ap, subst, Ok, MatchOption}
+use Rattle.std.proofs.Common.{length, ap, subst, Ok, MatchOption}
 use Rattle.dmf_net.specs.NetworkState.{NetworkState}
 use Rattle.dmf_net.specs.Change as change
 use Rattle.dmf_session.specs.declared.command.Reply.TheVariants.{Added}
