@@ -1,13 +1,14 @@
 -- From the sums at the nodes to conservation and the value.
-use Rattle.std.proofs.Common.{ℕ, ◌≡◌, ◌+◌, ◌-◌, ◌≤◌, List, length, slice_index, arith, sym, ap, subst, ◌∙◌, pos, ◌<ℤ◌}
+use Rattle.std.proofs.Common.{ℕ, ◌≡◌, ◌+◌, ◌-◌, ◌<◌, ◌≤◌, List, length, slice_index, arith, sym, ap, subst, ◌∙◌, pos, ◌<ℤ◌}
 use Rattle.std.proofs.lemmas.Int.{ints}
 use Rattle.dmf_net.specs.declared.arc.Arc.{Arc}
 use Rattle.dmf_net.specs.Node.{IsNode}
-use Rattle.dmf_net.specs.Network.{Network}
+use Rattle.dmf_net.specs.declared.flow_sums.NodeFlow.{NodeFlow}
+use Rattle.dmf_net.specs.Network.{Network, IsNetwork}
 use Rattle.dmf_net.specs.Flow.{flow_at, IsFlow, IsInnerNode, IsConservedAt, flow_value}
-use Rattle.dmf_net.specs.NetworkState.{KeepsTotals}
+use Rattle.dmf_net.specs.NetworkState.{NetworkState, IsState, with_flows, KeepsTotals}
 use Rattle.dmf_net.specs.FlowFault.{IsLeast, IsUnbalanced}
-use Rattle.dmf_net.specs.FlowSums.{AreFlowSums, IsInnerUpTo, AreSameAt, DifferAt}
+use Rattle.dmf_net.specs.FlowSums.{IsNodeFlow, AreFlowSums, IsInnerUpTo, AreSameAt, DifferAt}
 
 -- The sums at the tails and those at the heads.
 pub record AreBothSums (n : Network) (flows leaving entering : List ℕ) : Type 0 where
@@ -68,25 +69,38 @@ least_unbalanced n flows leaving entering v s least = record {
   least = λ u lower unbalanced. least.least u lower (differ-from_unbalanced n flows leaving entering u s unbalanced);
 }
 
+-- the sums at the source
+pub at_source-from_sums : (n : Network) (flows leaving entering : List ℕ) (at : NodeFlow) → AreBothSums n flows leaving entering → IsNode n.nodes n.source → at.leaving ≡ slice_index leaving (n.source - 1) → at.entering ≡ slice_index entering (n.source - 1) → IsNodeFlow n.arcs flows n.source at
+at_source-from_sums n flows leaving entering at s source out into = record {
+  leaving = out ∙ sum_at _ _ _ _ leaving _ s.tails source;
+  entering = into ∙ sum_at _ _ _ _ entering _ s.heads source;
+}
+
 -- the value, where the source's inflow is within its outflow
-pub value-from_sums : (n : Network) (flows leaving entering : List ℕ) → AreBothSums n flows leaving entering → IsNode n.nodes n.source → slice_index entering (n.source - 1) ≤ slice_index leaving (n.source - 1) → pos (slice_index leaving (n.source - 1) - slice_index entering (n.source - 1)) ≡ flow_value n flows
-value-from_sums n flows leaving entering s source le =
-    omega (arith, ints, le, sum_at _ _ _ _ leaving _ s.tails source, sum_at _ _ _ _ entering _ s.heads source)
+pub value-from_source : (n : Network) (flows : List ℕ) (at : NodeFlow) → IsNodeFlow n.arcs flows n.source at → at.entering ≤ at.leaving → pos (at.leaving - at.entering) ≡ flow_value n flows
+value-from_source n flows at is le = omega (arith, ints, le, is.leaving, is.entering)
 
 -- and where it is not
-pub negative-from_sums : (n : Network) (flows leaving entering : List ℕ) → AreBothSums n flows leaving entering → IsNode n.nodes n.source → ¬ (slice_index entering (n.source - 1) ≤ slice_index leaving (n.source - 1)) → flow_value n flows <ℤ pos 0
-negative-from_sums n flows leaving entering s source not_le =
-    omega (arith, ints, not_le, sum_at _ _ _ _ leaving _ s.tails source, sum_at _ _ _ _ entering _ s.heads source)
+pub negative-from_source : (n : Network) (flows : List ℕ) (at : NodeFlow) → IsNodeFlow n.arcs flows n.source at → at.leaving < at.entering → flow_value n flows <ℤ pos 0
+negative-from_source n flows at is less = omega (arith, ints, less, is.leaving, is.entering)
+
+-- a flow whose source's inflow is within its outflow makes a state
+pub IsState-from_source : (n : Network) (flows : List ℕ) (at : NodeFlow) → IsNetwork n → IsFlow n flows → IsNodeFlow n.arcs flows n.source at → at.entering ≤ at.leaving → IsState (record { network = n; flows = flows })
+IsState-from_source n flows at network flow is le = record {
+  network = network;
+  flow = flow;
+  value_from_zero = rw (← value-from_source n flows at is le) (omega (arith, ints));
+}
+
+-- the source's inflow is within its outflow in every state
+pub entering-le-leaving : (s : NetworkState) (at : NodeFlow) → IsState s → IsNodeFlow s.network.arcs s.flows s.network.source at → at.entering ≤ at.leaving
+entering-le-leaving s at state is = omega (arith, ints, state.value_from_zero, is.leaving, is.entering)
 
 -- the totals with another flow
-pub KeepsTotals-with_flows : (n : Network) (old flows : List ℕ) (sum before value count : ℕ) → KeepsTotals (record { network = n; flows = old }) sum before count → IsFlow n flows → pos value ≡ flow_value n flows → KeepsTotals (record { network = n; flows = flows }) sum value count
-KeepsTotals-with_flows n old flows sum before value count keeps flow is = record {
-  state = record {
-    network = keeps.state.network;
-    flow = flow;
-    value_from_zero = rw (← is) (omega (arith, ints));
-  };
+pub KeepsTotals-with_flows : (s : NetworkState) (flows : List ℕ) (sum : ℕ) (before at : NodeFlow) (count : ℕ) → KeepsTotals s sum before count → IsState (with_flows s flows) → IsNodeFlow s.network.arcs flows s.network.source at → KeepsTotals (with_flows s flows) sum at count
+KeepsTotals-with_flows s flows sum before at count keeps state is = record {
+  state = state;
   sum_is = keeps.sum_is;
-  value_is = is;
+  at_source = is;
   count_is = keeps.count_is;
 }

@@ -7,6 +7,7 @@ use Rattle.std.proofs.lemmas.Bool.Decides.{nat_tests}
 use Rattle.std.proofs.lemmas.List.Elements.{All-push}
 use Rattle.std.proofs.lemmas.Slice.Zip.{AllZip-long, all_zipped_more}
 use Rattle.dmf_net.specs.declared.arc.Arc.{Arc}
+use Rattle.dmf_net.specs.declared.flow_sums.NodeFlow.{NodeFlow}
 use Rattle.dmf_net.specs.declared.limits.TheConstants.{MAX_ARCS}
 use Rattle.dmf_net.specs.Node.{IsNode, is_node}
 use Rattle.dmf_net.specs.Arc.{IsArc, capacity_sum}
@@ -73,13 +74,16 @@ pub IsNode-is_node : (nodes v : ℕ) → is_node nodes v ≡ true → IsNode nod
 IsNode-is_node nodes v h = record { from_one = grind (arith, nat_tests); to_last = grind (arith, nat_tests) }
 
 -- the totals with a new open arc
-pub KeepsTotals-idle : (s : NetworkState) (arc : Arc) (sum value count : ℕ) → KeepsTotals s sum value count → arc.closed ≡ false → IsState (with_idle_arc s arc) → KeepsTotals (with_idle_arc s arc) (sum + arc.cap) value (count + 1)
-KeepsTotals-idle s arc sum value count keeps is_open state =
+pub KeepsTotals-idle : (s : NetworkState) (arc : Arc) (sum : ℕ) (source : NodeFlow) (count : ℕ) → KeepsTotals s sum source count → arc.closed ≡ false → IsState (with_idle_arc s arc) → KeepsTotals (with_idle_arc s arc) (sum + arc.cap) source (count + 1)
+KeepsTotals-idle s arc sum source count keeps is_open state =
     let e = AllZip-long _ s.network.arcs s.flows keeps.state.flow.within in
     record {
       state = state;
       sum_is = rw sum_by_push (ap (λ x. x + arc.cap) keeps.sum_is);
-      value_is = keeps.value_is ∙ sym (flow_value-idle s.network s.flows arc e);
+      at_source = record {
+        leaving = keeps.at_source.leaving ∙ sym (flow_at-idle (λ a. a.tail) s.network.arcs s.flows arc s.network.source e);
+        entering = keeps.at_source.entering ∙ sym (flow_at-idle (λ a. a.head) s.network.arcs s.flows arc s.network.source e);
+      };
       count_is = rw (sum_by_push, is_open) (ap (λ x. x + 1) keeps.count_is);
     }
 

@@ -70,7 +70,8 @@ flows-le-capacities (a ∷ arcs) (x ∷ flows) w =
     let g : Arc → ℕ = λ b. b.cap in
     omega (arith, w.0, flows-le-capacities arcs flows w.1, sum_by-cons f (a, x) (zip arcs flows), sum_by-cons g a arcs)
 
-part-le : (b : Bool) (x : ℕ) → cond b x 0 ≤ x
+-- a part that may be missing
+pub part-le : (b : Bool) (x : ℕ) → cond b x 0 ≤ x
 part-le true x = omega arith
 part-le false x = omega arith
 

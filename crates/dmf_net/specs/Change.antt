@@ -10,12 +10,15 @@ use Rattle.dmf_net.specs.declared.fault.PlanFault.TheVariants as plan
 use Rattle.dmf_net.specs.Node.{is_node}
 use Rattle.dmf_net.specs.Arc.{open_arc, capacity_sum}
 use Rattle.dmf_net.specs.Network.{Network}
-use Rattle.dmf_net.specs.NetworkState.{NetworkState, with_idle_arc}
+use Rattle.dmf_net.specs.NetworkState.{NetworkState, IsState, with_idle_arc}
+use Rattle.dmf_net.specs.Solve.{Solves}
 
 -- a change, as it is asked for
 pub data Change : Type 0 where
   -- a new arc, from a tail to a head, of a capacity
   Add : (tail head cap : ℕ) → Change
+  -- the greatest flow that is reached from the present one
+  Solve : Change
 
 -- why the network cannot take an arc from `tail` to `head` of this capacity: the first reason that holds
 abbrev pub arc_fault : Network → ℕ → ℕ → ℕ → Option ArcFault
@@ -41,7 +44,23 @@ plan_fault SumTooLarge = plan.SumTooLarge
 -- why the change is refused, if it is
 abbrev pub change_fault : NetworkState → Change → Option PlanFault
 change_fault s (Add tail head cap) = option_map plan_fault (arc_fault s.network tail head cap)
+change_fault s Solve = None
 
 -- what an accepted change makes of a state
 abbrev pub Becomes : NetworkState → Change → NetworkState → Type 0
 Becomes s (Add tail head cap) t = t ≡ with_idle_arc s (open_arc tail head cap)
+Becomes s Solve t = (t.network ≡ s.network) × Solves s.network s.flows t.flows
+
+-- Any two outcomes of a change from one state are equal.
+abbrev pub HasOneOutcome : Type 0
+HasOneOutcome = (s t u : NetworkState) (change : Change) → IsState s → Becomes s change t → Becomes s change u → t ≡ u
+
+-- A state that the change makes of a state.
+pub record Outcome (s : NetworkState) (change : Change) : Type 0 where
+  pub after : NetworkState
+  pub state : IsState after
+  pub becomes : Becomes s change after
+
+-- Every change that is not refused has an outcome.
+abbrev pub HasOutcome : Type 0
+HasOutcome = (s : NetworkState) (change : Change) → IsState s → change_fault s change ≡ None → Outcome s change

@@ -2,13 +2,14 @@
 use Rattle.std.specs.Prelude.{ℕ, ◌≡◌, ◌+◌, ◌-◌, ◌<◌, ◌==◌, if◌then◌else◌, List, [], ◌∷◌, slice_get, slice_set, Some}
 use Rattle.dmf_net.specs.declared.edit.Move.{Move}
 use Rattle.dmf_net.specs.declared.edit.Edit.{Edit}
-use Rattle.dmf_net.specs.declared.edit.Edit.TheVariants.{Add}
+use Rattle.dmf_net.specs.declared.edit.Edit.TheVariants.{Add, Solve}
 use Rattle.dmf_net.specs.Arc.{open_arc}
-use Rattle.dmf_net.specs.NetworkState.{NetworkState, IsState, with_idle_arc}
+use Rattle.dmf_net.specs.NetworkState.{NetworkState, IsState, with_flows, with_idle_arc}
 
 -- the flows that an edit moves
 abbrev pub moves_of : Edit → List Move
 moves_of (Add tail head cap) = []
+moves_of (Solve moves) = moves.items
 
 -- the flows after these moves: each arc that they name has the flow that they give it
 abbrev pub moved : List Move → List ℕ → List ℕ
@@ -18,6 +19,7 @@ moved (m ∷ moves) flows = moved moves (slice_set flows (m.arc - 1) m.to)
 -- the state that an edit makes of a state
 abbrev pub applied : Edit → NetworkState → NetworkState
 applied (Add tail head cap) s = with_idle_arc s (open_arc tail head cap)
+applied (Solve moves) s = with_flows s (moved moves.items s.flows)
 
 -- The moves name arcs past number `last`, in strictly ascending order, each with the flow that it has.
 abbrev pub MovesFit : ℕ → List Move → List ℕ → Type 0

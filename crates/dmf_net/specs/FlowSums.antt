@@ -1,7 +1,13 @@
 -- The sums of the flows at the nodes.
 use Rattle.std.specs.Prelude.{ℕ, ◌≡◌, ◌≢◌, ◌+◌, ◌-◌, ◌≤◌, List, length, EachIndex, slice_index}
 use Rattle.dmf_net.specs.declared.arc.Arc.{Arc}
-use Rattle.dmf_net.specs.Flow.{flow_at}
+use Rattle.dmf_net.specs.declared.flow_sums.NodeFlow.{NodeFlow}
+use Rattle.dmf_net.specs.Flow.{flow_at, outflow, inflow}
+
+-- The two numbers are what flows out of node `v` and into it.
+pub record IsNodeFlow (arcs : List Arc) (flows : List ℕ) (v : ℕ) (sums : NodeFlow) : Type 0 where
+  pub leaving : sums.leaving ≡ outflow arcs flows v
+  pub entering : sums.entering ≡ inflow arcs flows v
 
 -- The list has, for each node from node 1 on, the sum of the flows of the arcs that have the node at this end.
 pub record AreFlowSums (end : Arc → ℕ) (nodes : ℕ) (arcs : List Arc) (flows sums : List ℕ) : Type 0 where

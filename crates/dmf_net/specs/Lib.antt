@@ -2,8 +2,14 @@ pub mod Node
 pub mod Arc
 pub mod Network
 pub mod Flow
+pub mod Greatest
+pub mod Cut
+pub mod FlowSums
 pub mod NetworkState
 pub mod FlowFault
+pub mod Path
+pub mod Distances
+pub mod Residual
+pub mod Solve
 pub mod Change
 pub mod Edit
-pub mod FlowSums

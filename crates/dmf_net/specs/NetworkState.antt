@@ -1,9 +1,11 @@
 -- What a `State` is to its callers: a network with a flow on it.
 use Rattle.std.specs.Prelude.{ℕ, ◌≡◌, List, [], ◌∷◌, ◌++◌, pos, ◌≤ℤ◌}
 use Rattle.dmf_net.specs.declared.arc.Arc.{Arc}
+use Rattle.dmf_net.specs.declared.flow_sums.NodeFlow.{NodeFlow}
 use Rattle.dmf_net.specs.Arc.{capacity_sum, open_count}
 use Rattle.dmf_net.specs.Network.{Network, IsNetwork}
 use Rattle.dmf_net.specs.Flow.{IsFlow, flow_value}
+use Rattle.dmf_net.specs.FlowSums.{IsNodeFlow}
 
 -- a network, and beside it one number for each of its arcs
 pub record NetworkState : Type 0 where
@@ -35,8 +37,8 @@ abbrev pub with_idle_arc : NetworkState → Arc → NetworkState
 with_idle_arc s arc = record { network = with_last_arc s.network arc; flows = s.flows ++ 0 ∷ [] }
 
 -- The numbers that a `State` keeps beside its network and flow, so that they need not be summed again.
-pub record KeepsTotals (s : NetworkState) (sum value count : ℕ) : Type 0 where
+pub record KeepsTotals (s : NetworkState) (sum : ℕ) (source : NodeFlow) (count : ℕ) : Type 0 where
   pub state : IsState s
   pub sum_is : sum ≡ capacity_sum s.network.arcs
-  pub value_is : pos value ≡ flow_value s.network s.flows
+  pub at_source : IsNodeFlow s.network.arcs s.flows s.network.source source
   pub count_is : count ≡ open_count s.network.arcs

@@ -21,4 +21,9 @@ pub enum Edit {
         /// Its capacity.
         cap: u64,
     },
+    /// A greatest flow in place of the present one.
+    Solve {
+        /// The arcs whose flow differs, in the order of their numbers.
+        moves: Vec<Move>,
+    },
 }

@@ -1,6 +1,7 @@
 ghost use Rattle.std.specs.Prelude.{◌≡◌};
 ghost use Rattle.dmf_net.specs.declared.fault.NetFault.TheVariants as net;
 ghost use Rattle.dmf_net.specs.declared.fault.FlowFault.TheVariants as flow;
+ghost use Rattle.dmf_net.specs.declared.fault.PlanFault.TheVariants as plan;
 ghost use Rattle.dmf_net.specs.Change.{net_fault, plan_fault};
 
 use std::alloc::AllocError;
@@ -125,5 +126,13 @@ impl From<ArcFault> for PlanFault {
             ArcFault::TooManyArcs => PlanFault::TooManyArcs,
             ArcFault::SumTooLarge => PlanFault::SumTooLarge,
         }
+    }
+}
+
+impl From<AllocError> for PlanFault {
+    ghost from_gives = { λ _ e. e ≡ plan.NoMemory };
+
+    fn from(_error: AllocError) -> PlanFault {
+        PlanFault::NoMemory
     }
 }

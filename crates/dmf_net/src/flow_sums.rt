@@ -1,5 +1,4 @@
 ghost use Rattle.std.specs.Prelude.{◌≡◌, ℕ, ◌-◌, ◌^◌, ◌<◌, ◌≤◌, length, slice_index, All, IfOk, MatchOption};
-ghost use Rattle.std.specs.Option.{SomeIff};
 ghost use Rattle.dmf_net.specs.declared.limits.TheConstants.{MAX_ARCS, MAX_NODES};
 ghost use Rattle.dmf_net.specs.Arc.{IsArc, capacity_sum};
 ghost use Rattle.dmf_net.specs.Flow.{AreWithinCapacities};
@@ -8,6 +7,13 @@ ghost use Rattle.dmf_net.specs.FlowSums.{AreFlowSums, IsInnerUpTo, AreSameAt, Di
 
 use crate::arc::Arc;
 use std::alloc::{AllocError, Global};
+
+/// What flows out of a node and into it.
+#[derive(Clone, Copy, Debug, PartialEq, Eq)]
+pub struct NodeFlow {
+    pub leaving: u64,
+    pub entering: u64,
+}
 
 /// What flows out of each node and into it, that of node 1 first.
 #[derive(Drop)]
@@ -57,17 +63,19 @@ impl FlowSums {
         None
     }
 
-    /// What flows out of a node less what flows into it, if that is not below 0.
-    pub fn excess_at(&self, node: u32) -> Option<u64>
+    /// What flows out of a node and into it.
+    pub fn at(&self, node: u32) -> NodeFlow
         requires from_one { 1 ≤ node }
         requires in_leaving { node ≤ length self.now.leaving.items }
         requires in_entering { node ≤ length self.now.entering.items }
-        ensures { SomeIff result
-            (slice_index self.now.entering.items (node - 1) ≤ slice_index self.now.leaving.items (node - 1))
-            (slice_index self.now.leaving.items (node - 1) - slice_index self.now.entering.items (node - 1)) }
+        ensures leaving { result.leaving ≡ slice_index self.now.leaving.items (node - 1) }
+        ensures entering { result.entering ≡ slice_index self.now.entering.items (node - 1) }
     {
         let k = node as usize - 1;
-        self.leaving[k].checked_sub(self.entering[k])
+        NodeFlow {
+            leaving: self.leaving[k],
+            entering: self.entering[k],
+        }
     }
 }
 

@@ -3,17 +3,19 @@ ghost use Rattle.std.specs.Result.{result_err};
 ghost use Rattle.dmf_net.specs.declared.limits.TheConstants.{MAX_NODES};
 ghost use Rattle.dmf_net.specs.Node.{IsNode, is_node};
 ghost use Rattle.dmf_net.specs.Arc.{open_arc, open_count};
-ghost use Rattle.dmf_net.specs.Flow.{IsFlow, flow_value};
+ghost use Rattle.dmf_net.specs.Flow.{flow_value};
+ghost use Rattle.dmf_net.specs.FlowSums.{IsNodeFlow};
 ghost use Rattle.dmf_net.specs.FlowFault.{FlowFaultHolds};
 ghost use Rattle.dmf_net.specs.NetworkState.{IsState, without_arcs, with_flows, with_idle_arc};
 ghost use Rattle.dmf_net.specs.Change.{arc_fault, net_fault};
-ghost use Rattle.dmf_net.specs.Edit.{applied, Fits};
+ghost use Rattle.dmf_net.specs.Edit.{moved, applied, MovesFit, Fits};
 
 use crate::arc::Arc;
-use crate::edit::Edit;
+use crate::edit::{Edit, Move};
 use crate::fault::{ArcFault, FlowFault, NetFault, NoMemory};
-use crate::flow_sums::{first_over_capacity, flow_sums};
+use crate::flow_sums::{NodeFlow, first_over_capacity, flow_sums};
 use crate::limits::MAX_ARCS;
+use crate::moves::make_moves;
 use std::alloc::{AllocError, Global};
 use std::marker::Model;
 
@@ -30,7 +32,7 @@ pub struct State {
     arcs: Vec<Arc>,
     flows: Vec<u64>,
     capacities: u64,
-    value: u64,
+    at_source: NodeFlow,
     open_arcs: u32,
 }
 
@@ -49,7 +51,7 @@ impl Model for State {
           network = record { nodes = a.nodes; source = a.source; sink = a.sink; arcs = a.arcs.items };
           flows = a.flows.items;
         })
-        a.capacities a.value a.open_arcs };
+        a.capacities a.at_source a.open_arcs };
 }
 
 impl State {
@@ -69,7 +71,10 @@ impl State {
             arcs: Vec::new(alloc),
             flows: Vec::new(alloc),
             capacities: 0,
-            value: 0,
+            at_source: NodeFlow {
+                leaving: 0,
+                entering: 0,
+            },
             open_arcs: 0,
         }
     }
@@ -115,12 +120,20 @@ impl State {
         self.flows[j as usize - 1]
     }
 
+    /// The flows in the order of the arcs' numbers.
+    pub(crate) fn flows(&self) -> &[u64]
+        ensures value { result.now ≡ self.now.flows }
+        ensures state { IsState self.now }
+    {
+        &self.flows
+    }
+
     /// The value of the flow: what flows out of the source less what flows into it. Looks at no arc.
     pub fn value(&self) -> u64
         ensures value { pos result ≡ flow_value self.now.network self.now.flows }
         ensures state { IsState self.now }
     {
-        self.value
+        self.at_source.leaving - self.at_source.entering
     }
 
     /// The number of arcs that are not closed. Looks at no arc.
@@ -154,21 +167,21 @@ impl State {
         ensures state { OnOk result (IsState (with_flows self.now flows.items)) }
         ensures fault { IfErr result (FlowFaultHolds self.now.network flows.items) }
     {
-        let value = self.value_of(alloc, &flows)?;
+        let at_source = self.judge(alloc, &flows)?;
         let arcs = Vec::from_slice(alloc, &self.arcs)?;
         Ok(State {
             arcs,
             flows,
-            value,
+            at_source,
             ..*self
         })
     }
 
-    /// The value of these flows on the network, or why they are no flow of a value from 0 on.
-    fn value_of(&self, alloc: Global, flows: &[u64]) -> Result<u64, FlowFault>
+    /// What flows out of the source and into it, or why these flows are no flow of a value from 0 on.
+    fn judge(&self, alloc: Global, flows: &[u64]) -> Result<NodeFlow, FlowFault>
         requires { length flows.now ≡ length self.now.network.arcs }
-        ensures flow { OnOk result (IsFlow self.now.network flows.now) }
-        ensures value { IfOk result (λ value. pos value ≡ flow_value self.now.network flows.now) }
+        ensures state { OnOk result (IsState (with_flows self.now flows.now)) }
+        ensures source { IfOk result (IsNodeFlow self.now.network.arcs flows.now self.now.network.source) }
         ensures fault { IfErr result (FlowFaultHolds self.now.network flows.now) }
     {
         if let Some(arc) = first_over_capacity(&self.arcs, flows) {
@@ -178,10 +191,11 @@ impl State {
         if let Some(node) = sums.first_unbalanced(self.source, self.sink) {
             return Err(FlowFault::NotConserved(node));
         }
-        let Some(value) = sums.excess_at(self.source) else {
+        let at_source = sums.at(self.source);
+        if at_source.leaving < at_source.entering {
             return Err(FlowFault::Negative);
-        };
-        Ok(value)
+        }
+        Ok(at_source)
     }
 
     /// Appends an open arc without flow.
@@ -210,7 +224,26 @@ impl State {
     {
         match *edit {
             Edit::Add { tail, head, cap } => self.append(Arc::open(tail, head, cap)),
+            Edit::Solve { ref moves } => {
+                self.make(moves);
+                Ok(())
+            }
         }
+    }
+
+    /// Gives each arc that the moves name the flow that they give it.
+    fn make(&mut self, moves: &[Move])
+        requires fit { MovesFit 0 moves.now self.old.flows }
+        requires state { IsState (with_flows self.old (moved moves.now self.old.flows)) }
+        ensures { self.new ≡ with_flows self.old (moved moves.now self.old.flows) }
+    {
+        make_moves(
+            &self.arcs,
+            &mut self.flows,
+            moves,
+            self.source,
+            &mut self.at_source,
+        );
     }
 
     /// The open arc from `tail` to `head`, or the first reason why the network cannot take it.

@@ -1,0 +1,31 @@
+-- A change has one outcome: each path that augments is the least one, and paths are taken until none is left.
+use Rattle.std.proofs.Common.{ℕ, ◌≡◌, List, [], ◌∷◌, All, sym, ◌∙◌, subst}
+use Rattle.dmf_net.specs.declared.step.Step.{Step}
+use Rattle.dmf_net.specs.Arc.{IsArc}
+use Rattle.dmf_net.specs.Network.{Network}
+use Rattle.dmf_net.specs.Path.{HasNoPath}
+use Rattle.dmf_net.specs.Residual.{residual_steps, augmented}
+use Rattle.dmf_net.specs.Solve.{Augments}
+use Rattle.dmf_net.specs.Change.{Add, Solve, HasOneOutcome}
+use Rattle.dmf_net.proofs.OneLeast.{one-least}
+use Rattle.dmf_net.proofs.ResidualSteps.{AreSteps-residual}
+
+-- Augmenting from the same flows ends at the same flows.
+one-last : (n : Network) → All (IsArc n.nodes) n.arcs → (last other : List ℕ) → HasNoPath (residual_steps n.arcs last) n.source n.sink → HasNoPath (residual_steps n.arcs other) n.source n.sink → (flows : List ℕ) (paths more : List (List Step)) → Augments n flows paths last → Augments n flows more other → last ≡ other
+one-last n arcs last other last_none other_none flows [] [] is same = sym is ∙ same
+one-last n arcs last other last_none other_none flows [] (path ∷ more) is goes =
+    absurd (subst (λ xs. HasNoPath (residual_steps n.arcs xs) n.source n.sink) (sym is) last_none path goes.0.leads)
+one-last n arcs last other last_none other_none flows (path ∷ paths) [] goes is =
+    absurd (subst (λ xs. HasNoPath (residual_steps n.arcs xs) n.source n.sink) (sym is) other_none path goes.0.leads)
+one-last n arcs last other last_none other_none flows (path ∷ paths) (second ∷ more) goes moves =
+    let ascend = (AreSteps-residual n.nodes n.arcs flows arcs).ascending in
+    let same : path ≡ second = one-least (residual_steps n.arcs flows) ascend n.source n.sink path second goes.0 moves.0 in
+    one-last n arcs last other last_none other_none (augmented path flows) paths more goes.1
+    (subst (λ p. Augments n (augmented p flows) more other) (sym same) moves.1)
+
+pub one-outcome : HasOneOutcome
+one-outcome s t u (Add tail head cap) state is same = is ∙ sym same
+one-outcome s t u Solve state is same =
+    let network : t.network ≡ u.network = is.0 ∙ sym same.0 in
+    let flows : t.flows ≡ u.flows = one-last s.network state.network.arcs t.flows u.flows is.1.no_path same.1.no_path s.flows is.1.paths same.1.paths is.1.augments same.1.augments in
+    λ i. record { network = network i; flows = flows i }

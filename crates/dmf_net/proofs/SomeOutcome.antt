@@ -1,0 +1,87 @@
+-- A change that is not refused has an outcome.
+use Rattle.std.proofs.Common.{ℕ, ◌≡◌, ◌+◌, ◌^◌, ◌&&◌, zero, suc, Bool, true, false, cond, List, [], ◌∷◌, length, Some, None, option_map, pos, ◌+ℤ◌, ◌≤ℤ◌, ◌<ℤ◌, ltb, inl, inr, refl, arith, ltb-true}
+use Rattle.std.proofs.lemmas.Int.{ints}
+use Rattle.dmf_net.specs.declared.limits.TheConstants.{MAX_ARCS}
+use Rattle.dmf_net.specs.declared.fault.ArcFault.TheVariants.{NoSuchNode, TooManyArcs, SumTooLarge}
+use Rattle.dmf_net.specs.Node.{is_node}
+use Rattle.dmf_net.specs.Arc.{IsArc, open_arc, capacity_sum}
+use Rattle.dmf_net.specs.Network.{Network, IsNetwork}
+use Rattle.dmf_net.specs.Flow.{IsFlow, flow_value}
+use Rattle.dmf_net.specs.NetworkState.{with_idle_arc, with_flows}
+use Rattle.dmf_net.specs.Residual.{residual_steps, augmented}
+use Rattle.dmf_net.specs.Solve.{Solves}
+use Rattle.dmf_net.specs.Change.{Add, Solve, plan_fault, HasOutcome}
+use Rattle.dmf_net.proofs.IdleArc.{IsState-idle, IsNode-is_node}
+use Rattle.dmf_net.proofs.SomeLeast.{SomeLeast, least-or-none}
+use Rattle.dmf_net.proofs.ResidualSteps.{AreSteps-residual}
+use Rattle.dmf_net.proofs.Augmenting.{room-positive, augmented-flow, augmented-value, value-le-capacities}
+
+-- A flow at which augmenting ends, of a value no smaller.
+record Solved (n : Network) (flows : List ℕ) : Type 0 where
+  last : List ℕ
+  solves : Solves n flows last
+  flow : IsFlow n last
+  value : flow_value n flows ≤ℤ flow_value n last
+
+-- Each path raises the value.
+value-rises : (n : Network) (flows : List ℕ) → IsNetwork n → IsFlow n flows → (found : SomeLeast (residual_steps n.arcs flows) n.source n.sink) → flow_value n flows <ℤ flow_value n (augmented found.path flows)
+value-rises n flows network flow found =
+    omega (arith, ints, room-positive n flows found.path network.two_terminals found.least, augmented-value n flows found.path network flow found.least)
+
+-- One path more in front.
+one-more : (n : Network) (flows : List ℕ) → IsNetwork n → IsFlow n flows → (found : SomeLeast (residual_steps n.arcs flows) n.source n.sink) → Solved n (augmented found.path flows) → Solved n flows
+one-more n flows network flow found rest = record {
+  last = rest.last;
+  solves = record {
+    paths = found.path ∷ rest.solves.paths;
+    augments = (found.least, rest.solves.augments);
+    no_path = rest.solves.no_path;
+  };
+  flow = rest.flow;
+  value = omega (arith, ints, value-rises n flows network flow found, rest.value);
+}
+
+-- Augmenting ends: each path raises the value, and the capacities together bound it.
+solved : (n : Network) → IsNetwork n → (left : ℕ) (flows : List ℕ) → IsFlow n flows → pos (capacity_sum n.arcs) <ℤ (flow_value n flows +ℤ pos left) → Solved n flows
+solved n network zero flows flow bound = absurd (omega (arith, ints, bound, value-le-capacities n flows flow))
+solved n network (suc left) flows flow bound =
+    elim (least-or-none (residual_steps n.arcs flows) (AreSteps-residual n.nodes n.arcs flows network.arcs).ascending n.source n.sink) [
+      | inl none ↦ record {
+        last = flows;
+        solves = record { paths = []; augments = refl; no_path = none };
+        flow = flow;
+        value = omega (arith, ints);
+      }
+      | inr found ↦ one-more n flows network flow found (solved n network left (augmented found.path flows)
+          (augmented-flow n flows found.path network flow found.least)
+          (omega (arith, ints, bound, value-rises n flows network flow found)))
+    ]
+
+-- Where there is no fault each test passes.
+each-passes : (tail head few small : Bool) → option_map plan_fault (cond (tail && head) (cond few (cond small None (Some SumTooLarge)) (Some TooManyArcs)) (Some NoSuchNode)) ≡ None → (tail ≡ true) × (head ≡ true) × (few ≡ true) × (small ≡ true)
+each-passes false head few small none = absurd (cc)
+each-passes true false few small none = absurd (cc)
+each-passes true true false small none = absurd (cc)
+each-passes true true true false none = absurd (cc)
+each-passes true true true true none = (refl, refl, refl, refl)
+
+pub some-outcome : HasOutcome
+some-outcome s (Add tail head cap) state accepted =
+    let passes = each-passes (is_node s.network.nodes tail) (is_node s.network.nodes head) (ltb (length s.network.arcs) MAX_ARCS) (ltb (capacity_sum s.network.arcs + cap) (2 ^ 64)) accepted in
+    let arc : IsArc s.network.nodes (open_arc tail head cap) = record {
+      tail = IsNode-is_node s.network.nodes tail passes.0;
+      head = IsNode-is_node s.network.nodes head passes.1;
+      closed = λ closed. absurd (cc);
+    } in
+    record {
+      after = with_idle_arc s (open_arc tail head cap);
+      state = IsState-idle s (open_arc tail head cap) state arc (ltb-true _ _ passes.2) (ltb-true _ _ passes.3);
+      becomes = refl;
+    }
+some-outcome s Solve state accepted =
+    let found : Solved s.network s.flows = solved s.network state.network (suc (capacity_sum s.network.arcs)) s.flows state.flow (omega (arith, ints, state.value_from_zero)) in
+    record {
+      after = with_flows s found.last;
+      state = record { network = state.network; flow = found.flow; value_from_zero = omega (arith, ints, state.value_from_zero, found.value) };
+      becomes = (refl, found.solves);
+    }

@@ -1,0 +1,38 @@
+-- The residual network of a flow, as the textbooks have it (Ahuja, Magnanti and Orlin, Network Flows, section 2.4),
+-- as a list of steps.
+use Rattle.std.specs.Prelude.{ℕ, ◌+◌, ◌-◌, ◌*◌, if◌then◌else◌, List, [], ◌∷◌, ◌++◌, nat_lt}
+use Rattle.dmf_net.specs.declared.arc.Arc.{Arc}
+use Rattle.dmf_net.specs.declared.step.Step.{Step}
+use Rattle.dmf_net.specs.Path.{has_rank, least_room}
+
+-- the step along arc number `j`, where more can flow on it
+abbrev pub forward : ℕ → Arc → ℕ → List Step
+forward j arc flow =
+    if nat_lt flow arc.cap then record { from = arc.tail; to = arc.head; rank = 2 * j; room = arc.cap - flow } ∷ [] else []
+
+-- the step against arc number `j`, where some flow on it can be taken back
+abbrev pub backward : ℕ → Arc → ℕ → List Step
+backward j arc flow =
+    if nat_lt 0 flow then record { from = arc.head; to = arc.tail; rank = 2 * j + 1; room = flow } ∷ [] else []
+
+-- the residual steps of the arcs from number `j` on, in the order of their ranks
+abbrev pub residual_from : ℕ → List Arc → List ℕ → List Step
+residual_from j [] flows = []
+residual_from j (arc ∷ arcs) [] = []
+residual_from j (arc ∷ arcs) (flow ∷ flows) = forward j arc flow ++ backward j arc flow ++ residual_from (j + 1) arcs flows
+
+-- the residual steps of a flow
+abbrev pub residual_steps : List Arc → List ℕ → List Step
+residual_steps arcs flows = residual_from 1 arcs flows
+
+-- the flows of the arcs from number `j` on, with `amount` more where the path has the arc's forward step, and `amount`
+-- less where it has its backward step
+abbrev pub augmented_from : ℕ → ℕ → List Step → List ℕ → List ℕ
+augmented_from j amount path [] = []
+augmented_from j amount path (flow ∷ flows) =
+    (flow + (if has_rank path (2 * j) then amount else 0) - (if has_rank path (2 * j + 1) then amount else 0))
+    ∷ augmented_from (j + 1) amount path flows
+
+-- the flows augmented along a path by the least room on it
+abbrev pub augmented : List Step → List ℕ → List ℕ
+augmented path flows = augmented_from 1 (least_room path) path flows

@@ -1,0 +1,62 @@
+ghost use Rattle.std.specs.Prelude.{◌≡◌, ◌+◌, ◌-◌, ◌^◌, ◌<◌, ◌≤◌, true, if◌then◌else◌, length, IfOk};
+ghost use Rattle.dmf_net.specs.declared.limits.TheConstants.{MAX_ARCS};
+ghost use Rattle.dmf_net.specs.Arc.{capacity_sum};
+ghost use Rattle.dmf_net.specs.Flow.{AreWithinCapacities};
+ghost use Rattle.dmf_net.specs.FlowSums.{IsNodeFlow};
+ghost use Rattle.dmf_net.specs.Edit.{MovesFit, moved, differences};
+
+use crate::arc::Arc;
+use crate::edit::Move;
+use crate::flow_sums::NodeFlow;
+use std::alloc::{AllocError, Global};
+
+/// The moves of the arcs on which the flow differs, in the order of their numbers.
+pub fn list_moves(alloc: Global, before: &[u64], after: &[u64]) -> Result<Vec<Move>, AllocError>
+    requires one_each { length after.now ≡ length before.now }
+    requires at_most_arcs { length before.now ≤ MAX_ARCS }
+    ensures { IfOk result (λ moves. moves.items ≡ differences 1 before.now after.now) }
+{
+    let mut moves = Vec::new(alloc);
+    for (i, &from) in before.iter().enumerate() {
+        let to = after[i];
+        if from != to {
+            let arc = i as u32 + 1;
+            moves.push(Move { arc, from, to })?;
+        }
+    }
+    Ok(moves)
+}
+
+/// Gives each arc that the moves name the flow that they give it, and the node the sums of the flows that it then has.
+pub fn make_moves(
+    arcs: &[Arc],
+    flows: &mut [u64],
+    moves: &[Move],
+    node: u32,
+    at_node: &mut NodeFlow,
+)
+    requires capacities { capacity_sum arcs.now < 2 ^ 64 }
+    requires within { AreWithinCapacities arcs.now flows.old }
+    requires fit { MovesFit 0 moves.now flows.old }
+    requires within_after { AreWithinCapacities arcs.now (moved moves.now flows.old) }
+    requires at_node { IsNodeFlow arcs.now flows.old node at_node.old }
+    ensures flows { flows.new ≡ moved moves.now flows.old }
+    ensures at_node { IsNodeFlow arcs.now flows.new node at_node.new }
+{
+    for m in moves {
+        let i = m.arc as usize - 1;
+        let arc = arcs[i];
+        at_node.leaving = replaced(at_node.leaving, arc.tail == node, m);
+        at_node.entering = replaced(at_node.entering, arc.head == node, m);
+        flows[i] = m.to;
+    }
+}
+
+/// The sum of some flows after a move, which is of one of them where `is_part`.
+fn replaced(sum: u64, is_part: bool, m: &Move) -> u64
+    requires part { is_part ≡ true → m.now.from ≤ sum }
+    requires small { is_part ≡ true → sum - m.now.from + m.now.to < 2 ^ 64 }
+    ensures { result + (if is_part then m.now.from else 0) ≡ sum + (if is_part then m.now.to else 0) }
+{
+    if is_part { sum - m.from + m.to } else { sum }
+}
