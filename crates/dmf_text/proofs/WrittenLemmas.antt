@@ -1,16 +1,26 @@
 -- The bytes of written lines.
-use Rattle.std.proofs.Common.{◌≡◌, ℕ, suc, ◌+◌, ◌<◌, List, [], ◌∷◌, ◌++◌, length, take, drop, get_or, map, true, false, not, codes, refl, sym, ap, ◌∙◌, append_assoc, append-nil, decimal, take-append-drop}
+use Rattle.std.proofs.Common.{◌≡◌, ℕ, suc, ◌+◌, ◌-◌, subst, ◌<◌, List, [], ◌∷◌, ◌++◌, length, take, drop, get_or, slice_get, min, Some, arith, map, filter, nat_abs, Bool, true, false, not, codes, refl, sym, ap, ◌∙◌, append_assoc, append-nil, decimal, take-append-drop}
 use Rattle.std.proofs.Math.Seq.{drop-cons}
 use Rattle.std.proofs.lemmas.List.{map-append, take_more}
 use Rattle.std.proofs.lemmas.List.Elements.{filter-append}
 use Rattle.std.proofs.lemmas.Grind.{flat_map-append}
+use Rattle.std.proofs.lemmas.Option.{get_or_from_slice_get}
+use Rattle.std.proofs.lemmas.Slice.Zip.{get_or-zip, length-zip}
 use Rattle.std.proofs.lemmas.Bool.{cond-true, cond-false}
 use Rattle.dmf_net.specs.declared.arc.Arc.{Arc}
 use Rattle.dmf_net.specs.Arc.{open_count}
+use Rattle.dmf_net.specs.Flow.{flow_value}
 use Rattle.dmf_net.specs.Network.{Network}
-use Rattle.dmf_text.specs.Written.{written_line, written, open_arcs, arc_fields, arcs_text, problem_text}
+use Rattle.dmf_net.specs.NetworkState.{NetworkState}
+use Rattle.std.specs.List.{zip}
+use Rattle.dmf_text.specs.Problem.{Line}
+use Rattle.dmf_text.specs.Written.{written_line, written, arcs_text, flows_text, problem_text, solution_text}
 
 -- lines, field by field
+pub line-of_two : (x y : List ℕ) → written_line (x ∷ y ∷ []) ≡ x ++ (32 ∷ (y ++ 10 ∷ []))
+unfolding written_line
+line-of_two x y = simp append_assoc
+
 pub line-of_three : (x y z : List ℕ) → written_line (x ∷ y ∷ z ∷ []) ≡ x ++ (32 ∷ (y ++ (32 ∷ (z ++ 10 ∷ []))))
 unfolding written_line
 line-of_three x y z = simp append_assoc
@@ -19,36 +29,56 @@ pub line-of_four : (w x y z : List ℕ) → written_line (w ∷ x ∷ y ∷ z �
 unfolding written_line
 line-of_four w x y z = simp append_assoc
 
-pub arcs_text-append : (xs ys : List Arc) → arcs_text (xs ++ ys) ≡ arcs_text xs ++ arcs_text ys
-unfolding written
-arcs_text-append xs ys =
-    ap (λ arcs. written (map arc_fields arcs)) (filter-append (λ arc. not arc.closed) xs ys)
-    ∙ ap written (map-append arc_fields (open_arcs xs) (open_arcs ys))
-    ∙ flat_map-append written_line (map arc_fields (open_arcs xs)) (map arc_fields (open_arcs ys))
+-- The lines of those of a list that are to be written: open arcs, or open arcs with their flows.
+module _ {X : Type 0} (is_kept : X → Bool) (fields : X → Line) where
+  abbrev pub kept_text : List X → List ℕ
+  kept_text xs = written (map fields (filter is_kept xs))
 
-pub arcs_text-closed : (arc : Arc) → arc.closed ≡ true → arcs_text (arc ∷ []) ≡ []
-unfolding written
-arcs_text-closed arc closed = ap (λ arcs. written (map arc_fields arcs)) (cond-false _ _ _ (ap not closed))
+  pub kept-nil : kept_text [] ≡ []
+  unfolding written
+  kept-nil = refl
 
-pub arcs_text-open : (arc : Arc) → arc.closed ≡ false → arcs_text (arc ∷ []) ≡ written_line (arc_fields arc)
-unfolding written
-arcs_text-open arc opened =
-    ap (λ arcs. written (map arc_fields arcs)) (cond-true _ _ _ (ap not opened)) ∙ append-nil (written_line (arc_fields arc))
+  pub kept-none : (x : X) → is_kept x ≡ false → kept_text (x ∷ []) ≡ []
+  unfolding written
+  kept-none x out = ap (λ xs. written (map fields xs)) (cond-false _ _ _ out)
 
-pub arcs_text-nil : arcs_text [] ≡ []
-unfolding written
-arcs_text-nil = refl
+  pub kept-one : (x : X) → is_kept x ≡ true → kept_text (x ∷ []) ≡ written_line (fields x)
+  unfolding written
+  kept-one x is_in = ap (λ xs. written (map fields xs)) (cond-true _ _ _ is_in) ∙ append-nil (written_line (fields x))
 
--- the lines of the arcs up to one, of that one, and of those behind it
-pub arcs_text-more : (arcs : List Arc) (i : ℕ) (d : Arc) → i < length arcs → arcs_text (take (i + 1) arcs) ≡ arcs_text (take i arcs) ++ arcs_text (get_or arcs i d ∷ [])
-arcs_text-more arcs i d below = ap arcs_text (take_more arcs i d below) ∙ arcs_text-append (take i arcs) (get_or arcs i d ∷ [])
+  pub kept-append : (xs ys : List X) → kept_text (xs ++ ys) ≡ kept_text xs ++ kept_text ys
+  unfolding written
+  kept-append xs ys =
+      ap (λ zs. written (map fields zs)) (filter-append is_kept xs ys)
+      ∙ ap written (map-append fields (filter is_kept xs) (filter is_kept ys))
+      ∙ flat_map-append written_line (map fields (filter is_kept xs)) (map fields (filter is_kept ys))
 
-pub arcs_text-split : (arcs : List Arc) (i : ℕ) (d : Arc) → i < length arcs
-    → arcs_text arcs ≡ arcs_text (take i arcs) ++ (arcs_text (get_or arcs i d ∷ []) ++ arcs_text (drop (suc i) arcs))
-arcs_text-split arcs i d below =
-    ap arcs_text (sym (take-append-drop i arcs) ∙ ap (λ l. take i arcs ++ l) (drop-cons arcs i d below))
-    ∙ arcs_text-append (take i arcs) (get_or arcs i d ∷ drop (suc i) arcs)
-    ∙ ap (λ l. arcs_text (take i arcs) ++ l) (arcs_text-append (get_or arcs i d ∷ []) (drop (suc i) arcs))
+  -- the lines of the list up to one, of that one, and of those behind it
+  pub kept-more : (xs : List X) (i : ℕ) (d : X) → i < length xs → kept_text (take (i + 1) xs) ≡ kept_text (take i xs) ++ kept_text (get_or xs i d ∷ [])
+  kept-more xs i d below = ap kept_text (take_more xs i d below) ∙ kept-append (take i xs) (get_or xs i d ∷ [])
+
+  pub kept-split : (xs : List X) (i : ℕ) (d : X) → i < length xs
+      → kept_text xs ≡ kept_text (take i xs) ++ (kept_text (get_or xs i d ∷ []) ++ kept_text (drop (suc i) xs))
+  kept-split xs i d below =
+      ap kept_text (sym (take-append-drop i xs) ∙ ap (λ l. take i xs ++ l) (drop-cons xs i d below))
+      ∙ kept-append (take i xs) (get_or xs i d ∷ drop (suc i) xs)
+      ∙ ap (λ l. kept_text (take i xs) ++ l) (kept-append (get_or xs i d ∷ []) (drop (suc i) xs))
+
+abbrev pub is_open : Arc → Bool
+is_open arc = not arc.closed
+
+abbrev pub is_open_flow : Arc × ℕ → Bool
+is_open_flow p = not p.0.closed
+
+-- an arc beside its flow
+pub flow-at : (arcs : List Arc) (flows : List ℕ) (i flow : ℕ) (d : Arc) → length flows ≡ length arcs → i < length arcs
+    → slice_get flows (i + 1 - 1) ≡ Some flow → get_or (zip arcs flows) i (d, 0) ≡ (get_or arcs i d, flow)
+flow-at arcs flows i flow d one_each below is =
+    get_or-zip arcs flows i (d, 0) below (omega (arith, one_each, below))
+    ∙ ap (λ x. (get_or arcs i d, x)) (get_or_from_slice_get flows i flow 0 (subst (λ k. slice_get flows k ≡ Some flow) (omega arith) is))
+
+pub zip-long : (arcs : List Arc) (flows : List ℕ) → length flows ≡ length arcs → length (zip arcs flows) ≡ length arcs
+zip-long arcs flows one_each = length-zip arcs flows ∙ omega (arith, one_each)
 
 -- the text of a network, line by line
 pub problem_text-lines : (n : Network) → problem_text n
@@ -57,3 +87,9 @@ pub problem_text-lines : (n : Network) → problem_text n
     ++ (written_line (codes "n" ∷ decimal n.sink ∷ codes "t" ∷ []) ++ arcs_text n.arcs))
 unfolding written
 problem_text-lines n = refl
+
+-- the text of a solution, line by line
+pub solution_text-lines : (s : NetworkState) → solution_text s
+    ≡ written_line (codes "s" ∷ decimal (nat_abs (flow_value s.network s.flows)) ∷ []) ++ flows_text (zip s.network.arcs s.flows)
+unfolding written
+solution_text-lines s = refl

@@ -1,8 +1,9 @@
 -- The bytes of written texts.
-use Rattle.std.specs.Prelude.{ℕ, List, [], ◌∷◌, ◌++◌, not, codes, decimal, filter, length, map, replicate}
-use Rattle.std.specs.List.{join_with_byte, flat_map}
+use Rattle.std.specs.Prelude.{ℕ, List, [], ◌∷◌, ◌++◌, not, codes, decimal, filter, length, map, nat_abs, replicate}
+use Rattle.std.specs.List.{join_with_byte, flat_map, zip}
 use Rattle.dmf_net.specs.declared.arc.Arc.{Arc}
 use Rattle.dmf_net.specs.Arc.{open_count}
+use Rattle.dmf_net.specs.Flow.{flow_value}
 use Rattle.dmf_net.specs.Network.{Network}
 use Rattle.dmf_net.specs.NetworkState.{NetworkState}
 use Rattle.dmf_text.specs.Problem.{Line}
@@ -45,3 +46,25 @@ open_network n = record { nodes = n.nodes; source = n.source; sink = n.sink; arc
 -- a network with no flow on it
 abbrev pub idle_state : Network → NetworkState
 idle_state n = record { network = n; flows = replicate (length n.arcs) 0 }
+
+-- the open ones of arcs that stand beside their flows
+abbrev pub open_flows : List (Arc × ℕ) → List (Arc × ℕ)
+open_flows flows = filter (λ p. not p.0.closed) flows
+
+-- `f TAIL HEAD FLOW`
+abbrev pub flow_fields : Arc × ℕ → Line
+flow_fields p = codes "f" ∷ decimal p.0.tail ∷ decimal p.0.head ∷ decimal p.1 ∷ []
+
+-- the lines of the open arcs with their flows
+abbrev pub flows_text : List (Arc × ℕ) → List ℕ
+flows_text flows = written (map flow_fields (open_flows flows))
+
+-- the solution of a state: the value of its flow, which is not below 0, and then the flow on each open arc in order,
+-- those without flow too
+abbrev pub solution_lines : NetworkState → List Line
+solution_lines s =
+    (codes "s" ∷ decimal (nat_abs (flow_value s.network s.flows)) ∷ [])
+    ∷ map flow_fields (open_flows (zip s.network.arcs s.flows))
+
+abbrev pub solution_text : NetworkState → List ℕ
+solution_text s = written (solution_lines s)

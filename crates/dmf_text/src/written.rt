@@ -1,9 +1,10 @@
-//! Problem texts, written.
+//! Problem and solution texts, written.
 ghost use Rattle.std.specs.Prelude.{◌≡◌, ◌≤◌, ◌∷◌, [], Ok, codes, decimal, length};
+ghost use Rattle.std.specs.List.{zip};
 ghost use Rattle.dmf_net.specs.NetworkState.{IsState};
 ghost use Rattle.dmf_text.specs.Problem.{problem_of};
 ghost use Rattle.dmf_text.specs.Writing.{Writes};
-ghost use Rattle.dmf_text.specs.Written.{written_line, arc_fields, arcs_text, problem_text, open_network, idle_state};
+ghost use Rattle.dmf_text.specs.Written.{written_line, arcs_text, flows_text, problem_text, solution_text, open_network, idle_state};
 
 use crate::line_buffer::LineBuffer;
 use crate::writer::{Sink, WriteFault, put_all};
@@ -18,6 +19,15 @@ pub fn write_problem<W: Sink>(state: &State, out: &mut W) -> Result<(), WriteFau
     ensures stands { problem_of (problem_text state.now.network) ≡ Ok (idle_state (open_network state.now.network)) }
 {
     put_problem(state, out)
+}
+
+/// Writes the solution of a state: the value of its flow, and then the flow on each open arc in order, those without flow
+/// too. Each line is put at once. It takes no memory and does not flush.
+pub fn write_solution<W: Sink>(state: &State, out: &mut W) -> Result<(), WriteFault>
+    ensures written { Writes W.contents W.has_failed out.old out.new result (solution_text state.now) }
+{
+    put_all(out, value_line(state.value()).as_bytes())?;
+    put_flows(state, out)
 }
 
 fn put_problem<W: Sink>(state: &State, out: &mut W) -> Result<(), WriteFault>
@@ -49,7 +59,28 @@ fn put_arc<W: Sink>(arc: &Arc, out: &mut W) -> Result<(), WriteFault>
     if arc.closed {
         return Ok(());
     }
-    put_all(out, arc_line(arc).as_bytes())
+    put_all(out, arc_line(b"a", arc, arc.cap).as_bytes())
+}
+
+// Writes the line of each open arc with its flow.
+fn put_flows<W: Sink>(state: &State, out: &mut W) -> Result<(), WriteFault>
+    ensures { Writes W.contents W.has_failed out.old out.new result (flows_text (zip state.now.network.arcs state.now.flows)) }
+{
+    let arcs = state.arcs();
+    for i in 0..arcs.len() {
+        put_flow(&arcs[i], state.flow(i as u32 + 1), out)?;
+    }
+    Ok(())
+}
+
+// Writes the line of an arc with this flow, unless it is closed.
+fn put_flow<W: Sink>(arc: &Arc, flow: u64, out: &mut W) -> Result<(), WriteFault>
+    ensures { Writes W.contents W.has_failed out.old out.new result (flows_text ((arc.now, flow) ∷ [])) }
+{
+    if arc.closed {
+        return Ok(());
+    }
+    put_all(out, arc_line(b"f", arc, flow).as_bytes())
 }
 
 fn problem_line(nodes: u32, arcs: u32) -> LineBuffer
@@ -75,15 +106,27 @@ fn node_line(node: u32, letter: &[u8]) -> LineBuffer
     line
 }
 
-fn arc_line(arc: &Arc) -> LineBuffer
-    ensures { result ≡ written_line (arc_fields arc.now) }
+fn value_line(value: u64) -> LineBuffer
+    ensures { result ≡ written_line (codes "s" ∷ decimal value ∷ []) }
 {
     let mut line = LineBuffer::new();
-    line.add_number(arc.cap);
+    line.add_number(value);
+    line.add_text(b"s ");
+    line
+}
+
+// The line of an arc: the letter, the ends, and what it has, its capacity or its flow.
+fn arc_line(letter: &[u8], arc: &Arc, has: u64) -> LineBuffer
+    requires { length letter.now ≤ 1 }
+    ensures { result ≡ written_line (letter.now ∷ decimal arc.now.tail ∷ decimal arc.now.head ∷ decimal has ∷ []) }
+{
+    let mut line = LineBuffer::new();
+    line.add_number(has);
     line.add_text(b" ");
     line.add_number(u64::from(arc.head));
     line.add_text(b" ");
     line.add_number(u64::from(arc.tail));
-    line.add_text(b"a ");
+    line.add_text(b" ");
+    line.add_text(letter);
     line
 }

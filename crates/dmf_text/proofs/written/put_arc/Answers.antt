@@ -1,11 +1,12 @@
-use Rattle.std.proofs.Common.{sym, ◌∙◌, refl}
+use Rattle.std.proofs.Common.{not, sym, ap, ◌∙◌, refl}
 use Rattle.std.proofs.KnownBytes.{Appends-nil}
-use Rattle.dmf_text.proofs.WrittenLemmas.{arcs_text-closed, arcs_text-open}
+use Rattle.dmf_text.specs.Written.{arc_fields}
+use Rattle.dmf_text.proofs.WrittenLemmas.{kept-none, kept-one, is_open}
 use Rattle.dmf_text.proofs.written.put_arc.Goals as goal
 
 pub returns-then-arc : goal.returns-then-arc
-returns-then-arc g c = rw (arcs_text-closed c.args.arc.now c.if-arc.true) (Appends-nil _, refl)
+returns-then-arc g c = rw (kept-none is_open arc_fields c.args.arc.now (ap not c.if-arc.true)) (Appends-nil _, refl)
 
 pub returns : goal.returns
 returns g c =
-    rw (arcs_text-open c.args.arc.now c.if-arc.false, sym (c.as_bytes.ensures ∙ c.arc_line.ensures)) c.put_all.ensures
+    rw (kept-one is_open arc_fields c.args.arc.now (ap not c.if-arc.false), sym (c.as_bytes.ensures ∙ c.arc_line.ensures)) c.put_all.ensures

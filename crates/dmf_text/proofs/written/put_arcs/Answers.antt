@@ -2,13 +2,13 @@ use Rattle.std.proofs.Common.{refl, drop, suc, take, get_or, ◌∷◌, [], ◌�
 use Rattle.std.proofs.lemmas.Result.{err_from_is_err_and}
 use Rattle.std.proofs.KnownBytes.{Appends-nil, Appends-trans}
 use Rattle.dmf_net.specs.Arc.{open_arc}
-use Rattle.dmf_text.specs.Written.{arcs_text}
-use Rattle.dmf_text.proofs.WrittenLemmas.{arcs_text-nil, arcs_text-more, arcs_text-split}
+use Rattle.dmf_text.specs.Written.{arcs_text, arc_fields}
+use Rattle.dmf_text.proofs.WrittenLemmas.{kept-nil, kept-more, kept-split, is_open}
 use Rattle.dmf_text.proofs.WritingLemmas.{cut-front, cut-more}
 use Rattle.dmf_text.proofs.written.put_arcs.Goals as goal
 
 pub loop-arc-init : goal.loop-arc-init
-loop-arc-init g c = record { held = rw arcs_text-nil (Appends-nil _); mark = refl }
+loop-arc-init g c = record { held = rw (kept-nil is_open arc_fields) (Appends-nil _); mark = refl }
 
 pub returns-in_err-put_arc : goal.returns-in_err-put_arc
 returns-in_err-put_arc g c =
@@ -16,12 +16,12 @@ returns-in_err-put_arc g c =
     let arcs = c.args.arcs.now in
     let i = c.loop-arc.arc-index in
     let arc = get_or arcs i (open_arc 0 0 0) in
-    rw (failed.1, arcs_text-split arcs i (open_arc 0 0 0) c.loop-arc-test.true)
+    rw (failed.1, kept-split is_open arc_fields arcs i (open_arc 0 0 0) c.loop-arc-test.true)
     (cut-more g.W.Sink.contents g.W.Sink.has_failed _ c.loop-arc.out _ (arcs_text (take i arcs)) _ c.loop-arc.invariant.held
     (cut-front g.W.Sink.contents g.W.Sink.has_failed _ _ (arcs_text (arc ∷ [])) (arcs_text (drop (suc i) arcs)) c.in_err-put_arc.ensures))
 
 pub loop-arc-preserved : goal.loop-arc-preserved
 loop-arc-preserved g c = record {
-  held = rw (arcs_text-more c.args.arcs.now c.loop-arc.arc-index (open_arc 0 0 0) c.loop-arc-test.true) (Appends-trans _ _ _ _ _ c.loop-arc.invariant.held c.in_ok-put_arc.ensures.0);
+  held = rw (kept-more is_open arc_fields c.args.arcs.now c.loop-arc.arc-index (open_arc 0 0 0) c.loop-arc-test.true) (Appends-trans _ _ _ _ _ c.loop-arc.invariant.held c.in_ok-put_arc.ensures.0);
   mark = c.in_ok-put_arc.ensures.1 ∙ c.loop-arc.invariant.mark;
 }
