@@ -7,9 +7,9 @@ use Rattle.dmf_net.specs.NetworkState.{NetworkState}
 use Rattle.dmf_net.specs.Change.{Change, change_fault, Becomes}
 use Rattle.dmf_net.specs.Change as change
 use Rattle.dmf_session.specs.declared.command.Command.{Command}
-use Rattle.dmf_session.specs.declared.command.Command.TheVariants.{Add, Undo, Redo, PrintProblem}
+use Rattle.dmf_session.specs.declared.command.Command.TheVariants.{Add, Solve, Undo, Redo, PrintProblem, PrintFlow}
 use Rattle.dmf_session.specs.declared.command.Reply.{Reply}
-use Rattle.dmf_session.specs.declared.command.Reply.TheVariants.{Value, Added, Problem}
+use Rattle.dmf_session.specs.declared.command.Reply.TheVariants.{Value, Added, Solution, Problem, Flow}
 use Rattle.dmf_session.specs.declared.command.Refusal.{Refusal}
 use Rattle.dmf_session.specs.declared.command.Refusal.TheVariants.{NoSuchArc, Closed, NoSuchNode, TooManyArcs, SumTooLarge, NothingToUndo, NothingToRedo, NoMemory}
 use Rattle.dmf_session.specs.Timeline.{Timeline, IsPresent, future_of, appended, back, forward, AddsArcs}
@@ -57,19 +57,24 @@ abbrev pub Steps : Timeline → Command → Result Reply Refusal → Timeline �
 Steps t (Add tail head cap) result u =
     (s : NetworkState) × IsPresent t s
     × Changes t s (change.Add tail head cap) (λ new. Added (length new.network.arcs) (value_of new)) result u
+Steps t Solve result u =
+    (s : NetworkState) × IsPresent t s × Changes t s change.Solve (λ new. Solution) result u
 Steps t (Undo steps) result u =
     MatchBool (nat_le steps t.place) (IsMoved (back t steps) result u) (IsRefused t NothingToUndo result u)
 Steps t (Redo steps) result u =
     MatchBool (nat_le steps (future_of t)) (IsMoved (forward t steps) result u) (IsRefused t NothingToRedo result u)
 Steps t PrintProblem result u = (result ≡ Ok Problem) × (u ≡ t)
+Steps t PrintFlow result u = (result ≡ Ok Flow) × (u ≡ t)
 
--- The command may be refused memory: an accepted addition of an arc, and steps forward of which one adds arcs.
+-- The command may be refused memory: an accepted addition of an arc, solving, and steps forward of which one adds arcs.
 abbrev pub MayWantMemory : Timeline → Command → Type 0
 MayWantMemory t (Add tail head cap) =
     (s : NetworkState) × IsPresent t s × (change_fault s (change.Add tail head cap) ≡ None)
+MayWantMemory t Solve = Unit {0}
 MayWantMemory t (Undo steps) = ⊥
 MayWantMemory t (Redo steps) = (steps ≤ future_of t) × (i : ℕ) × (i < steps) × AddsArcs t (t.place + i)
 MayWantMemory t PrintProblem = ⊥
+MayWantMemory t PrintFlow = ⊥
 
 -- The same where memory may be refused: a command that wants some may be refused it, and then nothing has changed.
 abbrev pub Answers : Timeline → Command → Result Reply Refusal → Timeline → Type 0
@@ -79,6 +84,8 @@ Answers t command result u = Steps t command result u
 -- the command is a change, so it adds a state if it is accepted
 abbrev pub IsChange : Command → Type 0
 IsChange (Add tail head cap) = Unit {0}
+IsChange Solve = Unit {0}
 IsChange (Undo steps) = ⊥
 IsChange (Redo steps) = ⊥
 IsChange PrintProblem = ⊥
+IsChange PrintFlow = ⊥

@@ -13,12 +13,16 @@ pub enum Command {
         /// Its capacity.
         cap: u64,
     },
+    /// Put the greatest flow that augmenting reaches in place of the present one.
+    Solve,
     /// Go so many changes back.
     Undo(u64),
     /// Go so many undone changes forward.
     Redo(u64),
     /// Show the problem.
     PrintProblem,
+    /// Show the flow.
+    PrintFlow,
 }
 
 /// What a session answers to a command that it accepts.
@@ -28,8 +32,12 @@ pub enum Reply {
     Value(u64),
     /// The number of the new arc, and the value of the present flow.
     Added(u32, u64),
+    /// The problem is solved, and the present flow is to be shown.
+    Solution,
     /// The present problem is to be shown.
     Problem,
+    /// The present flow is to be shown.
+    Flow,
 }
 
 /// Why a command is refused. The first four and the last are told by the reader of commands alone.

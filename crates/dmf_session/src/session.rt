@@ -6,7 +6,8 @@ ghost use Rattle.dmf_session.specs.Step.{Answers, IsChange};
 
 use crate::command::{Command, Refusal, Reply};
 use crate::history::{History, RedoFault};
-use dmf_net::{State, plan_add};
+use dmf_net::{State, plan_add, plan_solve};
+use std::alloc::Global;
 use std::marker::Model;
 
 /// A network that is changed by commands, over the history that keeps its states.
@@ -56,15 +57,17 @@ impl<H: History> Session<H> {
     /// Carries out a command.
     ///
     /// A command that is refused changes nothing. Only a change and a step forward over an added arc take memory.
-    pub fn step(&mut self, command: Command) -> Result<Reply, Refusal>
+    pub fn step(&mut self, alloc: Global, command: Command) -> Result<Reply, Refusal>
         requires room { IsChange command → (H.timeline self.old).place < MAX_CHANGES }
         ensures { Answers (H.timeline self.old) command result (H.timeline self.new) }
     {
         match command {
             Command::Add { tail, head, cap } => self.add(tail, head, cap),
+            Command::Solve => self.solve(alloc),
             Command::Undo(steps) => self.undo(steps),
             Command::Redo(steps) => self.redo(steps),
             Command::PrintProblem => Ok(Reply::Problem),
+            Command::PrintFlow => Ok(Reply::Flow),
         }
     }
 
@@ -76,6 +79,15 @@ impl<H: History> Session<H> {
         self.history.append(edit)?;
         let present = self.history.present();
         Ok(Reply::Added(present.arcs().len() as u32, present.value()))
+    }
+
+    fn solve(&mut self, alloc: Global) -> Result<Reply, Refusal>
+        requires room { (H.timeline self.old).place < MAX_CHANGES }
+        ensures { Answers (H.timeline self.old) command.Solve result (H.timeline self.new) }
+    {
+        let edit = plan_solve(alloc, self.history.present())?;
+        self.history.append(edit)?;
+        Ok(Reply::Solution)
     }
 
     fn undo(&mut self, steps: u64) -> Result<Reply, Refusal>

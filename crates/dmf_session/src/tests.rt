@@ -15,11 +15,12 @@ fn example(alloc: Global) -> Result<Session<WholeHistory>, NetFault> {
 
 fn answer<H: History>(
     rt: &impl Abort,
+    alloc: Global,
     session: &mut Session<H>,
     command: Command,
 ) -> Result<Reply, Refusal> {
     assert!(rt; session.past() < MAX_CHANGES);
-    session.step(command)
+    session.step(alloc, command)
 }
 
 fn add(cap: u64) -> Command {
@@ -33,24 +34,30 @@ fn add(cap: u64) -> Command {
 #[test]
 fn changes_are_undone_and_redone(rt: HostRuntime) -> Result<(), Fail> {
     let mut session = example(rt.alloc())?;
-    assert_eq!(rt; answer(&rt, &mut session, add(1)), Ok(Reply::Added(6, 0)));
-    assert_eq!(rt; answer(&rt, &mut session, add(2)), Ok(Reply::Added(7, 0)));
     assert_eq!(rt;
-        answer(&rt, &mut session, Command::Undo(2)),
+        answer(&rt, rt.alloc(), &mut session, add(1)),
+        Ok(Reply::Added(6, 0))
+    );
+    assert_eq!(rt;
+        answer(&rt, rt.alloc(), &mut session, add(2)),
+        Ok(Reply::Added(7, 0))
+    );
+    assert_eq!(rt;
+        answer(&rt, rt.alloc(), &mut session, Command::Undo(2)),
         Ok(Reply::Value(0))
     );
     assert_eq!(rt; (session.past(), session.future()), (0, 2));
     assert_eq!(rt; session.present().arcs().len(), 5);
     assert_eq!(rt;
-        answer(&rt, &mut session, Command::Redo(3)),
+        answer(&rt, rt.alloc(), &mut session, Command::Redo(3)),
         Err(Refusal::NothingToRedo)
     );
     assert_eq!(rt;
-        answer(&rt, &mut session, Command::Redo(2)),
+        answer(&rt, rt.alloc(), &mut session, Command::Redo(2)),
         Ok(Reply::Value(0))
     );
     assert_eq!(rt;
-        answer(&rt, &mut session, Command::PrintProblem),
+        answer(&rt, rt.alloc(), &mut session, Command::PrintProblem),
         Ok(Reply::Problem)
     );
     assert_eq!(rt; (session.past(), session.future()), (2, 0));
@@ -61,23 +68,29 @@ fn changes_are_undone_and_redone(rt: HostRuntime) -> Result<(), Fail> {
 #[test]
 fn a_change_drops_what_was_undone(rt: HostRuntime) -> Result<(), Fail> {
     let mut session = example(rt.alloc())?;
-    assert_eq!(rt; answer(&rt, &mut session, add(4)), Ok(Reply::Added(6, 0)));
     assert_eq!(rt;
-        answer(&rt, &mut session, Command::Undo(1)),
+        answer(&rt, rt.alloc(), &mut session, add(4)),
+        Ok(Reply::Added(6, 0))
+    );
+    assert_eq!(rt;
+        answer(&rt, rt.alloc(), &mut session, Command::Undo(1)),
         Ok(Reply::Value(0))
     );
-    assert_eq!(rt; answer(&rt, &mut session, add(7)), Ok(Reply::Added(6, 0)));
     assert_eq!(rt;
-        answer(&rt, &mut session, Command::Redo(1)),
+        answer(&rt, rt.alloc(), &mut session, add(7)),
+        Ok(Reply::Added(6, 0))
+    );
+    assert_eq!(rt;
+        answer(&rt, rt.alloc(), &mut session, Command::Redo(1)),
         Err(Refusal::NothingToRedo)
     );
     assert_eq!(rt;
-        answer(&rt, &mut session, Command::Undo(2)),
+        answer(&rt, rt.alloc(), &mut session, Command::Undo(2)),
         Err(Refusal::NothingToUndo)
     );
     assert_eq!(rt; (session.past(), session.future()), (1, 0));
     assert_eq!(rt;
-        answer(&rt, &mut session, Command::Undo(0)),
+        answer(&rt, rt.alloc(), &mut session, Command::Undo(0)),
         Ok(Reply::Value(0))
     );
     Ok(())
@@ -92,13 +105,39 @@ fn a_refused_change_is_no_state(rt: HostRuntime) -> Result<(), Fail> {
         cap: 1,
     };
     assert_eq!(rt;
-        answer(&rt, &mut session, to_nowhere),
+        answer(&rt, rt.alloc(), &mut session, to_nowhere),
         Err(Refusal::NoSuchNode)
     );
     assert_eq!(rt;
-        answer(&rt, &mut session, add(u64::MAX)),
+        answer(&rt, rt.alloc(), &mut session, add(u64::MAX)),
         Err(Refusal::SumTooLarge)
     );
     assert_eq!(rt; (session.past(), session.future()), (0, 0));
+    Ok(())
+}
+
+#[test]
+fn a_solve_is_a_change_also_of_a_greatest_flow(rt: HostRuntime) -> Result<(), Fail> {
+    let mut session = example(rt.alloc())?;
+    for past in [1, 2] {
+        assert_eq!(rt;
+            answer(&rt, rt.alloc(), &mut session, Command::Solve),
+            Ok(Reply::Solution)
+        );
+        assert_eq!(rt; (session.past(), session.present().value()), (past, 5));
+    }
+    assert_eq!(rt;
+        answer(&rt, rt.alloc(), &mut session, Command::Undo(1)),
+        Ok(Reply::Value(5))
+    );
+    assert_eq!(rt;
+        answer(&rt, rt.alloc(), &mut session, Command::PrintFlow),
+        Ok(Reply::Flow)
+    );
+    assert_eq!(rt;
+        answer(&rt, rt.alloc(), &mut session, Command::Undo(1)),
+        Ok(Reply::Value(0))
+    );
+    assert_eq!(rt; (session.past(), session.future()), (0, 2));
     Ok(())
 }
