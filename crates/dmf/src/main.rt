@@ -4,12 +4,13 @@
 mod fault;
 mod words;
 
-use dmf_run::{Status, run_session, status_of};
+use dmf_run::{Status, run_session, run_solve, status_of};
 use dmf_text::{StdSink, StdSource};
 use fault::Fault;
 use std::fs::File;
 use std::io::BufWriter;
 use std::process::ExitCode;
+use words::Task;
 
 fn main(rt: HostRuntime) -> ExitCode {
     let outcome = run(&rt);
@@ -21,8 +22,20 @@ fn main(rt: HostRuntime) -> ExitCode {
 }
 
 fn run(rt: &HostRuntime) -> Result<Status, Fault> {
-    let problem = words::problem_path(rt)?;
-    hold_session(rt, problem.as_str())
+    match words::read_task(rt)? {
+        Task::Solve => solve(rt),
+        Task::Session(path) => hold_session(rt, path.as_str()),
+    }
+}
+
+/// Solves the problem on standard input.
+fn solve(rt: &HostRuntime) -> Result<Status, Fault> {
+    let Ok(writer) = BufWriter::new(rt.alloc(), rt.stdout()) else {
+        return Err(Fault::NO_MEMORY);
+    };
+    let mut problem = StdSource::new(rt.stdin());
+    let mut out = StdSink::new(writer);
+    run_solve(rt.alloc(), &mut problem, &mut out).map_err(Fault::Run)
 }
 
 /// Holds a session on the problem in the file at the path, with the commands from standard input.
@@ -36,10 +49,7 @@ fn hold_session(rt: &HostRuntime, path: &str) -> Result<Status, Fault> {
     let mut problem = StdSource::new(file);
     let mut commands = StdSource::new(rt.stdin());
     let mut out = StdSink::new(writer);
-    match run_session(rt.alloc(), &mut problem, &mut commands, &mut out) {
-        Ok(status) => Ok(status),
-        Err(fault) => Err(Fault::Run(fault)),
-    }
+    run_session(rt.alloc(), &mut problem, &mut commands, &mut out).map_err(Fault::Run)
 }
 
 /// The status with which the program ends: 2 for words that it does not take, 4 where the problem cannot be opened,

@@ -9,9 +9,9 @@ use Rattle.dmf_net.specs.declared.fault.PlanFault.{PlanFault}
 use Rattle.dmf_net.specs.Change.{change_fault}
 use Rattle.dmf_net.specs.Change as change
 use Rattle.dmf_session.specs.declared.command.Command.{Command}
-use Rattle.dmf_session.specs.declared.command.Command.TheVariants.{Add, Undo, Redo, PrintProblem}
+use Rattle.dmf_session.specs.declared.command.Command.TheVariants.{Add, Solve, Undo, Redo, PrintProblem, PrintFlow}
 use Rattle.dmf_session.specs.declared.command.Reply.{Reply}
-use Rattle.dmf_session.specs.declared.command.Reply.TheVariants.{Added}
+use Rattle.dmf_session.specs.declared.command.Reply.TheVariants.{Added, Solution}
 use Rattle.dmf_session.specs.declared.command.Refusal.{Refusal}
 use Rattle.dmf_session.specs.declared.command.Refusal.TheVariants.{UnknownCommand, FieldCount, NotANumber, TooLarge, NoSuchArc, Closed, NoSuchNode, TooManyArcs, SumTooLarge, NothingToUndo, NothingToRedo, NotGreatest, NoMemory, LineTooLong}
 use Rattle.dmf_session.specs.Timeline.{Timeline, appended, back, forward, future_of}
@@ -77,9 +77,12 @@ redo-grows t u steps result within m = ⊎_elim
 steps-grow : (t u : Timeline) (command : Command) (result : Result Reply Refusal) → t.place < length t.states → Steps t command result u → Grows t u
 steps-grow t u (Add tail head cap) result within s =
     change-grows t u s.0 (change.Add tail head cap) (λ new. Added (length new.network.arcs) (value_of new)) result (change_fault s.0 (change.Add tail head cap)) within s.2
+steps-grow t u Solve result within s =
+    change-grows t u s.0 change.Solve (λ new. Solution) result (change_fault s.0 change.Solve) within s.2
 steps-grow t u (Undo steps) result within s = undo-grows t u steps result (nat_le steps t.place) within s
 steps-grow t u (Redo steps) result within s = redo-grows t u steps result within s
 steps-grow t u PrintProblem result within s = same t u within s.1
+steps-grow t u PrintFlow result within s = same t u within s.1
 
 pub LineRuns-grows : (number : ℕ) (t : Timeline) (meaning : Result (Option Command) Refusal) (text : List ℕ) (refused : Bool) (u : Timeline) → t.place < length t.states → LineRuns number t meaning text refused u → Grows t u
 LineRuns-grows number t (Ok None) text refused u within l = same t u within l.2

@@ -6,7 +6,7 @@ use Rattle.dmf_text.specs.declared.digits.NumberFault.TheVariants as digits
 use Rattle.dmf_text.specs.Fields.{fields}
 use Rattle.dmf_text.specs.Number.{number_of}
 use Rattle.dmf_session.specs.declared.command.Command.{Command}
-use Rattle.dmf_session.specs.declared.command.Command.TheVariants.{Add, Undo, Redo, PrintProblem}
+use Rattle.dmf_session.specs.declared.command.Command.TheVariants.{Add, Solve, Undo, Redo, PrintProblem, PrintFlow}
 use Rattle.dmf_session.specs.declared.command.Refusal.{Refusal}
 use Rattle.dmf_session.specs.declared.command.Refusal.TheVariants.{UnknownCommand, FieldCount, NotANumber, TooLarge}
 
@@ -23,6 +23,11 @@ addition (tail ∷ head ∷ cap ∷ []) =
     with_number (number_of head) (λ head. with_number (number_of cap) (λ cap. Ok (Add tail head cap))))
 addition fields = Err FieldCount
 
+-- nothing, which is what stands behind `solve`
+unfoldable pub solving : List (List ℕ) → Result Command Refusal
+solving [] = Ok Solve
+solving fields = Err FieldCount
+
 -- nothing or `K`, the fields behind `undo` and `redo`
 unfoldable pub steps : List (List ℕ) → Result ℕ Refusal
 steps [] = Ok 1
@@ -31,7 +36,10 @@ steps (count ∷ field ∷ fields) = Err FieldCount
 
 -- what to print, the field behind `print`
 unfoldable pub printing : List (List ℕ) → Result Command Refusal
-printing (what ∷ []) = if bytes_eq what (codes "problem") then Ok PrintProblem else Err UnknownCommand
+printing (what ∷ []) =
+    if bytes_eq what (codes "problem") then Ok PrintProblem
+    else if bytes_eq what (codes "flow") then Ok PrintFlow
+    else Err UnknownCommand
 printing fields = Err FieldCount
 
 -- a command made of what its fields say
@@ -45,6 +53,7 @@ meaning_of [] = Ok None
 meaning_of (word ∷ behind) =
     if bytes_eq word (codes "c") then Ok None
     else if bytes_eq word (codes "add") then made_of (λ command. command) (addition behind)
+    else if bytes_eq word (codes "solve") then made_of (λ command. command) (solving behind)
     else if bytes_eq word (codes "undo") then made_of Undo (steps behind)
     else if bytes_eq word (codes "redo") then made_of Redo (steps behind)
     else if bytes_eq word (codes "print") then made_of (λ command. command) (printing behind)

@@ -6,4 +6,5 @@ pub mod Run
 pub mod Input
 pub mod Outcome
 pub mod Session
+pub mod SolveRun
 pub mod Status

@@ -1,11 +1,11 @@
 -- What a run of command lines writes.
 use Rattle.std.specs.Prelude.{ℕ, ◌≡◌, ◌+◌, List, [], ◌∷◌, ◌++◌, codes, decimal, Bool, true, false, ◌||◌, Option, Some, None, Result, Ok, Err}
 use Rattle.dmf_net.specs.NetworkState.{NetworkState}
-use Rattle.dmf_text.specs.Written.{written_line, problem_text}
+use Rattle.dmf_text.specs.Written.{written_line, problem_text, solution_text}
 use Rattle.dmf_session.specs.declared.command.Command.{Command}
-use Rattle.dmf_session.specs.declared.command.Command.TheVariants.{Add, Undo, Redo, PrintProblem}
+use Rattle.dmf_session.specs.declared.command.Command.TheVariants.{Add, Solve, Undo, Redo, PrintProblem, PrintFlow}
 use Rattle.dmf_session.specs.declared.command.Reply.{Reply}
-use Rattle.dmf_session.specs.declared.command.Reply.TheVariants.{Value, Added, Problem}
+use Rattle.dmf_session.specs.declared.command.Reply.TheVariants.{Value, Added, Solution, Problem, Flow}
 use Rattle.dmf_session.specs.declared.command.Refusal.{Refusal}
 use Rattle.dmf_session.specs.Timeline.{Timeline, IsPresent}
 use Rattle.dmf_session.specs.Step.{Answers}
@@ -15,9 +15,11 @@ use Rattle.dmf_run.specs.Line.{line_meaning}
 -- the word of a command
 abbrev pub word_of : Command → List ℕ
 word_of (Add tail head cap) = codes "add"
+word_of Solve = codes "solve"
 word_of (Undo steps) = codes "undo"
 word_of (Redo steps) = codes "redo"
 word_of PrintProblem = codes "print"
+word_of PrintFlow = codes "print"
 
 -- `c WORD value V`
 abbrev pub value_text : Command → ℕ → List ℕ
@@ -32,7 +34,9 @@ added_text command arc value =
 abbrev pub reply_text : Command → Reply → NetworkState → List ℕ
 reply_text command (Value value) s = value_text command value
 reply_text command (Added arc value) s = added_text command arc value
+reply_text command Solution s = solution_text s
 reply_text command Problem s = problem_text s.network
+reply_text command Flow s = solution_text s
 
 -- what is written of a refused line
 abbrev pub refused_text : ℕ → Refusal → List ℕ

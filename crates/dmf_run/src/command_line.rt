@@ -1,6 +1,6 @@
 ghost use Rattle.std.specs.Prelude.{◌≡◌};
 ghost use Rattle.dmf_text.specs.Number.{number_of};
-ghost use Rattle.dmf_run.specs.CommandLine.{command_of, addition, steps, printing, with_number};
+ghost use Rattle.dmf_run.specs.CommandLine.{command_of, addition, solving, steps, printing, with_number};
 
 use dmf_session::{Command, Refusal};
 use dmf_text::{Fields, NumberFault, number};
@@ -22,6 +22,8 @@ pub fn read_command(line: &[u8]) -> Result<Option<Command>, Refusal>
     }
     let command = if word == b"add".as_slice() {
         read_addition(fields)?
+    } else if word == b"solve".as_slice() {
+        read_solving(fields)?
     } else if word == b"undo".as_slice() {
         Command::Undo(read_steps(fields)?)
     } else if word == b"redo".as_slice() {
@@ -49,6 +51,17 @@ fn read_addition(mut fields: Fields<'_>) -> Result<Command, Refusal>
     }
 }
 
+/// The fields behind `solve`: there are none.
+#[tactic(auto, unfolding(crate::specs::CommandLine::solving))]
+fn read_solving(mut fields: Fields<'_>) -> Result<Command, Refusal>
+    ensures { result ≡ solving fields.entry }
+{
+    match fields.next() {
+        None => Ok(Command::Solve),
+        Some(_) => Err(Refusal::FieldCount),
+    }
+}
+
 /// The fields behind `undo` and `redo`.
 #[tactic(auto, unfolding(crate::specs::CommandLine::steps))]
 fn read_steps(mut fields: Fields<'_>) -> Result<u64, Refusal>
@@ -68,6 +81,7 @@ fn read_printing(mut fields: Fields<'_>) -> Result<Command, Refusal>
 {
     match (fields.next(), fields.next()) {
         (Some(what), None) if what == b"problem".as_slice() => Ok(Command::PrintProblem),
+        (Some(what), None) if what == b"flow".as_slice() => Ok(Command::PrintFlow),
         (Some(_), None) => Err(Refusal::UnknownCommand),
         _ => Err(Refusal::FieldCount),
     }

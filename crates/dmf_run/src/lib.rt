@@ -6,6 +6,7 @@ pub use fault::{EngineFault, Status, status_of};
 pub use input::{MAX_BYTES, MAX_LINE};
 pub use refusal::refusal_text;
 pub use session::{MAX_LINES, run_commands, run_session};
+pub use solve::run_solve;
 
 mod command_line;
 mod fault;
@@ -14,3 +15,4 @@ mod problem;
 mod refusal;
 mod reply;
 mod session;
+mod solve;

@@ -1,13 +1,13 @@
 //! Replies to command lines, each written and then flushed.
 ghost use Rattle.std.specs.Prelude.{◌≡◌, ◌≤◌, [], length, true, IfOk};
 ghost use Rattle.dmf_text.specs.Writing.{Writes};
-ghost use Rattle.dmf_text.specs.Written.{problem_text};
+ghost use Rattle.dmf_text.specs.Written.{problem_text, solution_text};
 ghost use Rattle.dmf_run.specs.Run as run;
 
 use crate::refusal::refusal_text;
 use dmf_net::State;
 use dmf_session::{Command, Refusal, Reply};
-use dmf_text::{LineBuffer, Sink, WriteFault, put_all, write_problem};
+use dmf_text::{LineBuffer, Sink, WriteFault, put_all, write_problem, write_solution};
 
 /// Tells that a line was refused, and answers true.
 pub fn refuse<W: Sink>(number: u32, refusal: &Refusal, out: &mut W) -> Result<bool, WriteFault>
@@ -31,6 +31,16 @@ fn put_problem<W: Sink>(state: &State, out: &mut W) -> Result<(), WriteFault>
     ensures { Writes W.contents W.has_failed out.old out.new result (problem_text state.now.network) }
 {
     let Ok(()) = write_problem(state, out) else {
+        return Err(WriteFault);
+    };
+    flush(out)
+}
+
+/// Writes the solution of a state, and flushes it.
+pub fn put_solution<W: Sink>(state: &State, out: &mut W) -> Result<(), WriteFault>
+    ensures { Writes W.contents W.has_failed out.old out.new result (solution_text state.now) }
+{
+    let Ok(()) = write_solution(state, out) else {
         return Err(WriteFault);
     };
     flush(out)
@@ -70,6 +80,7 @@ pub fn show<W: Sink>(
         Reply::Value(value) => { put_line(&value_line(command, value), out) }
         Reply::Added(arc, value) => { put_line(&added_line(command, arc, value), out) }
         Reply::Problem => put_problem(present, out),
+        Reply::Solution | Reply::Flow => put_solution(present, out),
     }
 }
 
@@ -103,8 +114,9 @@ fn word_of(command: Command) -> &'static [u8]
 {
     match command {
         Command::Add { .. } => b"add",
+        Command::Solve => b"solve",
         Command::Undo(_) => b"undo",
         Command::Redo(_) => b"redo",
-        Command::PrintProblem => b"print",
+        Command::PrintProblem | Command::PrintFlow => b"print",
     }
 }

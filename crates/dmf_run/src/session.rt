@@ -22,6 +22,7 @@ pub const MAX_LINES: u32 = 1_000_000;
 /// [`EngineFault::TooMuchInput`] past [`MAX_LINES`] lines or [`crate::MAX_BYTES`] bytes. Takes no memory but that of
 /// changes: a command that is refused it is answered so, and the run goes on.
 pub fn run_commands<H: History + Drop, C: Source, W: Sink>(
+    alloc: Global,
     session: Session<H>,
     commands: &mut C,
     out: &mut W,
@@ -49,13 +50,13 @@ pub fn run_commands<H: History + Drop, C: Source, W: Sink>(
     for number in 1..MAX_LINES + 1 {
         match input.next_line(commands)? {
             Next::Line(meaning) => {
-                let Ok(refused) = answer(&mut session, number, meaning, out) else {
+                let Ok(refused) = answer(alloc, &mut session, number, meaning, out) else {
                     return Err(EngineFault::Write);
                 };
                 is_refused |= refused;
             }
             Next::Last(meaning) => {
-                let Ok(refused) = answer(&mut session, number, meaning, out) else {
+                let Ok(refused) = answer(alloc, &mut session, number, meaning, out) else {
                     return Err(EngineFault::Write);
                 };
                 is_refused |= refused;
@@ -99,7 +100,7 @@ pub fn run_session<P: Source, C: Source, W: Sink>(
     let Ok(history) = WholeHistory::new(alloc, state) else {
         return Err(EngineFault::NoMemory);
     };
-    run_commands(Session::new(history), commands, out)
+    run_commands(alloc, Session::new(history), commands, out)
 }
 
 fn status(is_refused: bool) -> Status
@@ -114,6 +115,7 @@ fn status(is_refused: bool) -> Status
 
 /// Carries out a line, and writes and flushes its reply, if it has one. Whether it was refused.
 fn answer<H: History, W: Sink>(
+    alloc: Global,
     session: &mut Session<H>,
     number: u32,
     meaning: Meaning,
@@ -125,12 +127,13 @@ fn answer<H: History, W: Sink>(
 {
     match meaning {
         Ok(None) => Ok(false),
-        Ok(Some(command)) => answer_command(session, number, command, out),
+        Ok(Some(command)) => answer_command(alloc, session, number, command, out),
         Err(refusal) => refuse(number, &refusal, out),
     }
 }
 
 fn answer_command<H: History, W: Sink>(
+    alloc: Global,
     session: &mut Session<H>,
     number: u32,
     command: Command,
@@ -140,7 +143,7 @@ fn answer_command<H: History, W: Sink>(
     ensures { WritesLine W.contents W.has_failed out.old out.new number
         (H.timeline session.old) (Ok (Some command)) (H.timeline session.new) result }
 {
-    match session.step(command) {
+    match session.step(alloc, command) {
         Ok(reply) => {
             show(command, reply, session.present(), out)?;
             Ok(false)
