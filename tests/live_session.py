@@ -6,6 +6,7 @@ import subprocess
 import sys
 
 NETWORK = b"p max 4 5\nn 1 s\nn 4 t\na 1 2 3\na 1 3 2\na 2 3 5\na 2 4 2\na 3 4 3\n"
+SOLUTION = b"s 5\nf 1 2 3\nf 1 3 2\nf 2 3 1\nf 2 4 2\nf 3 4 3\n"
 TURNS = [
     (b"add 1 4 7\n", b"c add 6 value 0\n"),
     (b"c a comment\n", b""),
@@ -14,6 +15,8 @@ TURNS = [
     (b"print problem\n", NETWORK),
     (b"undo\n", b"c refused 5 nothing to undo\n"),
     (b"redo\nundo\n", b"c redo value 0\nc undo value 0\n"),
+    (b"solve\n", SOLUTION),
+    (b"print flow\n", SOLUTION),
 ]
 SECONDS = 20
 

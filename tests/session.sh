@@ -62,6 +62,7 @@ run_script() {
     fi
 }
 
+solution_a=$'s 5\nf 1 2 3\nf 1 3 2\nf 2 3 1\nf 2 4 2\nf 3 4 3\n'
 network_a=$'p max 4 5\nn 1 s\nn 4 t\na 1 2 3\na 1 3 2\na 2 3 5\na 2 4 2\na 3 4 3\n'
 
 if ! ./dmf session examples/a.max </dev/null >"$work/out" 2>"$work/err"; then
@@ -70,10 +71,22 @@ if ! ./dmf session examples/a.max </dev/null >"$work/out" 2>"$work/err"; then
 fi
 
 # Words.
-run "no words" 2 "" $'dmf: usage\n' </dev/null
 run "an unknown word" 2 "" $'dmf: usage\n' wash </dev/null
+run "a word behind solve" 2 "" $'dmf: usage\n' solve examples/a.max </dev/null
+run "an empty word" 2 "" $'dmf: usage\n' "" <examples/a.max
 run "no problem is named" 2 "" $'dmf: usage\n' session </dev/null
 run "two problems are named" 2 "" $'dmf: usage\n' session examples/a.max examples/b.max </dev/null
+
+# Solving.
+run "no words" 0 "$solution_a" "" <examples/a.max
+run "the word solve" 0 "$solution_a" "" solve <examples/a.max
+run "a lenient text is solved" 0 $'s 9\nf 1 2 4\nf 2 2 0\nf 1 2 5\nf 2 1 0\nf 2 3 9\n' "" <examples/n.max
+run "nothing is to be solved" 3 "" $'dmf: line 1: problem line expected\n' </dev/null
+head -n 7 examples/a.max >"$work/cut.max"
+run "the problem to be solved is cut" 3 "" $'dmf: line 8: too few arcs\n' solve <"$work/cut.max"
+run "the problem to be solved is a folder" 4 "" $'dmf: read failed\n' solve <examples
+run "the problem comes in two pieces" 0 "$solution_a" "" solve \
+    < <(head -c 20 examples/a.max && sleep 0.2 && tail -c +21 examples/a.max)
 
 # The problem.
 run "there is no such problem" 4 "" $'dmf: cannot open the problem\n' session "$work/missing" </dev/null
@@ -88,6 +101,9 @@ run "a refused command" 1 $'c refused 1 nothing to undo\n' "" session examples/a
 run "an arc is added, taken back, and the problem printed" 0 \
     $'c add 6 value 0\nc undo value 0\n'"$network_a" "" \
     session examples/a.max <<<$'add 1 4 7\nundo\nprint problem'
+run "a flow is solved, taken back, and printed" 0 \
+    "$solution_a"$'c undo value 0\ns 0\nf 1 2 0\nf 1 3 0\nf 2 3 0\nf 2 4 0\nf 3 4 0\n' "" \
+    session examples/a.max <<<$'solve\nundo\nprint flow'
 run "a lenient text is written plainly" 0 \
     $'p max 3 5\nn 1 s\nn 3 t\na 1 2 4\na 2 2 9\na 1 2 7\na 2 1 6\na 2 3 9\n' "" \
     session examples/n.max <<<"print problem"
@@ -105,6 +121,10 @@ judge "through a link from another folder" "$?" 0 "$network_a" ""
 status=$?
 : >"$work/out"
 judge "a full device" "$status" 4 "" $'dmf: write failed\n'
+./dmf <examples/a.max >/dev/full 2>"$work/err"
+status=$?
+: >"$work/out"
+judge "a full device under a solution" "$status" 4 "" $'dmf: write failed\n'
 run_script "a closed pipe" tests/closed_pipe.py
 ./dmf wash 2>&- >"$work/out" </dev/null
 status=$?

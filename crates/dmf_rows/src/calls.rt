@@ -17,15 +17,18 @@ fn command_lines_are_read(rt: HostRuntime) {
         head: 4,
         cap: 7,
     };
-    let table: [(&[u8], Command); 8] = [
+    let table: [(&[u8], Command); 11] = [
         (b"add 1 4 7", addition),
         (b"\tadd  01 4   7 ", addition),
+        (b"solve", Command::Solve),
+        (b" solve\t", Command::Solve),
         (b"undo", Command::Undo(1)),
         (b"undo 3", Command::Undo(3)),
         (b"undo 0", Command::Undo(0)),
         (b"redo", Command::Redo(1)),
         (b"redo 18446744073709551615", Command::Redo(u64::MAX)),
         (b"print problem", Command::PrintProblem),
+        (b"print flow", Command::PrintFlow),
     ];
     for (line, command) in table {
         assert_eq!(rt; read_command(line), Ok(Some(command)), "{line:?}");
@@ -38,7 +41,7 @@ fn command_lines_are_read(rt: HostRuntime) {
 
 #[test]
 fn command_lines_are_refused(rt: HostRuntime) {
-    let table: [(&[u8], Refusal); 18] = [
+    let table: [(&[u8], Refusal); 22] = [
         (b"cNote", Refusal::UnknownCommand),
         (b"Undo", Refusal::UnknownCommand),
         (b"undo\r", Refusal::UnknownCommand),
@@ -46,12 +49,16 @@ fn command_lines_are_refused(rt: HostRuntime) {
         (b"solved 1 2 3", Refusal::UnknownCommand),
         (b"add 1 1", Refusal::FieldCount),
         (b"add 1 1 1 x", Refusal::FieldCount),
+        (b"solve 1", Refusal::FieldCount),
+        (b"solve solve", Refusal::FieldCount),
         (b"undo 1 1", Refusal::FieldCount),
         (b"redo x 1", Refusal::FieldCount),
         (b"print", Refusal::FieldCount),
         (b"print side x", Refusal::FieldCount),
+        (b"print flow x", Refusal::FieldCount),
         (b"print side", Refusal::UnknownCommand),
         (b"print Problem", Refusal::UnknownCommand),
+        (b"print flows", Refusal::UnknownCommand),
         (b"undo -1", Refusal::NotANumber),
         (b"undo 1\r", Refusal::NotANumber),
         (b"redo 18446744073709551616", Refusal::TooLarge),

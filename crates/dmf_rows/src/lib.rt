@@ -1,4 +1,4 @@
-//! Tests that cross the libraries: worked sessions over memory, from the bytes that come in to the bytes that go out.
+//! Tests that cross the libraries: worked runs over memory, from the bytes that come in to the bytes that go out.
 #![tactic(auto)]
 
 #[cfg(test)]
@@ -13,5 +13,7 @@ mod networks;
 mod order;
 #[cfg(test)]
 mod sessions;
+#[cfg(test)]
+mod solving;
 #[cfg(test)]
 mod streams;

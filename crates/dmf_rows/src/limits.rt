@@ -38,20 +38,18 @@ fn a_line_has_at_most_4096_bytes_its_carriage_return_counted(rt: HostRuntime) ->
 #[test]
 fn the_rest_of_a_long_line_is_skipped(rt: HostRuntime) -> Result<(), Fail> {
     let mut commands = Vec::new(rt.alloc());
-    add_line(&mut commands, b'x', 4097, b"\nprint problem\n")?;
+    add_line(&mut commands, b'x', 4097, b"\nprint flow\n")?;
     add_line(&mut commands, b'x', 9000, b"")?;
     let mut written = Vec::new(rt.alloc());
     let outcome = hold(rt.alloc(), NETWORK_A, &commands, &mut written);
     assert_eq!(rt; outcome, Ok(Status::SomeRefused));
     let replies = b"c refused 1 line too long\n\
-              p max 4 5\n\
-              n 1 s\n\
-              n 4 t\n\
-              a 1 2 3\n\
-              a 1 3 2\n\
-              a 2 3 5\n\
-              a 2 4 2\n\
-              a 3 4 3\n\
+              s 0\n\
+              f 1 2 0\n\
+              f 1 3 0\n\
+              f 2 3 0\n\
+              f 2 4 0\n\
+              f 3 4 0\n\
               c refused 3 line too long\n";
     assert!(rt; written.as_slice() == replies.as_slice());
     Ok(())

@@ -1,8 +1,11 @@
-//! The networks of the worked sessions, as problem texts.
+//! The networks of the worked rows, as problem texts.
 
 /// Five arcs from node 1 to node 4.
 pub const NETWORK_A: &[u8] =
     b"p max 4 5\nn 1 s\nn 4 t\na 1 2 3\na 1 3 2\na 2 3 5\na 2 4 2\na 3 4 3\n";
+
+/// The solution of [`NETWORK_A`].
+pub const SOLUTION_A: &[u8] = b"s 5\nf 1 2 3\nf 1 3 2\nf 2 3 1\nf 2 4 2\nf 3 4 3\n";
 
 /// One arc, whose capacity is the largest that there is.
 pub const FULL_ARC: &[u8] = b"p max 2 1\nn 1 s\nn 2 t\na 1 2 18446744073709551615\n";
@@ -11,3 +14,8 @@ pub const FULL_ARC: &[u8] = b"p max 2 1\nn 1 s\nn 2 t\na 1 2 1844674407370955161
 /// before the source, a self loop, an arc into the source, parallel arcs, leading zeros, and no end of the last line.
 pub const LENIENT: &[u8] =
     b"cNote\r\n\r\np  max\t3   5\r\nn 3 t\r\nn 1 s\r\na 1 2 4\r\n  a 2 2 9\r\na 1 2 007 \r\na 2 1 6\r\na 2 3 9";
+
+/// Two paths of the same length lead from the source to the sink, over node 3 and over node 2. The arc to node 3 has the
+/// smaller number.
+pub const TWO_SHORTEST: &[u8] =
+    b"p max 5 5\nn 1 s\nn 5 t\na 1 3 1\na 1 2 1\na 2 4 1\na 3 4 1\na 4 5 1\n";

@@ -17,7 +17,7 @@ struct Row {
 }
 
 /// Sessions that end at the end of their commands.
-fn rows() -> [Row; 9] {
+fn rows() -> [Row; 11] {
     [
         Row {
             about: "an arc is added and taken back, and the problem is as it was read",
@@ -36,7 +36,7 @@ fn rows() -> [Row; 9] {
             outcome: Ok(Status::Well),
         },
         Row {
-            about: "each refusal of an addition, at the largest sum too",
+            about: "each refusal of an addition, at the largest sum too, and a solve",
             problem: NETWORK_A,
             commands: b"undo\n\
                   add 1 5 1\n\
@@ -51,7 +51,13 @@ fn rows() -> [Row; 9] {
                   c add 6 value 0\n\
                   c refused 5 wrong number of fields\n\
                   c refused 6 not a number\n\
-                  c refused 7 unknown command\n",
+                  s 5\n\
+                  f 1 2 3\n\
+                  f 1 3 2\n\
+                  f 2 3 1\n\
+                  f 2 4 2\n\
+                  f 3 4 3\n\
+                  f 1 1 0\n",
             outcome: Ok(Status::SomeRefused),
         },
         Row {
@@ -81,6 +87,27 @@ fn rows() -> [Row; 9] {
                   a 1 4 1\n\
                   a 1 4 2\n",
             outcome: Ok(Status::SomeRefused),
+        },
+        Row {
+            about: "a solve of a greatest flow is a change too, and undo gives the flow before it",
+            problem: NETWORK_A,
+            commands: b"solve\nsolve\nundo\nprint flow\n",
+            written: b"s 5\nf 1 2 3\nf 1 3 2\nf 2 3 1\nf 2 4 2\nf 3 4 3\n\
+                  s 5\nf 1 2 3\nf 1 3 2\nf 2 3 1\nf 2 4 2\nf 3 4 3\n\
+                  c undo value 5\n\
+                  s 5\nf 1 2 3\nf 1 3 2\nf 2 3 1\nf 2 4 2\nf 3 4 3\n",
+            outcome: Ok(Status::Well),
+        },
+        Row {
+            about: "a solve is undone, and redone by its number of steps",
+            problem: NETWORK_A,
+            commands: b"solve\nundo\nprint flow\nredo 1\nundo 0\n",
+            written: b"s 5\nf 1 2 3\nf 1 3 2\nf 2 3 1\nf 2 4 2\nf 3 4 3\n\
+                  c undo value 0\n\
+                  s 0\nf 1 2 0\nf 1 3 0\nf 2 3 0\nf 2 4 0\nf 3 4 0\n\
+                  c redo value 5\n\
+                  c undo value 5\n",
+            outcome: Ok(Status::Well),
         },
         Row {
             about: "no commands",
@@ -211,11 +238,14 @@ fn each_reply_is_flushed_and_nothing_else(rt: HostRuntime) -> Result<(), Fail> {
     let outcome = hold_over(
         rt.alloc(),
         NETWORK_A,
-        b"add 1 4 7\nc a comment\n\nsolve\nundo".as_slice(),
+        b"add 1 4 7\nc a comment\n\nsolve\nsolved\nundo".as_slice(),
         FlushMarker { held: &mut written },
     );
     assert_eq!(rt; outcome, Ok(Status::SomeRefused));
-    let replies = b"c add 6 value 0\n|c refused 4 unknown command\n|c undo value 0\n|";
+    let replies = b"c add 6 value 0\n|\
+              s 12\nf 1 2 3\nf 1 3 2\nf 2 3 1\nf 2 4 2\nf 3 4 3\nf 1 4 7\n|\
+              c refused 5 unknown command\n|\
+              c undo value 0\n|";
     assert!(rt; written.as_slice() == replies.as_slice());
     Ok(())
 }

@@ -1,11 +1,11 @@
 //! Readers and writers that are slow, or fail.
-use dmf_run::{EngineFault, Status, run_session};
+use dmf_run::{EngineFault, Status, run_session, run_solve};
 use dmf_text::{StdSink, StdSource};
 use std::alloc::Global;
 use std::io;
 use std::io::{ErrorKind, Read, Write};
 
-/// How a session ended.
+/// How a run ended.
 pub type Outcome = Result<Status, EngineFault>;
 
 /// Holds a session over memory, and adds what it writes to `written`.
@@ -24,6 +24,24 @@ pub fn hold_over<P: Read + Drop, C: Read + Drop, W: Write + Drop>(
         alloc,
         &mut StdSource::new(problem),
         &mut StdSource::new(commands),
+        &mut StdSink::new(writer),
+    )
+}
+
+/// Solves a problem over memory, and adds what is written to `written`.
+pub fn solve(alloc: Global, problem: &[u8], written: &mut Vec<u8>) -> Outcome {
+    solve_over(alloc, problem, written)
+}
+
+/// Solves a problem over any reader and writer.
+pub fn solve_over<P: Read + Drop, W: Write + Drop>(
+    alloc: Global,
+    problem: P,
+    writer: W,
+) -> Outcome {
+    run_solve(
+        alloc,
+        &mut StdSource::new(problem),
         &mut StdSink::new(writer),
     )
 }
