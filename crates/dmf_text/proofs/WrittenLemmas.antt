@@ -1,12 +1,11 @@
 -- The bytes of written lines.
-use Rattle.std.proofs.Common.{◌≡◌, ℕ, suc, ◌+◌, ◌-◌, subst, ◌<◌, List, [], ◌∷◌, ◌++◌, length, take, drop, get_or, slice_get, min, Some, arith, map, filter, nat_abs, Bool, true, false, not, codes, refl, sym, ap, ◌∙◌, append_assoc, append-nil, decimal, take-append-drop}
+use Rattle.std.proofs.Common.{◌≡◌, ℕ, suc, ◌+◌, ◌-◌, subst, ◌<◌, List, [], ◌∷◌, ◌++◌, length, take, drop, get_or, slice_get, Some, arith, map, filter, nat_abs, Bool, true, false, not, if◌then◌else◌, codes, refl, sym, ap, ◌∙◌, append_assoc, append-nil, decimal, take-append-drop}
 use Rattle.std.proofs.Math.Seq.{drop-cons}
 use Rattle.std.proofs.lemmas.List.{map-append, take_more}
 use Rattle.std.proofs.lemmas.List.Elements.{filter-append}
 use Rattle.std.proofs.lemmas.Grind.{flat_map-append}
 use Rattle.std.proofs.lemmas.Option.{get_or_from_slice_get}
 use Rattle.std.proofs.lemmas.Slice.Zip.{get_or-zip, length-zip}
-use Rattle.std.proofs.lemmas.Bool.{cond-true, cond-false}
 use Rattle.dmf_net.specs.declared.arc.Arc.{Arc}
 use Rattle.dmf_net.specs.Arc.{open_count}
 use Rattle.dmf_net.specs.Flow.{flow_value}
@@ -14,7 +13,7 @@ use Rattle.dmf_net.specs.Network.{Network}
 use Rattle.dmf_net.specs.NetworkState.{NetworkState}
 use Rattle.std.specs.List.{zip}
 use Rattle.dmf_text.specs.Problem.{Line}
-use Rattle.dmf_text.specs.Written.{written_line, written, arcs_text, flows_text, problem_text, solution_text}
+use Rattle.dmf_text.specs.Written.{written_line, written, flow_fields, arcs_text, flows_text, problem_text, solution_text}
 
 -- lines, field by field
 pub line-of_two : (x y : List ℕ) → written_line (x ∷ y ∷ []) ≡ x ++ (32 ∷ (y ++ 10 ∷ []))
@@ -38,13 +37,10 @@ module _ {X : Type 0} (is_kept : X → Bool) (fields : X → Line) where
   unfolding written
   kept-nil = refl
 
-  pub kept-none : (x : X) → is_kept x ≡ false → kept_text (x ∷ []) ≡ []
+  pub kept-one : (x : X) → kept_text (x ∷ []) ≡ (if is_kept x then written_line (fields x) else [])
   unfolding written
-  kept-none x out = ap (λ xs. written (map fields xs)) (cond-false _ _ _ out)
-
-  pub kept-one : (x : X) → is_kept x ≡ true → kept_text (x ∷ []) ≡ written_line (fields x)
-  unfolding written
-  kept-one x is_in = ap (λ xs. written (map fields xs)) (cond-true _ _ _ is_in) ∙ append-nil (written_line (fields x))
+  kept-one x = elim (is_kept x) as (λ b. written (map fields (if b then x ∷ [] else [])) ≡ (if b then written_line (fields x) else []))
+      [ true ↦ append-nil (written_line (fields x)) | false ↦ refl ]
 
   pub kept-append : (xs ys : List X) → kept_text (xs ++ ys) ≡ kept_text xs ++ kept_text ys
   unfolding written
@@ -70,12 +66,16 @@ is_open arc = not arc.closed
 abbrev pub is_open_flow : Arc × ℕ → Bool
 is_open_flow p = not p.0.closed
 
--- an arc beside its flow
-pub flow-at : (arcs : List Arc) (flows : List ℕ) (i flow : ℕ) (d : Arc) → length flows ≡ length arcs → i < length arcs
-    → slice_get flows (i + 1 - 1) ≡ Some flow → get_or (zip arcs flows) i (d, 0) ≡ (get_or arcs i d, flow)
-flow-at arcs flows i flow d one_each below is =
-    get_or-zip arcs flows i (d, 0) below (omega (arith, one_each, below))
-    ∙ ap (λ x. (get_or arcs i d, x)) (get_or_from_slice_get flows i flow 0 (subst (λ k. slice_get flows k ≡ Some flow) (omega arith) is))
+-- the line of an arc and its flow
+pub flow-line : (arcs : List Arc) (flows : List ℕ) (i flow : ℕ) (d : Arc) → length flows ≡ length arcs → i < length arcs
+    → slice_get flows (i + 1 - 1) ≡ Some flow
+    → flows_text (get_or (zip arcs flows) i (d, 0) ∷ [])
+    ≡ (if is_open (get_or arcs i d) then written_line (flow_fields (get_or arcs i d, flow)) else [])
+flow-line arcs flows i flow d one_each below is =
+    ap (λ p. flows_text (p ∷ []))
+    (get_or-zip arcs flows i (d, 0) below (omega (arith, one_each, below))
+    ∙ ap (λ x. (get_or arcs i d, x)) (get_or_from_slice_get flows i flow 0 (subst (λ k. slice_get flows k ≡ Some flow) (omega arith) is)))
+    ∙ kept-one is_open_flow flow_fields (get_or arcs i d, flow)
 
 pub zip-long : (arcs : List Arc) (flows : List ℕ) → length flows ≡ length arcs → length (zip arcs flows) ≡ length arcs
 zip-long arcs flows one_each = length-zip arcs flows ∙ omega (arith, one_each)

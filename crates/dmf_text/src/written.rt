@@ -1,5 +1,5 @@
 //! Problem and solution texts, written.
-ghost use Rattle.std.specs.Prelude.{◌≡◌, ◌≤◌, ◌∷◌, [], Ok, codes, decimal, length};
+ghost use Rattle.std.specs.Prelude.{◌≡◌, ◌≤◌, ◌∷◌, [], Ok, not, if◌then◌else◌, codes, decimal, length};
 ghost use Rattle.std.specs.List.{zip};
 ghost use Rattle.dmf_net.specs.NetworkState.{IsState};
 ghost use Rattle.dmf_text.specs.Problem.{problem_of};
@@ -47,19 +47,9 @@ fn put_arcs<W: Sink>(arcs: &[Arc], out: &mut W) -> Result<(), WriteFault>
     ensures { Writes W.contents W.has_failed out.old out.new result (arcs_text arcs.now) }
 {
     for arc in arcs {
-        put_arc(arc, out)?;
+        put_arc(b"a", arc, arc.cap, out)?;
     }
     Ok(())
-}
-
-// Writes an arc's line, unless it is closed.
-fn put_arc<W: Sink>(arc: &Arc, out: &mut W) -> Result<(), WriteFault>
-    ensures { Writes W.contents W.has_failed out.old out.new result (arcs_text (arc.now ∷ [])) }
-{
-    if arc.closed {
-        return Ok(());
-    }
-    put_all(out, arc_line(b"a", arc, arc.cap).as_bytes())
 }
 
 // Writes the line of each open arc with its flow.
@@ -68,19 +58,21 @@ fn put_flows<W: Sink>(state: &State, out: &mut W) -> Result<(), WriteFault>
 {
     let arcs = state.arcs();
     for i in 0..arcs.len() {
-        put_flow(&arcs[i], state.flow(i as u32 + 1), out)?;
+        put_arc(b"f", &arcs[i], state.flow(i as u32 + 1), out)?;
     }
     Ok(())
 }
 
-// Writes the line of an arc with this flow, unless it is closed.
-fn put_flow<W: Sink>(arc: &Arc, flow: u64, out: &mut W) -> Result<(), WriteFault>
-    ensures { Writes W.contents W.has_failed out.old out.new result (flows_text ((arc.now, flow) ∷ [])) }
+// Writes an arc's line, unless it is closed.
+fn put_arc<W: Sink>(letter: &[u8], arc: &Arc, has: u64, out: &mut W) -> Result<(), WriteFault>
+    requires { length letter.now ≤ 1 }
+    ensures { Writes W.contents W.has_failed out.old out.new result
+        (if not arc.now.closed then written_line (letter.now ∷ decimal arc.now.tail ∷ decimal arc.now.head ∷ decimal has ∷ []) else []) }
 {
     if arc.closed {
         return Ok(());
     }
-    put_all(out, arc_line(b"f", arc, flow).as_bytes())
+    put_all(out, arc_line(letter, arc, has).as_bytes())
 }
 
 fn problem_line(nodes: u32, arcs: u32) -> LineBuffer
@@ -115,7 +107,7 @@ fn value_line(value: u64) -> LineBuffer
     line
 }
 
-// The line of an arc: the letter, the ends, and what it has, its capacity or its flow.
+// The line of an arc: the letter, the ends, and what it has, which is its capacity or its flow.
 fn arc_line(letter: &[u8], arc: &Arc, has: u64) -> LineBuffer
     requires { length letter.now ≤ 1 }
     ensures { result ≡ written_line (letter.now ∷ decimal arc.now.tail ∷ decimal arc.now.head ∷ decimal has ∷ []) }

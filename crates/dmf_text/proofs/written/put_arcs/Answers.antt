@@ -1,10 +1,10 @@
-use Rattle.std.proofs.Common.{refl, drop, suc, take, get_or, ◌∷◌, [], ◌∙◌}
+use Rattle.std.proofs.Common.{refl, drop, suc, take, get_or, ◌∷◌, [], ◌∙◌, sym, subst}
 use Rattle.std.proofs.lemmas.Result.{err_from_is_err_and}
 use Rattle.std.proofs.KnownBytes.{Appends-nil, Appends-trans}
 use Rattle.dmf_net.specs.Arc.{open_arc}
 use Rattle.dmf_text.specs.Written.{arcs_text, arc_fields}
-use Rattle.dmf_text.proofs.WrittenLemmas.{kept-nil, kept-more, kept-split, is_open}
-use Rattle.dmf_text.proofs.WritingLemmas.{cut-front, cut-more}
+use Rattle.dmf_text.proofs.WrittenLemmas.{kept-nil, kept-one, kept-more, kept-split, is_open}
+use Rattle.dmf_text.proofs.WritingLemmas.{Cut, cut-front, cut-more}
 use Rattle.dmf_text.proofs.written.put_arcs.Goals as goal
 
 pub loop-arc-init : goal.loop-arc-init
@@ -18,10 +18,15 @@ returns-in_err-put_arc g c =
     let arc = get_or arcs i (open_arc 0 0 0) in
     rw (failed.1, kept-split is_open arc_fields arcs i (open_arc 0 0 0) c.loop-arc-test.true)
     (cut-more g.W.Sink.contents g.W.Sink.has_failed _ c.loop-arc.out _ (arcs_text (take i arcs)) _ c.loop-arc.invariant.held
-    (cut-front g.W.Sink.contents g.W.Sink.has_failed _ _ (arcs_text (arc ∷ [])) (arcs_text (drop (suc i) arcs)) c.in_err-put_arc.ensures))
+    (cut-front g.W.Sink.contents g.W.Sink.has_failed _ _ (arcs_text (arc ∷ [])) (arcs_text (drop (suc i) arcs))
+    (subst (λ text. Cut g.W.Sink.contents g.W.Sink.has_failed c.loop-arc.out c.put_arc.new.out text) (sym (kept-one is_open arc_fields arc)) c.in_err-put_arc.ensures)))
 
 pub loop-arc-preserved : goal.loop-arc-preserved
 loop-arc-preserved g c = record {
-  held = rw (kept-more is_open arc_fields c.args.arcs.now c.loop-arc.arc-index (open_arc 0 0 0) c.loop-arc-test.true) (Appends-trans _ _ _ _ _ c.loop-arc.invariant.held c.in_ok-put_arc.ensures.0);
+  held = rw (
+    kept-more is_open arc_fields c.args.arcs.now c.loop-arc.arc-index (open_arc 0 0 0) c.loop-arc-test.true,
+    kept-one is_open arc_fields (get_or c.args.arcs.now c.loop-arc.arc-index (open_arc 0 0 0)),
+  )
+      (Appends-trans _ _ _ _ _ c.loop-arc.invariant.held c.in_ok-put_arc.ensures.0);
   mark = c.in_ok-put_arc.ensures.1 ∙ c.loop-arc.invariant.mark;
 }

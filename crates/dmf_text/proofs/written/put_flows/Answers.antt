@@ -7,11 +7,11 @@ use Rattle.std.specs.Io.KnownBytes.{Appends}
 use Rattle.std.specs.List.{zip}
 use Rattle.dmf_net.specs.Arc.{open_arc}
 use Rattle.dmf_text.specs.Written.{flow_fields, flows_text}
-use Rattle.dmf_text.proofs.WrittenLemmas.{kept-nil, kept-more, kept-split, is_open_flow, flow-at, zip-long}
+use Rattle.dmf_text.proofs.WrittenLemmas.{kept-nil, kept-more, kept-split, is_open_flow, flow-line, zip-long}
 use Rattle.dmf_text.proofs.WritingLemmas.{Cut, cut-front, cut-more}
 use Rattle.dmf_text.proofs.written.put_flows.Given.{Over}
 use Rattle.dmf_text.proofs.written.put_flows.Goals as goal
-use Rattle.dmf_text.proofs.written.put_flows.Goals.{After-arcs-arcs, After-put_flow}
+use Rattle.dmf_text.proofs.written.put_flows.Goals.{After-arcs-arcs}
 
 -- there is one flow for each arc
 one_each : (g : Over) (c : After-arcs-arcs g) → length c.args.state.now.flows ≡ length c.arcs-arcs.result.now
@@ -22,19 +22,19 @@ one_each g c =
 pub loop-i-init : goal.loop-i-init
 loop-i-init g c = record { held = rw (kept-nil is_open_flow flow_fields) (Appends-nil _); mark = refl }
 
-pub returns-in_err-put_flow : goal.returns-in_err-put_flow
-returns-in_err-put_flow g c =
-    let at = goal.at.returns-in_err-put_flow g c in
+pub returns-in_err-put_arc : goal.returns-in_err-put_arc
+returns-in_err-put_arc g c =
+    let at = goal.at.returns-in_err-put_arc g c in
     let failed = err_from_is_err_and c.from_residual.result c.from_residual.ensures.1 in
     let arcs = c.arcs-arcs.result.now in
     let i = c.loop-i.i in
     let d = open_arc 0 0 0 in
     let pairs = zip arcs c.args.state.now.flows in
     let each = one_each g at.After-arcs-arcs in
-    let pair = flow-at arcs c.args.state.now.flows i c.flow.result d each c.loop-i-test.true c.flow.ensures in
+    let line = flow-line arcs c.args.state.now.flows i c.flow.result d each c.loop-i-test.true c.flow.ensures in
     let long = zip-long arcs c.args.state.now.flows each in
     let below : i < length pairs = omega (arith, long, c.loop-i-test.true) in
-    let cut = subst (λ p. Cut g.W.Sink.contents g.W.Sink.has_failed c.loop-i.out c.put_flow.new.out (flows_text (p ∷ []))) (sym pair) c.in_err-put_flow.ensures in
+    let cut = subst (λ text. Cut g.W.Sink.contents g.W.Sink.has_failed c.loop-i.out c.put_arc.new.out text) (sym line) c.in_err-put_arc.ensures in
     rw (failed.1, sym c.arcs-arcs.ensures.value, kept-split is_open_flow flow_fields pairs i (d, 0) below)
     (cut-more g.W.Sink.contents g.W.Sink.has_failed _ c.loop-i.out _ (flows_text (take i pairs)) _ c.loop-i.invariant.held
     (cut-front g.W.Sink.contents g.W.Sink.has_failed _ _ (flows_text (get_or pairs i (d, 0) ∷ [])) (flows_text (drop (suc i) pairs)) cut))
@@ -47,13 +47,13 @@ loop-i-preserved g c =
     let d = open_arc 0 0 0 in
     let pairs = zip arcs c.args.state.now.flows in
     let each = one_each g at.After-arcs-arcs in
-    let pair = flow-at arcs c.args.state.now.flows i c.flow.result d each c.loop-i-test.true c.flow.ensures in
+    let line = flow-line arcs c.args.state.now.flows i c.flow.result d each c.loop-i-test.true c.flow.ensures in
     let long = zip-long arcs c.args.state.now.flows each in
     let below : i < length pairs = omega (arith, long, c.loop-i-test.true) in
-    let put = subst (λ p. Appends (g.W.Sink.contents c.loop-i.out) (g.W.Sink.contents c.put_flow.new.out) (flows_text (p ∷ []))) (sym pair) c.in_ok-put_flow.ensures.0 in
+    let put = subst (λ text. Appends (g.W.Sink.contents c.loop-i.out) (g.W.Sink.contents c.put_arc.new.out) text) (sym line) c.in_ok-put_arc.ensures.0 in
     record {
       held = rw (kept-more is_open_flow flow_fields pairs i (d, 0) below) (Appends-trans _ _ _ _ _ c.loop-i.invariant.held put);
-      mark = c.in_ok-put_flow.ensures.1 ∙ c.loop-i.invariant.mark;
+      mark = c.in_ok-put_arc.ensures.1 ∙ c.loop-i.invariant.mark;
     }
 
 pub returns : goal.returns
