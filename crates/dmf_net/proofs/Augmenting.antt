@@ -53,7 +53,7 @@ CanPushEach-up_to amount arcs flows a b bound (s ∷ path) within leads = (
 )
 
 -- the room up to a bound is within it
-room_up_to-le : (bound : ℕ) (path : List Step) → room_up_to bound path ≤ bound
+pub room_up_to-le : (bound : ℕ) (path : List Step) → room_up_to bound path ≤ bound
 room_up_to-le bound [] = omega arith
 room_up_to-le bound (s ∷ path) = let le = room_up_to-le bound path in omega (arith, le)
 
@@ -86,7 +86,7 @@ balance-augmented arcs flows a b v path within least =
     (balance-pushed (least_room path) arcs flows (residual_steps arcs flows) path a b v (AllZip-long _ arcs flows within) least.leads (CanPushInTurn-least arcs flows a b path least))
 
 -- nothing is added at another node, and the amount at the same
-at_end-other : (amount u v : ℕ) → u ≢ v → at_end amount u v ≡ 0
+pub at_end-other : (amount u v : ℕ) → u ≢ v → at_end amount u v ≡ 0
 at_end-other amount u v apart = rw (ne_eqb u v apart) refl
 
 at_end-same : (amount v : ℕ) → at_end amount v v ≡ amount

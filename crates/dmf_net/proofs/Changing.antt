@@ -6,7 +6,7 @@ use Rattle.std.proofs.lemmas.Slice.Zip.{length-zip, get_or-zip}
 use Rattle.dmf_net.specs.declared.arc.Arc.{Arc}
 use Rattle.dmf_net.specs.Arc.{capacity_sum}
 use Rattle.dmf_net.specs.Flow.{flow_at, AreWithinCapacities}
-use Rattle.dmf_net.proofs.NoArc.{no_arc}
+use Rattle.dmf_net.specs.Arc.{no_arc}
 use Rattle.dmf_net.proofs.Summing.{part-le}
 
 -- the arcs beside their flows, with one flow changed

@@ -1,4 +1,3 @@
-pub mod NoArc
 pub mod IdleArc
 pub mod Summing
 pub mod OverCapacity
@@ -24,5 +23,16 @@ pub mod RoomOn
 pub mod Solving
 pub mod OneLeast
 pub mod SomeLeast
+pub mod Crossing
+pub mod Reached
+pub mod Carrying
+pub mod CarryingSteps
+pub mod ChangedArc
+pub mod ChangedState
+pub mod Lowering
+pub mod Draining
 pub mod OneOutcome
 pub mod SomeOutcome
+pub mod CarryingWalk
+pub mod DrainingWalk
+pub mod LoweringWalk

@@ -14,7 +14,7 @@ use Rattle.dmf_net.specs.Arc.{capacity_sum}
 use Rattle.dmf_net.specs.Flow.{flow_at, AreWithinCapacities}
 use Rattle.dmf_net.specs.FlowSums.{IsNodeFlow}
 use Rattle.dmf_net.specs.NetworkState.{NetworkState, IsState, with_flows}
-use Rattle.dmf_net.proofs.NoArc.{no_arc}
+use Rattle.dmf_net.specs.Arc.{no_arc}
 use Rattle.dmf_net.proofs.Changing.{flow_at-set, flow_at-le, flow_at-part, within-set, within-at}
 use Rattle.dmf_net.specs.Edit.{moved, MovesFit, differences}
 

@@ -1,4 +1,5 @@
--- A change has one outcome: each path that augments is the least one, and paths are taken until none is left.
+-- A change has one outcome: each path that augments is the least one, and paths are taken until none is left; and so with
+-- the paths that lower an arc, until no more than the limit flows on it.
 use Rattle.std.proofs.Common.{ℕ, ◌≡◌, List, [], ◌∷◌, All, sym, ◌∙◌, subst}
 use Rattle.dmf_net.specs.declared.step.Step.{Step}
 use Rattle.dmf_net.specs.Arc.{IsArc}
@@ -6,9 +7,10 @@ use Rattle.dmf_net.specs.Network.{Network}
 use Rattle.dmf_net.specs.Path.{HasNoPath}
 use Rattle.dmf_net.specs.Residual.{residual_steps, augmented}
 use Rattle.dmf_net.specs.Solve.{Augments}
-use Rattle.dmf_net.specs.Change.{Add, Solve, HasOneOutcome}
+use Rattle.dmf_net.specs.Change.{Cap, Add, Close, Solve, HasOneOutcome}
 use Rattle.dmf_net.proofs.OneLeast.{one-least}
 use Rattle.dmf_net.proofs.ResidualSteps.{AreSteps-residual}
+use Rattle.dmf_net.proofs.Draining.{one-drained}
 
 -- Augmenting from the same flows ends at the same flows.
 one-last : (n : Network) → All (IsArc n.nodes) n.arcs → (last other : List ℕ) → HasNoPath (residual_steps n.arcs last) n.source n.sink → HasNoPath (residual_steps n.arcs other) n.source n.sink → (flows : List ℕ) (paths more : List (List Step)) → Augments n flows paths last → Augments n flows more other → last ≡ other
@@ -24,6 +26,14 @@ one-last n arcs last other last_none other_none flows (path ∷ paths) (second �
     (subst (λ p. Augments n (augmented p flows) more other) (sym same) moves.1)
 
 pub one-outcome : HasOneOutcome
+one-outcome s t u (Cap j cap) state is same =
+    let network : t.network ≡ u.network = is.0 ∙ sym same.0 in
+    let flows : t.flows ≡ u.flows = one-drained s.network j cap s.flows t.flows u.flows state.network is.1 same.1 in
+    λ i. record { network = network i; flows = flows i }
+one-outcome s t u (Close j) state is same =
+    let network : t.network ≡ u.network = is.0 ∙ sym same.0 in
+    let flows : t.flows ≡ u.flows = one-drained s.network j 0 s.flows t.flows u.flows state.network is.1 same.1 in
+    λ i. record { network = network i; flows = flows i }
 one-outcome s t u (Add tail head cap) state is same = is ∙ sym same
 one-outcome s t u Solve state is same =
     let network : t.network ≡ u.network = is.0 ∙ sym same.0 in

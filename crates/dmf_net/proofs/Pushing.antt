@@ -4,7 +4,7 @@ use Rattle.dmf_net.specs.declared.arc.Arc.{Arc}
 use Rattle.dmf_net.specs.declared.step.Step.{Step}
 use Rattle.dmf_net.specs.Flow.{outflow, inflow, AreWithinCapacities}
 use Rattle.dmf_net.specs.Path.{IsPath}
-use Rattle.dmf_net.proofs.NoArc.{no_arc}
+use Rattle.dmf_net.specs.Arc.{no_arc}
 use Rattle.dmf_net.proofs.Changing.{flow_at-set, within-set, within-at}
 use Rattle.dmf_net.proofs.ResidualSteps.{LeadsAlong, LeadsAgainst}
 use Rattle.dmf_net.proofs.ShortestPaths.{Avoids, IsShortestPath, IsShortestPath-tail, avoids-start}
@@ -65,7 +65,7 @@ abbrev pub at_end : ℕ → ℕ → ℕ → ℕ
 at_end amount u v = cond (u == v) amount 0
 
 -- the flow at an end, split in two
-more-at : (b : Bool) (x amount : ℕ) → cond b (x + amount) 0 ≡ cond b x 0 + cond b amount 0
+pub more-at : (b : Bool) (x amount : ℕ) → cond b (x + amount) 0 ≡ cond b x 0 + cond b amount 0
 more-at true x amount = refl
 more-at false x amount = refl
 

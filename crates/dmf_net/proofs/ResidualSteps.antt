@@ -11,7 +11,7 @@ use Rattle.dmf_net.specs.Node.{IsNode}
 use Rattle.dmf_net.specs.Arc.{IsArc}
 use Rattle.dmf_net.specs.Path.{IsStep, AreSteps}
 use Rattle.dmf_net.specs.Residual.{forward, backward, residual_from, residual_steps}
-use Rattle.dmf_net.proofs.NoArc.{no_arc}
+use Rattle.dmf_net.specs.Arc.{no_arc}
 
 -- The step leads along the arc at index `k`, where the first arc is number `j`.
 pub record LeadsAlong (j : ℕ) (arcs : List Arc) (k : ℕ) (s : Step) : Type 0 where
@@ -40,7 +40,7 @@ residual-behind j a arcs x flows s (against k leads room has) =
     against (suc k) (record { within = omega (arith, leads.within); rank_is = omega (arith, leads.rank_is); head = leads.head; tail = leads.tail }) room has
 
 -- the one element of a list that has one where the test holds
-in-optional : {A : Type 0} (b : Bool) (x y : A) → Contains (cond b (x ∷ []) []) y → (b ≡ true) × (x ≡ y)
+pub in-optional : {A : Type 0} (b : Bool) (x y : A) → Contains (cond b (x ∷ []) []) y → (b ≡ true) × (x ≡ y)
 in-optional true x y c = (refl, subst (λ i. get_or (x ∷ []) i y ≡ y) (let first : c.0 ≡ 0 = omega (arith, c.1) in first) c.2)
 in-optional false x y c = absurd (omega (arith, c.1))
 
@@ -102,11 +102,11 @@ ranks-from : (j : ℕ) (arcs : List Arc) (flows : List ℕ) (k : ℕ) (d : Step)
 ranks-from j arcs flows k d h = rank-from j arcs flows _ (residual-contained j arcs flows _ (Contains-get_or (residual_from j arcs flows) k d h))
 
 -- The one step stands before the other in the order of ranks.
-abbrev IsBefore : Step → Step → Type 0
+abbrev pub IsBefore : Step → Step → Type 0
 IsBefore s t = s.rank < t.rank
 
 -- a step in front, where the test holds, of a rank below those behind it
-ascending-optional : (b : Bool) (s : Step) (steps : List Step) → All (IsBefore s) steps → AllPairs IsBefore steps → AllPairs IsBefore (cond b (s ∷ []) [] ++ steps)
+pub ascending-optional : (b : Bool) (s : Step) (steps : List Step) → All (IsBefore s) steps → AllPairs IsBefore steps → AllPairs IsBefore (cond b (s ∷ []) [] ++ steps)
 ascending-optional true s steps below ascending = AllPairs-cons IsBefore s steps below ascending
 ascending-optional false s steps below ascending = ascending
 

@@ -5,7 +5,7 @@ use Rattle.std.proofs.lemmas.List.{append-nil, drop_more, drop_all}
 use Rattle.dmf_net.specs.declared.arc.Arc.{Arc}
 use Rattle.dmf_net.specs.declared.step.Step.{Step}
 use Rattle.dmf_net.specs.Residual.{forward, backward, residual_from, residual_steps}
-use Rattle.dmf_net.proofs.NoArc.{no_arc}
+use Rattle.dmf_net.specs.Arc.{no_arc}
 
 -- the steps along an arc and against it
 pub forward-some : (j : ℕ) (arc : Arc) (flow : ℕ) → flow < arc.cap → forward j arc flow ≡ record { from = arc.tail; to = arc.head; rank = 2 * j; room = arc.cap - flow } ∷ []

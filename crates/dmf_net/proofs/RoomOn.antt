@@ -16,7 +16,7 @@ lesser-min : (x y : ℕ) → lesser x y ≡ min x y
 lesser-min x y = grind (arith, nat_tests)
 
 -- a bound may be lowered before or after
-room_up_to-min : (bound x : ℕ) (path : List Step) → room_up_to (min bound x) path ≡ min x (room_up_to bound path)
+pub room_up_to-min : (bound x : ℕ) (path : List Step) → room_up_to (min bound x) path ≡ min x (room_up_to bound path)
 room_up_to-min bound x [] = omega arith
 room_up_to-min bound x (s ∷ path) = let later = room_up_to-min bound x path in omega (arith, later)
 

@@ -1,19 +1,27 @@
 -- A change that is not refused has an outcome.
-use Rattle.std.proofs.Common.{ℕ, ◌≡◌, ◌+◌, ◌^◌, ◌&&◌, zero, suc, Bool, true, false, cond, List, [], ◌∷◌, length, Some, None, option_map, pos, ◌+ℤ◌, ◌≤ℤ◌, ◌<ℤ◌, ltb, inl, inr, refl, arith, ltb-true}
+use Rattle.std.proofs.Common.{ℕ, ◌≡◌, ◌+◌, ◌^◌, ◌&&◌, zero, suc, Bool, true, false, cond, List, [], ◌∷◌, length, Some, None, is_none, option_map, pos, ◌+ℤ◌, ◌≤ℤ◌, ◌<ℤ◌, ltb, inl, inr, refl, arith, ltb-true}
+use Rattle.std.proofs.lemmas.Bool.{both_ways}
 use Rattle.std.proofs.lemmas.Int.{ints}
+use Rattle.std.proofs.lemmas.Slice.Zip.{AllZip-long}
 use Rattle.dmf_net.specs.declared.limits.TheConstants.{MAX_ARCS}
+use Rattle.dmf_net.specs.declared.arc.Arc.{Arc}
 use Rattle.dmf_net.specs.declared.fault.ArcFault.TheVariants.{NoSuchNode, TooManyArcs, SumTooLarge}
+use Rattle.dmf_net.specs.declared.fault.PlanFault.TheVariants as plan
+use Rattle.dmf_net.specs.declared.fault.PlanFault.TheVariants.{Closed, NoSuchArc}
 use Rattle.dmf_net.specs.Node.{is_node}
-use Rattle.dmf_net.specs.Arc.{IsArc, open_arc, capacity_sum}
-use Rattle.dmf_net.specs.Network.{Network, IsNetwork}
+use Rattle.dmf_net.specs.Arc.{IsArc, open_arc, with_cap, closed_arc, capacity_sum}
+use Rattle.dmf_net.specs.Network.{Network, IsNetwork, arc_number, has_arc, with_arc}
 use Rattle.dmf_net.specs.Flow.{IsFlow, flow_value}
-use Rattle.dmf_net.specs.NetworkState.{with_idle_arc, with_flows}
+use Rattle.dmf_net.specs.NetworkState.{NetworkState, IsState, with_idle_arc, with_flows}
 use Rattle.dmf_net.specs.Residual.{residual_steps, augmented}
 use Rattle.dmf_net.specs.Solve.{Solves}
-use Rattle.dmf_net.specs.Change.{Add, Solve, plan_fault, HasOutcome}
+use Rattle.dmf_net.specs.Drain.{Drains}
+use Rattle.dmf_net.specs.Change.{Cap, Add, Close, Solve, plan_fault, sum_with, HasOutcome}
 use Rattle.dmf_net.proofs.IdleArc.{IsState-idle, IsNode-is_node}
 use Rattle.dmf_net.proofs.SomeLeast.{SomeLeast, least-or-none}
 use Rattle.dmf_net.proofs.ResidualSteps.{AreSteps-residual}
+use Rattle.dmf_net.proofs.ChangedArc.{IsNetwork-with_arc, IsFlow-with_arc, flow_value-with_arc}
+use Rattle.dmf_net.proofs.Draining.{drains-state, SomeDrained, some-drained}
 use Rattle.dmf_net.proofs.Augmenting.{room-positive, augmented-flow, augmented-value, value-le-capacities}
 
 -- A flow at which augmenting ends, of a value no smaller.
@@ -65,7 +73,52 @@ each-passes true true false small none = absurd (cc)
 each-passes true true true false none = absurd (cc)
 each-passes true true true true none = (refl, refl, refl, refl)
 
+close-passes : (has closed : Bool) → cond has (cond closed (Some Closed) None) (Some NoSuchArc) ≡ None → (has ≡ true) × (closed ≡ false)
+close-passes false closed none = absurd (cc)
+close-passes true true none = absurd (cc)
+close-passes true false none = (refl, refl)
+
+cap-passes : (has closed small : Bool) → cond (is_none (cond has (cond closed (Some Closed) None) (Some NoSuchArc))) (cond small None (Some plan.SumTooLarge)) (cond has (cond closed (Some Closed) None) (Some NoSuchArc)) ≡ None → (has ≡ true) × (closed ≡ false) × (small ≡ true)
+cap-passes false closed small none = absurd (cc)
+cap-passes true true small none = absurd (cc)
+cap-passes true false false none = absurd (cc)
+cap-passes true false true none = (refl, refl, refl)
+
+-- Draining an arc to the capacity of another, which has the same ends, makes a state with that in its place.
+IsState-drained : (s : NetworkState) (j : ℕ) (arc : Arc) (last : List ℕ) → IsState s → has_arc s.network j ≡ true → arc.tail ≡ (arc_number s.network j).tail → arc.head ≡ (arc_number s.network j).head → IsNetwork (with_arc s.network j arc) → Drains s.network j arc.cap s.flows last → IsState (record { network = with_arc s.network j arc; flows = last })
+IsState-drained s j arc last state has tail head network drains =
+    let left = drains-state s.network j arc.cap s.flows last state.network state.flow state.value_from_zero has drains in
+    record {
+      network = network;
+      flow = IsFlow-with_arc s.network j arc last has tail head drains.within left.0.flow;
+      value_from_zero = rw (flow_value-with_arc s.network j arc last tail head (AllZip-long _ s.network.arcs last left.0.flow.within)) left.1;
+    }
+
 pub some-outcome : HasOutcome
+some-outcome s (Cap j cap) state accepted =
+    let n : Network = s.network in
+    let arc : Arc = with_cap cap (arc_number n j) in
+    let passes = cap-passes (has_arc n j) (arc_number n j).closed (ltb (sum_with n j cap) (2 ^ 64)) accepted in
+    let network : IsNetwork (with_arc n j arc) =
+    IsNetwork-with_arc n j arc state.network passes.0 refl refl (λ closed. absurd (both_ways (arc_number n j).closed passes.1 closed)) (ltb-true _ _ passes.2) in
+    let found : SomeDrained n j cap s.flows = some-drained n j cap s.flows state.network state.flow state.value_from_zero passes.0 in
+    record {
+      after = record { network = with_arc n j arc; flows = found.last };
+      state = IsState-drained s j arc found.last state passes.0 refl refl network found.drains;
+      becomes = (refl, found.drains);
+    }
+some-outcome s (Close j) state accepted =
+    let n : Network = s.network in
+    let arc : Arc = closed_arc (arc_number n j) in
+    let passes = close-passes (has_arc n j) (arc_number n j).closed accepted in
+    let network : IsNetwork (with_arc n j arc) =
+    IsNetwork-with_arc n j arc state.network passes.0 refl refl (λ closed. refl) (omega (arith, state.network.capacities)) in
+    let found : SomeDrained n j 0 s.flows = some-drained n j 0 s.flows state.network state.flow state.value_from_zero passes.0 in
+    record {
+      after = record { network = with_arc n j arc; flows = found.last };
+      state = IsState-drained s j arc found.last state passes.0 refl refl network found.drains;
+      becomes = (refl, found.drains);
+    }
 some-outcome s (Add tail head cap) state accepted =
     let passes = each-passes (is_node s.network.nodes tail) (is_node s.network.nodes head) (ltb (length s.network.arcs) MAX_ARCS) (ltb (capacity_sum s.network.arcs + cap) (2 ^ 64)) accepted in
     let arc : IsArc s.network.nodes (open_arc tail head cap) = record {

@@ -6,7 +6,7 @@ use Rattle.std.proofs.lemmas.List.{get_or-set_same, get_or-set_other, get_or-rep
 use Rattle.std.proofs.lemmas.List.Sums.{sum_by-cons, sum_by_more, sum_by_more_le_part}
 use Rattle.std.proofs.lemmas.Slice.Zip.{AllZip-long, length-zip, get_or-zip}
 use Rattle.dmf_net.specs.declared.arc.Arc.{Arc}
-use Rattle.dmf_net.proofs.NoArc.{no_arc}
+use Rattle.dmf_net.specs.Arc.{no_arc}
 use Rattle.dmf_net.specs.Node.{IsNode}
 use Rattle.dmf_net.specs.Arc.{capacity_sum}
 use Rattle.dmf_net.specs.Flow.{AreWithinCapacities}
@@ -25,8 +25,8 @@ pub sums-none : (end : Arc → ℕ) (nodes : ℕ) (arcs : List Arc) (flows : Lis
 sums-none end nodes arcs flows = record { one_each = length-replicate nodes 0; each = λ k h. get_or-replicate nodes k 0 0 h }
 
 -- the sum at a node, with the next arc
-one-more : (end : Arc → ℕ) (v : ℕ) (arcs : List Arc) (flows : List ℕ) (i : ℕ) → length flows ≡ length arcs → i < length arcs → sum_by (at_node end v) (take (i + 1) (zip arcs flows)) ≡ sum_by (at_node end v) (take i (zip arcs flows)) + cond (end (get_or arcs i no_arc) == v) (get_or flows i 0) 0
-one-more end v arcs flows i same h =
+pub sum-more : (end : Arc → ℕ) (v : ℕ) (arcs : List Arc) (flows : List ℕ) (i : ℕ) → length flows ≡ length arcs → i < length arcs → sum_by (at_node end v) (take (i + 1) (zip arcs flows)) ≡ sum_by (at_node end v) (take i (zip arcs flows)) + cond (end (get_or arcs i no_arc) == v) (get_or flows i 0) 0
+sum-more end v arcs flows i same h =
     let long : i < length (zip arcs flows) = rw length-zip (omega arith) in
     sum_by_more (at_node end v) (zip arcs flows) i (no_arc, 0) long
     ∙ ap (λ p. sum_by (at_node end v) (take i (zip arcs flows)) + at_node end v p) (get_or-zip arcs flows i (no_arc, 0) h (omega arith))
@@ -42,11 +42,11 @@ sums-more end nodes arcs flows i sums old same h node read s =
           let place : k ≡ at - 1 = omega (arith, here.1) in
           let within : k < length sums = omega (arith, s.one_each) in
           let was : old ≡ get_or sums k 0 = get_or_read sums k old within (rw place read) 0 in
-          rw (one-more end (k + 1) arcs flows i same h, here.0, ← place)
+          rw (sum-more end (k + 1) arcs flows i same h, here.0, ← place)
           (get_or-set_same sums k _ 0 within ∙ ap (λ n. n + get_or flows i 0) (was ∙ s.each k below)))
           (λ (elsewhere : ((at == k + 1) ≡ false) × (at ≢ k + 1)).
           let place : k ≢ at - 1 = λ e. elsewhere.1 (omega (arith, node.from_one)) in
-          rw (one-more end (k + 1) arcs flows i same h, elsewhere.0)
+          rw (sum-more end (k + 1) arcs flows i same h, elsewhere.0)
           (get_or-set_other sums (at - 1) k _ 0 place ∙ s.each k below ∙ sym (add-zero _)))
           (eqb_tells at (k + 1));
     }

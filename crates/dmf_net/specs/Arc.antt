@@ -13,6 +13,18 @@ pub record IsArc (nodes : ℕ) (arc : Arc) : Type 0 where
 abbrev pub open_arc : ℕ → ℕ → ℕ → Arc
 open_arc tail head cap = record { tail = tail; head = head; cap = cap; closed = false }
 
+-- what is read past the last arc
+abbrev pub no_arc : Arc
+no_arc = record { tail = 0; head = 0; cap = 0; closed = false }
+
+-- the arc with another capacity
+abbrev pub with_cap : ℕ → Arc → Arc
+with_cap cap arc = record { tail = arc.tail; head = arc.head; cap = cap; closed = arc.closed }
+
+-- the arc, closed
+abbrev pub closed_arc : Arc → Arc
+closed_arc arc = record { tail = arc.tail; head = arc.head; cap = 0; closed = true }
+
 -- the sum of the capacities
 abbrev pub capacity_sum : List Arc → ℕ
 capacity_sum arcs = sum_by (λ arc. arc.cap) arcs

@@ -1,5 +1,5 @@
 -- The changes that a user may ask for: which are refused, and what the others make of a state.
-use Rattle.std.specs.Prelude.{ℕ, ◌≡◌, ◌+◌, ◌^◌, ◌&&◌, if◌then◌else◌, length, nat_lt, Option, Some, None, option_map}
+use Rattle.std.specs.Prelude.{ℕ, ◌≡◌, ◌+◌, ◌-◌, ◌^◌, ◌&&◌, if◌then◌else◌, length, nat_lt, Option, Some, None, is_none, option_map}
 use Rattle.dmf_net.specs.declared.limits.TheConstants.{MAX_ARCS}
 use Rattle.dmf_net.specs.declared.fault.ArcFault.{ArcFault}
 use Rattle.dmf_net.specs.declared.fault.ArcFault.TheVariants.{NoSuchNode, TooManyArcs, SumTooLarge}
@@ -8,15 +8,20 @@ use Rattle.dmf_net.specs.declared.fault.NetFault.TheVariants as net
 use Rattle.dmf_net.specs.declared.fault.PlanFault.{PlanFault}
 use Rattle.dmf_net.specs.declared.fault.PlanFault.TheVariants as plan
 use Rattle.dmf_net.specs.Node.{is_node}
-use Rattle.dmf_net.specs.Arc.{open_arc, capacity_sum}
-use Rattle.dmf_net.specs.Network.{Network}
+use Rattle.dmf_net.specs.Arc.{open_arc, with_cap, closed_arc, capacity_sum}
+use Rattle.dmf_net.specs.Network.{Network, arc_number, has_arc, with_arc}
 use Rattle.dmf_net.specs.NetworkState.{NetworkState, IsState, with_idle_arc}
 use Rattle.dmf_net.specs.Solve.{Solves}
+use Rattle.dmf_net.specs.Drain.{Drains}
 
 -- a change, as it is asked for
 pub data Change : Type 0 where
+  -- another capacity for an arc
+  Cap : (arc cap : ℕ) → Change
   -- a new arc, from a tail to a head, of a capacity
   Add : (tail head cap : ℕ) → Change
+  -- nothing may flow on an arc any more
+  Close : (arc : ℕ) → Change
   -- the greatest flow that is reached from the present one
   Solve : Change
 
@@ -41,13 +46,31 @@ plan_fault NoSuchNode = plan.NoSuchNode
 plan_fault TooManyArcs = plan.TooManyArcs
 plan_fault SumTooLarge = plan.SumTooLarge
 
+-- why arc number `j` cannot be changed, if it cannot
+abbrev pub arc_refusal : Network → ℕ → Option PlanFault
+arc_refusal n j =
+    if has_arc n j then (if (arc_number n j).closed then Some plan.Closed else None) else Some plan.NoSuchArc
+
+-- the sum of the capacities with `cap` in place of that of arc number `j`
+abbrev pub sum_with : Network → ℕ → ℕ → ℕ
+sum_with n j cap = capacity_sum n.arcs - (arc_number n j).cap + cap
+
 -- why the change is refused, if it is
 abbrev pub change_fault : NetworkState → Change → Option PlanFault
+change_fault s (Cap j cap) =
+    if is_none (arc_refusal s.network j) then
+    (if nat_lt (sum_with s.network j cap) (2 ^ 64) then None else Some plan.SumTooLarge)
+    else arc_refusal s.network j
+change_fault s (Close j) = arc_refusal s.network j
 change_fault s (Add tail head cap) = option_map plan_fault (arc_fault s.network tail head cap)
 change_fault s Solve = None
 
 -- what an accepted change makes of a state
 abbrev pub Becomes : NetworkState → Change → NetworkState → Type 0
+Becomes s (Cap j cap) t =
+    (t.network ≡ with_arc s.network j (with_cap cap (arc_number s.network j))) × Drains s.network j cap s.flows t.flows
+Becomes s (Close j) t =
+    (t.network ≡ with_arc s.network j (closed_arc (arc_number s.network j))) × Drains s.network j 0 s.flows t.flows
 Becomes s (Add tail head cap) t = t ≡ with_idle_arc s (open_arc tail head cap)
 Becomes s Solve t = (t.network ≡ s.network) × Solves s.network s.flows t.flows
 

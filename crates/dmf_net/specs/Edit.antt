@@ -1,13 +1,16 @@
 -- Edits: changes that were planned on a state, written down so that they can be applied to it.
-use Rattle.std.specs.Prelude.{ℕ, ◌≡◌, ◌+◌, ◌-◌, ◌<◌, ◌==◌, if◌then◌else◌, List, [], ◌∷◌, slice_get, slice_set, Some}
+use Rattle.std.specs.Prelude.{ℕ, ◌≡◌, ◌+◌, ◌-◌, ◌<◌, ◌==◌, if◌then◌else◌, List, [], ◌∷◌, slice_get, slice_set, Some, true, false}
 use Rattle.dmf_net.specs.declared.edit.Move.{Move}
 use Rattle.dmf_net.specs.declared.edit.Edit.{Edit}
-use Rattle.dmf_net.specs.declared.edit.Edit.TheVariants.{Add, Solve}
-use Rattle.dmf_net.specs.Arc.{open_arc}
+use Rattle.dmf_net.specs.declared.edit.Edit.TheVariants.{Cap, Add, Close, Solve}
+use Rattle.dmf_net.specs.Arc.{open_arc, with_cap, closed_arc}
+use Rattle.dmf_net.specs.Network.{Network, arc_number, has_arc, with_arc}
 use Rattle.dmf_net.specs.NetworkState.{NetworkState, IsState, with_flows, with_idle_arc}
 
 -- the flows that an edit moves
 abbrev pub moves_of : Edit → List Move
+moves_of (Cap arc old new moves) = moves.items
+moves_of (Close arc old moves) = moves.items
 moves_of (Add tail head cap) = []
 moves_of (Solve moves) = moves.items
 
@@ -18,6 +21,16 @@ moved (m ∷ moves) flows = moved moves (slice_set flows (m.arc - 1) m.to)
 
 -- the state that an edit makes of a state
 abbrev pub applied : Edit → NetworkState → NetworkState
+applied (Cap j old new moves) s =
+    record {
+      network = with_arc s.network j (with_cap new (arc_number s.network j));
+      flows = moved moves.items s.flows;
+    }
+applied (Close j old moves) s =
+    record {
+      network = with_arc s.network j (closed_arc (arc_number s.network j));
+      flows = moved moves.items s.flows;
+    }
 applied (Add tail head cap) s = with_idle_arc s (open_arc tail head cap)
 applied (Solve moves) s = with_flows s (moved moves.items s.flows)
 
@@ -27,8 +40,22 @@ MovesFit last [] flows = Unit {0}
 MovesFit last (m ∷ moves) flows =
     (last < m.arc) × (slice_get flows (m.arc - 1) ≡ Some m.from) × MovesFit m.arc moves flows
 
+-- Arc number `j` is there, is open, and has this capacity.
+pub record IsOpenWith (n : Network) (j cap : ℕ) : Type 0 where
+  pub is_there : has_arc n j ≡ true
+  pub is_open : (arc_number n j).closed ≡ false
+  pub has_cap : (arc_number n j).cap ≡ cap
+
+-- What the edit says of an arc besides its flow is so.
+abbrev pub ArcFits : Edit → Network → Type 0
+ArcFits (Cap j old new moves) n = IsOpenWith n j old
+ArcFits (Close j old moves) n = IsOpenWith n j old
+ArcFits (Add tail head cap) n = Unit {0}
+ArcFits (Solve moves) n = Unit {0}
+
 -- The edit fits the state: what it says of the state is so, and what it makes of it is a state.
 pub record Fits (edit : Edit) (s : NetworkState) : Type 0 where
+  pub arc : ArcFits edit s.network
   pub moves : MovesFit 0 (moves_of edit) s.flows
   pub applied : IsState (applied edit s)
 

@@ -1,10 +1,14 @@
 -- Flows of a network, as the textbooks have them (Ahuja, Magnanti and Orlin, Network Flows, section 1.2 and
 -- chapter 6). A flow is a list of numbers, one for each arc.
-use Rattle.std.specs.Prelude.{ℕ, ◌≡◌, ◌≢◌, ◌≤◌, ◌==◌, if◌then◌else◌, List, sum_by, ℤ, pos, ◌-ℤ◌}
+use Rattle.std.specs.Prelude.{ℕ, ◌≡◌, ◌≢◌, ◌-◌, ◌≤◌, ◌==◌, if◌then◌else◌, List, slice_index, sum_by, ℤ, pos, ◌-ℤ◌}
 use Rattle.std.specs.List.{zip, AllZip}
 use Rattle.dmf_net.specs.declared.arc.Arc.{Arc}
 use Rattle.dmf_net.specs.Node.{IsNode}
 use Rattle.dmf_net.specs.Network.{Network}
+
+-- the flow on arc number `j`
+abbrev pub flow_on : List ℕ → ℕ → ℕ
+flow_on flows j = slice_index flows (j - 1)
 
 -- the sum of the flows of the arcs that have node `v` at this end, which is the tail or the head
 abbrev pub flow_at : (Arc → ℕ) → List Arc → List ℕ → ℕ → ℕ

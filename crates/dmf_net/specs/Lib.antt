@@ -11,5 +11,6 @@ pub mod Path
 pub mod Distances
 pub mod Residual
 pub mod Solve
+pub mod Drain
 pub mod Change
 pub mod Edit

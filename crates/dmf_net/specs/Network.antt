@@ -1,10 +1,10 @@
 -- Networks, as the textbooks have them (Ahuja, Magnanti and Orlin, Network Flows, chapter 6), with the limits
 -- of this program.
-use Rattle.std.specs.Prelude.{ℕ, ◌≢◌, ◌^◌, ◌<◌, ◌≤◌, List, length, All}
+use Rattle.std.specs.Prelude.{ℕ, ◌≢◌, ◌-◌, ◌^◌, ◌<◌, ◌≤◌, Bool, ◌&&◌, nat_le, List, length, All, slice_index_or, slice_set}
 use Rattle.dmf_net.specs.declared.arc.Arc.{Arc}
 use Rattle.dmf_net.specs.declared.limits.TheConstants.{MAX_NODES, MAX_ARCS}
 use Rattle.dmf_net.specs.Node.{IsNode}
-use Rattle.dmf_net.specs.Arc.{IsArc, capacity_sum}
+use Rattle.dmf_net.specs.Arc.{IsArc, no_arc, capacity_sum}
 
 -- A directed network: the nodes 1 to `nodes`, of which one is the source and one the sink, and a list of arcs.
 -- Arc number j is the j-th of the list, counted from 1.
@@ -24,3 +24,16 @@ pub record IsNetwork (n : Network) : Type 0 where
   pub arcs : All (IsArc n.nodes) n.arcs
   pub at_most_arcs : length n.arcs ≤ MAX_ARCS
   pub capacities : capacity_sum n.arcs < 2 ^ 64
+
+-- arc number `j`
+abbrev pub arc_number : Network → ℕ → Arc
+arc_number n j = slice_index_or n.arcs (j - 1) no_arc
+
+-- whether there is an arc number `j`
+abbrev pub has_arc : Network → ℕ → Bool
+has_arc n j = nat_le 1 j && nat_le j (length n.arcs)
+
+-- the network with another arc in the place of arc number `j`
+abbrev pub with_arc : Network → ℕ → Arc → Network
+with_arc n j arc =
+    record { nodes = n.nodes; source = n.source; sink = n.sink; arcs = slice_set n.arcs (j - 1) arc }

@@ -1,5 +1,5 @@
 ghost use Rattle.std.specs.Prelude.{◌≡◌};
-ghost use Rattle.dmf_net.specs.Arc.{open_arc};
+ghost use Rattle.dmf_net.specs.Arc.{open_arc, with_cap, closed_arc};
 
 /// A directed arc of a network.
 ///
@@ -26,6 +26,24 @@ impl Arc {
             head,
             cap,
             closed: false,
+        }
+    }
+
+    /// The arc with another capacity.
+    pub(crate) fn with_cap(self, cap: u64) -> Self
+        ensures { result ≡ with_cap cap self }
+    {
+        Arc { cap, ..self }
+    }
+
+    /// The arc, closed.
+    pub(crate) fn close(self) -> Self
+        ensures { result ≡ closed_arc self }
+    {
+        Arc {
+            cap: 0,
+            closed: true,
+            ..self
         }
     }
 }

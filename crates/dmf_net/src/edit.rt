@@ -12,6 +12,17 @@ pub struct Move {
 /// A change that was planned on a state, with all that it takes to apply it there.
 #[derive(Debug, PartialEq, Eq, Drop)]
 pub enum Edit {
+    /// Another capacity for an arc.
+    Cap {
+        /// The arc's number, counted from 1.
+        arc: u32,
+        /// Its capacity before.
+        old: u64,
+        /// Its capacity after.
+        new: u64,
+        /// The arcs whose flow differs, in the order of their numbers.
+        moves: Vec<Move>,
+    },
     /// A new last arc, open and without flow.
     Add {
         /// The node that the arc leaves.
@@ -20,6 +31,15 @@ pub enum Edit {
         head: u32,
         /// Its capacity.
         cap: u64,
+    },
+    /// Nothing may flow on an arc any more.
+    Close {
+        /// The arc's number, counted from 1.
+        arc: u32,
+        /// Its capacity before.
+        old: u64,
+        /// The arcs whose flow differs, in the order of their numbers.
+        moves: Vec<Move>,
     },
     /// A greatest flow in place of the present one.
     Solve {

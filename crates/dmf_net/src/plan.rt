@@ -1,14 +1,63 @@
-ghost use Rattle.std.specs.Prelude.{◌≡◌, IfOk, IsOkUnless};
+ghost use Rattle.std.specs.Prelude.{◌≡◌, Err, IfOk, IsOkUnless, MatchOption};
 ghost use Rattle.std.specs.Result.{result_err};
-ghost use Rattle.dmf_net.specs.Change.{Add, Solve, change_fault, Becomes};
+ghost use Rattle.dmf_net.specs.Change.{Cap, Close, Add, Solve, change_fault, Becomes};
+ghost use Rattle.dmf_net.specs.Drain.{TakesOff};
 ghost use Rattle.dmf_net.specs.Edit.{applied, Fits, ListsDifferences};
 
+use crate::drain::drain;
 use crate::edit::Edit;
 use crate::fault::PlanFault;
 use crate::moves::list_moves;
 use crate::solve::solved_flows;
 use crate::state::State;
 use std::alloc::Global;
+
+/// Plans capacity `cap` for arc number `j`, without changing the state. Where more flows on the arc than that, it is
+/// drained first.
+///
+/// Refused, in this order, by [`PlanFault::NoSuchArc`], [`PlanFault::Closed`] and [`PlanFault::SumTooLarge`], before any
+/// draining. Takes memory where the arc is drained, for the flows and for the carrying steps; where it is refused, the
+/// answer is [`PlanFault::NoMemory`]. Where no more flows on the arc than `cap`, no other arc is looked at.
+pub fn plan_cap(alloc: Global, state: &State, j: u64, cap: u64) -> Result<Edit, PlanFault>
+    ensures refused { MatchOption (change_fault state.now (Cap j cap))
+        (IsOkUnless result PlanFault.NoMemory)
+        (λ fault. result ≡ Err fault) }
+    ensures fits { IfOk result (λ edit. Fits edit state.now) }
+    ensures becomes { IfOk result (λ edit. Becomes state.now (Cap j cap) (applied edit state.now)) }
+    ensures moves { IfOk result (λ edit. ListsDifferences edit state.now) }
+    ensures takes_off { IfOk result (λ edit. TakesOff state.now.network j cap state.now.flows (applied edit state.now).flows) }
+{
+    let (arc, old) = state.open_arc(j)?;
+    if cap > state.room_for(old) {
+        return Err(PlanFault::SumTooLarge);
+    }
+    let moves = drain(alloc, state, arc, cap)?;
+    Ok(Edit::Cap {
+        arc,
+        old,
+        new: cap,
+        moves,
+    })
+}
+
+/// Plans closing arc number `j`, without changing the state. Where something flows on the arc, it is drained first.
+///
+/// Refused, in this order, by [`PlanFault::NoSuchArc`] and [`PlanFault::Closed`], before any draining. Takes memory where
+/// the arc is drained, for the flows and for the carrying steps; where it is refused, the answer is
+/// [`PlanFault::NoMemory`]. Where nothing flows on the arc, no other arc is looked at.
+pub fn plan_close(alloc: Global, state: &State, j: u64) -> Result<Edit, PlanFault>
+    ensures refused { MatchOption (change_fault state.now (Close j))
+        (IsOkUnless result PlanFault.NoMemory)
+        (λ fault. result ≡ Err fault) }
+    ensures fits { IfOk result (λ edit. Fits edit state.now) }
+    ensures becomes { IfOk result (λ edit. Becomes state.now (Close j) (applied edit state.now)) }
+    ensures moves { IfOk result (λ edit. ListsDifferences edit state.now) }
+    ensures takes_off { IfOk result (λ edit. TakesOff state.now.network j 0 state.now.flows (applied edit state.now).flows) }
+{
+    let (arc, old) = state.open_arc(j)?;
+    let moves = drain(alloc, state, arc, 0)?;
+    Ok(Edit::Close { arc, old, moves })
+}
 
 /// Plans a new last arc from `tail` to `head` with capacity `cap`, without changing the state.
 ///

@@ -1,18 +1,19 @@
-ghost use Rattle.std.specs.Prelude.{◌≡◌, ◌≢◌, ℕ, false, ◌+◌, ◌-◌, ◌<◌, ◌≤◌, ◌↔◌, pos, length, slice_get, Some, None, Ok, Err, IsTrue, IfOk, IfErr, OnOk, OnErr, IsOkUnless, MatchOption};
+ghost use Rattle.std.specs.Prelude.{◌≡◌, ◌≢◌, ℕ, true, false, ◌+◌, ◌-◌, ◌^◌, ◌<◌, ◌≤◌, ◌↔◌, pos, length, slice_get, Some, None, Ok, Err, IsTrue, IfOk, IfErr, OnOk, OnErr, IsOkUnless, MatchOption};
 ghost use Rattle.std.specs.Result.{result_err};
 ghost use Rattle.dmf_net.specs.declared.limits.TheConstants.{MAX_NODES};
 ghost use Rattle.dmf_net.specs.Node.{IsNode, is_node};
-ghost use Rattle.dmf_net.specs.Arc.{open_arc, open_count};
+ghost use Rattle.dmf_net.specs.Arc.{open_arc, capacity_sum, open_count};
+ghost use Rattle.dmf_net.specs.Network.{arc_number, has_arc, with_arc};
 ghost use Rattle.dmf_net.specs.Flow.{flow_value};
 ghost use Rattle.dmf_net.specs.FlowSums.{IsNodeFlow};
 ghost use Rattle.dmf_net.specs.FlowFault.{FlowFaultHolds};
 ghost use Rattle.dmf_net.specs.NetworkState.{IsState, without_arcs, with_flows, with_idle_arc};
-ghost use Rattle.dmf_net.specs.Change.{arc_fault, net_fault};
-ghost use Rattle.dmf_net.specs.Edit.{moved, applied, MovesFit, Fits};
+ghost use Rattle.dmf_net.specs.Change.{arc_fault, arc_refusal, net_fault};
+ghost use Rattle.dmf_net.specs.Edit.{moved, applied, IsOpenWith, MovesFit, Fits};
 
 use crate::arc::Arc;
 use crate::edit::{Edit, Move};
-use crate::fault::{ArcFault, FlowFault, NetFault, NoMemory};
+use crate::fault::{ArcFault, FlowFault, NetFault, NoMemory, PlanFault};
 use crate::flow_sums::{NodeFlow, first_over_capacity, flow_sums};
 use crate::limits::MAX_ARCS;
 use crate::moves::make_moves;
@@ -223,12 +224,96 @@ impl State {
         ensures err { OnErr result (self.new ≡ self.old) }
     {
         match *edit {
+            Edit::Cap {
+                arc: j,
+                new,
+                ref moves,
+                ..
+            } => {
+                let arc = self.arc(j).with_cap(new);
+                self.change_arc(j, arc, moves);
+                Ok(())
+            }
+            Edit::Close {
+                arc: j,
+                ref moves,
+                ..
+            } => {
+                let arc = self.arc(j).close();
+                self.change_arc(j, arc, moves);
+                Ok(())
+            }
             Edit::Add { tail, head, cap } => self.append(Arc::open(tail, head, cap)),
             Edit::Solve { ref moves } => {
                 self.make(moves);
                 Ok(())
             }
         }
+    }
+
+    /// Arc number `j`.
+    pub(crate) fn arc(&self, j: u32) -> Arc
+        requires { has_arc self.now.network j ≡ true }
+        ensures value { result ≡ arc_number self.now.network j }
+        ensures state { IsState self.now }
+    {
+        self.arcs[j as usize - 1]
+    }
+
+    /// The number of an arc that can be changed and its capacity, or why arc number `j` cannot.
+    pub(crate) fn open_arc(&self, j: u64) -> Result<(u32, u64), PlanFault>
+        ensures refused { result_err result ≡ arc_refusal self.now.network j }
+        ensures arc { IfOk result (λ found. (found.0 ≡ j) × IsOpenWith self.now.network j found.1) }
+    {
+        if j < 1 || j > self.arcs.len() as u64 {
+            return Err(PlanFault::NoSuchArc);
+        }
+        let arc = self.arcs[j as usize - 1];
+        if arc.closed {
+            return Err(PlanFault::Closed);
+        }
+        Ok((j as u32, arc.cap))
+    }
+
+    /// The largest capacity that can stand in the place of one of these.
+    pub(crate) fn room_for(&self, old: u64) -> u64
+        requires { old ≤ capacity_sum self.now.network.arcs }
+        ensures { result + (capacity_sum self.now.network.arcs - old) + 1 ≡ 2 ^ 64 }
+    {
+        u64::MAX - (self.capacities - old)
+    }
+
+    /// Puts an arc with the same ends in the place of arc number `j`, and gives each arc that the moves name the flow that
+    /// they give it.
+    fn change_arc(&mut self, j: u32, arc: Arc, moves: &[Move])
+        requires is_there { has_arc self.old.network j ≡ true }
+        requires tail { arc.tail ≡ (arc_number self.old.network j).tail }
+        requires head { arc.head ≡ (arc_number self.old.network j).head }
+        requires fit { MovesFit 0 moves.now self.old.flows }
+        requires state { IsState (record { network = with_arc self.old.network j arc; flows = moved moves.now self.old.flows }) }
+        ensures { self.new ≡ record { network = with_arc self.old.network j arc; flows = moved moves.now self.old.flows } }
+    {
+        if arc.cap < self.arc(j).cap {
+            self.make(moves);
+            self.set_arc(j, arc);
+        } else {
+            self.set_arc(j, arc);
+            self.make(moves);
+        }
+    }
+
+    /// Puts an arc with the same ends in the place of arc number `j`.
+    fn set_arc(&mut self, j: u32, arc: Arc)
+        requires is_there { has_arc self.old.network j ≡ true }
+        requires tail { arc.tail ≡ (arc_number self.old.network j).tail }
+        requires head { arc.head ≡ (arc_number self.old.network j).head }
+        requires state { IsState (record { network = with_arc self.old.network j arc; flows = self.old.flows }) }
+        ensures { self.new ≡ record { network = with_arc self.old.network j arc; flows = self.old.flows } }
+    {
+        let old = self.arc(j);
+        self.capacities = self.capacities - old.cap + arc.cap;
+        self.open_arcs = self.open_arcs - u32::from(!old.closed) + u32::from(!arc.closed);
+        self.arcs[j as usize - 1] = arc;
     }
 
     /// Gives each arc that the moves name the flow that they give it.

@@ -1,7 +1,7 @@
 use Rattle.std.proofs.Common.{arith, ◌≡◌, replicate, rules}
 use Rattle.std.proofs.lemmas.Slice.Zip.{AllZip-long}
 use Rattle.dmf_net.specs.declared.arc.Arc.{Arc}
-use Rattle.dmf_net.proofs.NoArc.{no_arc}
+use Rattle.dmf_net.specs.Arc.{no_arc}
 use Rattle.dmf_net.proofs.Summing.{sums-none, sums-more, sums-all, sums-le}
 use Rattle.dmf_net.proofs.flow_sums.flow_sums.Goals as goal
 

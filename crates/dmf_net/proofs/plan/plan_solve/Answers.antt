@@ -22,6 +22,7 @@ between c =
 
 pub returns-clause-fits : goal.returns-clause-fits
 returns-clause-fits c = record {
+  arc = tt;
   moves = (between c).fit;
   applied = subst (λ flows. IsState (with_flows c.args.state.now flows)) (sym (between c).makes) c.in_ok-flows.ensures.state;
 }

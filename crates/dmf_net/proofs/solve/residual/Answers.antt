@@ -1,7 +1,7 @@
 use Rattle.std.proofs.Common.{◌+◌, get_or, refl, sym}
 use Rattle.std.proofs.lemmas.List.{append-nil}
 use Rattle.std.proofs.lemmas.Slice.Zip.{AllZip-long}
-use Rattle.dmf_net.proofs.NoArc.{no_arc}
+use Rattle.dmf_net.specs.Arc.{no_arc}
 use Rattle.dmf_net.proofs.ResidualWalk.{forward-some, forward-none, backward-some, backward-none, residual-more, residual-all}
 use Rattle.dmf_net.proofs.solve.residual.Goals as goal
 use Rattle.dmf_net.proofs.solve.residual.Goals.{then-flow-arc+in_ok-push, else-flow-arc, then-flow-gt0+in_ok-push-2, else-flow-gt0}

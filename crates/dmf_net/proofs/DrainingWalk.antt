@@ -1,0 +1,105 @@
+-- Draining path by path, and the moves that it makes.
+use Rattle.std.proofs.Common.{ℕ, ◌≡◌, ◌-◌, ◌<◌, ◌≤◌, true, ◌+◌, List, [], ◌∷◌, length, get_or, refl, ap, sym, ◌∙◌, arith, eq-eqb}
+use Rattle.std.proofs.lemmas.List.{get_or_read}
+use Rattle.std.proofs.lemmas.Slice.Zip.{AllZip-long}
+use Rattle.dmf_net.specs.declared.edit.Move.{Move}
+use Rattle.dmf_net.specs.declared.step.Step.{Step}
+use Rattle.dmf_net.specs.Network.{arc_number, has_arc}
+use Rattle.dmf_net.specs.Flow.{flow_on}
+use Rattle.dmf_net.specs.NetworkState.{NetworkState, IsState, with_flows}
+use Rattle.dmf_net.specs.Path.{IsLeastPath}
+use Rattle.dmf_net.specs.Drain.{carrying_steps, lowered, CanLower, Drains, TakesOff}
+use Rattle.dmf_net.specs.Edit.{moved, MovesFit, differences}
+use Rattle.dmf_net.proofs.ChangedArc.{has_arc-within}
+use Rattle.dmf_net.proofs.Draining.{drains-state}
+use Rattle.dmf_net.proofs.Moving.{differences-fit, moved-differences}
+use Rattle.dmf_net.proofs.Lowering.{lowered-amount, lowered-flow, lowered-on, lowered-value}
+
+-- The flows are those of a state, and what draining makes of them it makes of the flows of `s`.
+pub record AreDrainedSoFar (s : NetworkState) (j limit : ℕ) (flows : List ℕ) : Type 0 where
+  pub state : IsState (with_flows s flows)
+  pub onward : (last : List ℕ) → Drains s.network j limit flows last → Drains s.network j limit s.flows last
+
+-- no path yet
+pub drained-none : (s : NetworkState) (j limit : ℕ) → IsState s → AreDrainedSoFar s j limit s.flows
+drained-none s j limit state = record { state = state; onward = λ last drains. drains }
+
+-- the arc has a flow
+pub within-flows : (s : NetworkState) (j limit : ℕ) (flows : List ℕ) → has_arc s.network j ≡ true → AreDrainedSoFar s j limit flows → j - 1 < length flows
+within-flows s j limit flows has so_far =
+    let at = has_arc-within s.network j has in
+    let same = AllZip-long _ s.network.arcs flows so_far.state.flow.within in
+    omega (arith, at.1, same)
+
+-- what is read there is that flow
+pub flow-read : (s : NetworkState) (j limit : ℕ) (flows : List ℕ) (read : ℕ) → has_arc s.network j ≡ true → AreDrainedSoFar s j limit flows → read ≡ get_or flows (j - 1) read → read ≡ flow_on flows j
+flow-read s j limit flows read has so_far is = get_or_read flows (j - 1) read (within-flows s j limit flows has so_far) is 0
+
+-- the next path can be lowered
+pub can_lower : (s : NetworkState) (j limit : ℕ) (flows : List ℕ) (path : List Step) → has_arc s.network j ≡ true → limit < flow_on flows j → IsLeastPath (carrying_steps s.network flows) (arc_number s.network j).head (arc_number s.network j).tail path → AreDrainedSoFar s j limit flows → CanLower flows j limit path
+can_lower s j limit flows path has above least so_far = record {
+  network = s.network;
+  is = so_far.state.network;
+  flow = so_far.state.flow;
+  is_there = has;
+  above = above;
+  least = least;
+}
+
+-- one path more
+pub drained-more : (s : NetworkState) (j limit : ℕ) (flows : List ℕ) (path : List Step) → has_arc s.network j ≡ true → limit < flow_on flows j → IsLeastPath (carrying_steps s.network flows) (arc_number s.network j).head (arc_number s.network j).tail path → AreDrainedSoFar s j limit flows → AreDrainedSoFar s j limit (lowered j limit path flows)
+drained-more s j limit flows path has above least so_far = record {
+  state = record {
+    network = so_far.state.network;
+    flow = lowered-flow s.network j limit flows path above has so_far.state.network so_far.state.flow least;
+    value_from_zero = (lowered-value s.network j limit flows path above has so_far.state.network so_far.state.flow so_far.state.value_from_zero least).1;
+  };
+  onward = λ last drains. so_far.onward last (record { paths = path ∷ drains.paths; lowers = (above, least, drains.lowers); within = drains.within });
+}
+
+-- Each path lowers the arc's flow.
+pub lowered-falls : (s : NetworkState) (j limit : ℕ) (flows : List ℕ) (path : List Step) → has_arc s.network j ≡ true → limit < flow_on flows j → IsLeastPath (carrying_steps s.network flows) (arc_number s.network j).head (arc_number s.network j).tail path → AreDrainedSoFar s j limit flows → flow_on (lowered j limit path flows) j < flow_on flows j
+lowered-falls s j limit flows path has above least so_far =
+    let amount = lowered-amount s.network j limit flows path above least in
+    omega (arith, amount.0, amount.1, above, lowered-on s.network j limit flows path has so_far.state.flow)
+
+-- Where no more than the limit flows on the arc, it is drained.
+pub drained-all : (s : NetworkState) (j limit : ℕ) (flows : List ℕ) → flow_on flows j ≤ limit → AreDrainedSoFar s j limit flows → Drains s.network j limit s.flows flows
+drained-all s j limit flows within so_far = so_far.onward flows (record { paths = []; lowers = refl; within = within })
+
+-- What is said of the moves that drain arc number `j`.
+pub record AreDrainingMoves (s : NetworkState) (j limit : ℕ) (moves : List Move) : Type 0 where
+  pub fit : MovesFit 0 moves s.flows
+  pub differ : moves ≡ differences 1 s.flows (moved moves s.flows)
+  pub drains : Drains s.network j limit s.flows (moved moves s.flows)
+  pub state : IsState (with_flows s (moved moves s.flows))
+  pub takes_off : TakesOff s.network j limit s.flows (moved moves s.flows)
+
+-- the flows that draining leaves are one for each arc
+pub length-drained : (s : NetworkState) (j limit : ℕ) (last : List ℕ) → IsState s → has_arc s.network j ≡ true → Drains s.network j limit s.flows last → length last ≡ length s.flows
+length-drained s j limit last state has drains =
+    AllZip-long _ s.flows last (drains-state s.network j limit s.flows last state.network state.flow state.value_from_zero has drains).0.no_more
+
+-- It holds of the moves between the flows before and those that draining leaves.
+pub draining-moves : (s : NetworkState) (j limit : ℕ) (last : List ℕ) (moves : List Move) → IsState s → has_arc s.network j ≡ true → Drains s.network j limit s.flows last → moves ≡ differences 1 s.flows last → AreDrainingMoves s j limit moves
+draining-moves s j limit last moves state has drains is =
+    let told = drains-state s.network j limit s.flows last state.network state.flow state.value_from_zero has drains in
+    let same = length-drained s j limit last state has drains in
+    let made : moved moves s.flows ≡ last = ap (λ ms. moved ms s.flows) is ∙ moved-differences [] s.flows last same in
+    record {
+      fit = rw is (differences-fit [] s.flows last same);
+      differ = is ∙ ap (differences 1 s.flows) (sym made);
+      drains = rw made drains;
+      state = rw made (record { network = state.network; flow = told.0.flow; value_from_zero = told.1 });
+      takes_off = rw made told.0;
+    }
+
+-- no flow differs from itself
+differences-none : (j : ℕ) (flows : List ℕ) → differences j flows flows ≡ []
+differences-none j [] = refl
+differences-none j (x ∷ flows) = rw (eq-eqb x x refl) (differences-none (j + 1) flows)
+
+-- Where no more than the limit flows on the arc, it holds of no moves.
+pub draining-none : (s : NetworkState) (j limit : ℕ) → IsState s → has_arc s.network j ≡ true → flow_on s.flows j ≤ limit → AreDrainingMoves s j limit []
+draining-none s j limit state has within =
+    draining-moves s j limit s.flows [] state has (drained-all s j limit s.flows within (drained-none s j limit state)) (sym (differences-none 1 s.flows))
