@@ -36,3 +36,8 @@ pub mod SomeOutcome
 pub mod CarryingWalk
 pub mod DrainingWalk
 pub mod LoweringWalk
+pub mod MaxFlowMinCut
+pub mod SmallestSide
+pub mod LargerFlow
+pub mod Ascending
+pub mod GreatestFlow

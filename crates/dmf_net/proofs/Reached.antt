@@ -1,11 +1,12 @@
 -- The nodes to which paths of steps lead. A set of nodes is given by its test: whether it has a node.
-use Rattle.std.proofs.Common.{ℕ, zero, suc, ◌≡◌, ◌≢◌, ◌==◌, ◌||◌, List, [], ◌∷◌, ◌++◌, Bool, true, false, refl, ap, subst, sym, ◌∙◌, arith, ⊎_elim}
+use Rattle.std.proofs.Common.{ℕ, ◌≡◌, ◌&&◌, ◌⊎◌, List, [], ◌∷◌, ◌++◌, Bool, true, false, nat_le, refl, ap, subst, sym, ◌∙◌, inl, inr}
 use Rattle.std.specs.List.{Contains}
-use Rattle.std.proofs.lemmas.Bool.{both_ways, or_cases, or_left, or_right, eqb-true}
-use Rattle.std.proofs.lemmas.Bool.Decides.{eqb_tells}
+use Rattle.std.proofs.lemmas.Bool.{both_ways, and_parts, and_from, le-leb}
 use Rattle.dmf_net.specs.declared.step.Step.{Step}
-use Rattle.dmf_net.specs.Node.{IsNode}
+use Rattle.dmf_net.specs.Node.{IsNode, is_node}
 use Rattle.dmf_net.specs.Path.{IsPath, HasNoPath}
+use Rattle.dmf_net.proofs.IdleArc.{IsNode-is_node}
+use Rattle.dmf_net.proofs.SomeLeast.{SomePath, path-or-none}
 
 -- No step leaves the set.
 abbrev pub IsClosed : List Step → (ℕ → Bool) → Type 0
@@ -42,63 +43,40 @@ reached_from-closed steps nodes a has arrive r s c inside =
     let before = r.reached s.from inside in
     r.every s.to (arrive s c) (before.0 ++ s ∷ []) (path-push steps a s.from before.0 s before.1 c refl)
 
--- ---- tests of properties that need not be decided
+-- ---- the test of the nodes that are reached
 
--- The set has just the nodes 1 to `last` that have the property.
-pub record IsTestOf (P : ℕ → Type 0) (last : ℕ) (has : ℕ → Bool) : Type 0 where
-  pub of_nodes : (v : ℕ) → has v ≡ true → IsNode last v
-  pub holds : (v : ℕ) → has v ≡ true → P v
-  pub every : (v : ℕ) → IsNode last v → P v → has v ≡ true
+-- whether a path leads, where it is known that none does or that one does
+abbrev is_path : (steps : List Step) (a b : ℕ) → HasNoPath steps a b ⊎ SomePath steps a b → Bool
+is_path steps a b (inl none) = false
+is_path steps a b (inr found) = true
 
-no_nodes : (P : ℕ → Type 0) → IsTestOf P 0 (λ v. false)
-no_nodes P = record {
-  of_nodes = λ v e. absurd (both_ways false refl e);
-  holds = λ v e. absurd (both_ways false refl e);
-  every = λ v node p. absurd (omega (arith, node.from_one, node.to_last));
+is_path-some : (steps : List Step) (a b : ℕ) (known : HasNoPath steps a b ⊎ SomePath steps a b) → is_path steps a b known ≡ true → (path : List Step) × IsPath steps a b path
+is_path-some steps a b (inl none) e = absurd (both_ways false refl e)
+is_path-some steps a b (inr found) e = (found.path, found.leads)
+
+is_path-true : (steps : List Step) (a b : ℕ) (known : HasNoPath steps a b ⊎ SomePath steps a b) (path : List Step) → IsPath steps a b path → is_path steps a b known ≡ true
+is_path-true steps a b (inl none) path leads = absurd (none path leads)
+is_path-true steps a b (inr found) path leads = refl
+
+is_node-from : (nodes v : ℕ) → IsNode nodes v → is_node nodes v ≡ true
+is_node-from nodes v node = and_from (nat_le 1 v) (nat_le v nodes) (le-leb 1 v node.from_one) (le-leb v nodes node.to_last)
+
+-- whether `v` is a node to which a path leads from node `a`
+pub is_reached : List Step → ℕ → ℕ → ℕ → Bool
+is_reached steps nodes a v = is_node nodes v && is_path steps a v (path-or-none steps a v)
+
+-- The test has just the nodes that are reached.
+pub AreReachedFrom-is_reached : (steps : List Step) (nodes a : ℕ) → AreReachedFrom steps nodes a (is_reached steps nodes a)
+unfolding is_reached
+AreReachedFrom-is_reached steps nodes a = record {
+  of_nodes = λ v e. IsNode-is_node nodes v (and_parts (is_node nodes v) _ e).0;
+  reached = λ v e. is_path-some steps a v (path-or-none steps a v) (and_parts (is_node nodes v) _ e).1;
+  every = λ v node path leads. and_from (is_node nodes v) _ (is_node-from nodes v node) (is_path-true steps a v (path-or-none steps a v) path leads);
 }
-
--- the test with one node more, where that has not the property
-without_next : (P : ℕ → Type 0) (last : ℕ) (has : ℕ → Bool) → IsTestOf P last has → ¬ P (suc last) → IsTestOf P (suc last) has
-without_next P last has t lacks = record {
-  of_nodes = λ v e. let node = t.of_nodes v e in record { from_one = node.from_one; to_last = omega (arith, node.to_last) };
-  holds = t.holds;
-  every = λ v node p. ⊎_elim
-      (λ (here : ((v == suc last) ≡ true) × (v ≡ suc last)). absurd (lacks (subst P here.1 p)))
-      (λ (elsewhere : ((v == suc last) ≡ false) × (v ≢ suc last)). t.every v (record { from_one = node.from_one; to_last = omega (arith, node.to_last, elsewhere.1) }) p)
-      (eqb_tells v (suc last));
-}
-
--- and where it has
-with_next : (P : ℕ → Type 0) (last : ℕ) (has : ℕ → Bool) → IsTestOf P last has → P (suc last) → IsTestOf P (suc last) (λ v. (v == suc last) || has v)
-with_next P last has t next = record {
-  of_nodes = λ v e. ⊎_elim
-      (λ (here : (v == suc last) ≡ true). record { from_one = omega (arith, eqb-true v (suc last) here); to_last = omega (arith, eqb-true v (suc last) here) })
-      (λ (before : has v ≡ true). let node = t.of_nodes v before in record { from_one = node.from_one; to_last = omega (arith, node.to_last) })
-      (or_cases (v == suc last) (has v) e);
-  holds = λ v e. ⊎_elim
-      (λ (here : (v == suc last) ≡ true). subst P (sym (eqb-true v (suc last) here)) next)
-      (λ (before : has v ≡ true). t.holds v before)
-      (or_cases (v == suc last) (has v) e);
-  every = λ v node p. ⊎_elim
-      (λ (here : ((v == suc last) ≡ true) × (v ≡ suc last)). or_left (v == suc last) (has v) here.0)
-      (λ (elsewhere : ((v == suc last) ≡ false) × (v ≢ suc last)). or_right (v == suc last) (has v) (t.every v (record { from_one = node.from_one; to_last = omega (arith, node.to_last, elsewhere.1) }) p))
-      (eqb_tells v (suc last));
-}
-
--- It is absurd that no test decides a property of finitely many nodes.
-pub test-not_none : (P : ℕ → Type 0) (last : ℕ) → ((has : ℕ → Bool) → ¬ IsTestOf P last has) → ⊥
-test-not_none P zero none = none (λ v. false) (no_nodes P)
-test-not_none P (suc last) none = test-not_none P last (λ has t.
-    none has (without_next P last has t (λ next. none (λ v. (v == suc last) || has v) (with_next P last has t next))))
-
--- Nor is there no test of the nodes that are reached.
-pub reached-not_none : (steps : List Step) (nodes a : ℕ) → ((has : ℕ → Bool) → ¬ AreReachedFrom steps nodes a has) → ⊥
-reached-not_none steps nodes a none =
-    test-not_none (λ v. (path : List Step) × IsPath steps a v path) nodes
-    (λ has t. none has (record { of_nodes = t.of_nodes; reached = t.holds; every = λ v node path leads. t.every v node (path, leads) }))
 
 -- Where each set that has node `a` and that no step leaves has node `b`, it is absurd that no path leads from `a` to `b`.
 pub path-not_none : (steps : List Step) (nodes a b : ℕ) → ArriveAtNodes nodes steps → IsNode nodes a → ((has : ℕ → Bool) → has a ≡ true → IsClosed steps has → has b ≡ true) → ¬ HasNoPath steps a b
-path-not_none steps nodes a b arrive node kept none = reached-not_none steps nodes a (λ has r.
-    let p = r.reached b (kept has (r.every a node [] refl) (reached_from-closed steps nodes a has arrive r)) in
-    none p.0 p.1)
+path-not_none steps nodes a b arrive node kept none =
+    let r = AreReachedFrom-is_reached steps nodes a in
+    let p = r.reached b (kept (is_reached steps nodes a) (r.every a node [] refl) (reached_from-closed steps nodes a (is_reached steps nodes a) arrive r)) in
+    none p.0 p.1

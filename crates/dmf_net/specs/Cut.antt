@@ -1,8 +1,10 @@
 -- Cuts, as the textbooks have them (Ahuja, Magnanti and Orlin, Network Flows, section 6.3).
-use Rattle.std.specs.Prelude.{ℕ, ◌≡◌, ◌≤◌, Bool, true, false, not, ◌&&◌, if◌then◌else◌, List, sum_by}
+use Rattle.std.specs.Prelude.{ℕ, ◌≡◌, ◌≤◌, Bool, true, false, not, ◌&&◌, if◌then◌else◌, List, sum_by, ℤ, pos}
 use Rattle.dmf_net.specs.declared.arc.Arc.{Arc}
 use Rattle.dmf_net.specs.Node.{IsNode}
-use Rattle.dmf_net.specs.Network.{Network}
+use Rattle.dmf_net.specs.Network.{Network, IsNetwork}
+use Rattle.dmf_net.specs.Flow.{flow_value}
+use Rattle.dmf_net.specs.Greatest.{IsGreatest}
 
 -- A cut is a set of nodes that has the source and not the sink. A set is given by its test: whether it has a node.
 pub record IsCut (n : Network) (has : ℕ → Bool) : Type 0 where
@@ -22,3 +24,23 @@ pub record IsLeastCut (n : Network) (has : ℕ → Bool) : Type 0 where
 -- Every least cut has node `v`. These nodes are the smallest side of the network.
 abbrev pub IsInEveryLeastCut : Network → ℕ → Type 0
 IsInEveryLeastCut n v = (has : ℕ → Bool) → IsLeastCut n has → has v ≡ true
+
+-- Some cut has this capacity.
+pub record HasCutOf (n : Network) (value : ℤ) : Type 0 where
+  pub has : ℕ → Bool
+  pub cut : IsCut n has
+  pub capacity : pos (cut_capacity n.arcs has) ≡ value
+
+-- Some least cut has this capacity.
+pub record HasLeastCutOf (n : Network) (value : ℤ) : Type 0 where
+  pub has : ℕ → Bool
+  pub least : IsLeastCut n has
+  pub capacity : pos (cut_capacity n.arcs has) ≡ value
+
+-- A network has a greatest flow.
+abbrev pub HasGreatestFlow : Type 0
+HasGreatestFlow = (n : Network) → IsNetwork n → (flows : List ℕ) × IsGreatest n flows
+
+-- Max-flow min-cut: the value of a greatest flow is the capacity of a least cut.
+abbrev pub MaxFlowMinCut : Type 0
+MaxFlowMinCut = (n : Network) (flows : List ℕ) → IsNetwork n → IsGreatest n flows → HasLeastCutOf n (flow_value n flows)

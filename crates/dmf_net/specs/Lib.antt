@@ -4,6 +4,7 @@ pub mod Network
 pub mod Flow
 pub mod Greatest
 pub mod Cut
+pub mod Side
 pub mod FlowSums
 pub mod NetworkState
 pub mod FlowFault

@@ -2,6 +2,7 @@ ghost use Rattle.std.specs.Prelude.{◌≡◌};
 ghost use Rattle.dmf_net.specs.declared.fault.NetFault.TheVariants as net;
 ghost use Rattle.dmf_net.specs.declared.fault.FlowFault.TheVariants as flow;
 ghost use Rattle.dmf_net.specs.declared.fault.PlanFault.TheVariants as plan;
+ghost use Rattle.dmf_net.specs.declared.fault.CutFault.TheVariants as cut;
 ghost use Rattle.dmf_net.specs.Change.{net_fault, plan_fault};
 
 use std::alloc::AllocError;
@@ -134,5 +135,32 @@ impl From<AllocError> for PlanFault {
 
     fn from(_error: AllocError) -> PlanFault {
         PlanFault::NoMemory
+    }
+}
+
+/// Why the smallest side of a network is not told.
+#[derive(Clone, Copy, Debug, PartialEq, Eq, Hash, Error)]
+pub enum CutFault {
+    /// Some flow of the network has a larger value.
+    #[error("flow is not greatest")]
+    NotGreatest,
+    /// A request for memory was refused.
+    #[error("no memory")]
+    NoMemory,
+}
+
+impl From<AllocError> for CutFault {
+    ghost from_gives = { λ _ e. e ≡ cut.NoMemory };
+
+    fn from(_error: AllocError) -> CutFault {
+        CutFault::NoMemory
+    }
+}
+
+impl From<NoMemory> for CutFault {
+    ghost from_gives = { λ _ e. e ≡ cut.NoMemory };
+
+    fn from(_error: NoMemory) -> CutFault {
+        CutFault::NoMemory
     }
 }

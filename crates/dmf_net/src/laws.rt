@@ -1,5 +1,7 @@
 ghost use Rattle.dmf_net.specs.Change.{HasOneOutcome, HasOutcome};
+ghost use Rattle.dmf_net.specs.Cut.{HasGreatestFlow, MaxFlowMinCut};
 ghost use Rattle.dmf_net.specs.Edit.{HasOneBefore};
+ghost use Rattle.dmf_net.specs.Side.{HasOneSmallestSide};
 
 /// The law that an edit can be undone in one way alone: two states that it fits, and of which it makes the same
 /// state, are the same.
@@ -16,4 +18,16 @@ pub fn one_outcome()
 /// every state.
 pub fn an_outcome()
     ensures { HasOutcome }
+{}
+
+/// Max-flow min-cut: every network has a greatest flow, and the value of each greatest flow is the capacity of a least
+/// cut.
+pub fn max_flow_min_cut()
+    ensures flow { HasGreatestFlow }
+    ensures cut { MaxFlowMinCut }
+{}
+
+/// The law that a network has one smallest side: any two lists of nodes with a capacity that are one are the same.
+pub fn one_smallest_side()
+    ensures { HasOneSmallestSide }
 {}

@@ -3,10 +3,11 @@
 
 pub use arc::Arc;
 pub use edit::{Edit, Move};
-pub use fault::{ArcFault, FlowFault, NetFault, NoMemory, PlanFault};
-pub use laws::{an_outcome, one_outcome, one_state_before};
+pub use fault::{ArcFault, CutFault, FlowFault, NetFault, NoMemory, PlanFault};
+pub use laws::{an_outcome, max_flow_min_cut, one_outcome, one_smallest_side, one_state_before};
 pub use limits::{MAX_ARCS, MAX_NODES};
 pub use plan::{plan_add, plan_cap, plan_close, plan_solve};
+pub use side::{Side, side_after, smallest_side};
 pub use state::State;
 
 mod arc;
@@ -19,6 +20,7 @@ mod limits;
 mod moves;
 mod plan;
 mod search;
+mod side;
 mod solve;
 mod state;
 mod step;

@@ -1,8 +1,11 @@
 ghost use Rattle.std.specs.Prelude.{◌≡◌, Err, IfOk, IsOkUnless, MatchOption};
 ghost use Rattle.std.specs.Result.{result_err};
 ghost use Rattle.dmf_net.specs.Change.{Cap, Close, Add, Solve, change_fault, Becomes};
+ghost use Rattle.dmf_net.specs.Cut.{HasCutOf};
 ghost use Rattle.dmf_net.specs.Drain.{TakesOff};
 ghost use Rattle.dmf_net.specs.Edit.{applied, Fits, ListsDifferences};
+ghost use Rattle.dmf_net.specs.Flow.{flow_value};
+ghost use Rattle.dmf_net.specs.Greatest.{IsGreatest};
 
 use crate::drain::drain;
 use crate::edit::Edit;
@@ -80,6 +83,8 @@ pub fn plan_add(state: &State, tail: u64, head: u64, cap: u64) -> Result<Edit, P
 /// Plans the greatest flow that augmenting along shortest paths reaches from the present flow, without changing the
 /// state.
 ///
+/// No flow of the network has a larger value, and some cut has that value as its capacity.
+///
 /// Takes memory for the flows and for the residual steps; where it is refused, the answer is
 /// [`PlanFault::NoMemory`].
 pub fn plan_solve(alloc: Global, state: &State) -> Result<Edit, PlanFault>
@@ -87,6 +92,8 @@ pub fn plan_solve(alloc: Global, state: &State) -> Result<Edit, PlanFault>
     ensures fits { IfOk result (λ edit. Fits edit state.now) }
     ensures becomes { IfOk result (λ edit. Becomes state.now Solve (applied edit state.now)) }
     ensures moves { IfOk result (λ edit. ListsDifferences edit state.now) }
+    ensures greatest { IfOk result (λ edit. IsGreatest state.now.network (applied edit state.now).flows) }
+    ensures cut { IfOk result (λ edit. HasCutOf state.now.network (flow_value state.now.network (applied edit state.now).flows)) }
 {
     let flows = solved_flows(alloc, state)?;
     let moves = list_moves(alloc, state.flows(), &flows)?;

@@ -40,7 +40,7 @@ fn augmenting_path(
 }
 
 /// The residual steps of these flows, in the order of their ranks.
-fn residual(alloc: Global, arcs: &[Arc], flows: &[u64]) -> Result<Vec<Step>, AllocError>
+pub(crate) fn residual(alloc: Global, arcs: &[Arc], flows: &[u64]) -> Result<Vec<Step>, AllocError>
     requires at_most_arcs { length arcs.now ≤ MAX_ARCS }
     requires within { AreWithinCapacities arcs.now flows.now }
     ensures { IfOk result (λ steps. steps.items ≡ residual_steps arcs.now flows.now) }

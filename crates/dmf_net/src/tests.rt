@@ -1,4 +1,7 @@
-use crate::{Arc, Edit, FlowFault, Move, NetFault, PlanFault, State, plan_add, plan_solve};
+use crate::{
+    Arc, CutFault, Edit, FlowFault, Move, NetFault, PlanFault, State, plan_add, plan_solve,
+    side_after, smallest_side,
+};
 use std::alloc::Global;
 use std::test::Fail;
 
@@ -180,5 +183,52 @@ fn a_backward_step_goes_by_its_rank(rt: HostRuntime) -> Result<(), Fail> {
         },
     ]?;
     assert_eq!(rt; plan_solve(rt.alloc(), &flowing)?, Edit::Solve { moves });
+    Ok(())
+}
+
+#[test]
+fn the_smallest_side_is_told(rt: HostRuntime) -> Result<(), Fail> {
+    let mut state = example(rt.alloc())?;
+    let refused = smallest_side(rt.alloc(), &state);
+    assert_eq!(rt; refused.err(), Some(CutFault::NotGreatest));
+    let edit = plan_solve(rt.alloc(), &state)?;
+    let after = side_after(rt.alloc(), &state, &edit)?;
+    assert_eq!(rt; after.ids(), [1].as_slice());
+    assert_eq!(rt; after.capacity(), 5);
+    assert_eq!(rt; state.value(), 0);
+    assert_eq!(rt; state.flow(1), 0);
+    state.apply(&edit)?;
+    let side = smallest_side(rt.alloc(), &state)?;
+    assert_eq!(rt; side.ids(), [1].as_slice());
+    assert_eq!(rt; side.capacity(), 5);
+    assert_eq!(rt; side.contains(1), true);
+    assert_eq!(rt; side.contains(2), false);
+    assert_eq!(rt; side.contains(0), false);
+    Ok(())
+}
+
+/// Arc 5 can take 1 alone, so nodes 2 and 3 can still be reached where the flow is greatest.
+#[test]
+fn a_smallest_side_may_have_more_nodes(rt: HostRuntime) -> Result<(), Fail> {
+    let mut state = State::new(rt.alloc(), 4, 1, 4);
+    for (tail, head, cap) in [(1, 2, 3), (1, 3, 2), (2, 3, 5), (2, 4, 2), (3, 4, 1)] {
+        state.push_arc(tail, head, cap)?;
+    }
+    let edit = plan_solve(rt.alloc(), &state)?;
+    state.apply(&edit)?;
+    let side = smallest_side(rt.alloc(), &state)?;
+    assert_eq!(rt; side.ids(), [1, 2, 3].as_slice());
+    assert_eq!(rt; side.capacity(), 3);
+    assert_eq!(rt; side.contains(3), true);
+    assert_eq!(rt; side.contains(4), false);
+    Ok(())
+}
+
+#[test]
+fn without_arcs_the_source_is_the_smallest_side(rt: HostRuntime) -> Result<(), Fail> {
+    let state = State::new(rt.alloc(), 2, 1, 2);
+    let side = smallest_side(rt.alloc(), &state)?;
+    assert_eq!(rt; side.ids(), [1].as_slice());
+    assert_eq!(rt; side.capacity(), 0);
     Ok(())
 }

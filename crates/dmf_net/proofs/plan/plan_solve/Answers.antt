@@ -1,7 +1,11 @@
 use Rattle.std.proofs.Common.{arith, refl, subst, sym}
 use Rattle.std.proofs.lemmas.Slice.Zip.{AllZip-long}
 use Rattle.dmf_net.specs.NetworkState.{IsState, with_flows}
+use Rattle.dmf_net.specs.Cut.{HasCutOf}
+use Rattle.dmf_net.specs.Flow.{flow_value}
+use Rattle.dmf_net.specs.Greatest.{IsGreatest}
 use Rattle.dmf_net.specs.Solve.{Solves}
+use Rattle.dmf_net.proofs.GreatestFlow.{greatest-from_no_path, cut-from_no_path}
 use Rattle.dmf_net.proofs.Moving.{AreMovesBetween, moves-between, flows-long}
 use Rattle.dmf_net.proofs.plan.plan_solve.Goals as goal
 
@@ -33,3 +37,15 @@ returns-clause-becomes c =
 
 pub returns-clause-moves : goal.returns-clause-moves
 returns-clause-moves c = (between c).differ
+
+pub returns-clause-greatest : goal.returns-clause-greatest
+returns-clause-greatest c =
+    let n = c.args.state.now.network in
+    let flows = c.in_ok-flows.ensures in
+    subst (IsGreatest n) (sym (between c).makes) (greatest-from_no_path n c.in_ok-flows.flows.items flows.state.network flows.state.flow flows.solves.no_path)
+
+pub returns-clause-cut : goal.returns-clause-cut
+returns-clause-cut c =
+    let n = c.args.state.now.network in
+    let flows = c.in_ok-flows.ensures in
+    subst (λ xs. HasCutOf n (flow_value n xs)) (sym (between c).makes) (cut-from_no_path n c.in_ok-flows.flows.items flows.state.network flows.state.flow flows.solves.no_path)

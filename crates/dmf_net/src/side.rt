@@ -1,0 +1,126 @@
+ghost use Rattle.std.specs.Prelude.{◌≡◌, ◌-◌, ◌≤◌, ◌↔◌, ℕ, false, length, pos, IfErr, IfOk, IsTrue, OnOk};
+ghost use Rattle.std.specs.List.{slice_index_or};
+ghost use Rattle.std.specs.List.Sorted.{IsStrictlyIncreasing};
+ghost use Rattle.dmf_net.specs.declared.limits.TheConstants.{MAX_NODES};
+ghost use Rattle.dmf_net.specs.Node.{IsNode};
+ghost use Rattle.dmf_net.specs.Flow.{flow_value};
+ghost use Rattle.dmf_net.specs.Greatest.{IsGreatest, IsSurpassed};
+ghost use Rattle.dmf_net.specs.Side.{has_node, IsSmallestSide};
+ghost use Rattle.dmf_net.specs.Path.{IsReachable};
+ghost use Rattle.dmf_net.specs.Residual.{residual_steps};
+ghost use Rattle.dmf_net.specs.Edit.{applied, Fits};
+
+use crate::edit::Edit;
+use crate::fault::CutFault;
+use crate::search::reached;
+use crate::solve::residual;
+use crate::state::State;
+use std::alloc::{AllocError, Global};
+use std::marker::Model;
+
+/// A set of nodes that is a cut, with the capacity of the cut.
+///
+/// Its methods take no memory.
+#[derive(Debug, Drop)]
+pub struct Side {
+    ids: Vec<u32>,
+    capacity: u64,
+}
+
+impl Model for Side {
+    ghost use Rattle.std.specs.List.Sorted.{IsStrictlyIncreasing};
+    ghost use Rattle.dmf_net.specs.Side.{CutSide};
+
+    ghost Value = { CutSide };
+
+    ghost view = { λ a. record { ids = a.ids.items; capacity = a.capacity } };
+
+    ghost invariant = { λ a. IsStrictlyIncreasing a.ids.items };
+}
+
+impl Side {
+    /// Whether the set has node `v`.
+    pub fn contains(&self, v: u32) -> bool
+        ensures { result ≡ has_node self.now.ids v }
+    {
+        self.ids.binary_search(&v).is_ok()
+    }
+
+    /// The capacity of the cut.
+    pub fn capacity(&self) -> u64
+        ensures { result ≡ self.now.capacity }
+    {
+        self.capacity
+    }
+
+    /// The numbers of the nodes, ascending.
+    pub fn ids(&self) -> &[u32]
+        ensures value { result.now ≡ self.now.ids }
+        ensures ascending { IsStrictlyIncreasing self.now.ids }
+    {
+        &self.ids
+    }
+}
+
+/// The smallest side of the state's network: the nodes that every least cut has. The state's flow must be greatest.
+///
+/// Refused by [`CutFault::NotGreatest`] where some flow has a larger value. Takes memory for the residual steps and for
+/// what the search of them keeps; where it is refused, the answer is [`CutFault::NoMemory`].
+pub fn smallest_side(alloc: Global, state: &State) -> Result<Side, CutFault>
+    ensures side { IfOk result (λ side. IsSmallestSide state.now.network side) }
+    ensures value { IfOk result (λ side. pos side.capacity ≡ flow_value state.now.network state.now.flows) }
+    ensures greatest { OnOk result (IsGreatest state.now.network state.now.flows) }
+    ensures fault { IfErr result (λ fault. fault ≡ CutFault.NotGreatest → IsSurpassed state.now.network state.now.flows) }
+{
+    let marks = reached_nodes(alloc, state)?;
+    if marks[state.sink() as usize - 1] {
+        return Err(CutFault::NotGreatest);
+    }
+    let ids = marked_nodes(alloc, &marks)?;
+    Ok(Side {
+        ids,
+        capacity: state.value(),
+    })
+}
+
+/// The smallest side of the network that an edit makes of the state's, which does not change.
+///
+/// The edit's flow must be greatest; else the answer is as that of [`smallest_side`]. Takes memory for a copy of the
+/// state too.
+pub fn side_after(alloc: Global, state: &State, edit: &Edit) -> Result<Side, CutFault>
+    requires { Fits edit.now state.now }
+    ensures side { IfOk result (λ side. IsSmallestSide (applied edit.now state.now).network side) }
+    ensures value { IfOk result (λ side. pos side.capacity ≡ flow_value (applied edit.now state.now).network (applied edit.now state.now).flows) }
+    ensures greatest { OnOk result (IsGreatest (applied edit.now state.now).network (applied edit.now state.now).flows) }
+    ensures fault { IfErr result (λ fault. fault ≡ CutFault.NotGreatest → IsSurpassed (applied edit.now state.now).network (applied edit.now state.now).flows) }
+{
+    let mut after = state.copy(alloc)?;
+    after.apply(edit)?;
+    smallest_side(alloc, &after)
+}
+
+/// Which nodes residual paths of the state's flow lead to from the source, node 1 first.
+fn reached_nodes(alloc: Global, state: &State) -> Result<Vec<bool>, AllocError>
+    ensures one_each { IfOk result (λ marks. length marks.items ≡ state.now.network.nodes) }
+    ensures marks { IfOk result (λ marks. (v : ℕ) → IsNode state.now.network.nodes v →
+        IsTrue (slice_index_or marks.items (v - 1) false) ↔ IsReachable (residual_steps state.now.network.arcs state.now.flows) state.now.network.source v) }
+{
+    let steps = residual(alloc, state.arcs(), state.flows())?;
+    reached(alloc, state.nodes(), &steps, state.source())
+}
+
+/// The numbers of the nodes that are marked, ascending. The first mark is that of node 1.
+fn marked_nodes(alloc: Global, marks: &[bool]) -> Result<Vec<u32>, AllocError>
+    requires { length marks.now ≤ MAX_NODES }
+    ensures ascending { IfOk result (λ ids. IsStrictlyIncreasing ids.items) }
+    ensures marked { IfOk result (λ ids. (v : ℕ) →
+        IsTrue (has_node ids.items v) ↔ (IsNode (length marks.now) v × IsTrue (slice_index_or marks.now (v - 1) false))) }
+{
+    let mut ids = Vec::new(alloc);
+    for (k, &mark) in marks.iter().enumerate() {
+        if mark {
+            ids.push(k as u32 + 1)?;
+        }
+    }
+    Ok(ids)
+}
