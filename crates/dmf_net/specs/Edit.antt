@@ -1,5 +1,5 @@
 -- Edits: changes that were planned on a state, written down so that they can be applied to it.
-use Rattle.std.specs.Prelude.{ℕ, ◌≡◌, ◌+◌, ◌-◌, ◌<◌, ◌==◌, if◌then◌else◌, List, [], ◌∷◌, slice_get, slice_set, Some, true, false}
+use Rattle.std.specs.Prelude.{ℕ, ◌≡◌, ◌+◌, ◌-◌, ◌<◌, ◌==◌, if◌then◌else◌, List, [], ◌∷◌, slice_get, slice_set, Some, true, false, ⊤}
 use Rattle.dmf_net.specs.declared.edit.Move.{Move}
 use Rattle.dmf_net.specs.declared.edit.Edit.{Edit}
 use Rattle.dmf_net.specs.declared.edit.Edit.TheVariants.{Cap, Add, Close, Solve}
@@ -33,6 +33,13 @@ applied (Close j old moves) s =
     }
 applied (Add tail head cap) s = with_idle_arc s (open_arc tail head cap)
 applied (Solve moves) s = with_flows s (moved moves.items s.flows)
+
+-- The edit adds an arc.
+abbrev pub AddsArc : Edit → Type 0
+AddsArc (Cap j old new moves) = ⊥
+AddsArc (Close j old moves) = ⊥
+AddsArc (Add tail head cap) = ⊤
+AddsArc (Solve moves) = ⊥
 
 -- The moves name arcs past number `last`, in strictly ascending order, each with the flow that it has.
 abbrev pub MovesFit : ℕ → List Move → List ℕ → Type 0

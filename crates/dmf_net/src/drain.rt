@@ -1,4 +1,4 @@
-ghost use Rattle.std.specs.Prelude.{◌≡◌, ◌<◌, true, IfOk};
+ghost use Rattle.std.specs.Prelude.{◌≡◌, ◌<◌, ◌≤◌, true, IfOk, IsOk};
 ghost use Rattle.dmf_net.specs.Network.{arc_number, has_arc};
 ghost use Rattle.dmf_net.specs.Flow.{flow_on};
 ghost use Rattle.dmf_net.specs.NetworkState.{IsState, with_flows};
@@ -17,6 +17,7 @@ use std::alloc::{AllocError, Global};
 /// else is looked at.
 pub fn drain(alloc: Global, state: &State, j: u32, limit: u64) -> Result<Vec<Move>, AllocError>
     requires { has_arc state.now.network j ≡ true }
+    ensures at_once { flow_on state.now.flows j ≤ limit → IsOk result }
     ensures fit { IfOk result (λ moves. MovesFit 0 moves.items state.now.flows) }
     ensures differ { IfOk result (λ moves. moves.items ≡ differences 1 state.now.flows (moved moves.items state.now.flows)) }
     ensures drains { IfOk result (λ moves. Drains state.now.network j limit state.now.flows (moved moves.items state.now.flows)) }

@@ -1,10 +1,10 @@
-ghost use Rattle.std.specs.Prelude.{◌≡◌, Err, IfOk, IsOkUnless, MatchOption};
+ghost use Rattle.std.specs.Prelude.{◌≡◌, ◌≢◌, ◌≤◌, Err, IfOk, IsOkUnless, MatchOption};
 ghost use Rattle.std.specs.Result.{result_err};
 ghost use Rattle.dmf_net.specs.Change.{Cap, Close, Add, Solve, change_fault, Becomes};
 ghost use Rattle.dmf_net.specs.Cut.{HasCutOf};
 ghost use Rattle.dmf_net.specs.Drain.{TakesOff};
 ghost use Rattle.dmf_net.specs.Edit.{applied, Fits, ListsDifferences};
-ghost use Rattle.dmf_net.specs.Flow.{flow_value};
+ghost use Rattle.dmf_net.specs.Flow.{flow_on, flow_value};
 ghost use Rattle.dmf_net.specs.Greatest.{IsGreatest};
 
 use crate::drain::drain;
@@ -25,6 +25,7 @@ pub fn plan_cap(alloc: Global, state: &State, j: u64, cap: u64) -> Result<Edit, 
     ensures refused { MatchOption (change_fault state.now (Cap j cap))
         (IsOkUnless result PlanFault.NoMemory)
         (λ fault. result ≡ Err fault) }
+    ensures at_once { flow_on state.now.flows j ≤ cap → result ≢ Err PlanFault.NoMemory }
     ensures fits { IfOk result (λ edit. Fits edit state.now) }
     ensures becomes { IfOk result (λ edit. Becomes state.now (Cap j cap) (applied edit state.now)) }
     ensures moves { IfOk result (λ edit. ListsDifferences edit state.now) }
@@ -52,6 +53,7 @@ pub fn plan_close(alloc: Global, state: &State, j: u64) -> Result<Edit, PlanFaul
     ensures refused { MatchOption (change_fault state.now (Close j))
         (IsOkUnless result PlanFault.NoMemory)
         (λ fault. result ≡ Err fault) }
+    ensures at_once { flow_on state.now.flows j ≡ 0 → result ≢ Err PlanFault.NoMemory }
     ensures fits { IfOk result (λ edit. Fits edit state.now) }
     ensures becomes { IfOk result (λ edit. Becomes state.now (Close j) (applied edit state.now)) }
     ensures moves { IfOk result (λ edit. ListsDifferences edit state.now) }

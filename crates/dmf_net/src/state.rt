@@ -9,7 +9,7 @@ ghost use Rattle.dmf_net.specs.FlowSums.{IsNodeFlow};
 ghost use Rattle.dmf_net.specs.FlowFault.{FlowFaultHolds};
 ghost use Rattle.dmf_net.specs.NetworkState.{IsState, without_arcs, with_flows, with_idle_arc};
 ghost use Rattle.dmf_net.specs.Change.{arc_fault, arc_refusal, net_fault};
-ghost use Rattle.dmf_net.specs.Edit.{moved, applied, IsOpenWith, MovesFit, Fits};
+ghost use Rattle.dmf_net.specs.Edit.{moved, applied, AddsArc, IsOpenWith, MovesFit, Fits};
 
 use crate::arc::Arc;
 use crate::edit::{Edit, Move};
@@ -222,6 +222,7 @@ impl State {
         requires { Fits edit.now self.old }
         ensures ok { OnOk result (self.new ≡ applied edit.now self.old) }
         ensures err { OnErr result (self.new ≡ self.old) }
+        ensures refused { OnErr result (AddsArc edit.now) }
     {
         match *edit {
             Edit::Cap {
