@@ -1,5 +1,5 @@
 -- Ascending lists of nodes.
-use Rattle.std.proofs.Common.{length-append, ℕ, zero, suc, ◌≡◌, ◌+◌, ◌-◌, ◌<◌, ◌≤◌, ◌⊎◌, ◌==◌, ◌↔◌, List, [], ◌∷◌, ◌++◌, length, get_or, Bool, true, false, Result, Ok, Err, refl, ap, sym, ◌∙◌, subst, arith, ⊎_elim, inl, inr, AllPairs}
+use Rattle.std.proofs.Common.{length-append, ℕ, suc, ◌≡◌, ◌+◌, ◌-◌, ◌<◌, ◌≤◌, ◌⊎◌, ◌==◌, ◌↔◌, List, [], ◌∷◌, ◌++◌, length, get_or, Bool, true, false, Result, Ok, Err, refl, ap, sym, ◌∙◌, subst, arith, ⊎_elim, inl, inr, AllPairs}
 use Rattle.std.specs.Bool.{IsTrue}
 use Rattle.std.specs.Result.{is_ok}
 use Rattle.std.specs.Ordering.{nat_cmp}
@@ -99,12 +99,6 @@ has_node-searched ids v (Err i) increasing is =
 pub record AreMarkedUpTo (marks : List Bool) (count : ℕ) (ids : List ℕ) : Type 0 where
   pub ascending : IsStrictlyIncreasing ids
   pub marked : (v : ℕ) → IsTrue (has_node ids v) ↔ (IsNode count v × IsTrue (get_or marks (v - 1) false))
-
-pub marked-none : (marks : List Bool) (ids : List ℕ) → ids ≡ [] → AreMarkedUpTo marks 0 ids
-marked-none marks ids none = rw none (record {
-  ascending = λ k h. absurd (omega (arith, h));
-  marked = λ v. (λ has. absurd (both_ways false refl has), λ is. absurd (omega (arith, is.0.from_one, is.0.to_last)));
-})
 
 -- Nodes that stay within the first ones are nodes of one more.
 one-more : (count v : ℕ) → IsNode count v → IsNode (count + 1) v

@@ -14,10 +14,6 @@ use Rattle.dmf_net.specs.Arc.{no_arc}
 use Rattle.dmf_net.proofs.Pushing.{arc_index, pushed_once, pushed, length-pushed_once, CanPush, along, against, CanPushInTurn}
 use Rattle.dmf_net.proofs.Augmenting.{CanPushInTurn-least, augmented-pushed}
 
--- a read of a step past the end of a path
-abbrev pub no_step : Step
-no_step = record { from = 0; to = 0; rank = 0; room = 0 }
-
 -- After the first `i` steps of the path: pushing along the others can be done, and gives the flows `last`.
 pub record ArePushedUpTo (amount : ℕ) (path : List Step) (last : List ℕ) (i : ℕ) (flows : List ℕ) : Type 0 where
   pub arcs : List Arc

@@ -1,8 +1,8 @@
 -- Listing the carrying steps, and summing what the sink receives, in one walk over the arcs.
-use Rattle.std.proofs.Common.{ℕ, ◌≡◌, ◌≢◌, ◌+◌, ◌-◌, ◌*◌, ◌<◌, ◌≤◌, ◌==◌, List, [], ◌∷◌, ◌++◌, length, get_or, take, drop, cond, refl, ap, ◌∙◌, sym, arith, sum_by, append_assoc, add-zero, take_all, eq-eqb}
+use Rattle.std.proofs.Common.{ℕ, ◌≡◌, ◌≢◌, ◌+◌, ◌*◌, ◌<◌, ◌≤◌, List, [], ◌∷◌, ◌++◌, length, get_or, take, drop, cond, refl, ap, ◌∙◌, arith, sum_by, append_assoc, add-zero, take_all, eq-eqb}
 use Rattle.std.specs.List.{zip}
 use Rattle.std.proofs.lemmas.Bool.{ne_eqb, lt-ltb, le-ltb}
-use Rattle.std.proofs.lemmas.List.{append-nil, drop_more, drop_all}
+use Rattle.std.proofs.lemmas.List.{drop_more}
 use Rattle.std.proofs.lemmas.List.Sums.{sum_by-take-le}
 use Rattle.std.proofs.lemmas.Slice.Zip.{AllZip-long, length-zip}
 use Rattle.dmf_net.specs.declared.arc.Arc.{Arc}
@@ -77,10 +77,3 @@ carried-more arcs flows i steps more h so_far is = record {
       let before = rw (drop_more arcs i no_arc h, drop_more flows i 0 within) at so_far.rest in
       rw (is, append_assoc steps own later) before;
 }
-
--- all arcs
-pub carried-all : (arcs : List Arc) (flows : List ℕ) (i : ℕ) (steps : List Step) → length arcs ≤ i → AreCarriedUpTo arcs flows i steps → steps ≡ carried_from 1 arcs flows
-carried-all arcs flows i steps h so_far =
-    sym (append-nil steps)
-    ∙ ap (λ xs. steps ++ carried_from (i + 1) xs (drop i flows)) (sym (drop_all i arcs h))
-    ∙ so_far.rest

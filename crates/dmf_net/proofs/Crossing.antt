@@ -131,11 +131,6 @@ crossing nodes arcs flows has fits =
     let heads = sum_in-flow_at (λ arc. arc.head) nodes arcs flows has (λ k d h. (fits k d h).head) in
     omega (arith, tails, heads, flow_in-both arcs flows has)
 
--- Where outflow and inflow are the same at each node of a set, as much leaves it as enters it.
-pub crossing-conserved : (nodes : ℕ) (arcs : List Arc) (flows : List ℕ) (has : ℕ → Bool) → All (IsArc nodes) arcs → ((v : ℕ) → IsNode nodes v → has v ≡ true → outflow arcs flows v ≡ inflow arcs flows v) → leaving arcs flows has ≡ entering arcs flows has
-crossing-conserved nodes arcs flows has fits same =
-    omega (arith, crossing nodes arcs flows has fits, sum_in-same has (outflow arcs flows) (inflow arcs flows) nodes same)
-
 -- Two sums over a set, of numbers that are the same except at two nodes.
 sum_in-same_but_two : (has : ℕ → Bool) (f g : ℕ → ℕ) (last s t : ℕ) → IsNode last s → IsNode last t → s ≢ t → ((v : ℕ) → IsNode last v → v ≢ s → v ≢ t → f v ≡ g v) → sum_in has f last + cond (has s) (g s) 0 + cond (has t) (g t) 0 ≡ sum_in has g last + cond (has s) (f s) 0 + cond (has t) (f t) 0
 sum_in-same_but_two has f g last s t at_s at_t apart same =
@@ -191,10 +186,6 @@ sum_by-none {X} (x ∷ xs) = let none : X → ℕ = λ y. 0 in omega (arith, sum
 pub terminals-balance : (n : Network) (flows : List ℕ) → IsNetwork n → ((v : ℕ) → IsInnerNode n v → IsConservedAt n flows v) → outflow n.arcs flows n.source + outflow n.arcs flows n.sink ≡ inflow n.arcs flows n.source + inflow n.arcs flows n.sink
 terminals-balance n flows network conserved =
     omega (arith, crossing-terminals n flows (λ v. true) network conserved, sum_by-none (zip n.arcs flows))
-
--- The value is what flows into the sink less what flows out of it.
-pub value-at_sink : (n : Network) (flows : List ℕ) → IsNetwork n → ((v : ℕ) → IsInnerNode n v → IsConservedAt n flows v) → pos (inflow n.arcs flows n.sink) -ℤ pos (outflow n.arcs flows n.sink) ≡ flow_value n flows
-value-at_sink n flows network conserved = omega (arith, ints, terminals-balance n flows network conserved)
 
 -- As much leaves a set with both source and sink as enters it.
 pub none-across_both : (n : Network) (flows : List ℕ) (has : ℕ → Bool) → IsNetwork n → ((v : ℕ) → IsInnerNode n v → IsConservedAt n flows v) → has n.source ≡ true → has n.sink ≡ true → leaving n.arcs flows has ≡ entering n.arcs flows has

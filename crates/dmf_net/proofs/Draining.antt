@@ -1,5 +1,5 @@
 -- Draining an arc has one outcome, and what it leaves is a flow.
-use Rattle.std.proofs.Common.{ℕ, ◌≡◌, ◌+◌, ◌-◌, ◌<◌, ◌≤◌, zero, suc, true, List, [], ◌∷◌, refl, ap, sym, ◌∙◌, subst, arith, ⊎_elim, pos, ◌≤ℤ◌}
+use Rattle.std.proofs.Common.{ℕ, ◌≡◌, ◌+◌, ◌<◌, ◌≤◌, zero, suc, true, List, [], ◌∷◌, refl, ap, sym, ◌∙◌, subst, arith, ⊎_elim, pos, ◌≤ℤ◌}
 use Rattle.std.specs.List.{AllZip}
 use Rattle.std.proofs.lemmas.Bool.{cases_lt}
 use Rattle.std.proofs.lemmas.Int.{ints}

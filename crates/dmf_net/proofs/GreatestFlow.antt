@@ -1,5 +1,5 @@
 -- Every network has a greatest flow, and with it a least cut of the same size.
-use Rattle.std.proofs.Common.{ℕ, ◌≡◌, ◌==◌, List, [], ◌∷◌, Bool, true, false, cond, refl, sym, subst, arith, sum_by, pos}
+use Rattle.std.proofs.Common.{ℕ, ◌≡◌, ◌==◌, List, [], ◌∷◌, Bool, true, false, cond, refl, subst, arith}
 use Rattle.std.specs.List.{zip}
 use Rattle.std.proofs.lemmas.Int.{ints}
 use Rattle.std.proofs.lemmas.List.Sums.{sum_by-cons}
@@ -8,7 +8,7 @@ use Rattle.dmf_net.specs.Network.{Network, IsNetwork}
 use Rattle.dmf_net.specs.Flow.{flow_at, AreWithinCapacities, IsFlow, flow_value}
 use Rattle.dmf_net.specs.NetworkState.{NetworkState, IsState}
 use Rattle.dmf_net.specs.Greatest.{IsGreatest}
-use Rattle.dmf_net.specs.Cut.{HasCutOf, HasLeastCutOf, HasGreatestFlow, MaxFlowMinCut}
+use Rattle.dmf_net.specs.Cut.{HasCutOf, HasGreatestFlow, MaxFlowMinCut}
 use Rattle.dmf_net.specs.Path.{HasNoPath}
 use Rattle.dmf_net.specs.Residual.{residual_steps}
 use Rattle.dmf_net.specs.Change.{Solve}

@@ -1,5 +1,5 @@
 -- Lowering in one walk over the path.
-use Rattle.std.proofs.Common.{ℕ, ◌≡◌, ◌≢◌, ◌+◌, ◌-◌, ◌*◌, ◌/◌, ◌<◌, ◌≤◌, ◌==◌, ◌||◌, List, [], ◌∷◌, length, get_or, set, take, zero, suc, min, Bool, true, false, cond, refl, ap, ◌∙◌, sym, subst, arith, ⊎_elim, length-set, get_or-set_other, eq-eqb}
+use Rattle.std.proofs.Common.{ℕ, ◌≡◌, ◌≢◌, ◌+◌, ◌-◌, ◌*◌, ◌<◌, ◌≤◌, ◌==◌, ◌||◌, List, [], ◌∷◌, length, get_or, set, take, zero, suc, min, Bool, true, false, cond, refl, ap, ◌∙◌, sym, arith, ⊎_elim, length-set, get_or-set_other, eq-eqb}
 use Rattle.std.specs.List.{fold, Contains}
 use Rattle.std.proofs.lemmas.Bool.{ne_eqb, cases_eq}
 use Rattle.std.proofs.lemmas.Grind.{get_or-set_at, same_number_lists}
@@ -7,8 +7,7 @@ use Rattle.std.proofs.lemmas.List.{take_all}
 use Rattle.std.proofs.lemmas.List.Folds.{list_any_more}
 use Rattle.std.proofs.lemmas.Slice.Zip.{AllZip-long}
 use Rattle.dmf_net.specs.declared.step.Step.{Step}
-use Rattle.dmf_net.specs.Arc.{no_arc}
-use Rattle.dmf_net.specs.Network.{Network, arc_number, has_arc}
+use Rattle.dmf_net.specs.Network.{Network, arc_number}
 use Rattle.dmf_net.specs.Flow.{flow_on}
 use Rattle.dmf_net.specs.Path.{IsPath, has_rank, room_up_to}
 use Rattle.dmf_net.specs.Drain.{carrying_steps, lowered_from, CanLower}
@@ -16,16 +15,14 @@ use Rattle.dmf_net.proofs.Augmenting.{room_up_to-le}
 use Rattle.dmf_net.proofs.CarryingSteps.{IsCarrying, along, returns, carrying-contained}
 use Rattle.dmf_net.proofs.ChangedArc.{has_arc-within}
 use Rattle.dmf_net.proofs.Lowering.{HaveOwnRanks, HaveOwnRanks-least, rank-not_first, length-lowered_from, flow_lowered, get_or-lowered_from}
+use Rattle.dmf_net.proofs.Pushing.{arc_index}
 use Rattle.dmf_net.proofs.RoomOn.{room_up_to-min}
+use Rattle.dmf_net.proofs.NoStep.{no_step}
 
 -- The least of a bound and the rooms, taken in one walk.
 pub fold-min : (bound : ℕ) (path : List Step) → fold (λ least s. min least s.room) bound path ≡ room_up_to bound path
 fold-min bound [] = refl
 fold-min bound (s ∷ path) = fold-min (min bound s.room) path ∙ room_up_to-min bound s.room path
-
--- a read of a step past the end of a path
-abbrev pub no_step : Step
-no_step = record { from = 0; to = 0; rank = 0; room = 0 }
 
 -- each step of a path is one of the steps
 path-contained : (steps : List Step) (a b : ℕ) (path : List Step) (i : ℕ) → IsPath steps a b path → i < length path → Contains steps (get_or path i no_step)
@@ -58,10 +55,6 @@ rank-other : (j : ℕ) (path : List Step) (i : ℕ) → HaveOwnRanks j path → 
 rank-other j [] i own h = absurd (omega (arith, h))
 rank-other j (s ∷ path) zero own h = own.0
 rank-other j (s ∷ path) (suc i) own h = rank-other j path i own.2 (omega (arith, h))
-
--- the index of the arc along which the step leads
-abbrev pub arc_index : Step → ℕ
-arc_index s = s.rank / 2 - 1
 
 -- What the next step needs: its rank is new, and where it leads along an arc the amount flows there.
 pub record FitsNext (amount j : ℕ) (path : List Step) (flows : List ℕ) (s : Step) : Type 0 where

@@ -1,8 +1,8 @@
 -- The theorem that the greatest value of a flow is the least capacity of a cut.
-use Rattle.std.proofs.Common.{ℕ, zero, suc, ◌≡◌, ◌+◌, ◌-◌, ◌*◌, ◌<◌, ◌≤◌, ◌&&◌, ◌⊎◌, List, [], ◌∷◌, ◌++◌, get_or, Bool, true, false, not, cond, refl, ap, sym, ◌∙◌, arith, nat_lt, ⊎_elim, inl, inr, pos, ◌≤ℤ◌, ◌<ℤ◌}
+use Rattle.std.proofs.Common.{ℕ, zero, suc, ◌≡◌, ◌+◌, ◌-◌, ◌*◌, ◌<◌, ◌≤◌, ◌&&◌, ◌⊎◌, List, [], ◌∷◌, ◌++◌, get_or, Bool, true, false, not, cond, refl, ap, sym, ◌∙◌, arith, nat_lt, ⊎_elim, inl, inr, pos, ◌≤ℤ◌}
 use Rattle.std.specs.List.{zip, All, AllZip, Contains}
 use Rattle.std.proofs.lemmas.Bool.{lt-ltb, ltb-true, cases_lt, both_ways, true_from_ne_false, false_from_ne_true}
-use Rattle.std.proofs.lemmas.Int.{ints, by_lt_z}
+use Rattle.std.proofs.lemmas.Int.{ints}
 use Rattle.std.proofs.lemmas.List.Sums.{sum_by-cons}
 use Rattle.std.proofs.lemmas.List.Elements.{All-head, All-tail, Contains-append_left, Contains-append_right, Contains-append_cases}
 use Rattle.dmf_net.specs.declared.arc.Arc.{Arc}

@@ -1,5 +1,5 @@
 -- The nodes to which paths of steps lead. A set of nodes is given by its test: whether it has a node.
-use Rattle.std.proofs.Common.{ℕ, ◌≡◌, ◌&&◌, ◌⊎◌, List, [], ◌∷◌, ◌++◌, Bool, true, false, nat_le, refl, ap, subst, sym, ◌∙◌, inl, inr}
+use Rattle.std.proofs.Common.{ℕ, ◌≡◌, ◌&&◌, ◌⊎◌, List, [], ◌∷◌, ◌++◌, Bool, true, false, nat_le, refl, ap, sym, ◌∙◌, inl, inr}
 use Rattle.std.specs.List.{Contains}
 use Rattle.std.proofs.lemmas.Bool.{both_ways, and_parts, and_from, le-leb}
 use Rattle.dmf_net.specs.declared.step.Step.{Step}
@@ -25,11 +25,6 @@ path-push steps a b (t ∷ path) s p c from = (p.0, p.1, path-push steps t.to b 
 -- Each step arrives at a node.
 abbrev pub ArriveAtNodes : ℕ → List Step → Type 0
 ArriveAtNodes nodes steps = (s : Step) → Contains steps s → IsNode nodes s.to
-
--- A path from a node arrives at a node.
-pub path-to_node : (steps : List Step) (nodes a b : ℕ) (path : List Step) → ArriveAtNodes nodes steps → IsNode nodes a → IsPath steps a b path → IsNode nodes b
-path-to_node steps nodes a b [] arrive node p = subst (IsNode nodes) p node
-path-to_node steps nodes a b (s ∷ path) arrive node p = path-to_node steps nodes s.to b path arrive (arrive s p.0) p.2
 
 -- The set has just the nodes to which a path leads from node `a`.
 pub record AreReachedFrom (steps : List Step) (nodes a : ℕ) (has : ℕ → Bool) : Type 0 where

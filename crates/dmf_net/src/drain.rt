@@ -126,8 +126,8 @@ fn lower(flows: &mut [u64], j: u32, limit: u64, path: &[Step])
     let amount = room_up_to(flows[i] - limit, path);
     flows[i] -= amount;
     for step in path {
-        // The return link is no arc.
         let k = step.arc_index();
+        // The return link is past the last arc.
         if k < flows.len() {
             flows[k] -= amount;
         }

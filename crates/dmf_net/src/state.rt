@@ -294,6 +294,7 @@ impl State {
         requires state { IsState (record { network = with_arc self.old.network j arc; flows = moved moves.now self.old.flows }) }
         ensures { self.new ≡ record { network = with_arc self.old.network j arc; flows = moved moves.now self.old.flows } }
     {
+        // In between, the flow before or the flow after is within the larger of the two capacities.
         if arc.cap < self.arc(j).cap {
             self.make(moves);
             self.set_arc(j, arc);

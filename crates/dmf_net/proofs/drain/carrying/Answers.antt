@@ -1,9 +1,8 @@
-use Rattle.std.proofs.Common.{◌≡◌, ◌+◌, get_or, refl, ap, sym}
+use Rattle.std.proofs.Common.{◌+◌, get_or, refl, sym}
 use Rattle.std.proofs.lemmas.List.{append-nil}
 use Rattle.std.proofs.lemmas.Slice.Zip.{AllZip-long}
 use Rattle.dmf_net.specs.Arc.{no_arc}
-use Rattle.dmf_net.specs.Flow.{AreWithinCapacities}
-use Rattle.dmf_net.proofs.CarryingWalk.{carried-some, carried-none, carried-more, carried-all}
+use Rattle.dmf_net.proofs.CarryingWalk.{carried-some, carried-none, carried-more}
 use Rattle.dmf_net.proofs.drain.carrying.Goals as goal
 use Rattle.dmf_net.proofs.drain.carrying.Goals.{then-flow-gt0+in_ok-push, else-flow-gt0}
 

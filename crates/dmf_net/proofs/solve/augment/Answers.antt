@@ -1,6 +1,7 @@
 use Rattle.std.proofs.Common.{sym, ◌∙◌, get_or}
 use Rattle.dmf_net.specs.declared.step.Step.{Step}
-use Rattle.dmf_net.proofs.AugmentingWalk.{no_step, pushed-none, pushed-more, pushed-forward, pushed-backward, pushed-all, fits-next}
+use Rattle.dmf_net.proofs.AugmentingWalk.{pushed-none, pushed-more, pushed-forward, pushed-backward, pushed-all, fits-next}
+use Rattle.dmf_net.proofs.NoStep.{no_step}
 use Rattle.dmf_net.proofs.solve.augment.Goals as goal
 use Rattle.dmf_net.proofs.solve.augment.Goals.{then-is_forward, else-is_forward}
 

@@ -1,8 +1,7 @@
 use Rattle.std.proofs.Common.{◌≡◌, true, ap, sym, ◌∙◌, subst}
 use Rattle.dmf_net.specs.contracts.state.State.{the_view}
-use Rattle.dmf_net.specs.declared.arc.Arc.{Arc}
 use Rattle.dmf_net.specs.Network.{arc_number, has_arc}
-use Rattle.dmf_net.specs.NetworkState.{IsState, KeepsTotals}
+use Rattle.dmf_net.specs.NetworkState.{IsState}
 use Rattle.dmf_net.proofs.ChangedState.{with_arc_at, KeepsTotals-with_arc}
 use Rattle.dmf_net.proofs.state.State.set_arc.Goals as goal
 
