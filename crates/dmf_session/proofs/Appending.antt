@@ -1,15 +1,19 @@
 -- What a change appends is the present state.
-use Rattle.std.proofs.Common.{ℕ, ◌≡◌, ◌+◌, ◌<◌, List, ◌∷◌, [], ◌++◌, length, take, Ok, pos, nat_abs, arith, sym, ap, ◌∙◌, subst}
+use Rattle.std.proofs.Common.{ℕ, ◌≡◌, ◌+◌, ◌<◌, List, ◌∷◌, [], ◌++◌, length, take, Option, Some, None, Result, Ok, Err, MatchOption, IsOkUnless, pos, nat_abs, arith, sym, ap, ◌∙◌, subst}
 use Rattle.std.proofs.lemmas.List.{get_or_at, length-take-le}
 use Rattle.std.proofs.lemmas.Option.{get_or_from_slice_get}
 use Rattle.dmf_net.specs.declared.edit.Edit.{Edit}
+use Rattle.dmf_net.specs.declared.fault.PlanFault.{PlanFault}
+use Rattle.dmf_net.specs.declared.fault.PlanFault.TheVariants.{NoMemory}
 use Rattle.dmf_net.specs.Flow.{flow_value}
 use Rattle.dmf_net.specs.NetworkState.{NetworkState}
-use Rattle.dmf_net.specs.Change.{Change, Becomes}
+use Rattle.dmf_net.specs.Change.{Change, change_fault, Becomes}
 use Rattle.dmf_net.specs.Edit.{applied}
-use Rattle.dmf_session.specs.declared.command.Reply.TheVariants.{Added}
+use Rattle.dmf_session.specs.declared.command.Reply.{Reply}
+use Rattle.dmf_session.specs.declared.command.Reply.TheVariants.{Value, Added}
+use Rattle.dmf_session.specs.declared.command.Refusal.{Refusal}
 use Rattle.dmf_session.specs.Timeline.{Timeline, IsPresent, appended, Appends}
-use Rattle.dmf_session.specs.Step.{IsChanged, value_of}
+use Rattle.dmf_session.specs.Step.{Changes, IsChanged, IsRefused, refusal_of, value_of}
 
 -- there is one present state
 one-present : (t : Timeline) (s p : NetworkState) → IsPresent t s → IsPresent t p → s ≡ p
@@ -22,16 +26,32 @@ present-appended t s p within is =
     let long : length front ≡ t.place + 1 = length-take-le (t.place + 1) t.states (omega arith) in
     sym (get_or_from_slice_get (front ++ s ∷ []) (t.place + 1) p s is) ∙ get_or_at front s [] s (t.place + 1) long
 
--- an addition that was planned on the present state and appended
-pub IsChanged-added : (t u : Timeline) (s p : NetworkState) (edit : Edit) (change : Change) (count value : ℕ) → t.place < length t.states → IsPresent t s → Becomes s change (applied edit s) → Appends edit t u → IsPresent u p → count ≡ length p.network.arcs → pos value ≡ flow_value p.network p.flows → IsChanged t s change (λ new. Added (length new.network.arcs) (value_of new)) (Ok (Added count value)) u
-IsChanged-added t u s p edit change count value within present becomes appends shown counts valued =
+-- A change that was planned on the present state and appended; the reply tells of the state that is present then.
+IsChanged-told : (t u : Timeline) (s p : NetworkState) (edit : Edit) (change : Change) (reply : NetworkState → Reply) (told : Reply) → t.place < length t.states → IsPresent t s → Becomes s change (applied edit s) → Appends edit t u → IsPresent u p → told ≡ reply p → IsChanged t s change reply (Ok told) u
+IsChanged-told t u s p edit change reply told within present becomes appends shown tells =
     let same : appends.state ≡ s = one-present t appends.state s appends.present present in
     let gives : u ≡ appended t (applied edit s) = appends.gives ∙ ap (λ x. appended t (applied edit x)) same in
     let new : p ≡ applied edit s = present-appended t (applied edit s) p within (subst (λ v. IsPresent v p) gives shown) in
     record {
       new = applied edit s;
       becomes = becomes;
-      told = ap (λ n. Ok (Added n value)) (counts ∙ ap (λ x. length x.network.arcs) new)
-          ∙ ap (λ n. Ok (Added (length (applied edit s).network.arcs) n)) (ap nat_abs valued ∙ ap value_of new);
+      told = ap (λ r. Ok r) (tells ∙ ap reply new);
       appends = gives;
     }
+
+-- an addition that was planned on the present state and appended
+pub IsChanged-added : (t u : Timeline) (s p : NetworkState) (edit : Edit) (change : Change) (count value : ℕ) → t.place < length t.states → IsPresent t s → Becomes s change (applied edit s) → Appends edit t u → IsPresent u p → count ≡ length p.network.arcs → pos value ≡ flow_value p.network p.flows → IsChanged t s change (λ new. Added (length new.network.arcs) (value_of new)) (Ok (Added count value)) u
+IsChanged-added t u s p edit change count value within present becomes appends shown counts valued =
+    IsChanged-told t u s p edit change (λ new. Added (length new.network.arcs) (value_of new)) (Added count value) within present becomes appends shown
+    (ap (λ n. Added n value) counts ∙ ap (λ n. Added (length p.network.arcs) n) (ap nat_abs valued))
+
+-- where a plan was made, nothing refuses the change
+planned-changes : (t u : Timeline) (s : NetworkState) (edit : Edit) (change : Change) (reply : NetworkState → Reply) (result : Result Reply Refusal) (fault : Option PlanFault) → MatchOption fault (IsOkUnless (Ok edit) NoMemory) (λ f. Ok edit ≡ Err f) → IsChanged t s change reply result u → MatchOption fault (IsChanged t s change reply result u) (λ f. IsRefused t (refusal_of f) result u)
+planned-changes t u s edit change reply result None planned changed = changed
+planned-changes t u s edit change reply result (Some f) planned changed = absurd (cc)
+
+-- a change that was planned on the present state, unless memory was refused, and appended; the reply tells the value
+pub Changes-valued : (t u : Timeline) (s p : NetworkState) (edit : Edit) (change : Change) (value : ℕ) → t.place < length t.states → IsPresent t s → MatchOption (change_fault s change) (IsOkUnless (Ok edit) NoMemory) (λ f. Ok edit ≡ Err f) → Becomes s change (applied edit s) → Appends edit t u → IsPresent u p → pos value ≡ flow_value p.network p.flows → Changes t s change (λ new. Value (value_of new)) (Ok (Value value)) u
+Changes-valued t u s p edit change value within present planned becomes appends shown valued =
+    planned-changes t u s edit change (λ new. Value (value_of new)) (Ok (Value value)) (change_fault s change) planned
+    (IsChanged-told t u s p edit change (λ new. Value (value_of new)) (Value value) within present becomes appends shown (ap (λ n. Value n) (ap nat_abs valued)))

@@ -7,7 +7,7 @@ use Rattle.dmf_net.specs.NetworkState.{NetworkState}
 use Rattle.dmf_net.specs.Change.{Change, change_fault, Becomes}
 use Rattle.dmf_net.specs.Change as change
 use Rattle.dmf_session.specs.declared.command.Command.{Command}
-use Rattle.dmf_session.specs.declared.command.Command.TheVariants.{Add, Solve, Undo, Redo, PrintProblem, PrintFlow}
+use Rattle.dmf_session.specs.declared.command.Command.TheVariants.{Cap, Add, Close, Solve, Undo, Redo, PrintProblem, PrintFlow}
 use Rattle.dmf_session.specs.declared.command.Reply.{Reply}
 use Rattle.dmf_session.specs.declared.command.Reply.TheVariants.{Value, Added, Solution, Problem, Flow}
 use Rattle.dmf_session.specs.declared.command.Refusal.{Refusal}
@@ -54,9 +54,13 @@ pub record IsMoved (moved : Timeline) (result : Result Reply Refusal) (u : Timel
 
 -- The command, given to the timeline `t`, is answered by this result and leaves the timeline `u`, where memory is there.
 abbrev pub Steps : Timeline → Command → Result Reply Refusal → Timeline → Type 0
+Steps t (Cap arc cap) result u =
+    (s : NetworkState) × IsPresent t s × Changes t s (change.Cap arc cap) (λ new. Value (value_of new)) result u
 Steps t (Add tail head cap) result u =
     (s : NetworkState) × IsPresent t s
     × Changes t s (change.Add tail head cap) (λ new. Added (length new.network.arcs) (value_of new)) result u
+Steps t (Close arc) result u =
+    (s : NetworkState) × IsPresent t s × Changes t s (change.Close arc) (λ new. Value (value_of new)) result u
 Steps t Solve result u =
     (s : NetworkState) × IsPresent t s × Changes t s change.Solve (λ new. Solution) result u
 Steps t (Undo steps) result u =
@@ -66,10 +70,15 @@ Steps t (Redo steps) result u =
 Steps t PrintProblem result u = (result ≡ Ok Problem) × (u ≡ t)
 Steps t PrintFlow result u = (result ≡ Ok Flow) × (u ≡ t)
 
--- The command may be refused memory: an accepted addition of an arc, solving, and steps forward of which one adds arcs.
+-- The present state does not refuse the change.
+abbrev pub IsAccepted : Timeline → Change → Type 0
+IsAccepted t change = (s : NetworkState) × IsPresent t s × (change_fault s change ≡ None)
+
+-- The command may be refused memory: a change that is accepted, and steps forward of which one adds arcs.
 abbrev pub MayWantMemory : Timeline → Command → Type 0
-MayWantMemory t (Add tail head cap) =
-    (s : NetworkState) × IsPresent t s × (change_fault s (change.Add tail head cap) ≡ None)
+MayWantMemory t (Cap arc cap) = IsAccepted t (change.Cap arc cap)
+MayWantMemory t (Add tail head cap) = IsAccepted t (change.Add tail head cap)
+MayWantMemory t (Close arc) = IsAccepted t (change.Close arc)
 MayWantMemory t Solve = Unit {0}
 MayWantMemory t (Undo steps) = ⊥
 MayWantMemory t (Redo steps) = (steps ≤ future_of t) × (i : ℕ) × (i < steps) × AddsArcs t (t.place + i)
@@ -83,7 +92,9 @@ Answers t command result u = Steps t command result u
 
 -- the command is a change, so it adds a state if it is accepted
 abbrev pub IsChange : Command → Type 0
+IsChange (Cap arc cap) = Unit {0}
 IsChange (Add tail head cap) = Unit {0}
+IsChange (Close arc) = Unit {0}
 IsChange Solve = Unit {0}
 IsChange (Undo steps) = ⊥
 IsChange (Redo steps) = ⊥

@@ -4,6 +4,13 @@ use thiserror::Error;
 /// What a session is asked to do.
 #[derive(Clone, Copy, Debug, PartialEq, Eq)]
 pub enum Command {
+    /// Give an arc another capacity.
+    Cap {
+        /// The arc's number, counted from 1.
+        arc: u64,
+        /// Its new capacity.
+        cap: u64,
+    },
     /// Add an arc of this capacity from a tail to a head.
     Add {
         /// The node that the arc leaves.
@@ -12,6 +19,11 @@ pub enum Command {
         head: u64,
         /// Its capacity.
         cap: u64,
+    },
+    /// Let nothing flow on an arc any more.
+    Close {
+        /// The arc's number, counted from 1.
+        arc: u64,
     },
     /// Put the greatest flow that augmenting reaches in place of the present one.
     Solve,

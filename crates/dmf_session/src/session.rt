@@ -6,7 +6,7 @@ ghost use Rattle.dmf_session.specs.Step.{Answers, IsChange};
 
 use crate::command::{Command, Refusal, Reply};
 use crate::history::{History, RedoFault};
-use dmf_net::{State, plan_add, plan_solve};
+use dmf_net::{State, plan_add, plan_cap, plan_close, plan_solve};
 use std::alloc::Global;
 use std::marker::Model;
 
@@ -62,13 +62,24 @@ impl<H: History> Session<H> {
         ensures { Answers (H.timeline self.old) command result (H.timeline self.new) }
     {
         match command {
+            Command::Cap { arc, cap } => self.cap(alloc, arc, cap),
             Command::Add { tail, head, cap } => self.add(tail, head, cap),
+            Command::Close { arc } => self.close(alloc, arc),
             Command::Solve => self.solve(alloc),
             Command::Undo(steps) => self.undo(steps),
             Command::Redo(steps) => self.redo(steps),
             Command::PrintProblem => Ok(Reply::Problem),
             Command::PrintFlow => Ok(Reply::Flow),
         }
+    }
+
+    fn cap(&mut self, alloc: Global, arc: u64, cap: u64) -> Result<Reply, Refusal>
+        requires room { (H.timeline self.old).place < MAX_CHANGES }
+        ensures { Answers (H.timeline self.old) (command.Cap arc cap) result (H.timeline self.new) }
+    {
+        let edit = plan_cap(alloc, self.history.present(), arc, cap)?;
+        self.history.append(edit)?;
+        Ok(Reply::Value(self.history.present().value()))
     }
 
     fn add(&mut self, tail: u64, head: u64, cap: u64) -> Result<Reply, Refusal>
@@ -79,6 +90,15 @@ impl<H: History> Session<H> {
         self.history.append(edit)?;
         let present = self.history.present();
         Ok(Reply::Added(present.arcs().len() as u32, present.value()))
+    }
+
+    fn close(&mut self, alloc: Global, arc: u64) -> Result<Reply, Refusal>
+        requires room { (H.timeline self.old).place < MAX_CHANGES }
+        ensures { Answers (H.timeline self.old) (command.Close arc) result (H.timeline self.new) }
+    {
+        let edit = plan_close(alloc, self.history.present(), arc)?;
+        self.history.append(edit)?;
+        Ok(Reply::Value(self.history.present().value()))
     }
 
     fn solve(&mut self, alloc: Global) -> Result<Reply, Refusal>
