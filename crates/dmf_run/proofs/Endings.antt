@@ -20,6 +20,7 @@ use Rattle.dmf_run.specs.Run.{LineRuns, Runs}
 use Rattle.dmf_run.specs.Input.{Feed, Takes, HasEnded, HasFailed, IsPastLimit, GivesLine, GivesEnd, left}
 use Rattle.dmf_run.specs.Outcome.{RestRuns, RunsAll, RunsCommands, status_if, line_count}
 use Rattle.dmf_run.proofs.FeedLemmas.{Takes-trans}
+use Rattle.dmf_run.proofs.LineLemmas.{or-false}
 use Rattle.dmf_run.proofs.Progress.{Held, streams, IsFresh, Progress, Carried, Progress-more}
 
 -- a writer that took a text
@@ -36,10 +37,6 @@ Consumes-given p q (Some xs) (Some ys) bytes none c =
 
 given-by : (before now : Feed) (bytes : List ℕ) → IsFresh before → Takes before now bytes → Consumes before.known now.known (bytes ++ now.pending.bytes)
 given-by before now bytes fresh takes = Consumes-given before.pending now.pending before.known now.known bytes fresh.none_pending takes.consumes
-
-or-false : (b : Bool) → b ≡ (b || false)
-or-false true = refl
-or-false false = refl
 
 -- the lines so far are all
 abbrev all-so-far : (t : Timeline) (lines : List (List ℕ)) (written : List ℕ) (is_refused : Bool) (u : Timeline) → All HasNoFeed lines → Runs 1 t lines written is_refused u → RunsAll t (fed lines) written is_refused

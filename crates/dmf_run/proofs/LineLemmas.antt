@@ -9,9 +9,9 @@ use Rattle.dmf_net.specs.declared.fault.PlanFault.{PlanFault}
 use Rattle.dmf_net.specs.Change.{change_fault}
 use Rattle.dmf_net.specs.Change as change
 use Rattle.dmf_session.specs.declared.command.Command.{Command}
-use Rattle.dmf_session.specs.declared.command.Command.TheVariants.{Add, Solve, Undo, Redo, PrintProblem, PrintFlow}
+use Rattle.dmf_session.specs.declared.command.Command.TheVariants.{Cap, Add, Close, Solve, Undo, Redo, PrintProblem, PrintFlow}
 use Rattle.dmf_session.specs.declared.command.Reply.{Reply}
-use Rattle.dmf_session.specs.declared.command.Reply.TheVariants.{Added, Solution}
+use Rattle.dmf_session.specs.declared.command.Reply.TheVariants.{Value, Added, Solution}
 use Rattle.dmf_session.specs.declared.command.Refusal.{Refusal}
 use Rattle.dmf_session.specs.declared.command.Refusal.TheVariants.{UnknownCommand, FieldCount, NotANumber, TooLarge, NoSuchArc, Closed, NoSuchNode, TooManyArcs, SumTooLarge, NothingToUndo, NothingToRedo, NotGreatest, NoMemory, LineTooLong}
 use Rattle.dmf_session.specs.Timeline.{Timeline, appended, back, forward, future_of}
@@ -75,8 +75,12 @@ redo-grows t u steps result within m = ⊎_elim
     (test-cases steps (future_of t))
 
 steps-grow : (t u : Timeline) (command : Command) (result : Result Reply Refusal) → t.place < length t.states → Steps t command result u → Grows t u
+steps-grow t u (Cap arc cap) result within s =
+    change-grows t u s.0 (change.Cap arc cap) (λ new. Value (value_of new)) result (change_fault s.0 (change.Cap arc cap)) within s.2
 steps-grow t u (Add tail head cap) result within s =
     change-grows t u s.0 (change.Add tail head cap) (λ new. Added (length new.network.arcs) (value_of new)) result (change_fault s.0 (change.Add tail head cap)) within s.2
+steps-grow t u (Close arc) result within s =
+    change-grows t u s.0 (change.Close arc) (λ new. Value (value_of new)) result (change_fault s.0 (change.Close arc)) within s.2
 steps-grow t u Solve result within s =
     change-grows t u s.0 change.Solve (λ new. Solution) result (change_fault s.0 change.Solve) within s.2
 steps-grow t u (Undo steps) result within s = undo-grows t u steps result (nat_le steps t.place) within s
@@ -90,7 +94,7 @@ LineRuns-grows number t (Ok (Some command)) text refused u within l =
     ⊎_elim (λ (e : u ≡ t). same t u within e) (λ (s : Steps t command l.0 u). steps-grow t u command l.0 within s) (answers-cases t command l.0 u l.1)
 LineRuns-grows number t (Err refusal) text refused u within l = same t u within l.2
 
-or-false : (b : Bool) → b ≡ (b || false)
+pub or-false : (b : Bool) → b ≡ (b || false)
 or-false true = refl
 or-false false = refl
 

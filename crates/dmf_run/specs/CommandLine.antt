@@ -6,7 +6,7 @@ use Rattle.dmf_text.specs.declared.digits.NumberFault.TheVariants as digits
 use Rattle.dmf_text.specs.Fields.{fields}
 use Rattle.dmf_text.specs.Number.{number_of}
 use Rattle.dmf_session.specs.declared.command.Command.{Command}
-use Rattle.dmf_session.specs.declared.command.Command.TheVariants.{Add, Solve, Undo, Redo, PrintProblem, PrintFlow}
+use Rattle.dmf_session.specs.declared.command.Command.TheVariants.{Cap, Add, Close, Solve, Undo, Redo, PrintProblem, PrintFlow}
 use Rattle.dmf_session.specs.declared.command.Refusal.{Refusal}
 use Rattle.dmf_session.specs.declared.command.Refusal.TheVariants.{UnknownCommand, FieldCount, NotANumber, TooLarge}
 
@@ -16,12 +16,22 @@ with_number (Ok n) next = next n
 with_number (Err digits.NotANumber) next = Err NotANumber
 with_number (Err digits.TooLarge) next = Err TooLarge
 
+-- `I U`, the fields behind `cap`
+unfoldable pub capping : List (List ℕ) → Result Command Refusal
+capping (arc ∷ cap ∷ []) = with_number (number_of arc) (λ arc. with_number (number_of cap) (λ cap. Ok (Cap arc cap)))
+capping fields = Err FieldCount
+
 -- `V W U`, the fields behind `add`
 unfoldable pub addition : List (List ℕ) → Result Command Refusal
 addition (tail ∷ head ∷ cap ∷ []) =
     with_number (number_of tail) (λ tail.
     with_number (number_of head) (λ head. with_number (number_of cap) (λ cap. Ok (Add tail head cap))))
 addition fields = Err FieldCount
+
+-- `I`, the field behind `close`
+unfoldable pub closing : List (List ℕ) → Result Command Refusal
+closing (arc ∷ []) = with_number (number_of arc) (λ arc. Ok (Close arc))
+closing fields = Err FieldCount
 
 -- nothing, which is what stands behind `solve`
 unfoldable pub solving : List (List ℕ) → Result Command Refusal
@@ -52,7 +62,9 @@ abbrev pub meaning_of : List (List ℕ) → Result (Option Command) Refusal
 meaning_of [] = Ok None
 meaning_of (word ∷ behind) =
     if bytes_eq word (codes "c") then Ok None
+    else if bytes_eq word (codes "cap") then made_of (λ command. command) (capping behind)
     else if bytes_eq word (codes "add") then made_of (λ command. command) (addition behind)
+    else if bytes_eq word (codes "close") then made_of (λ command. command) (closing behind)
     else if bytes_eq word (codes "solve") then made_of (λ command. command) (solving behind)
     else if bytes_eq word (codes "undo") then made_of Undo (steps behind)
     else if bytes_eq word (codes "redo") then made_of Redo (steps behind)

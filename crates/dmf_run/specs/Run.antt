@@ -3,7 +3,7 @@ use Rattle.std.specs.Prelude.{ℕ, ◌≡◌, ◌+◌, List, [], ◌∷◌, ◌+
 use Rattle.dmf_net.specs.NetworkState.{NetworkState}
 use Rattle.dmf_text.specs.Written.{written_line, problem_text, solution_text}
 use Rattle.dmf_session.specs.declared.command.Command.{Command}
-use Rattle.dmf_session.specs.declared.command.Command.TheVariants.{Add, Solve, Undo, Redo, PrintProblem, PrintFlow}
+use Rattle.dmf_session.specs.declared.command.Command.TheVariants.{Cap, Add, Close, Solve, Undo, Redo, PrintProblem, PrintFlow}
 use Rattle.dmf_session.specs.declared.command.Reply.{Reply}
 use Rattle.dmf_session.specs.declared.command.Reply.TheVariants.{Value, Added, Solution, Problem, Flow}
 use Rattle.dmf_session.specs.declared.command.Refusal.{Refusal}
@@ -14,7 +14,9 @@ use Rattle.dmf_run.specs.Line.{line_meaning}
 
 -- the word of a command
 abbrev pub word_of : Command → List ℕ
+word_of (Cap arc cap) = codes "cap"
 word_of (Add tail head cap) = codes "add"
+word_of (Close arc) = codes "close"
 word_of Solve = codes "solve"
 word_of (Undo steps) = codes "undo"
 word_of (Redo steps) = codes "redo"

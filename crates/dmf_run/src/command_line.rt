@@ -1,6 +1,6 @@
 ghost use Rattle.std.specs.Prelude.{◌≡◌};
 ghost use Rattle.dmf_text.specs.Number.{number_of};
-ghost use Rattle.dmf_run.specs.CommandLine.{command_of, addition, solving, steps, printing, with_number};
+ghost use Rattle.dmf_run.specs.CommandLine.{command_of, capping, addition, closing, solving, steps, printing, with_number};
 
 use dmf_session::{Command, Refusal};
 use dmf_text::{Fields, NumberFault, number};
@@ -20,8 +20,12 @@ pub fn read_command(line: &[u8]) -> Result<Option<Command>, Refusal>
     if word == b"c".as_slice() {
         return Ok(None);
     }
-    let command = if word == b"add".as_slice() {
+    let command = if word == b"cap".as_slice() {
+        read_capping(fields)?
+    } else if word == b"add".as_slice() {
         read_addition(fields)?
+    } else if word == b"close".as_slice() {
+        read_closing(fields)?
     } else if word == b"solve".as_slice() {
         read_solving(fields)?
     } else if word == b"undo".as_slice() {
@@ -36,6 +40,20 @@ pub fn read_command(line: &[u8]) -> Result<Option<Command>, Refusal>
     Ok(Some(command))
 }
 
+/// The fields behind `cap`.
+#[tactic(auto, unfolding(crate::specs::CommandLine::capping))]
+fn read_capping(mut fields: Fields<'_>) -> Result<Command, Refusal>
+    ensures { result ≡ capping fields.entry }
+{
+    match (fields.next(), fields.next(), fields.next()) {
+        (Some(arc), Some(cap), None) => Ok(Command::Cap {
+            arc: read_number(arc)?,
+            cap: read_number(cap)?,
+        }),
+        _ => Err(Refusal::FieldCount),
+    }
+}
+
 /// The fields behind `add`.
 #[tactic(auto, unfolding(crate::specs::CommandLine::addition))]
 fn read_addition(mut fields: Fields<'_>) -> Result<Command, Refusal>
@@ -46,6 +64,19 @@ fn read_addition(mut fields: Fields<'_>) -> Result<Command, Refusal>
             tail: read_number(tail)?,
             head: read_number(head)?,
             cap: read_number(cap)?,
+        }),
+        _ => Err(Refusal::FieldCount),
+    }
+}
+
+/// The field behind `close`.
+#[tactic(auto, unfolding(crate::specs::CommandLine::closing))]
+fn read_closing(mut fields: Fields<'_>) -> Result<Command, Refusal>
+    ensures { result ≡ closing fields.entry }
+{
+    match (fields.next(), fields.next()) {
+        (Some(arc), None) => Ok(Command::Close {
+            arc: read_number(arc)?,
         }),
         _ => Err(Refusal::FieldCount),
     }

@@ -113,7 +113,9 @@ fn word_of(command: Command) -> &'static [u8]
     ensures short { length result.now ≤ 5 }
 {
     match command {
+        Command::Cap { .. } => b"cap",
         Command::Add { .. } => b"add",
+        Command::Close { .. } => b"close",
         Command::Solve => b"solve",
         Command::Undo(_) => b"undo",
         Command::Redo(_) => b"redo",
