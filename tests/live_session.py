@@ -17,6 +17,9 @@ TURNS = [
     (b"redo\nundo\n", b"c redo value 0\nc undo value 0\n"),
     (b"solve\n", SOLUTION),
     (b"print flow\n", SOLUTION),
+    (b"cap 5 1\n", b"c cap value 3\n"),
+    (b"close 1\nundo 2", b"c close value 0\n"),
+    (b"\n", b"c undo value 5\n"),
 ]
 SECONDS = 20
 

@@ -9,33 +9,60 @@ import os
 import subprocess
 import sys
 import tempfile
+from dataclasses import dataclass
 
 PROGRAM = "crates/dmf/out/dmf"
 PROBLEM = "p max 4 5\nn 1 s\nn 4 t\na 1 2 3\na 1 3 2\na 2 3 5\na 2 4 2\na 3 4 3\n"
 SOLUTION = "s 5\nf 1 2 3\nf 1 3 2\nf 2 3 1\nf 2 4 2\nf 3 4 3\n"
-SCRIPT = [
-    "add 1 4 7",
-    "add 2 4 1",
-    "undo 2",
-    "redo 2",
-    "undo",
-    "add 1 3 9",
-    "redo",
-    "print problem",
-    "solve",
-    "undo",
-    "redo",
-    "print flow",
-]
-# The lines, counted from 1, that may be refused memory: additions, steps forward over an added arc, and solving.
-TAKE_MEMORY = [1, 2, 4, 6, 9]
+
+
+@dataclass
+class Session:
+    """Command lines, and what they give with ample memory."""
+
+    lines: list
+    status: int
+    written: str
+    # The lines, counted from 1, that may be refused memory: changes, and steps forward over an added arc.
+    take_memory: list
+    # Those of them that are refused it where some request is refused.
+    are_refused: list
+
+
 SOLVED = "s 12\nf 1 2 2\nf 1 3 2\nf 2 3 0\nf 2 4 2\nf 3 4 3\nf 1 4 7\nf 1 3 1\n"
-AMPLE = (
+ADDING = Session(
+    [
+        "add 1 4 7",
+        "add 2 4 1",
+        "undo 2",
+        "redo 2",
+        "undo",
+        "add 1 3 9",
+        "redo",
+        "print problem",
+        "solve",
+        "undo",
+        "redo",
+        "print flow",
+    ],
+    1,
     "c add 6 value 0\nc add 7 value 0\nc undo value 0\nc redo value 0\nc undo value 0\nc add 7 value 0\n"
     "c refused 7 nothing to redo\n"
     "p max 4 7\nn 1 s\nn 4 t\na 1 2 3\na 1 3 2\na 2 3 5\na 2 4 2\na 3 4 3\na 1 4 7\na 1 3 9\n"
-    f"{SOLVED}c undo value 0\nc redo value 12\n{SOLVED}"
+    f"{SOLVED}c undo value 0\nc redo value 12\n{SOLVED}",
+    [1, 2, 4, 6, 9],
+    [1, 2, 6, 9],
 )
+SOLVED_AGAIN = "s 8\nf 1 3 1\nf 2 3 0\nf 2 4 0\nf 3 4 1\nf 1 4 7\n"
+DRAINING = Session(
+    ["solve", "cap 5 1", "add 1 4 7", "undo 2", "redo 2", "close 1", "solve", "print flow"],
+    0,
+    f"{SOLUTION}c cap value 3\nc add 6 value 3\nc undo value 5\nc redo value 3\nc close value 0\n"
+    f"{SOLVED_AGAIN}{SOLVED_AGAIN}",
+    [1, 2, 3, 5, 6, 7],
+    [1, 2, 3, 6, 7],
+)
+NOTHING = (5, "", "dmf: no memory\n")
 MOST_REQUESTS = 10_000
 
 
@@ -56,9 +83,9 @@ def as_text(lines):
     return "".join(line + "\n" for line in lines)
 
 
-def without(number):
+def without(session, number):
     """What is wanted where this line is refused memory."""
-    lines = list(SCRIPT)
+    lines = list(session.lines)
     lines[number - 1] = "c"
     before = hold(lines[: number - 1])[1]
     whole = hold(lines)[1]
@@ -85,20 +112,29 @@ def refuse_each(words, text, wanted, needed):
     return missing and f"no request of {words} was refused with the outcome: {missing}"
 
 
-def main():
-    if hold(SCRIPT) != (1, AMPLE, ""):
-        return f"with ample memory the session ended so: {hold(SCRIPT)}"
-    if run(["solve"], PROBLEM) != (0, SOLUTION, ""):
-        return f"with ample memory the problem was solved so: {run(['solve'], PROBLEM)}"
-    nothing = {(5, "", "dmf: no memory\n"): "nothing written"}
-    replies = {(1, AMPLE, ""): "no difference"}
-    replies.update({without(number): f"line {number} refused" for number in TAKE_MEMORY})
+def refuse_in_session(session):
+    """Refuses each request of a session."""
+    ample = (session.status, session.written, "")
+    if hold(session.lines) != ample:
+        return f"with ample memory the session ended so: {hold(session.lines)}"
     return refuse_each(
         ["session", "examples/a.max"],
-        as_text(SCRIPT),
-        {**nothing, **replies},
-        {"nothing written", "line 1 refused", "line 9 refused"},
-    ) or refuse_each(["solve"], PROBLEM, {**nothing, (0, SOLUTION, ""): "no difference"}, {"nothing written"})
+        as_text(session.lines),
+        {
+            NOTHING: "nothing written",
+            ample: "no difference",
+            **{without(session, number): f"line {number} refused" for number in session.take_memory},
+        },
+        {"nothing written", *(f"line {number} refused" for number in session.are_refused)},
+    )
 
 
-sys.exit(main() or 0)
+def refuse_in_solve():
+    """Refuses each request of a run that solves a problem."""
+    ample = (0, SOLUTION, "")
+    if run(["solve"], PROBLEM) != ample:
+        return f"with ample memory the problem was solved so: {run(['solve'], PROBLEM)}"
+    return refuse_each(["solve"], PROBLEM, {NOTHING: "nothing written", ample: "no difference"}, {"nothing written"})
+
+
+sys.exit(refuse_in_session(ADDING) or refuse_in_session(DRAINING) or refuse_in_solve() or 0)

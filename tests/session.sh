@@ -104,6 +104,12 @@ run "an arc is added, taken back, and the problem printed" 0 \
 run "a flow is solved, taken back, and printed" 0 \
     "$solution_a"$'c undo value 0\ns 0\nf 1 2 0\nf 1 3 0\nf 2 3 0\nf 2 4 0\nf 3 4 0\n' "" \
     session examples/a.max <<<$'solve\nundo\nprint flow'
+run "an arc is drained, closed, and opened again by undo" 0 \
+    "$solution_a"$'c cap value 3\nc close value 0\ns 0\nf 1 3 0\nf 2 3 0\nf 2 4 0\nf 3 4 0\nc undo value 5\n'"$network_a" "" \
+    session examples/a.max <<<$'solve\ncap 5 1\nclose 1\nprint flow\nundo 2\nprint problem'
+run "an arc that is not there, and one that is closed" 1 \
+    $'c refused 1 no such arc\nc close value 0\nc refused 3 arc is closed\nc refused 4 capacities past 64 bits\n' "" \
+    session examples/a.max <<<$'cap 6 1\nclose 2\ncap 2 1\ncap 1 18446744073709551615'
 run "a lenient text is written plainly" 0 \
     $'p max 3 5\nn 1 s\nn 3 t\na 1 2 4\na 2 2 9\na 1 2 7\na 2 1 6\na 2 3 9\n' "" \
     session examples/n.max <<<"print problem"

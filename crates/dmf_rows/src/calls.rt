@@ -12,14 +12,22 @@ fn problem_fault(line: u64, kind: ProblemFaultKind) -> EngineFault {
 
 #[test]
 fn command_lines_are_read(rt: HostRuntime) {
+    let capacity = Command::Cap {
+        arc: 9,
+        cap: u64::MAX,
+    };
     let addition = Command::Add {
         tail: 1,
         head: 4,
         cap: 7,
     };
-    let table: [(&[u8], Command); 11] = [
+    let table: [(&[u8], Command); 15] = [
+        (b"cap 9 18446744073709551615", capacity),
+        (b" cap\t09 18446744073709551615", capacity),
         (b"add 1 4 7", addition),
         (b"\tadd  01 4   7 ", addition),
+        (b"close 3", Command::Close { arc: 3 }),
+        (b"close  0\t", Command::Close { arc: 0 }),
         (b"solve", Command::Solve),
         (b" solve\t", Command::Solve),
         (b"undo", Command::Undo(1)),
@@ -41,12 +49,21 @@ fn command_lines_are_read(rt: HostRuntime) {
 
 #[test]
 fn command_lines_are_refused(rt: HostRuntime) {
-    let table: [(&[u8], Refusal); 22] = [
+    let table: [(&[u8], Refusal); 36] = [
         (b"cNote", Refusal::UnknownCommand),
+        (b"ca 1 2", Refusal::UnknownCommand),
+        (b"capx 1", Refusal::UnknownCommand),
+        (b"Cap 1 2", Refusal::UnknownCommand),
+        (b"closed 1", Refusal::UnknownCommand),
         (b"Undo", Refusal::UnknownCommand),
         (b"undo\r", Refusal::UnknownCommand),
         (b"undo\0", Refusal::UnknownCommand),
         (b"solved 1 2 3", Refusal::UnknownCommand),
+        (b"cap", Refusal::FieldCount),
+        (b"cap x", Refusal::FieldCount),
+        (b"cap 1 2 3", Refusal::FieldCount),
+        (b"close", Refusal::FieldCount),
+        (b"close x 1", Refusal::FieldCount),
         (b"add 1 1", Refusal::FieldCount),
         (b"add 1 1 1 x", Refusal::FieldCount),
         (b"solve 1", Refusal::FieldCount),
@@ -59,6 +76,11 @@ fn command_lines_are_refused(rt: HostRuntime) {
         (b"print side", Refusal::UnknownCommand),
         (b"print Problem", Refusal::UnknownCommand),
         (b"print flows", Refusal::UnknownCommand),
+        (b"cap 1 -1", Refusal::NotANumber),
+        (b"cap x 18446744073709551616", Refusal::NotANumber),
+        (b"cap 18446744073709551616 x", Refusal::TooLarge),
+        (b"close 1.0", Refusal::NotANumber),
+        (b"close 18446744073709551616", Refusal::TooLarge),
         (b"undo -1", Refusal::NotANumber),
         (b"undo 1\r", Refusal::NotANumber),
         (b"redo 18446744073709551616", Refusal::TooLarge),

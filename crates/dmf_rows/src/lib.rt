@@ -4,6 +4,8 @@
 #[cfg(test)]
 mod calls;
 #[cfg(test)]
+mod draining;
+#[cfg(test)]
 mod failures;
 #[cfg(test)]
 mod limits;
@@ -11,6 +13,8 @@ mod limits;
 mod networks;
 #[cfg(test)]
 mod order;
+#[cfg(test)]
+mod row;
 #[cfg(test)]
 mod sessions;
 #[cfg(test)]

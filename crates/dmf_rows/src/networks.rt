@@ -7,6 +7,10 @@ pub const NETWORK_A: &[u8] =
 /// The solution of [`NETWORK_A`].
 pub const SOLUTION_A: &[u8] = b"s 5\nf 1 2 3\nf 1 3 2\nf 2 3 1\nf 2 4 2\nf 3 4 3\n";
 
+/// Two paths of three arcs from node 1 to node 5, which share their last arc.
+pub const NETWORK_B: &[u8] =
+    b"p max 5 5\nn 1 s\nn 5 t\na 1 2 1\na 1 3 1\na 2 4 1\na 3 4 1\na 4 5 1\n";
+
 /// One arc, whose capacity is the largest that there is.
 pub const FULL_ARC: &[u8] = b"p max 2 1\nn 1 s\nn 2 t\na 1 2 18446744073709551615\n";
 

@@ -82,7 +82,7 @@ fn a_reply_is_flushed_before_more_is_read(rt: HostRuntime) -> Result<(), Fail> {
         rt.alloc(),
         NETWORK_A,
         WatchedReader {
-            text: b"add 1 4 7\nc\nundo\n\nprint problem\nsolve\nsolved\nprint flow\nundo",
+            text: b"add 1 4 7\nc\nundo\n\nprint problem\nsolve\ncap 5 1\nclose 1\nclose 1\nprint flow\nundo",
             watch: &watch,
         },
         WatchedWriter {

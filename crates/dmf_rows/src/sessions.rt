@@ -1,20 +1,10 @@
 //! Worked sessions: what is written, and how they end.
 use crate::networks::{FULL_ARC, LENIENT, NETWORK_A};
-use crate::streams::{ByteReader, FlushMarker, Outcome, SlowWriter, hold, hold_over};
+use crate::row::{Row, is_held, is_held_byte_by_byte};
+use crate::streams::{FlushMarker, hold, hold_over};
 use dmf_run::{EngineFault, Status};
 use dmf_text::{ProblemFault, ProblemFaultKind};
-use std::alloc::Global;
 use std::test::Fail;
-
-/// A worked session.
-#[derive(Clone, Copy)]
-struct Row {
-    about: &'static str,
-    problem: &'static [u8],
-    commands: &'static [u8],
-    written: &'static [u8],
-    outcome: Outcome,
-}
 
 /// Sessions that end at the end of their commands.
 fn rows() -> [Row; 11] {
@@ -63,8 +53,8 @@ fn rows() -> [Row; 11] {
         Row {
             about: "a change after an undo drops what was undone",
             problem: NETWORK_A,
-            commands: b"add 1 4 4\nundo\nadd 1 4 7\nredo\n",
-            written: b"c add 6 value 0\nc undo value 0\nc add 6 value 0\nc refused 4 nothing to redo\n",
+            commands: b"cap 1 4\nundo\nadd 1 4 7\nredo\n",
+            written: b"c cap value 0\nc undo value 0\nc add 6 value 0\nc refused 4 nothing to redo\n",
             outcome: Ok(Status::SomeRefused),
         },
         Row {
@@ -161,29 +151,6 @@ fn rows() -> [Row; 11] {
     ]
 }
 
-/// Whether a session on the row's texts ends and writes as the row says.
-fn is_held(alloc: Global, row: Row) -> bool {
-    let mut written = Vec::new(alloc);
-    let outcome = hold(alloc, row.problem, row.commands, &mut written);
-    outcome == row.outcome && is_written(&written, row.written)
-}
-
-/// The same where the bytes come and go one by one.
-fn is_held_byte_by_byte(alloc: Global, row: Row) -> bool {
-    let mut written = Vec::new(alloc);
-    let outcome = hold_over(
-        alloc,
-        ByteReader::new(row.problem),
-        ByteReader::new(row.commands),
-        SlowWriter::new(&mut written),
-    );
-    outcome == row.outcome && is_written(&written, row.written)
-}
-
-fn is_written(written: &Vec<u8>, wanted: &[u8]) -> bool {
-    written.as_slice() == wanted
-}
-
 #[test]
 fn sessions_write_their_replies(rt: HostRuntime) -> Result<(), Fail> {
     for row in rows() {
@@ -238,14 +205,16 @@ fn each_reply_is_flushed_and_nothing_else(rt: HostRuntime) -> Result<(), Fail> {
     let outcome = hold_over(
         rt.alloc(),
         NETWORK_A,
-        b"add 1 4 7\nc a comment\n\nsolve\nsolved\nundo".as_slice(),
+        b"add 1 4 7\nc a comment\n\nsolve\ncap 1 9\nclose 6\nclosed 6\nundo".as_slice(),
         FlushMarker { held: &mut written },
     );
     assert_eq!(rt; outcome, Ok(Status::SomeRefused));
     let replies = b"c add 6 value 0\n|\
               s 12\nf 1 2 3\nf 1 3 2\nf 2 3 1\nf 2 4 2\nf 3 4 3\nf 1 4 7\n|\
-              c refused 5 unknown command\n|\
-              c undo value 0\n|";
+              c cap value 12\n|\
+              c close value 5\n|\
+              c refused 7 unknown command\n|\
+              c undo value 12\n|";
     assert!(rt; written.as_slice() == replies.as_slice());
     Ok(())
 }

@@ -141,3 +141,36 @@ fn a_solve_is_a_change_also_of_a_greatest_flow(rt: HostRuntime) -> Result<(), Fa
     assert_eq!(rt; (session.past(), session.future()), (0, 2));
     Ok(())
 }
+
+#[test]
+fn capacities_are_changed_and_arcs_closed(rt: HostRuntime) -> Result<(), Fail> {
+    let mut session = example(rt.alloc())?;
+    let table = [
+        (Command::Solve, Ok(Reply::Solution)),
+        (Command::Cap { arc: 5, cap: 1 }, Ok(Reply::Value(3))),
+        (Command::Close { arc: 1 }, Ok(Reply::Value(0))),
+        (Command::Close { arc: 1 }, Err(Refusal::Closed)),
+        (Command::Cap { arc: 1, cap: 1 }, Err(Refusal::Closed)),
+        (Command::Cap { arc: 6, cap: 1 }, Err(Refusal::NoSuchArc)),
+        (Command::Close { arc: 0 }, Err(Refusal::NoSuchArc)),
+        (
+            Command::Cap {
+                arc: 2,
+                cap: u64::MAX,
+            },
+            Err(Refusal::SumTooLarge),
+        ),
+        (Command::Undo(2), Ok(Reply::Value(5))),
+        (Command::Redo(1), Ok(Reply::Value(3))),
+    ];
+    for (command, reply) in table {
+        assert_eq!(rt;
+            answer(&rt, rt.alloc(), &mut session, command),
+            reply,
+            "{command:?}"
+        );
+    }
+    assert_eq!(rt; (session.past(), session.future()), (2, 1));
+    assert_eq!(rt; session.present().arcs()[4].cap, 1);
+    Ok(())
+}

@@ -1,0 +1,36 @@
+//! Worked sessions over memory, as rows of a table.
+use crate::streams::{ByteReader, Outcome, SlowWriter, hold, hold_over};
+use std::alloc::Global;
+
+/// A worked session: its two texts, what it writes, and how it ends.
+#[derive(Clone, Copy)]
+pub struct Row {
+    pub about: &'static str,
+    pub problem: &'static [u8],
+    pub commands: &'static [u8],
+    pub written: &'static [u8],
+    pub outcome: Outcome,
+}
+
+/// Whether a session on the row's texts ends and writes as the row says.
+pub fn is_held(alloc: Global, row: Row) -> bool {
+    let mut written = Vec::new(alloc);
+    let outcome = hold(alloc, row.problem, row.commands, &mut written);
+    outcome == row.outcome && is_written(&written, row.written)
+}
+
+/// The same where the bytes come and go one by one.
+pub fn is_held_byte_by_byte(alloc: Global, row: Row) -> bool {
+    let mut written = Vec::new(alloc);
+    let outcome = hold_over(
+        alloc,
+        ByteReader::new(row.problem),
+        ByteReader::new(row.commands),
+        SlowWriter::new(&mut written),
+    );
+    outcome == row.outcome && is_written(&written, row.written)
+}
+
+fn is_written(written: &Vec<u8>, wanted: &[u8]) -> bool {
+    written.as_slice() == wanted
+}
