@@ -1,5 +1,5 @@
 use crate::{Command, History, MAX_CHANGES, Refusal, Reply, Session, WholeHistory};
-use dmf_net::{NetFault, State};
+use dmf_net::{Arc, NetFault, State};
 use std::alloc::Global;
 use std::process::Abort;
 use std::test::Fail;
@@ -171,6 +171,6 @@ fn capacities_are_changed_and_arcs_closed(rt: HostRuntime) -> Result<(), Fail> {
         );
     }
     assert_eq!(rt; (session.past(), session.future()), (2, 1));
-    assert_eq!(rt; session.present().arcs()[4].cap, 1);
+    assert_eq!(rt; session.present().arcs().last(), Some(&Arc::open(3, 4, 1)));
     Ok(())
 }
