@@ -11,9 +11,10 @@ use Rattle.dmf_net.specs.Arc.{open_count}
 use Rattle.dmf_net.specs.Flow.{flow_value}
 use Rattle.dmf_net.specs.Network.{Network}
 use Rattle.dmf_net.specs.NetworkState.{NetworkState}
+use Rattle.dmf_net.specs.Side.{CutSide}
 use Rattle.std.specs.List.{zip}
 use Rattle.dmf_text.specs.Problem.{Line}
-use Rattle.dmf_text.specs.Written.{written_line, written, flow_fields, arcs_text, flows_text, problem_text, solution_text}
+use Rattle.dmf_text.specs.Written.{written_line, written, flow_fields, arcs_text, flows_text, nodes_text, problem_text, solution_text, cut_text}
 
 -- lines, field by field
 pub line-of_two : (x y : List ℕ) → written_line (x ∷ y ∷ []) ≡ x ++ (32 ∷ (y ++ 10 ∷ []))
@@ -60,6 +61,38 @@ module _ {X : Type 0} (is_kept : X → Bool) (fields : X → Line) where
       ∙ kept-append (take i xs) (get_or xs i d ∷ drop (suc i) xs)
       ∙ ap (λ l. kept_text (take i xs) ++ l) (kept-append (get_or xs i d ∷ []) (drop (suc i) xs))
 
+-- The lines of all of a list.
+module _ {X : Type 0} (fields : X → Line) where
+  abbrev pub all_text : List X → List ℕ
+  all_text xs = written (map fields xs)
+
+  pub all-nil : all_text [] ≡ []
+  unfolding written
+  all-nil = refl
+
+  pub all-one : (x : X) → all_text (x ∷ []) ≡ written_line (fields x)
+  unfolding written
+  all-one x = append-nil (written_line (fields x))
+
+  pub all-append : (xs ys : List X) → all_text (xs ++ ys) ≡ all_text xs ++ all_text ys
+  unfolding written
+  all-append xs ys = ap written (map-append fields xs ys) ∙ flat_map-append written_line (map fields xs) (map fields ys)
+
+  -- the lines of the list up to one, that one's, and those of what stands behind it
+  pub all-more : (xs : List X) (i : ℕ) (d : X) → i < length xs
+      → all_text (take (i + 1) xs) ≡ all_text (take i xs) ++ written_line (fields (get_or xs i d))
+  all-more xs i d below =
+      ap all_text (take_more xs i d below) ∙ all-append (take i xs) (get_or xs i d ∷ [])
+      ∙ ap (λ l. all_text (take i xs) ++ l) (all-one (get_or xs i d))
+
+  pub all-split : (xs : List X) (i : ℕ) (d : X) → i < length xs
+      → all_text xs ≡ all_text (take i xs) ++ (written_line (fields (get_or xs i d)) ++ all_text (drop (suc i) xs))
+  all-split xs i d below =
+      ap all_text (sym (take-append-drop i xs) ∙ ap (λ l. take i xs ++ l) (drop-cons xs i d below))
+      ∙ all-append (take i xs) (get_or xs i d ∷ drop (suc i) xs)
+      ∙ ap (λ l. all_text (take i xs) ++ l) (all-append (get_or xs i d ∷ []) (drop (suc i) xs))
+      ∙ ap (λ l. all_text (take i xs) ++ (l ++ all_text (drop (suc i) xs))) (all-one (get_or xs i d))
+
 abbrev pub is_open : Arc → Bool
 is_open arc = not arc.closed
 
@@ -93,3 +126,9 @@ pub solution_text-lines : (s : NetworkState) → solution_text s
     ≡ written_line (codes "s" ∷ decimal (nat_abs (flow_value s.network s.flows)) ∷ []) ++ flows_text (zip s.network.arcs s.flows)
 unfolding written
 solution_text-lines s = refl
+
+-- the text of a cut, line by line
+pub cut_text-lines : (side : CutSide) → cut_text side
+    ≡ written_line (codes "c" ∷ codes "cut" ∷ decimal side.capacity ∷ []) ++ nodes_text side.ids
+unfolding written
+cut_text-lines side = refl

@@ -6,6 +6,7 @@ use Rattle.dmf_net.specs.Arc.{open_count}
 use Rattle.dmf_net.specs.Flow.{flow_value}
 use Rattle.dmf_net.specs.Network.{Network}
 use Rattle.dmf_net.specs.NetworkState.{NetworkState}
+use Rattle.dmf_net.specs.Side.{CutSide}
 use Rattle.dmf_text.specs.Problem.{Line}
 
 -- a line: its fields with one space between each two, and a line feed
@@ -68,3 +69,18 @@ solution_lines s =
 
 abbrev pub solution_text : NetworkState → List ℕ
 solution_text s = written (solution_lines s)
+
+-- `c side ID`
+abbrev pub side_fields : ℕ → Line
+side_fields id = codes "c" ∷ codes "side" ∷ decimal id ∷ []
+
+-- a line for each of these nodes
+abbrev pub nodes_text : List ℕ → List ℕ
+nodes_text ids = written (map side_fields ids)
+
+-- a cut: its capacity, and then the nodes of its side in order
+abbrev pub cut_lines : CutSide → List Line
+cut_lines side = (codes "c" ∷ codes "cut" ∷ decimal side.capacity ∷ []) ∷ map side_fields side.ids
+
+abbrev pub cut_text : CutSide → List ℕ
+cut_text side = written (cut_lines side)

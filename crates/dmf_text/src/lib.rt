@@ -1,4 +1,4 @@
-//! Texts of networks: lines, fields and numbers, what texts are read from and written to, and problem and solution texts.
+//! Texts of networks: lines, fields and numbers, what texts are read from and written to, and problem, solution and cut texts.
 #![tactic(auto)]
 
 mod behind;
@@ -26,4 +26,4 @@ pub use line_buffer::LineBuffer;
 pub use problem::read_problem;
 pub use reader::{Failed, Source, StdSource};
 pub use writer::{Sink, StdSink, WriteFault, put_all};
-pub use written::{write_problem, write_solution};
+pub use written::{write_cut, write_problem, write_solution};

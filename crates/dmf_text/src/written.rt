@@ -1,14 +1,14 @@
-//! Problem and solution texts, written.
+//! Problem, solution and cut texts, written.
 ghost use Rattle.std.specs.Prelude.{◌≡◌, ◌≤◌, ◌∷◌, [], Ok, not, if◌then◌else◌, codes, decimal, length};
 ghost use Rattle.std.specs.List.{zip};
 ghost use Rattle.dmf_net.specs.NetworkState.{IsState};
 ghost use Rattle.dmf_text.specs.Problem.{problem_of};
 ghost use Rattle.dmf_text.specs.Writing.{Writes};
-ghost use Rattle.dmf_text.specs.Written.{written_line, arcs_text, flows_text, problem_text, solution_text, open_network, idle_state};
+ghost use Rattle.dmf_text.specs.Written.{written_line, arcs_text, flows_text, nodes_text, problem_text, solution_text, cut_text, open_network, idle_state};
 
 use crate::line_buffer::LineBuffer;
 use crate::writer::{Sink, WriteFault, put_all};
-use dmf_net::{Arc, State};
+use dmf_net::{Arc, Side, State};
 
 /// Writes the problem of a state's network: its open arcs in order, with the problem line and the node lines before
 /// them. Each line is put at once. It takes no memory and does not flush.
@@ -28,6 +28,15 @@ pub fn write_solution<W: Sink>(state: &State, out: &mut W) -> Result<(), WriteFa
 {
     put_all(out, value_line(state.value()).as_bytes())?;
     put_flows(state, out)
+}
+
+/// Writes a cut: its capacity, and then the nodes of its side, ascending. Each line is put at once. It takes no memory and
+/// does not flush.
+pub fn write_cut<W: Sink>(side: &Side, out: &mut W) -> Result<(), WriteFault>
+    ensures written { Writes W.contents W.has_failed out.old out.new result (cut_text side.now) }
+{
+    put_all(out, cut_line(side.capacity()).as_bytes())?;
+    put_nodes(side.ids(), out)
 }
 
 fn put_problem<W: Sink>(state: &State, out: &mut W) -> Result<(), WriteFault>
@@ -75,6 +84,16 @@ fn put_arc<W: Sink>(letter: &[u8], arc: &Arc, has: u64, out: &mut W) -> Result<(
     put_all(out, arc_line(letter, arc, has).as_bytes())
 }
 
+// Writes a line for each node of a side.
+fn put_nodes<W: Sink>(ids: &[u32], out: &mut W) -> Result<(), WriteFault>
+    ensures { Writes W.contents W.has_failed out.old out.new result (nodes_text ids.now) }
+{
+    for &id in ids {
+        put_all(out, side_line(id).as_bytes())?;
+    }
+    Ok(())
+}
+
 fn problem_line(nodes: u32, arcs: u32) -> LineBuffer
     ensures { result ≡ written_line (codes "p" ∷ codes "max" ∷ decimal nodes ∷ decimal arcs ∷ []) }
 {
@@ -104,6 +123,24 @@ fn value_line(value: u64) -> LineBuffer
     let mut line = LineBuffer::new();
     line.add_number(value);
     line.add_text(b"s ");
+    line
+}
+
+fn cut_line(capacity: u64) -> LineBuffer
+    ensures { result ≡ written_line (codes "c" ∷ codes "cut" ∷ decimal capacity ∷ []) }
+{
+    let mut line = LineBuffer::new();
+    line.add_number(capacity);
+    line.add_text(b"c cut ");
+    line
+}
+
+fn side_line(id: u32) -> LineBuffer
+    ensures { result ≡ written_line (codes "c" ∷ codes "side" ∷ decimal id ∷ []) }
+{
+    let mut line = LineBuffer::new();
+    line.add_number(u64::from(id));
+    line.add_text(b"c side ");
     line
 }
 
