@@ -1,7 +1,7 @@
 -- What a change appends is the present state.
 use Rattle.std.proofs.Common.{ℕ, ◌≡◌, ◌+◌, ◌<◌, List, ◌∷◌, [], ◌++◌, length, take, Option, Some, None, Result, Ok, Err, MatchOption, IsOkUnless, pos, nat_abs, arith, sym, ap, ◌∙◌, subst}
-use Rattle.std.proofs.lemmas.List.{get_or_at, length-take-le}
-use Rattle.std.proofs.lemmas.Option.{get_or_from_slice_get}
+use Rattle.std.proofs.lemmas.List.{get_or_at, length_push, length-take-le}
+use Rattle.std.proofs.lemmas.Option.{get_or_from_slice_get, slice_get-get_or}
 use Rattle.dmf_net.specs.declared.edit.Edit.{Edit}
 use Rattle.dmf_net.specs.declared.fault.PlanFault.{PlanFault}
 use Rattle.dmf_net.specs.declared.fault.PlanFault.TheVariants.{NoMemory}
@@ -16,7 +16,7 @@ use Rattle.dmf_session.specs.Timeline.{Timeline, IsPresent, appended, Appends}
 use Rattle.dmf_session.specs.Step.{Changes, IsChanged, IsRefused, refusal_of, value_of}
 
 -- there is one present state
-one-present : (t : Timeline) (s p : NetworkState) → IsPresent t s → IsPresent t p → s ≡ p
+pub one-present : (t : Timeline) (s p : NetworkState) → IsPresent t s → IsPresent t p → s ≡ p
 one-present t s p a b = cc
 
 -- and after a change it is what was appended
@@ -25,6 +25,13 @@ present-appended t s p within is =
     let front : List NetworkState = take (t.place + 1) t.states in
     let long : length front ≡ t.place + 1 = length-take-le (t.place + 1) t.states (omega arith) in
     sym (get_or_from_slice_get (front ++ s ∷ []) (t.place + 1) p s is) ∙ get_or_at front s [] s (t.place + 1) long
+
+-- What was appended is present.
+pub appended-present : (t : Timeline) (s : NetworkState) → t.place < length t.states → IsPresent (appended t s) s
+appended-present t s within =
+    let front : List NetworkState = take (t.place + 1) t.states in
+    let long : length front ≡ t.place + 1 = length-take-le (t.place + 1) t.states (omega arith) in
+    slice_get-get_or (front ++ s ∷ []) (t.place + 1) s (omega (arith, length_push front s, long)) ∙ ap (λ x. Some x) (get_or_at front s [] s (t.place + 1) long)
 
 -- A change that was planned on the present state and appended; the reply tells of the state that is present then.
 IsChanged-told : (t u : Timeline) (s p : NetworkState) (edit : Edit) (change : Change) (reply : NetworkState → Reply) (told : Reply) → t.place < length t.states → IsPresent t s → Becomes s change (applied edit s) → Appends edit t u → IsPresent u p → told ≡ reply p → IsChanged t s change reply (Ok told) u

@@ -1,4 +1,5 @@
 pub mod Timeline
+pub mod Optimal
 pub mod Step
 pub use Rattle.dmf_net.specs.NetworkState
 pub use Rattle.dmf_net.specs.Change

@@ -1,17 +1,23 @@
 -- What a command makes of a timeline, and what it answers.
-use Rattle.std.specs.Prelude.{ℕ, ◌≡◌, ◌+◌, ◌<◌, ◌≤◌, length, nat_abs, nat_le, Result, Ok, Err, None, MatchOption, MatchBool}
+use Rattle.std.specs.Prelude.{ℕ, ◌≡◌, ◌+◌, ◌<◌, ◌≤◌, length, nat_abs, nat_le, Bool, true, false, Option, Some, None, Result, Ok, Err, MatchOption, MatchBool}
 use Rattle.dmf_net.specs.declared.fault.PlanFault.{PlanFault}
 use Rattle.dmf_net.specs.declared.fault.PlanFault.TheVariants as plan
+use Rattle.dmf_net.specs.declared.fault.CutFault.{CutFault}
+use Rattle.dmf_net.specs.declared.fault.CutFault.TheVariants as cut
 use Rattle.dmf_net.specs.Flow.{flow_value}
+use Rattle.dmf_net.specs.Network.{Network}
 use Rattle.dmf_net.specs.NetworkState.{NetworkState}
+use Rattle.dmf_net.specs.Greatest.{IsGreatest, IsSurpassed}
+use Rattle.dmf_net.specs.Side.{CutSide, IsSmallestSide}
 use Rattle.dmf_net.specs.Change.{Change, change_fault, Becomes}
 use Rattle.dmf_net.specs.Change as change
 use Rattle.dmf_session.specs.declared.command.Command.{Command}
-use Rattle.dmf_session.specs.declared.command.Command.TheVariants.{Cap, Add, Close, Solve, Undo, Redo, PrintProblem, PrintFlow}
+use Rattle.dmf_session.specs.declared.command.Command.TheVariants.{Cap, Add, Close, Solve, Undo, Redo, PrintProblem, PrintFlow, PrintCut}
 use Rattle.dmf_session.specs.declared.command.Reply.{Reply}
-use Rattle.dmf_session.specs.declared.command.Reply.TheVariants.{Value, Added, Solution, Problem, Flow}
+use Rattle.dmf_session.specs.declared.command.Reply.TheVariants.{Value, Added, Solution, Problem, Flow, Cut}
 use Rattle.dmf_session.specs.declared.command.Refusal.{Refusal}
-use Rattle.dmf_session.specs.declared.command.Refusal.TheVariants.{NoSuchArc, Closed, NoSuchNode, TooManyArcs, SumTooLarge, NothingToUndo, NothingToRedo, NoMemory}
+use Rattle.dmf_session.specs.declared.command.Refusal.TheVariants.{NoSuchArc, Closed, NoSuchNode, TooManyArcs, SumTooLarge, NothingToUndo, NothingToRedo, NotGreatest, NoMemory}
+use Rattle.dmf_session.specs.Optimal.{IsOptimal}
 use Rattle.dmf_session.specs.Timeline.{Timeline, IsPresent, future_of, appended, back, forward, AddsArcs}
 
 -- the value of a state's flow, which is not below 0
@@ -26,6 +32,11 @@ refusal_of plan.NoSuchNode = NoSuchNode
 refusal_of plan.TooManyArcs = TooManyArcs
 refusal_of plan.SumTooLarge = SumTooLarge
 refusal_of plan.NoMemory = NoMemory
+
+-- what refuses it where this refuses a side
+abbrev pub refusal_of_cut : CutFault → Refusal
+refusal_of_cut cut.NotGreatest = NotGreatest
+refusal_of_cut cut.NoMemory = NoMemory
 
 -- The command is refused, and nothing has changed.
 pub record IsRefused (t : Timeline) (refusal : Refusal) (result : Result Reply Refusal) (u : Timeline) : Type 0 where
@@ -52,29 +63,56 @@ pub record IsMoved (moved : Timeline) (result : Result Reply Refusal) (u : Timel
   pub told : result ≡ Ok (Value (value_of state))
   pub moves : u ≡ moved
 
+-- The smallest side of the network, where it is wanted, and else none.
+abbrev pub IsSideWanted : Bool → Network → Option CutSide → Type 0
+IsSideWanted true n (Some side) = IsSmallestSide n side
+IsSideWanted true n None = ⊥
+IsSideWanted false n (Some side) = ⊥
+IsSideWanted false n None = Unit {0}
+
+-- Solving, which is never refused: what it becomes is appended, and that state is optimal. The reply has the smallest side
+-- of its network, where it is wanted.
+pub record IsSolved (want_cut : Bool) (t : Timeline) (s : NetworkState) (result : Result Reply Refusal) (u : Timeline) : Type 0 where
+  pub new : NetworkState
+  pub becomes : Becomes s change.Solve new
+  pub optimal : IsOptimal new
+  pub side : Option CutSide
+  pub side_is : IsSideWanted want_cut new.network side
+  pub told : result ≡ Ok (Solution side)
+  pub appends : u ≡ appended t new
+
+-- The smallest side of the state's network is told where no flow has a larger value than the state's; where some flow has,
+-- that is the refusal.
+abbrev pub TellsCut : NetworkState → Result Reply Refusal → Type 0
+TellsCut s (Ok (Cut side)) = IsGreatest s.network s.flows × IsSmallestSide s.network side
+TellsCut s (Err NotGreatest) = IsSurpassed s.network s.flows
+TellsCut s result = ⊥
+
 -- The command, given to the timeline `t`, is answered by this result and leaves the timeline `u`, where memory is there.
-abbrev pub Steps : Timeline → Command → Result Reply Refusal → Timeline → Type 0
-Steps t (Cap arc cap) result u =
+-- `want_cut` says whether a cut is wanted beside a solution.
+abbrev pub Steps : Bool → Timeline → Command → Result Reply Refusal → Timeline → Type 0
+Steps want_cut t (Cap arc cap) result u =
     (s : NetworkState) × IsPresent t s × Changes t s (change.Cap arc cap) (λ new. Value (value_of new)) result u
-Steps t (Add tail head cap) result u =
+Steps want_cut t (Add tail head cap) result u =
     (s : NetworkState) × IsPresent t s
     × Changes t s (change.Add tail head cap) (λ new. Added (length new.network.arcs) (value_of new)) result u
-Steps t (Close arc) result u =
+Steps want_cut t (Close arc) result u =
     (s : NetworkState) × IsPresent t s × Changes t s (change.Close arc) (λ new. Value (value_of new)) result u
-Steps t Solve result u =
-    (s : NetworkState) × IsPresent t s × Changes t s change.Solve (λ new. Solution) result u
-Steps t (Undo steps) result u =
+Steps want_cut t Solve result u =
+    (s : NetworkState) × IsPresent t s × IsSolved want_cut t s result u
+Steps want_cut t (Undo steps) result u =
     MatchBool (nat_le steps t.place) (IsMoved (back t steps) result u) (IsRefused t NothingToUndo result u)
-Steps t (Redo steps) result u =
+Steps want_cut t (Redo steps) result u =
     MatchBool (nat_le steps (future_of t)) (IsMoved (forward t steps) result u) (IsRefused t NothingToRedo result u)
-Steps t PrintProblem result u = (result ≡ Ok Problem) × (u ≡ t)
-Steps t PrintFlow result u = (result ≡ Ok Flow) × (u ≡ t)
+Steps want_cut t PrintProblem result u = (result ≡ Ok Problem) × (u ≡ t)
+Steps want_cut t PrintFlow result u = (result ≡ Ok Flow) × (u ≡ t)
+Steps want_cut t PrintCut result u = ((s : NetworkState) × IsPresent t s × TellsCut s result) × (u ≡ t)
 
 -- The present state does not refuse the change.
 abbrev pub IsAccepted : Timeline → Change → Type 0
 IsAccepted t change = (s : NetworkState) × IsPresent t s × (change_fault s change ≡ None)
 
--- The command may be refused memory: a change that is accepted, and steps forward of which one adds arcs.
+-- The command may be refused memory: a change that is accepted, telling a cut, and steps forward of which one adds arcs.
 abbrev pub MayWantMemory : Timeline → Command → Type 0
 MayWantMemory t (Cap arc cap) = IsAccepted t (change.Cap arc cap)
 MayWantMemory t (Add tail head cap) = IsAccepted t (change.Add tail head cap)
@@ -84,11 +122,12 @@ MayWantMemory t (Undo steps) = ⊥
 MayWantMemory t (Redo steps) = (steps ≤ future_of t) × (i : ℕ) × (i < steps) × AddsArcs t (t.place + i)
 MayWantMemory t PrintProblem = ⊥
 MayWantMemory t PrintFlow = ⊥
+MayWantMemory t PrintCut = Unit {0}
 
 -- The same where memory may be refused: a command that wants some may be refused it, and then nothing has changed.
-abbrev pub Answers : Timeline → Command → Result Reply Refusal → Timeline → Type 0
-Answers t command (Err NoMemory) u = MayWantMemory t command × (u ≡ t)
-Answers t command result u = Steps t command result u
+abbrev pub Answers : Bool → Timeline → Command → Result Reply Refusal → Timeline → Type 0
+Answers want_cut t command (Err NoMemory) u = MayWantMemory t command × (u ≡ t)
+Answers want_cut t command result u = Steps want_cut t command result u
 
 -- the command is a change, so it adds a state if it is accepted
 abbrev pub IsChange : Command → Type 0
@@ -100,3 +139,10 @@ IsChange (Undo steps) = ⊥
 IsChange (Redo steps) = ⊥
 IsChange PrintProblem = ⊥
 IsChange PrintFlow = ⊥
+IsChange PrintCut = ⊥
+
+-- After a solve that was not refused the present state is optimal.
+abbrev pub SolvedIsOptimal : Type 0
+SolvedIsOptimal =
+    (want_cut : Bool) (t u : Timeline) (reply : Reply) → Answers want_cut t Solve (Ok reply) u
+    → (s : NetworkState) × IsPresent u s × IsOptimal s

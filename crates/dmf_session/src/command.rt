@@ -1,4 +1,4 @@
-use dmf_net::{NoMemory, PlanFault};
+use dmf_net::{CutFault, NoMemory, PlanFault, Side};
 use thiserror::Error;
 
 /// What a session is asked to do.
@@ -35,21 +35,25 @@ pub enum Command {
     PrintProblem,
     /// Show the flow.
     PrintFlow,
+    /// Show the smallest minimum cut.
+    PrintCut,
 }
 
 /// What a session answers to a command that it accepts.
-#[derive(Clone, Copy, Debug, PartialEq, Eq)]
+#[derive(Debug, Drop)]
 pub enum Reply {
     /// The value of the present flow.
     Value(u64),
     /// The number of the new arc, and the value of the present flow.
     Added(u32, u64),
-    /// The problem is solved, and the present flow is to be shown.
-    Solution,
+    /// The problem is solved, and the present flow is to be shown, and after it this cut, where one was wanted.
+    Solution(Option<Side>),
     /// The present problem is to be shown.
     Problem,
     /// The present flow is to be shown.
     Flow,
+    /// This cut is to be shown.
+    Cut(Side),
 }
 
 /// Why a command is refused. The first four and the last are told by the reader of commands alone.
@@ -113,6 +117,20 @@ impl From<PlanFault> for Refusal {
             PlanFault::TooManyArcs => Refusal::TooManyArcs,
             PlanFault::SumTooLarge => Refusal::SumTooLarge,
             PlanFault::NoMemory => Refusal::NoMemory,
+        }
+    }
+}
+
+impl From<CutFault> for Refusal {
+    ghost use Rattle.std.specs.Prelude.{◌≡◌};
+    ghost use Rattle.dmf_session.specs.Step.{refusal_of_cut};
+
+    ghost from_gives = { λ fault refusal. refusal ≡ refusal_of_cut fault };
+
+    fn from(fault: CutFault) -> Refusal {
+        match fault {
+            CutFault::NotGreatest => Refusal::NotGreatest,
+            CutFault::NoMemory => Refusal::NoMemory,
         }
     }
 }

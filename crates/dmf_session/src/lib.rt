@@ -3,11 +3,13 @@
 
 pub use command::{Command, Refusal, Reply};
 pub use history::{History, MAX_CHANGES, NothingToUndo, RedoFault};
+pub use laws::{greatest_is_optimal, solved_is_optimal};
 pub use session::Session;
 pub use whole::WholeHistory;
 
 mod command;
 mod history;
+mod laws;
 mod session;
 #[cfg(test)]
 mod tests;

@@ -1,4 +1,4 @@
-ghost use Rattle.std.specs.Prelude.{◌≡◌, ◌<◌, ◌≤◌};
+ghost use Rattle.std.specs.Prelude.{◌≡◌, ◌<◌, ◌≤◌, Bool};
 ghost use Rattle.dmf_session.specs.declared.history.TheConstants.{MAX_CHANGES};
 ghost use Rattle.dmf_session.specs.declared.command.Command.TheVariants as command;
 ghost use Rattle.dmf_session.specs.Timeline.{IsTimeline, IsPresent, future_of, back};
@@ -6,7 +6,8 @@ ghost use Rattle.dmf_session.specs.Step.{Answers, IsChange};
 
 use crate::command::{Command, Refusal, Reply};
 use crate::history::{History, RedoFault};
-use dmf_net::{State, plan_add, plan_cap, plan_close, plan_solve};
+use crate::laws::greatest_is_optimal;
+use dmf_net::{State, plan_add, plan_cap, plan_close, plan_solve, side_after, smallest_side};
 use std::alloc::Global;
 use std::marker::Model;
 
@@ -56,26 +57,34 @@ impl<H: History> Session<H> {
 
     /// Carries out a command.
     ///
-    /// A command that is refused changes nothing. Only a change and a step forward over an added arc take memory.
-    pub fn step(&mut self, alloc: Global, command: Command) -> Result<Reply, Refusal>
+    /// A command that is refused changes nothing. Only a change, a step forward over an added arc and a cut take memory.
+    /// After a solve the value of the present flow is the greatest of all flows, and the capacity of the smallest minimum
+    /// cut; with `want_cut` the reply has that cut.
+    pub fn step(
+        &mut self,
+        alloc: Global,
+        command: Command,
+        want_cut: bool,
+    ) -> Result<Reply, Refusal>
         requires room { IsChange command → (H.timeline self.old).place < MAX_CHANGES }
-        ensures { Answers (H.timeline self.old) command result (H.timeline self.new) }
+        ensures { Answers want_cut (H.timeline self.old) command result (H.timeline self.new) }
     {
         match command {
             Command::Cap { arc, cap } => self.cap(alloc, arc, cap),
             Command::Add { tail, head, cap } => self.add(tail, head, cap),
             Command::Close { arc } => self.close(alloc, arc),
-            Command::Solve => self.solve(alloc),
+            Command::Solve => self.solve(alloc, want_cut),
             Command::Undo(steps) => self.undo(steps),
             Command::Redo(steps) => self.redo(steps),
             Command::PrintProblem => Ok(Reply::Problem),
             Command::PrintFlow => Ok(Reply::Flow),
+            Command::PrintCut => self.cut(alloc),
         }
     }
 
     fn cap(&mut self, alloc: Global, arc: u64, cap: u64) -> Result<Reply, Refusal>
         requires room { (H.timeline self.old).place < MAX_CHANGES }
-        ensures { Answers (H.timeline self.old) (command.Cap arc cap) result (H.timeline self.new) }
+        ensures { (want_cut : Bool) → Answers want_cut (H.timeline self.old) (command.Cap arc cap) result (H.timeline self.new) }
     {
         let edit = plan_cap(alloc, self.history.present(), arc, cap)?;
         self.history.append(edit)?;
@@ -84,7 +93,7 @@ impl<H: History> Session<H> {
 
     fn add(&mut self, tail: u64, head: u64, cap: u64) -> Result<Reply, Refusal>
         requires room { (H.timeline self.old).place < MAX_CHANGES }
-        ensures { Answers (H.timeline self.old) (command.Add tail head cap) result (H.timeline self.new) }
+        ensures { (want_cut : Bool) → Answers want_cut (H.timeline self.old) (command.Add tail head cap) result (H.timeline self.new) }
     {
         let edit = plan_add(self.history.present(), tail, head, cap)?;
         self.history.append(edit)?;
@@ -94,24 +103,38 @@ impl<H: History> Session<H> {
 
     fn close(&mut self, alloc: Global, arc: u64) -> Result<Reply, Refusal>
         requires room { (H.timeline self.old).place < MAX_CHANGES }
-        ensures { Answers (H.timeline self.old) (command.Close arc) result (H.timeline self.new) }
+        ensures { (want_cut : Bool) → Answers want_cut (H.timeline self.old) (command.Close arc) result (H.timeline self.new) }
     {
         let edit = plan_close(alloc, self.history.present(), arc)?;
         self.history.append(edit)?;
         Ok(Reply::Value(self.history.present().value()))
     }
 
-    fn solve(&mut self, alloc: Global) -> Result<Reply, Refusal>
+    // A side that is wanted is made before the solve is recorded: where memory is refused for it, nothing has changed.
+    fn solve(&mut self, alloc: Global, want_cut: bool) -> Result<Reply, Refusal>
         requires room { (H.timeline self.old).place < MAX_CHANGES }
-        ensures { Answers (H.timeline self.old) command.Solve result (H.timeline self.new) }
+        ensures { Answers want_cut (H.timeline self.old) command.Solve result (H.timeline self.new) }
     {
-        let edit = plan_solve(alloc, self.history.present())?;
+        greatest_is_optimal();
+        let present = self.history.present();
+        let edit = plan_solve(alloc, present)?;
+        let side = if want_cut {
+            Some(side_after(alloc, present, &edit)?)
+        } else {
+            None
+        };
         self.history.append(edit)?;
-        Ok(Reply::Solution)
+        Ok(Reply::Solution(side))
+    }
+
+    fn cut(&self, alloc: Global) -> Result<Reply, Refusal>
+        ensures { (want_cut : Bool) → Answers want_cut (H.timeline self.now) command.PrintCut result (H.timeline self.now) }
+    {
+        Ok(Reply::Cut(smallest_side(alloc, self.history.present())?))
     }
 
     fn undo(&mut self, steps: u64) -> Result<Reply, Refusal>
-        ensures { Answers (H.timeline self.old) (command.Undo steps) result (H.timeline self.new) }
+        ensures { (want_cut : Bool) → Answers want_cut (H.timeline self.old) (command.Undo steps) result (H.timeline self.new) }
     {
         if steps > u64::from(self.history.past()) {
             return Err(Refusal::NothingToUndo);
@@ -121,7 +144,7 @@ impl<H: History> Session<H> {
     }
 
     fn redo(&mut self, steps: u64) -> Result<Reply, Refusal>
-        ensures { Answers (H.timeline self.old) (command.Redo steps) result (H.timeline self.new) }
+        ensures { (want_cut : Bool) → Answers want_cut (H.timeline self.old) (command.Redo steps) result (H.timeline self.new) }
     {
         if steps > u64::from(self.history.future()) {
             return Err(Refusal::NothingToRedo);

@@ -8,7 +8,7 @@ use Rattle.dmf_session.proofs.Appending.{IsChanged-added}
 use Rattle.dmf_session.proofs.session.Session.add.Goals as goal
 
 pub returns : goal.returns
-returns g c =
+returns g c want_cut =
     let timeline = g.H.History.timeline in
     let addition = change.Add c.args.tail c.args.head c.args.cap in
     let s = c.present.result.now in

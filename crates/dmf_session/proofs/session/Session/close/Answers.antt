@@ -8,7 +8,7 @@ use Rattle.dmf_session.proofs.Appending.{Changes-valued}
 use Rattle.dmf_session.proofs.session.Session.close.Goals as goal
 
 pub returns : goal.returns
-returns g c =
+returns g c want_cut =
     let timeline = g.H.History.timeline in
     let asked = change.Close c.args.arc in
     let s = c.present.result.now in

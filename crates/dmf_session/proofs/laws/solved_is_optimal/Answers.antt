@@ -1,0 +1,5 @@
+use Rattle.dmf_session.proofs.Optimal.{solved-optimal}
+use Rattle.dmf_session.proofs.laws.solved_is_optimal.Goals as goal
+
+pub returns : goal.returns
+returns c = solved-optimal

@@ -1,0 +1,18 @@
+-- What is so of a state after solving (the max-flow min-cut theorem of Ford and Fulkerson).
+use Rattle.std.specs.Prelude.{◌≡◌, pos}
+use Rattle.dmf_net.specs.Flow.{flow_value}
+use Rattle.dmf_net.specs.NetworkState.{NetworkState, IsState}
+use Rattle.dmf_net.specs.Greatest.{IsGreatest}
+use Rattle.dmf_net.specs.Cut.{HasLeastCutOf}
+use Rattle.dmf_net.specs.Side.{CutSide, IsSmallestSide}
+
+-- No flow of the network has a larger value than that of the state, and this value is the capacity of a least cut, and
+-- so that of the smallest side.
+pub record IsOptimal (s : NetworkState) : Type 0 where
+  pub greatest : IsGreatest s.network s.flows
+  pub least_cut : HasLeastCutOf s.network (flow_value s.network s.flows)
+  pub smallest_side : (side : CutSide) → IsSmallestSide s.network side → pos side.capacity ≡ flow_value s.network s.flows
+
+-- A state whose flow is greatest is optimal.
+abbrev pub GreatestIsOptimal : Type 0
+GreatestIsOptimal = (s : NetworkState) → IsState s → IsGreatest s.network s.flows → IsOptimal s
