@@ -39,8 +39,8 @@ given-by : (before now : Feed) (bytes : List ℕ) → IsFresh before → Takes b
 given-by before now bytes fresh takes = Consumes-given before.pending now.pending before.known now.known bytes fresh.none_pending takes.consumes
 
 -- the lines so far are all
-abbrev all-so-far : (t : Timeline) (lines : List (List ℕ)) (written : List ℕ) (is_refused : Bool) (u : Timeline) → All HasNoFeed lines → Runs 1 t lines written is_refused u → RunsAll t (fed lines) written is_refused
-all-so-far t lines written is_refused u each runs = record {
+abbrev all-so-far : (want_cut : Bool) (t : Timeline) (lines : List (List ℕ)) (written : List ℕ) (is_refused : Bool) (u : Timeline) → All HasNoFeed lines → Runs want_cut 1 t lines written is_refused u → RunsAll want_cut t (fed lines) written is_refused
+all-so-far want_cut t lines written is_refused u each runs = record {
   lines = lines;
   rest = [];
   cut = record { whole = sym (append-nil (fed lines)); each = each; last = All-nil (λ (b : ℕ). b ≡ 10 → ⊥) };
@@ -56,9 +56,9 @@ all-so-far t lines written is_refused u each runs = record {
 }
 
 -- the end of the input
-pub RunsCommands-end : (t : Timeline) (before now then : Feed) (held holds : Held) (number : ℕ) (u : Timeline) (is_refused : Bool) (status : Status) → number ≤ MAX_LINES + 1 → status ≡ status_if is_refused
-    → Progress t before now held holds number u is_refused → Takes now then [] → HasEnded now then → RunsCommands t (streams before held) (streams then holds) (Ok status)
-RunsCommands-end t before now then held holds number u is_refused status few told p takes ended =
+pub RunsCommands-end : (want_cut : Bool) (t : Timeline) (before now then : Feed) (held holds : Held) (number : ℕ) (u : Timeline) (is_refused : Bool) (status : Status) → number ≤ MAX_LINES + 1 → status ≡ status_if is_refused
+    → Progress want_cut t before now held holds number u is_refused → Takes now then [] → HasEnded now then → RunsCommands want_cut t (streams before held) (streams then holds) (Ok status)
+RunsCommands-end want_cut t before now then held holds number u is_refused status few told p takes ended =
     let bytes = fed p.lines in
     let all = subst (λ x. Takes before then x) (append-nil bytes) (Takes-trans before now then bytes [] p.takes takes) in
     let nothing : bytes ++ then.pending.bytes ≡ bytes = ap (λ x. bytes ++ x) ended.none_pending ∙ append-nil bytes in (
@@ -68,7 +68,7 @@ RunsCommands-end t before now then held holds number u is_refused status few tol
       p.appends,
       (
         is_refused,
-        all-so-far t p.lines p.written is_refused u p.each p.runs,
+        all-so-far want_cut t p.lines p.written is_refused u p.each p.runs,
         told,
         record { at_end = ended.at_end; bytes = omega (arith, all.counts, p.fresh.none_taken, ended.within); lines = omega (arith, p.counted) },
         record { reader = ended.mark ∙ p.reader; writer = p.writer },
@@ -76,9 +76,9 @@ RunsCommands-end t before now then held holds number u is_refused status few tol
     )
 
 -- a failed read
-pub RunsCommands-read : (t : Timeline) (before now then : Feed) (held holds : Held) (number : ℕ) (u : Timeline) (is_refused : Bool) (rest : List ℕ)
-    → Progress t before now held holds number u is_refused → HasNoFeed rest → Takes now then rest → HasFailed then → RunsCommands t (streams before held) (streams then holds) (Err fault.Read)
-RunsCommands-read t before now then held holds number u is_refused rest p no_feed takes failed =
+pub RunsCommands-read : (want_cut : Bool) (t : Timeline) (before now then : Feed) (held holds : Held) (number : ℕ) (u : Timeline) (is_refused : Bool) (rest : List ℕ)
+    → Progress want_cut t before now held holds number u is_refused → HasNoFeed rest → Takes now then rest → HasFailed then → RunsCommands want_cut t (streams before held) (streams then holds) (Err fault.Read)
+RunsCommands-read want_cut t before now then held holds number u is_refused rest p no_feed takes failed =
     let bytes = fed p.lines ++ rest in
     let all = Takes-trans before now then (fed p.lines) rest p.takes takes in
     let nothing : bytes ++ then.pending.bytes ≡ bytes = ap (λ x. bytes ++ x) failed.none_pending ∙ append-nil bytes in (
@@ -101,9 +101,9 @@ RunsCommands-read t before now then held holds number u is_refused rest p no_fee
     )
 
 -- more bytes than may be
-pub RunsCommands-bytes : (t : Timeline) (before now then : Feed) (held holds : Held) (number : ℕ) (u : Timeline) (is_refused : Bool) (rest : List ℕ) → number ≤ MAX_LINES + 1
-    → Progress t before now held holds number u is_refused → HasNoFeed rest → Takes now then rest → IsPastLimit now then → RunsCommands t (streams before held) (streams then holds) (Err fault.TooMuchInput)
-RunsCommands-bytes t before now then held holds number u is_refused rest few p no_feed takes past =
+pub RunsCommands-bytes : (want_cut : Bool) (t : Timeline) (before now then : Feed) (held holds : Held) (number : ℕ) (u : Timeline) (is_refused : Bool) (rest : List ℕ) → number ≤ MAX_LINES + 1
+    → Progress want_cut t before now held holds number u is_refused → HasNoFeed rest → Takes now then rest → IsPastLimit now then → RunsCommands want_cut t (streams before held) (streams then holds) (Err fault.TooMuchInput)
+RunsCommands-bytes want_cut t before now then held holds number u is_refused rest few p no_feed takes past =
     let bytes = fed p.lines ++ rest in
     let all = Takes-trans before now then (fed p.lines) rest p.takes takes in
     let long : length (fed p.lines) + length rest ≡ MAX_BYTES = omega (arith, all.counts, p.fresh.none_taken, past.at_limit, length-append (fed p.lines) rest) in
@@ -131,10 +131,10 @@ RunsCommands-bytes t before now then held holds number u is_refused rest few p n
     )
 
 -- more lines than may be
-pub RunsCommands-lines : (t : Timeline) (before now then : Feed) (held holds : Held) (u : Timeline) (is_refused : Bool) (more : List ℕ)
-    → Progress t before now held holds (MAX_LINES + 1) u is_refused → 0 < length (more ++ then.pending.bytes) → Takes now then more → then.pending.count ≤ MAX_BYTES → then.has_failed ≡ now.has_failed
-    → RunsCommands t (streams before held) (streams then holds) (Err fault.TooMuchInput)
-RunsCommands-lines t before now then held holds u is_refused more p some takes within mark =
+pub RunsCommands-lines : (want_cut : Bool) (t : Timeline) (before now then : Feed) (held holds : Held) (u : Timeline) (is_refused : Bool) (more : List ℕ)
+    → Progress want_cut t before now held holds (MAX_LINES + 1) u is_refused → 0 < length (more ++ then.pending.bytes) → Takes now then more → then.pending.count ≤ MAX_BYTES → then.has_failed ≡ now.has_failed
+    → RunsCommands want_cut t (streams before held) (streams then holds) (Err fault.TooMuchInput)
+RunsCommands-lines want_cut t before now then held holds u is_refused more p some takes within mark =
     let bytes = fed p.lines ++ more in
     let all = Takes-trans before now then (fed p.lines) more p.takes takes in (
       bytes ++ then.pending.bytes,
@@ -159,36 +159,36 @@ RunsCommands-lines t before now then held holds u is_refused more p some takes w
     )
 
 -- asking for a line was refused
-pub RunsCommands-refused : (t : Timeline) (before now then : Feed) (held holds : Held) (number : ℕ) (u : Timeline) (is_refused : Bool) (told : EngineFault) → number ≤ MAX_LINES + 1
-    → Progress t before now held holds number u is_refused → GivesLine now then (Err told) → RunsCommands t (streams before held) (streams then holds) (Err told)
-RunsCommands-refused t before now then held holds number u is_refused fault.Read few p gave = RunsCommands-read t before now then held holds number u is_refused gave.0 p gave.1 gave.2 gave.3
-RunsCommands-refused t before now then held holds number u is_refused fault.TooMuchInput few p gave = RunsCommands-bytes t before now then held holds number u is_refused gave.0 few p gave.1 gave.2 gave.3
-RunsCommands-refused t before now then held holds number u is_refused fault.Write few p gave = absurd gave
-RunsCommands-refused t before now then held holds number u is_refused (fault.Problem f) few p gave = absurd gave
-RunsCommands-refused t before now then held holds number u is_refused fault.NoMemory few p gave = absurd gave
+pub RunsCommands-refused : (want_cut : Bool) (t : Timeline) (before now then : Feed) (held holds : Held) (number : ℕ) (u : Timeline) (is_refused : Bool) (told : EngineFault) → number ≤ MAX_LINES + 1
+    → Progress want_cut t before now held holds number u is_refused → GivesLine now then (Err told) → RunsCommands want_cut t (streams before held) (streams then holds) (Err told)
+RunsCommands-refused want_cut t before now then held holds number u is_refused fault.Read few p gave = RunsCommands-read want_cut t before now then held holds number u is_refused gave.0 p gave.1 gave.2 gave.3
+RunsCommands-refused want_cut t before now then held holds number u is_refused fault.TooMuchInput few p gave = RunsCommands-bytes want_cut t before now then held holds number u is_refused gave.0 few p gave.1 gave.2 gave.3
+RunsCommands-refused want_cut t before now then held holds number u is_refused fault.Write few p gave = absurd gave
+RunsCommands-refused want_cut t before now then held holds number u is_refused (fault.Problem f) few p gave = absurd gave
+RunsCommands-refused want_cut t before now then held holds number u is_refused fault.NoMemory few p gave = absurd gave
 
 -- asking for the end was refused
-pub RunsCommands-past : (t : Timeline) (before now then : Feed) (held holds : Held) (u : Timeline) (is_refused : Bool) (told : EngineFault)
-    → Progress t before now held holds (MAX_LINES + 1) u is_refused → GivesEnd now then (Err told) → RunsCommands t (streams before held) (streams then holds) (Err told)
-RunsCommands-past t before now then held holds u is_refused fault.Read p gave = RunsCommands-read t before now then held holds (MAX_LINES + 1) u is_refused [] p (All-nil (λ (b : ℕ). b ≡ 10 → ⊥)) gave.0 gave.1
-RunsCommands-past t before now then held holds u is_refused fault.TooMuchInput p gave = RunsCommands-lines t before now then held holds u is_refused gave.0 p gave.1 gave.2 gave.3 gave.4
-RunsCommands-past t before now then held holds u is_refused fault.Write p gave = absurd gave
-RunsCommands-past t before now then held holds u is_refused (fault.Problem f) p gave = absurd gave
-RunsCommands-past t before now then held holds u is_refused fault.NoMemory p gave = absurd gave
+pub RunsCommands-past : (want_cut : Bool) (t : Timeline) (before now then : Feed) (held holds : Held) (u : Timeline) (is_refused : Bool) (told : EngineFault)
+    → Progress want_cut t before now held holds (MAX_LINES + 1) u is_refused → GivesEnd now then (Err told) → RunsCommands want_cut t (streams before held) (streams then holds) (Err told)
+RunsCommands-past want_cut t before now then held holds u is_refused fault.Read p gave = RunsCommands-read want_cut t before now then held holds (MAX_LINES + 1) u is_refused [] p (All-nil (λ (b : ℕ). b ≡ 10 → ⊥)) gave.0 gave.1
+RunsCommands-past want_cut t before now then held holds u is_refused fault.TooMuchInput p gave = RunsCommands-lines want_cut t before now then held holds u is_refused gave.0 p gave.1 gave.2 gave.3 gave.4
+RunsCommands-past want_cut t before now then held holds u is_refused fault.Write p gave = absurd gave
+RunsCommands-past want_cut t before now then held holds u is_refused (fault.Problem f) p gave = absurd gave
+RunsCommands-past want_cut t before now then held holds u is_refused fault.NoMemory p gave = absurd gave
 
 -- the rest is a line that no line feed ended
-rest-runs : (number : ℕ) (u : Timeline) (line text : List ℕ) (refused : Bool) (v : Timeline) → 0 < length line → LineRuns number u (line_meaning false line) text refused v → RestRuns number u line text refused
-rest-runs number u [] text refused v some runs = absurd (omega (arith, some))
-rest-runs number u (byte ∷ line) text refused v some runs = (v, runs)
+rest-runs : (want_cut : Bool) (number : ℕ) (u : Timeline) (line text : List ℕ) (refused : Bool) (v : Timeline) → 0 < length line → LineRuns want_cut number u (line_meaning false line) text refused v → RestRuns want_cut number u line text refused
+rest-runs want_cut number u [] text refused v some runs = absurd (omega (arith, some))
+rest-runs want_cut number u (byte ∷ line) text refused v some runs = (v, runs)
 
 count-le : (lines : List (List ℕ)) (rest : List ℕ) → line_count lines rest ≤ length lines + 1
 count-le lines [] = omega arith
 count-le lines (byte ∷ rest) = omega arith
 
 -- the lines so far, and a last line
-abbrev all-with-last : (t : Timeline) (lines : List (List ℕ)) (line : List ℕ) (written text : List ℕ) (is_refused refused : Bool) (u v : Timeline) → All HasNoFeed lines → HasNoFeed line → 0 < length line
-    → Runs 1 t lines written is_refused u → LineRuns (length lines + 1) u (line_meaning false line) text refused v → RunsAll t (fed lines ++ line) (written ++ text) (is_refused || refused)
-all-with-last t lines line written text is_refused refused u v each no_feed some runs then = record {
+abbrev all-with-last : (want_cut : Bool) (t : Timeline) (lines : List (List ℕ)) (line : List ℕ) (written text : List ℕ) (is_refused refused : Bool) (u v : Timeline) → All HasNoFeed lines → HasNoFeed line → 0 < length line
+    → Runs want_cut 1 t lines written is_refused u → LineRuns want_cut (length lines + 1) u (line_meaning false line) text refused v → RunsAll want_cut t (fed lines ++ line) (written ++ text) (is_refused || refused)
+all-with-last want_cut t lines line written text is_refused refused u v each no_feed some runs then = record {
   lines = lines;
   rest = line;
   cut = record { whole = refl; each = each; last = no_feed };
@@ -198,28 +198,28 @@ all-with-last t lines line written text is_refused refused u v each no_feed some
   last = text;
   later = refused;
   runs = runs;
-  rest_runs = rest-runs (length lines + 1) u line text refused v some then;
+  rest_runs = rest-runs want_cut (length lines + 1) u line text refused v some then;
   text_is = refl;
   refused_is = refl;
 }
 
 -- a last line was carried out
-pub RunsCommands-last : (t : Timeline) (before now then : Feed) (held holds next : Held) (number : ℕ) (u : Timeline) (is_refused : Bool) (meaning : Result (Option Command) Refusal) (refused : Bool) (v : Timeline) (status : Status) → number ≤ MAX_LINES → status ≡ status_if (is_refused || refused)
-    → Progress t before now held holds number u is_refused → GivesLine now then (Ok (Last meaning)) → Carried u meaning number holds next refused v → RunsCommands t (streams before held) (streams then next) (Ok status)
-RunsCommands-last t before now then held holds next number u is_refused meaning refused v status few told p gave c =
+pub RunsCommands-last : (want_cut : Bool) (t : Timeline) (before now then : Feed) (held holds next : Held) (number : ℕ) (u : Timeline) (is_refused : Bool) (meaning : Result (Option Command) Refusal) (refused : Bool) (v : Timeline) (status : Status) → number ≤ MAX_LINES → status ≡ status_if (is_refused || refused)
+    → Progress want_cut t before now held holds number u is_refused → GivesLine now then (Ok (Last meaning)) → Carried want_cut u meaning number holds next refused v → RunsCommands want_cut t (streams before held) (streams then next) (Ok status)
+RunsCommands-last want_cut t before now then held holds next number u is_refused meaning refused v status few told p gave c =
     let line : List ℕ = gave.0 in
     let ended = gave.5 in
     let bytes = fed p.lines ++ line in
     let all = Takes-trans before now then (fed p.lines) line p.takes gave.2 in
     let nothing : bytes ++ then.pending.bytes ≡ bytes = ap (λ x. bytes ++ x) ended.none_pending ∙ append-nil bytes in
-    let runs = subst (λ n. LineRuns n u (line_meaning false line) c.text refused v) (sym p.counted) (subst (λ m. LineRuns number u m c.text refused v) gave.3 c.runs) in (
+    let runs = subst (λ n. LineRuns want_cut n u (line_meaning false line) c.text refused v) (sym p.counted) (subst (λ m. LineRuns want_cut number u m c.text refused v) gave.3 c.runs) in (
       bytes,
       p.written ++ c.text,
       subst (λ x. Consumes before.known then.known x) nothing (given-by before then bytes p.fresh all),
       Appends-trans _ _ _ p.written c.text p.appends c.appends,
       (
         is_refused || refused,
-        all-with-last t p.lines line p.written c.text is_refused refused u v p.each gave.1 gave.4 p.runs runs,
+        all-with-last want_cut t p.lines line p.written c.text is_refused refused u v p.each gave.1 gave.4 p.runs runs,
         told,
         record { at_end = ended.at_end; bytes = omega (arith, all.counts, p.fresh.none_taken, ended.within); lines = omega (arith, count-le p.lines line, p.counted) },
         record { reader = ended.mark ∙ p.reader; writer = c.writer ∙ p.writer },
@@ -227,10 +227,10 @@ RunsCommands-last t before now then held holds next number u is_refused meaning 
     )
 
 -- A line of which a front was written, and then a put or the flush failed.
-pub record Broken (u : Timeline) (meaning : Result (Option Command) Refusal) (number : ℕ) (holds next : Held) (v : Timeline) : Type 0 where
+pub record Broken (want_cut : Bool) (u : Timeline) (meaning : Result (Option Command) Refusal) (number : ℕ) (holds next : Held) (v : Timeline) : Type 0 where
   pub text : List ℕ
   pub refused : Bool
-  pub runs : LineRuns number u meaning text refused v
+  pub runs : LineRuns want_cut number u meaning text refused v
   pub front : List ℕ
   pub rest : List ℕ
   pub text_is : text ≡ front ++ rest
@@ -238,12 +238,12 @@ pub record Broken (u : Timeline) (meaning : Result (Option Command) Refusal) (nu
   pub writer : next.has_failed ≡ true
 
 -- a failed write of the reply to a line
-pub RunsCommands-write : (t : Timeline) (before now then : Feed) (held holds next : Held) (number : ℕ) (u : Timeline) (is_refused : Bool) (meaning : Result (Option Command) Refusal) (v : Timeline)
-    → Progress t before now held holds number u is_refused → GivesLine now then (Ok (Line meaning)) → Broken u meaning number holds next v → RunsCommands t (streams before held) (streams then next) (Err fault.Write)
-RunsCommands-write t before now then held holds next number u is_refused meaning v p gave b =
-    let carried : Carried u meaning number holds (record { contents = append_known holds.contents b.text; has_failed = holds.has_failed }) b.refused v =
+pub RunsCommands-write : (want_cut : Bool) (t : Timeline) (before now then : Feed) (held holds next : Held) (number : ℕ) (u : Timeline) (is_refused : Bool) (meaning : Result (Option Command) Refusal) (v : Timeline)
+    → Progress want_cut t before now held holds number u is_refused → GivesLine now then (Ok (Line meaning)) → Broken want_cut u meaning number holds next v → RunsCommands want_cut t (streams before held) (streams then next) (Err fault.Write)
+RunsCommands-write want_cut t before now then held holds next number u is_refused meaning v p gave b =
+    let carried : Carried want_cut u meaning number holds (record { contents = append_known holds.contents b.text; has_failed = holds.has_failed }) b.refused v =
     record { text = b.text; runs = b.runs; appends = Appends-known holds.contents b.text; writer = refl } in
-    let more = Progress-more t before now then held holds _ number u is_refused meaning b.refused v p gave carried in
+    let more = Progress-more want_cut t before now then held holds _ number u is_refused meaning b.refused v p gave carried in
     let bytes = fed (p.lines ++ gave.0 ∷ []) in (
       bytes ++ then.pending.bytes,
       p.written ++ b.front,
@@ -256,7 +256,7 @@ RunsCommands-write t before now then held holds next number u is_refused meaning
           given_is = refl;
           whole = p.written ++ b.text;
           refused = is_refused || b.refused;
-          runs = all-so-far t (p.lines ++ gave.0 ∷ []) (p.written ++ b.text) (is_refused || b.refused) v more.each more.runs;
+          runs = all-so-far want_cut t (p.lines ++ gave.0 ∷ []) (p.written ++ b.text) (is_refused || b.refused) v more.each more.runs;
           ends = inl refl;
           rest = b.rest;
           text_is = ap (λ x. p.written ++ x) b.text_is ∙ sym (append_assoc p.written b.front b.rest);
@@ -267,13 +267,13 @@ RunsCommands-write t before now then held holds next number u is_refused meaning
     )
 
 -- and to a last line
-pub RunsCommands-write_last : (t : Timeline) (before now then : Feed) (held holds next : Held) (number : ℕ) (u : Timeline) (is_refused : Bool) (meaning : Result (Option Command) Refusal) (v : Timeline)
-    → Progress t before now held holds number u is_refused → GivesLine now then (Ok (Last meaning)) → Broken u meaning number holds next v → RunsCommands t (streams before held) (streams then next) (Err fault.Write)
-RunsCommands-write_last t before now then held holds next number u is_refused meaning v p gave b =
+pub RunsCommands-write_last : (want_cut : Bool) (t : Timeline) (before now then : Feed) (held holds next : Held) (number : ℕ) (u : Timeline) (is_refused : Bool) (meaning : Result (Option Command) Refusal) (v : Timeline)
+    → Progress want_cut t before now held holds number u is_refused → GivesLine now then (Ok (Last meaning)) → Broken want_cut u meaning number holds next v → RunsCommands want_cut t (streams before held) (streams then next) (Err fault.Write)
+RunsCommands-write_last want_cut t before now then held holds next number u is_refused meaning v p gave b =
     let line : List ℕ = gave.0 in
     let bytes = fed p.lines ++ line in
     let all = Takes-trans before now then (fed p.lines) line p.takes gave.2 in
-    let runs = subst (λ n. LineRuns n u (line_meaning false line) b.text b.refused v) (sym p.counted) (subst (λ m. LineRuns number u m b.text b.refused v) gave.3 b.runs) in (
+    let runs = subst (λ n. LineRuns want_cut n u (line_meaning false line) b.text b.refused v) (sym p.counted) (subst (λ m. LineRuns want_cut number u m b.text b.refused v) gave.3 b.runs) in (
       bytes ++ then.pending.bytes,
       p.written ++ b.front,
       given-by before then bytes p.fresh all,
@@ -285,7 +285,7 @@ RunsCommands-write_last t before now then held holds next number u is_refused me
           given_is = refl;
           whole = p.written ++ b.text;
           refused = is_refused || b.refused;
-          runs = all-with-last t p.lines line p.written b.text is_refused b.refused u v p.each gave.1 gave.4 p.runs runs;
+          runs = all-with-last want_cut t p.lines line p.written b.text is_refused b.refused u v p.each gave.1 gave.4 p.runs runs;
           ends = inr (gave.5.none_pending, gave.5.at_end);
           rest = b.rest;
           text_is = ap (λ x. p.written ++ x) b.text_is ∙ sym (append_assoc p.written b.front b.rest);

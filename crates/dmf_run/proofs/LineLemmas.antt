@@ -9,9 +9,9 @@ use Rattle.dmf_net.specs.declared.fault.PlanFault.{PlanFault}
 use Rattle.dmf_net.specs.Change.{change_fault}
 use Rattle.dmf_net.specs.Change as change
 use Rattle.dmf_session.specs.declared.command.Command.{Command}
-use Rattle.dmf_session.specs.declared.command.Command.TheVariants.{Cap, Add, Close, Solve, Undo, Redo, PrintProblem, PrintFlow}
+use Rattle.dmf_session.specs.declared.command.Command.TheVariants.{Cap, Add, Close, Solve, Undo, Redo, PrintProblem, PrintFlow, PrintCut}
 use Rattle.dmf_session.specs.declared.command.Reply.{Reply}
-use Rattle.dmf_session.specs.declared.command.Reply.TheVariants.{Value, Added, Solution}
+use Rattle.dmf_session.specs.declared.command.Reply.TheVariants.{Value, Added}
 use Rattle.dmf_session.specs.declared.command.Refusal.{Refusal}
 use Rattle.dmf_session.specs.declared.command.Refusal.TheVariants.{UnknownCommand, FieldCount, NotANumber, TooLarge, NoSuchArc, Closed, NoSuchNode, TooManyArcs, SumTooLarge, NothingToUndo, NothingToRedo, NotGreatest, NoMemory, LineTooLong}
 use Rattle.dmf_session.specs.Timeline.{Timeline, appended, back, forward, future_of}
@@ -27,22 +27,22 @@ pub record Grows (t u : Timeline) : Type 0 where
 same : (t u : Timeline) → t.place < length t.states → u ≡ t → Grows t u
 same t u within e = subst (λ v. Grows t v) (sym e) (record { place = within; at_most = omega arith })
 
-answers-cases : (t : Timeline) (command : Command) (result : Result Reply Refusal) (u : Timeline) → Answers t command result u → (u ≡ t) ⊎ Steps t command result u
-answers-cases t command (Ok reply) u a = inr a
-answers-cases t command (Err UnknownCommand) u a = inr a
-answers-cases t command (Err FieldCount) u a = inr a
-answers-cases t command (Err NotANumber) u a = inr a
-answers-cases t command (Err TooLarge) u a = inr a
-answers-cases t command (Err NoSuchArc) u a = inr a
-answers-cases t command (Err Closed) u a = inr a
-answers-cases t command (Err NoSuchNode) u a = inr a
-answers-cases t command (Err TooManyArcs) u a = inr a
-answers-cases t command (Err SumTooLarge) u a = inr a
-answers-cases t command (Err NothingToUndo) u a = inr a
-answers-cases t command (Err NothingToRedo) u a = inr a
-answers-cases t command (Err NotGreatest) u a = inr a
-answers-cases t command (Err NoMemory) u a = inl a.1
-answers-cases t command (Err LineTooLong) u a = inr a
+answers-cases : (want_cut : Bool) (t : Timeline) (command : Command) (result : Result Reply Refusal) (u : Timeline) → Answers want_cut t command result u → (u ≡ t) ⊎ Steps want_cut t command result u
+answers-cases want_cut t command (Ok reply) u a = inr a
+answers-cases want_cut t command (Err UnknownCommand) u a = inr a
+answers-cases want_cut t command (Err FieldCount) u a = inr a
+answers-cases want_cut t command (Err NotANumber) u a = inr a
+answers-cases want_cut t command (Err TooLarge) u a = inr a
+answers-cases want_cut t command (Err NoSuchArc) u a = inr a
+answers-cases want_cut t command (Err Closed) u a = inr a
+answers-cases want_cut t command (Err NoSuchNode) u a = inr a
+answers-cases want_cut t command (Err TooManyArcs) u a = inr a
+answers-cases want_cut t command (Err SumTooLarge) u a = inr a
+answers-cases want_cut t command (Err NothingToUndo) u a = inr a
+answers-cases want_cut t command (Err NothingToRedo) u a = inr a
+answers-cases want_cut t command (Err NotGreatest) u a = inr a
+answers-cases want_cut t command (Err NoMemory) u a = inl a.1
+answers-cases want_cut t command (Err LineTooLong) u a = inr a
 
 appended-grows : (t u : Timeline) (s : NetworkState) → t.place < length t.states → u ≡ appended t s → Grows t u
 appended-grows t u s within e =
@@ -74,25 +74,26 @@ redo-grows t u steps result within m = ⊎_elim
     same t u within refused.unchanged)
     (test-cases steps (future_of t))
 
-steps-grow : (t u : Timeline) (command : Command) (result : Result Reply Refusal) → t.place < length t.states → Steps t command result u → Grows t u
-steps-grow t u (Cap arc cap) result within s =
+steps-grow : (want_cut : Bool) (t u : Timeline) (command : Command) (result : Result Reply Refusal) → t.place < length t.states → Steps want_cut t command result u → Grows t u
+steps-grow want_cut t u (Cap arc cap) result within s =
     change-grows t u s.0 (change.Cap arc cap) (λ new. Value (value_of new)) result (change_fault s.0 (change.Cap arc cap)) within s.2
-steps-grow t u (Add tail head cap) result within s =
+steps-grow want_cut t u (Add tail head cap) result within s =
     change-grows t u s.0 (change.Add tail head cap) (λ new. Added (length new.network.arcs) (value_of new)) result (change_fault s.0 (change.Add tail head cap)) within s.2
-steps-grow t u (Close arc) result within s =
+steps-grow want_cut t u (Close arc) result within s =
     change-grows t u s.0 (change.Close arc) (λ new. Value (value_of new)) result (change_fault s.0 (change.Close arc)) within s.2
-steps-grow t u Solve result within s =
-    change-grows t u s.0 change.Solve (λ new. Solution) result (change_fault s.0 change.Solve) within s.2
-steps-grow t u (Undo steps) result within s = undo-grows t u steps result (nat_le steps t.place) within s
-steps-grow t u (Redo steps) result within s = redo-grows t u steps result within s
-steps-grow t u PrintProblem result within s = same t u within s.1
-steps-grow t u PrintFlow result within s = same t u within s.1
+steps-grow want_cut t u Solve result within s =
+    appended-grows t u s.2.new within s.2.appends
+steps-grow want_cut t u (Undo steps) result within s = undo-grows t u steps result (nat_le steps t.place) within s
+steps-grow want_cut t u (Redo steps) result within s = redo-grows t u steps result within s
+steps-grow want_cut t u PrintProblem result within s = same t u within s.1
+steps-grow want_cut t u PrintFlow result within s = same t u within s.1
+steps-grow want_cut t u PrintCut result within s = same t u within s.1
 
-pub LineRuns-grows : (number : ℕ) (t : Timeline) (meaning : Result (Option Command) Refusal) (text : List ℕ) (refused : Bool) (u : Timeline) → t.place < length t.states → LineRuns number t meaning text refused u → Grows t u
-LineRuns-grows number t (Ok None) text refused u within l = same t u within l.2
-LineRuns-grows number t (Ok (Some command)) text refused u within l =
-    ⊎_elim (λ (e : u ≡ t). same t u within e) (λ (s : Steps t command l.0 u). steps-grow t u command l.0 within s) (answers-cases t command l.0 u l.1)
-LineRuns-grows number t (Err refusal) text refused u within l = same t u within l.2
+pub LineRuns-grows : (want_cut : Bool) (number : ℕ) (t : Timeline) (meaning : Result (Option Command) Refusal) (text : List ℕ) (refused : Bool) (u : Timeline) → t.place < length t.states → LineRuns want_cut number t meaning text refused u → Grows t u
+LineRuns-grows want_cut number t (Ok None) text refused u within l = same t u within l.2
+LineRuns-grows want_cut number t (Ok (Some command)) text refused u within l =
+    ⊎_elim (λ (e : u ≡ t). same t u within e) (λ (s : Steps want_cut t command l.0 u). steps-grow want_cut t u command l.0 within s) (answers-cases want_cut t command l.0 u l.1)
+LineRuns-grows want_cut number t (Err refusal) text refused u within l = same t u within l.2
 
 pub or-false : (b : Bool) → b ≡ (b || false)
 or-false true = refl
@@ -103,8 +104,8 @@ or-assoc true b c = refl
 or-assoc false b c = refl
 
 -- one line more
-pub Runs-push : (number : ℕ) (t : Timeline) (lines : List (List ℕ)) (text : List ℕ) (refused : Bool) (u : Timeline) (line more : List ℕ) (later : Bool) (v : Timeline) → Runs number t lines text refused u → LineRuns (number + length lines) u (line_meaning true line) more later v → Runs number t (lines ++ line ∷ []) (text ++ more) (refused || later) v
-Runs-push number t [] text refused u line more later v runs then =
+pub Runs-push : (want_cut : Bool) (number : ℕ) (t : Timeline) (lines : List (List ℕ)) (text : List ℕ) (refused : Bool) (u : Timeline) (line more : List ℕ) (later : Bool) (v : Timeline) → Runs want_cut number t lines text refused u → LineRuns want_cut (number + length lines) u (line_meaning true line) more later v → Runs want_cut number t (lines ++ line ∷ []) (text ++ more) (refused || later) v
+Runs-push want_cut number t [] text refused u line more later v runs then =
     let here : number + 0 ≡ number = omega arith in
     record {
       between = v;
@@ -112,12 +113,12 @@ Runs-push number t [] text refused u line more later v runs then =
       here = later;
       more = [];
       later = false;
-      runs = subst (λ n. LineRuns n t (line_meaning true line) more later v) here (subst (λ w. LineRuns (number + 0) w (line_meaning true line) more later v) runs.2 then);
+      runs = subst (λ n. LineRuns want_cut n t (line_meaning true line) more later v) here (subst (λ w. LineRuns want_cut (number + 0) w (line_meaning true line) more later v) runs.2 then);
       goes_on = (refl, refl, refl);
       text_is = ap (λ x. x ++ more) runs.0 ∙ sym (append-nil more);
       refused_is = ap (λ b. b || later) runs.1 ∙ or-false later;
     }
-Runs-push number t (x ∷ lines) text refused u line more later v runs then =
+Runs-push want_cut number t (x ∷ lines) text refused u line more later v runs then =
     let place : number + length (x ∷ lines) ≡ number + 1 + length lines = omega arith in
     record {
       between = runs.between;
@@ -126,7 +127,7 @@ Runs-push number t (x ∷ lines) text refused u line more later v runs then =
       more = runs.more ++ more;
       later = runs.later || later;
       runs = runs.runs;
-      goes_on = Runs-push (number + 1) runs.between lines runs.more runs.later u line more later v runs.goes_on (subst (λ n. LineRuns n u (line_meaning true line) more later v) place then);
+      goes_on = Runs-push want_cut (number + 1) runs.between lines runs.more runs.later u line more later v runs.goes_on (subst (λ n. LineRuns want_cut n u (line_meaning true line) more later v) place then);
       text_is = ap (λ y. y ++ more) runs.text_is ∙ append_assoc runs.first runs.more more;
       refused_is = ap (λ b. b || later) runs.refused_is ∙ or-assoc runs.here runs.later later;
     }

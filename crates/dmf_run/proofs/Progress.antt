@@ -31,7 +31,7 @@ pub record IsFresh (feed : Feed) : Type 0 where
   pub none_taken : feed.pending.count ≡ 0
 
 -- So many lines were carried out from the timeline `t`, and `u` is the timeline now.
-pub record Progress (t : Timeline) (before now : Feed) (held holds : Held) (number : ℕ) (u : Timeline) (is_refused : Bool) : Type 0 where
+pub record Progress (want_cut : Bool) (t : Timeline) (before now : Feed) (held holds : Held) (number : ℕ) (u : Timeline) (is_refused : Bool) : Type 0 where
   pub fresh : IsFresh before
   pub lines : List (List ℕ)
   pub each : All HasNoFeed lines
@@ -41,12 +41,12 @@ pub record Progress (t : Timeline) (before now : Feed) (held holds : Held) (numb
   pub written : List ℕ
   pub appends : Appends held.contents holds.contents written
   pub writer : holds.has_failed ≡ held.has_failed
-  pub runs : Runs 1 t lines written is_refused u
+  pub runs : Runs want_cut 1 t lines written is_refused u
   pub place : u.place < length u.states
   pub at_most : length u.states ≤ number
 
-pub Progress-none : (t : Timeline) (feed : Feed) (held : Held) → IsFresh feed → t.place ≡ 0 → length t.states ≡ 1 → Progress t feed feed held held 1 t false
-Progress-none t feed held fresh first one = record {
+pub Progress-none : (want_cut : Bool) (t : Timeline) (feed : Feed) (held : Held) → IsFresh feed → t.place ≡ 0 → length t.states ≡ 1 → Progress want_cut t feed feed held held 1 t false
+Progress-none want_cut t feed held fresh first one = record {
   fresh = fresh;
   lines = [];
   each = All-nil HasNoFeed;
@@ -65,20 +65,20 @@ pub fed-push : (lines : List (List ℕ)) (line : List ℕ) → fed (lines ++ lin
 fed-push lines line = flat_map-append (λ l. l ++ 10 ∷ []) lines (line ∷ []) ∙ ap (λ x. fed lines ++ x) (append-nil (line ++ 10 ∷ []))
 
 -- A line that was carried out.
-pub record Carried (u : Timeline) (meaning : Result (Option Command) Refusal) (number : ℕ) (holds next : Held) (refused : Bool) (v : Timeline) : Type 0 where
+pub record Carried (want_cut : Bool) (u : Timeline) (meaning : Result (Option Command) Refusal) (number : ℕ) (holds next : Held) (refused : Bool) (v : Timeline) : Type 0 where
   pub text : List ℕ
-  pub runs : LineRuns number u meaning text refused v
+  pub runs : LineRuns want_cut number u meaning text refused v
   pub appends : Appends holds.contents next.contents text
   pub writer : next.has_failed ≡ holds.has_failed
 
-abbrev pub Progress-more : (t : Timeline) (before now then : Feed) (held holds next : Held) (number : ℕ) (u : Timeline) (is_refused : Bool) (meaning : Result (Option Command) Refusal) (refused : Bool) (v : Timeline)
-    → Progress t before now held holds number u is_refused → GivesLine now then (Ok (Line meaning)) → Carried u meaning number holds next refused v
-    → Progress t before then held next (number + 1) v (is_refused || refused)
-Progress-more t before now then held holds next number u is_refused meaning refused v p gave c =
+abbrev pub Progress-more : (want_cut : Bool) (t : Timeline) (before now then : Feed) (held holds next : Held) (number : ℕ) (u : Timeline) (is_refused : Bool) (meaning : Result (Option Command) Refusal) (refused : Bool) (v : Timeline)
+    → Progress want_cut t before now held holds number u is_refused → GivesLine now then (Ok (Line meaning)) → Carried want_cut u meaning number holds next refused v
+    → Progress want_cut t before then held next (number + 1) v (is_refused || refused)
+Progress-more want_cut t before now then held holds next number u is_refused meaning refused v p gave c =
     let line : List ℕ = gave.0 in
     let place : 1 + length p.lines ≡ number = omega (arith, p.counted) in
-    let runs = subst (λ m. LineRuns number u m c.text refused v) gave.3 c.runs in
-    let grows = LineRuns-grows number u meaning c.text refused v p.place c.runs in
+    let runs = subst (λ m. LineRuns want_cut number u m c.text refused v) gave.3 c.runs in
+    let grows = LineRuns-grows want_cut number u meaning c.text refused v p.place c.runs in
     record {
       fresh = p.fresh;
       lines = p.lines ++ line ∷ [];
@@ -89,7 +89,7 @@ Progress-more t before now then held holds next number u is_refused meaning refu
       written = p.written ++ c.text;
       appends = Appends-trans _ _ _ p.written c.text p.appends c.appends;
       writer = c.writer ∙ p.writer;
-      runs = Runs-push 1 t p.lines p.written is_refused u line c.text refused v p.runs (subst (λ n. LineRuns n u (line_meaning true line) c.text refused v) (sym place) runs);
+      runs = Runs-push want_cut 1 t p.lines p.written is_refused u line c.text refused v p.runs (subst (λ n. LineRuns want_cut n u (line_meaning true line) c.text refused v) (sym place) runs);
       place = grows.place;
       at_most = omega (arith, grows.at_most, p.at_most);
     }

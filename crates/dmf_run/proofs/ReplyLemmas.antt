@@ -13,14 +13,18 @@ pub line-of_five : (v w x y z : List ℕ) → written_line (v ∷ w ∷ x ∷ y 
 unfolding written_line
 line-of_five v w x y z = simp append_assoc
 
--- A text that was put and then flushed.
-pub Writes-flushed : {S V E : Type 0} (contents : S → Option (List ℕ)) (has_failed : S → Bool) (a b c : S) (outcome : Result V E) (text : List ℕ) → Appends (contents a) (contents b) text → has_failed b ≡ has_failed a → Writes contents has_failed b c outcome [] → Writes contents has_failed a c outcome text
-Writes-flushed contents has_failed a b c (Ok v) text held mark then =
-    (subst (λ t. Appends (contents a) (contents c) t) (append-nil text) (Appends-trans _ _ _ text [] held then.0), then.1 ∙ mark)
-Writes-flushed contents has_failed a b c (Err e) text held mark then = (
+-- A text that was put, and then another.
+pub Writes-more : {S V E : Type 0} (contents : S → Option (List ℕ)) (has_failed : S → Bool) (a b c : S) (outcome : Result V E) (text more : List ℕ) → Appends (contents a) (contents b) text → has_failed b ≡ has_failed a → Writes contents has_failed b c outcome more → Writes contents has_failed a c outcome (text ++ more)
+Writes-more contents has_failed a b c (Ok v) text more held mark then = (Appends-trans _ _ _ text more held then.0, then.1 ∙ mark)
+Writes-more contents has_failed a b c (Err e) text more held mark then = (
   text ++ then.0,
   then.1,
-  sym (append-nil text) ∙ ap (λ t. text ++ t) then.2 ∙ sym (append_assoc text then.0 then.1),
+  ap (λ t. text ++ t) then.2 ∙ sym (append_assoc text then.0 then.1),
   Appends-trans _ _ _ text then.0 held then.3,
   then.4,
 )
+
+-- A text that was put and then flushed.
+pub Writes-flushed : {S V E : Type 0} (contents : S → Option (List ℕ)) (has_failed : S → Bool) (a b c : S) (outcome : Result V E) (text : List ℕ) → Appends (contents a) (contents b) text → has_failed b ≡ has_failed a → Writes contents has_failed b c outcome [] → Writes contents has_failed a c outcome text
+Writes-flushed contents has_failed a b c outcome text held mark then =
+    subst (λ t. Writes contents has_failed a c outcome t) (append-nil text) (Writes-more contents has_failed a b c outcome text [] held mark then)

@@ -6,7 +6,7 @@ use Rattle.dmf_text.specs.declared.digits.NumberFault.TheVariants as digits
 use Rattle.dmf_text.specs.Fields.{fields}
 use Rattle.dmf_text.specs.Number.{number_of}
 use Rattle.dmf_session.specs.declared.command.Command.{Command}
-use Rattle.dmf_session.specs.declared.command.Command.TheVariants.{Cap, Add, Close, Solve, Undo, Redo, PrintProblem, PrintFlow}
+use Rattle.dmf_session.specs.declared.command.Command.TheVariants.{Cap, Add, Close, Solve, Undo, Redo, PrintProblem, PrintFlow, PrintCut}
 use Rattle.dmf_session.specs.declared.command.Refusal.{Refusal}
 use Rattle.dmf_session.specs.declared.command.Refusal.TheVariants.{UnknownCommand, FieldCount, NotANumber, TooLarge}
 
@@ -49,6 +49,7 @@ unfoldable pub printing : List (List ℕ) → Result Command Refusal
 printing (what ∷ []) =
     if bytes_eq what (codes "problem") then Ok PrintProblem
     else if bytes_eq what (codes "flow") then Ok PrintFlow
+    else if bytes_eq what (codes "cut") then Ok PrintCut
     else Err UnknownCommand
 printing fields = Err FieldCount
 

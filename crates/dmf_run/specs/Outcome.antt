@@ -17,9 +17,9 @@ use Rattle.dmf_run.specs.Run.{LineRuns, Runs}
 
 -- Carrying out one line, which means this, wrote its text or, where the writer failed, a front of it; on success the
 -- answer is whether the line was refused.
-abbrev pub WritesLine : {S : Type 0} → (S → Option (List ℕ)) → (S → Bool) → S → S → ℕ → Timeline → Result (Option Command) Refusal → Timeline → Result Bool WriteFault → Type 0
-WritesLine contents has_failed old new number t meaning u result =
-    (text : List ℕ) × (refused : Bool) × LineRuns number t meaning text refused u
+abbrev pub WritesLine : {S : Type 0} → Bool → (S → Option (List ℕ)) → (S → Bool) → S → S → ℕ → Timeline → Result (Option Command) Refusal → Timeline → Result Bool WriteFault → Type 0
+WritesLine want_cut contents has_failed old new number t meaning u result =
+    (text : List ℕ) × (refused : Bool) × LineRuns want_cut number t meaning text refused u
     × Writes contents has_failed old new result text × IfOk result (λ is_refused. is_refused ≡ refused)
 
 -- What a run ends on: what its reader has left and its writer holds, where they are known, and their marks.
@@ -30,13 +30,13 @@ pub record Streams : Type 0 where
   pub writer_failed : Bool
 
 -- a last line, which no line feed ended, if there is one
-abbrev pub RestRuns : ℕ → Timeline → List ℕ → List ℕ → Bool → Type 0
-RestRuns number t [] text refused = (text ≡ []) × (refused ≡ false)
-RestRuns number t (byte ∷ rest) text refused =
-    (u : Timeline) × LineRuns number t (line_meaning false (byte ∷ rest)) text refused u
+abbrev pub RestRuns : Bool → ℕ → Timeline → List ℕ → List ℕ → Bool → Type 0
+RestRuns want_cut number t [] text refused = (text ≡ []) × (refused ≡ false)
+RestRuns want_cut number t (byte ∷ rest) text refused =
+    (u : Timeline) × LineRuns want_cut number t (line_meaning false (byte ∷ rest)) text refused u
 
 -- All lines of the text that was given were carried out, and this was written.
-pub record RunsAll (t : Timeline) (given text : List ℕ) (refused : Bool) : Type 0 where
+pub record RunsAll (want_cut : Bool) (t : Timeline) (given text : List ℕ) (refused : Bool) : Type 0 where
   pub lines : List (List ℕ)
   pub rest : List ℕ
   pub cut : IsCut given lines rest
@@ -45,36 +45,36 @@ pub record RunsAll (t : Timeline) (given text : List ℕ) (refused : Bool) : Typ
   pub here : Bool
   pub last : List ℕ
   pub later : Bool
-  pub runs : Runs 1 t lines first here between
-  pub rest_runs : RestRuns (length lines + 1) between rest last later
+  pub runs : Runs want_cut 1 t lines first here between
+  pub rest_runs : RestRuns want_cut (length lines + 1) between rest last later
   pub text_is : text ≡ first ++ last
   pub refused_is : refused ≡ (here || later)
 
 -- Just the lines that a line feed ended were carried out, of the text that was given, and this was written.
-pub record RunsFed (t : Timeline) (given text : List ℕ) : Type 0 where
+pub record RunsFed (want_cut : Bool) (t : Timeline) (given text : List ℕ) : Type 0 where
   pub lines : List (List ℕ)
   pub rest : List ℕ
   pub cut : IsCut given lines rest
   pub refused : Bool
   pub after : Timeline
-  pub runs : Runs 1 t lines text refused after
+  pub runs : Runs want_cut 1 t lines text refused after
 
 -- First lines of the text that was given were carried out, and this is a front of what they write. The last of them was
 -- ended by a line feed, or it is the last line of all, and the reader is at its end.
-pub record RunsFront (t : Timeline) (known : Option (List ℕ)) (given text : List ℕ) : Type 0 where
+pub record RunsFront (want_cut : Bool) (t : Timeline) (known : Option (List ℕ)) (given text : List ℕ) : Type 0 where
   pub front : List ℕ
   pub behind : List ℕ
   pub given_is : given ≡ front ++ behind
   pub whole : List ℕ
   pub refused : Bool
-  pub runs : RunsAll t front whole refused
+  pub runs : RunsAll want_cut t front whole refused
   pub ends : (runs.rest ≡ []) ⊎ ((behind ≡ []) × IsAtEnd known)
   pub rest : List ℕ
   pub text_is : whole ≡ text ++ rest
 
 -- Just the lines that end within the limits were carried out, of the text that was given, and this was written: there
 -- are as many as may be and one byte more, or the bytes up to the limit do not end the next line.
-pub record RunsWithin (t : Timeline) (given text : List ℕ) : Type 0 where
+pub record RunsWithin (want_cut : Bool) (t : Timeline) (given text : List ℕ) : Type 0 where
   pub lines : List (List ℕ)
   pub rest : List ℕ
   pub given_is : given ≡ fed lines ++ rest
@@ -85,7 +85,7 @@ pub record RunsWithin (t : Timeline) (given text : List ℕ) : Type 0 where
       ⊎ ((MAX_BYTES < length given) × HasNoFeed (take (MAX_BYTES - length (fed lines)) rest))
   pub refused : Bool
   pub after : Timeline
-  pub runs : Runs 1 t lines text refused after
+  pub runs : Runs want_cut 1 t lines text refused after
 
 -- The answer tells whether a line was refused.
 abbrev pub status_if : Bool → Status
@@ -108,19 +108,20 @@ pub record IsWithin (new : Streams) (given : List ℕ) (count : ℕ) : Type 0 wh
   pub lines : count ≤ MAX_LINES
 
 -- what a run of command lines answers, where these bytes were given and written; no answer but these is given
-abbrev pub Gave : Timeline → Streams → Streams → List ℕ → List ℕ → Result Status EngineFault → Type 0
-Gave t old new given written (Ok status) =
-    (refused : Bool) × (all : RunsAll t given written refused) × (status ≡ status_if refused)
+abbrev pub Gave : Bool → Timeline → Streams → Streams → List ℕ → List ℕ → Result Status EngineFault → Type 0
+Gave want_cut t old new given written (Ok status) =
+    (refused : Bool) × (all : RunsAll want_cut t given written refused) × (status ≡ status_if refused)
     × IsWithin new given (line_count all.lines all.rest) × NoneFailed old new
-Gave t old new given written (Err fault.Read) =
-    RunsFed t given written × (new.reader_failed ≡ true) × (new.writer_failed ≡ old.writer_failed)
-Gave t old new given written (Err fault.Write) =
-    RunsFront t new.known given written × (new.writer_failed ≡ true) × (new.reader_failed ≡ old.reader_failed)
-Gave t old new given written (Err fault.TooMuchInput) = RunsWithin t given written × NoneFailed old new
-Gave t old new given written (Err fault) = ⊥
+Gave want_cut t old new given written (Err fault.Read) =
+    RunsFed want_cut t given written × (new.reader_failed ≡ true) × (new.writer_failed ≡ old.writer_failed)
+Gave want_cut t old new given written (Err fault.Write) =
+    RunsFront want_cut t new.known given written × (new.writer_failed ≡ true) × (new.reader_failed ≡ old.reader_failed)
+Gave want_cut t old new given written (Err fault.TooMuchInput) = RunsWithin want_cut t given written × NoneFailed old new
+Gave want_cut t old new given written (Err fault) = ⊥
 
--- A run of command lines from the timeline `t`.
-abbrev pub RunsCommands : Timeline → Streams → Streams → Result Status EngineFault → Type 0
-RunsCommands t old new result =
+-- A run of command lines from the timeline `t`. `want_cut` says whether a cut is wanted after each solution that answers
+-- `solve`.
+abbrev pub RunsCommands : Bool → Timeline → Streams → Streams → Result Status EngineFault → Type 0
+RunsCommands want_cut t old new result =
     (given : List ℕ) × (written : List ℕ) × Consumes old.known new.known given × Appends old.contents new.contents written
-    × Gave t old new given written result
+    × Gave want_cut t old new given written result

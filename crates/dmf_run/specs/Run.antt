@@ -1,11 +1,12 @@
 -- What a run of command lines writes.
 use Rattle.std.specs.Prelude.{ℕ, ◌≡◌, ◌+◌, List, [], ◌∷◌, ◌++◌, codes, decimal, Bool, true, false, ◌||◌, Option, Some, None, Result, Ok, Err}
 use Rattle.dmf_net.specs.NetworkState.{NetworkState}
-use Rattle.dmf_text.specs.Written.{written_line, problem_text, solution_text}
+use Rattle.dmf_net.specs.Side.{CutSide}
+use Rattle.dmf_text.specs.Written.{written_line, problem_text, solution_text, cut_text}
 use Rattle.dmf_session.specs.declared.command.Command.{Command}
-use Rattle.dmf_session.specs.declared.command.Command.TheVariants.{Cap, Add, Close, Solve, Undo, Redo, PrintProblem, PrintFlow}
+use Rattle.dmf_session.specs.declared.command.Command.TheVariants.{Cap, Add, Close, Solve, Undo, Redo, PrintProblem, PrintFlow, PrintCut}
 use Rattle.dmf_session.specs.declared.command.Reply.{Reply}
-use Rattle.dmf_session.specs.declared.command.Reply.TheVariants.{Value, Added, Solution, Problem, Flow}
+use Rattle.dmf_session.specs.declared.command.Reply.TheVariants.{Value, Added, Solution, Problem, Flow, Cut}
 use Rattle.dmf_session.specs.declared.command.Refusal.{Refusal}
 use Rattle.dmf_session.specs.Timeline.{Timeline, IsPresent}
 use Rattle.dmf_session.specs.Step.{Answers}
@@ -22,6 +23,7 @@ word_of (Undo steps) = codes "undo"
 word_of (Redo steps) = codes "redo"
 word_of PrintProblem = codes "print"
 word_of PrintFlow = codes "print"
+word_of PrintCut = codes "print"
 
 -- `c WORD value V`
 abbrev pub value_text : Command → ℕ → List ℕ
@@ -32,13 +34,19 @@ abbrev pub added_text : Command → ℕ → ℕ → List ℕ
 added_text command arc value =
     written_line (codes "c" ∷ word_of command ∷ decimal arc ∷ codes "value" ∷ decimal value ∷ [])
 
+-- the solution of a state, and this cut after it, if there is one
+abbrev pub solved_text : NetworkState → Option CutSide → List ℕ
+solved_text s None = solution_text s
+solved_text s (Some side) = solution_text s ++ cut_text side
+
 -- what is written in reply to a command, where `s` is the state that is present after it
 abbrev pub reply_text : Command → Reply → NetworkState → List ℕ
 reply_text command (Value value) s = value_text command value
 reply_text command (Added arc value) s = added_text command arc value
-reply_text command Solution s = solution_text s
+reply_text command (Solution side) s = solved_text s side
 reply_text command Problem s = problem_text s.network
 reply_text command Flow s = solution_text s
+reply_text command (Cut side) s = cut_text side
 
 -- what is written of a refused line
 abbrev pub refused_text : ℕ → Refusal → List ℕ
@@ -51,12 +59,13 @@ Shows number command (Ok reply) u text refused =
     (s : NetworkState) × IsPresent u s × (text ≡ reply_text command reply s) × (refused ≡ false)
 Shows number command (Err refusal) u text refused = (text ≡ refused_text number refusal) × (refused ≡ true)
 
--- A line that means this, in line `number`, turns the timeline `t` into `u` and writes the text.
-abbrev pub LineRuns : ℕ → Timeline → Result (Option Command) Refusal → List ℕ → Bool → Timeline → Type 0
-LineRuns number t (Ok None) text refused u = (text ≡ []) × (refused ≡ false) × (u ≡ t)
-LineRuns number t (Ok (Some command)) text refused u =
-    (result : Result Reply Refusal) × Answers t command result u × Shows number command result u text refused
-LineRuns number t (Err refusal) text refused u = (text ≡ refused_text number refusal) × (refused ≡ true) × (u ≡ t)
+-- A line that means this, in line `number`, turns the timeline `t` into `u` and writes the text; `want_cut`
+-- says whether a cut is wanted after each solution that answers `solve`.
+abbrev pub LineRuns : Bool → ℕ → Timeline → Result (Option Command) Refusal → List ℕ → Bool → Timeline → Type 0
+LineRuns want_cut number t (Ok None) text refused u = (text ≡ []) × (refused ≡ false) × (u ≡ t)
+LineRuns want_cut number t (Ok (Some command)) text refused u =
+    (result : Result Reply Refusal) × Answers want_cut t command result u × Shows number command result u text refused
+LineRuns want_cut number t (Err refusal) text refused u = (text ≡ refused_text number refusal) × (refused ≡ true) × (u ≡ t)
 
 -- A first line, and the lines after it.
 pub record FirstAndMore (First : List ℕ → Bool → Timeline → Type 0) (More : Timeline → List ℕ → Bool → Type 0)
@@ -73,8 +82,8 @@ pub record FirstAndMore (First : List ℕ → Bool → Timeline → Type 0) (Mor
 
 -- Lines, each ended by a line feed, of which the first has this number, turn the timeline `t` into `u` and write the
 -- text; `refused` says whether one was refused. A line that wants memory may be refused it.
-abbrev pub Runs : ℕ → Timeline → List (List ℕ) → List ℕ → Bool → Timeline → Type 0
-Runs number t [] text refused u = (text ≡ []) × (refused ≡ false) × (u ≡ t)
-Runs number t (line ∷ lines) text refused u =
-    FirstAndMore (LineRuns number t (line_meaning true line))
-    (λ between more later. Runs (number + 1) between lines more later u) text refused
+abbrev pub Runs : Bool → ℕ → Timeline → List (List ℕ) → List ℕ → Bool → Timeline → Type 0
+Runs want_cut number t [] text refused u = (text ≡ []) × (refused ≡ false) × (u ≡ t)
+Runs want_cut number t (line ∷ lines) text refused u =
+    FirstAndMore (LineRuns want_cut number t (line_meaning true line))
+    (λ between more later. Runs want_cut (number + 1) between lines more later u) text refused

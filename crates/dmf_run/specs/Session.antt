@@ -48,21 +48,22 @@ abbrev pub Untouched : Streams → Streams → Type 0
 Untouched old new = new ≡ old
 
 -- The problem was read, and its command lines were run.
-pub record RunsOn (from to : Reader) (old new : Streams) (text : List ℕ) (result : Result Status EngineFault) : Type 0 where
+pub record RunsOn (want_cut : Bool) (from to : Reader) (old new : Streams) (text : List ℕ) (result : Result Status EngineFault) : Type 0 where
   pub state : NetworkState
   pub problem : ReadsProblem from to text (Ok state)
-  pub runs : RunsCommands (start state) old new result
+  pub runs : RunsCommands want_cut (start state) old new result
 
 -- What a session answers that was given this much of the problem's text. What it answers without having run a line it
 -- answers with nothing written and no command byte taken.
-abbrev pub Answered : Reader → Reader → Streams → Streams → List ℕ → Result Status EngineFault → Type 0
-Answered from to old new text (Ok status) = RunsOn from to old new text (Ok status)
-Answered from to old new text (Err fault.Write) = RunsOn from to old new text (Err fault.Write)
-Answered from to old new text (Err fault.NoMemory) = Untouched old new × (to.has_failed ≡ from.has_failed)
-Answered from to old new text (Err told) =
-    (ReadsProblem from to text (Err told) × Untouched old new) ⊎ RunsOn from to old new text (Err told)
+abbrev pub Answered : Bool → Reader → Reader → Streams → Streams → List ℕ → Result Status EngineFault → Type 0
+Answered want_cut from to old new text (Ok status) = RunsOn want_cut from to old new text (Ok status)
+Answered want_cut from to old new text (Err fault.Write) = RunsOn want_cut from to old new text (Err fault.Write)
+Answered want_cut from to old new text (Err fault.NoMemory) = Untouched old new × (to.has_failed ≡ from.has_failed)
+Answered want_cut from to old new text (Err told) =
+    (ReadsProblem from to text (Err told) × Untouched old new) ⊎ RunsOn want_cut from to old new text (Err told)
 
--- A session, from the bytes that its two readers gave to those that its writer took.
-abbrev pub RunsSession : Reader → Reader → Streams → Streams → Result Status EngineFault → Type 0
-RunsSession from to old new result =
-    (text : List ℕ) × Consumes from.known to.known text × Answered from to old new text result
+-- A session, from the bytes that its two readers gave to those that its writer took. `want_cut` says whether a cut is
+-- wanted after each solution that answers `solve`.
+abbrev pub RunsSession : Bool → Reader → Reader → Streams → Streams → Result Status EngineFault → Type 0
+RunsSession want_cut from to old new result =
+    (text : List ℕ) × Consumes from.known to.known text × Answered want_cut from to old new text result

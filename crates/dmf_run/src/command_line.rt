@@ -113,6 +113,7 @@ fn read_printing(mut fields: Fields<'_>) -> Result<Command, Refusal>
     match (fields.next(), fields.next()) {
         (Some(what), None) if what == b"problem".as_slice() => Ok(Command::PrintProblem),
         (Some(what), None) if what == b"flow".as_slice() => Ok(Command::PrintFlow),
+        (Some(what), None) if what == b"cut".as_slice() => Ok(Command::PrintCut),
         (Some(_), None) => Err(Refusal::UnknownCommand),
         _ => Err(Refusal::FieldCount),
     }

@@ -1,13 +1,13 @@
 //! Replies to command lines, each written and then flushed.
-ghost use Rattle.std.specs.Prelude.{◌≡◌, ◌≤◌, [], length, true, IfOk};
+ghost use Rattle.std.specs.Prelude.{◌≡◌, ◌≤◌, ◌++◌, [], length, true, IfOk};
 ghost use Rattle.dmf_text.specs.Writing.{Writes};
-ghost use Rattle.dmf_text.specs.Written.{problem_text, solution_text};
+ghost use Rattle.dmf_text.specs.Written.{problem_text, solution_text, cut_text};
 ghost use Rattle.dmf_run.specs.Run as run;
 
 use crate::refusal::refusal_text;
-use dmf_net::State;
+use dmf_net::{Side, State};
 use dmf_session::{Command, Refusal, Reply};
-use dmf_text::{LineBuffer, Sink, WriteFault, put_all, write_problem, write_solution};
+use dmf_text::{LineBuffer, Sink, WriteFault, put_all, write_cut, write_problem, write_solution};
 
 /// Tells that a line was refused, and answers true.
 pub fn refuse<W: Sink>(number: u32, refusal: &Refusal, out: &mut W) -> Result<bool, WriteFault>
@@ -36,14 +36,45 @@ fn put_problem<W: Sink>(state: &State, out: &mut W) -> Result<(), WriteFault>
     flush(out)
 }
 
-/// Writes the solution of a state, and flushes it.
-pub fn put_solution<W: Sink>(state: &State, out: &mut W) -> Result<(), WriteFault>
+fn put_solution<W: Sink>(state: &State, out: &mut W) -> Result<(), WriteFault>
     ensures { Writes W.contents W.has_failed out.old out.new result (solution_text state.now) }
 {
     let Ok(()) = write_solution(state, out) else {
         return Err(WriteFault);
     };
     flush(out)
+}
+
+fn put_cut<W: Sink>(side: &Side, out: &mut W) -> Result<(), WriteFault>
+    ensures { Writes W.contents W.has_failed out.old out.new result (cut_text side.now) }
+{
+    let Ok(()) = write_cut(side, out) else {
+        return Err(WriteFault);
+    };
+    flush(out)
+}
+
+fn put_solution_and_cut<W: Sink>(state: &State, side: &Side, out: &mut W) -> Result<(), WriteFault>
+    ensures { Writes W.contents W.has_failed out.old out.new result (solution_text state.now ++ cut_text side.now) }
+{
+    let Ok(()) = write_solution(state, out) else {
+        return Err(WriteFault);
+    };
+    put_cut(side, out)
+}
+
+/// Writes the solution of a state, and this cut after it, if there is one, and flushes them.
+pub fn put_solved<W: Sink>(
+    state: &State,
+    side: &Option<Side>,
+    out: &mut W,
+) -> Result<(), WriteFault>
+    ensures { Writes W.contents W.has_failed out.old out.new result (run.solved_text state.now side.now) }
+{
+    match side {
+        None => put_solution(state, out),
+        Some(side) => put_solution_and_cut(state, side, out),
+    }
 }
 
 /// Passes on what was written.
@@ -70,17 +101,19 @@ fn refused_line(number: u32, refusal: &Refusal) -> LineBuffer
 /// Writes the reply to a command.
 pub fn show<W: Sink>(
     command: Command,
-    reply: Reply,
+    reply: &Reply,
     present: &State,
     out: &mut W,
 ) -> Result<(), WriteFault>
-    ensures { Writes W.contents W.has_failed out.old out.new result (run.reply_text command reply present.now) }
+    ensures { Writes W.contents W.has_failed out.old out.new result (run.reply_text command reply.now present.now) }
 {
     match reply {
-        Reply::Value(value) => { put_line(&value_line(command, value), out) }
-        Reply::Added(arc, value) => { put_line(&added_line(command, arc, value), out) }
+        Reply::Value(value) => { put_line(&value_line(command, *value), out) }
+        Reply::Added(arc, value) => { put_line(&added_line(command, *arc, *value), out) }
+        Reply::Solution(side) => put_solved(present, side, out),
         Reply::Problem => put_problem(present, out),
-        Reply::Solution | Reply::Flow => put_solution(present, out),
+        Reply::Flow => put_solution(present, out),
+        Reply::Cut(side) => put_cut(side, out),
     }
 }
 
@@ -119,6 +152,6 @@ fn word_of(command: Command) -> &'static [u8]
         Command::Solve => b"solve",
         Command::Undo(_) => b"undo",
         Command::Redo(_) => b"redo",
-        Command::PrintProblem | Command::PrintFlow => b"print",
+        Command::PrintProblem | Command::PrintFlow | Command::PrintCut => b"print",
     }
 }

@@ -18,6 +18,7 @@ pub const MAX_LINES: u32 = 1_000_000;
 /// Carries out command lines, one after the other, on a session that stands at its start.
 ///
 /// A line's reply is written and flushed before the next line is asked for. A line without a reply flushes nothing.
+/// With `want_cut` each solution that answers `solve` is followed by the smallest minimum cut.
 /// Stopped by [`EngineFault::Read`] and [`EngineFault::Write`] where a call of the reader or the writer failed, and by
 /// [`EngineFault::TooMuchInput`] past [`MAX_LINES`] lines or [`crate::MAX_BYTES`] bytes. Takes no memory but that of
 /// changes: a command that is refused it is answered so, and the run goes on.
@@ -26,10 +27,11 @@ pub fn run_commands<H: History + Drop, C: Source, W: Sink>(
     session: Session<H>,
     commands: &mut C,
     out: &mut W,
+    want_cut: bool,
 ) -> Result<Status, EngineFault>
     requires at_first { (H.timeline session).place ≡ 0 }
     requires one_state { length (H.timeline session).states ≡ 1 }
-    ensures { RunsCommands (H.timeline session)
+    ensures { RunsCommands want_cut (H.timeline session)
         (record {
           known = C.remaining commands.old;
           reader_failed = C.has_failed commands.old;
@@ -50,13 +52,13 @@ pub fn run_commands<H: History + Drop, C: Source, W: Sink>(
     for number in 1..MAX_LINES + 1 {
         match input.next_line(commands)? {
             Next::Line(meaning) => {
-                let Ok(refused) = answer(alloc, &mut session, number, meaning, out) else {
+                let Ok(refused) = answer(alloc, &mut session, number, meaning, out, want_cut) else {
                     return Err(EngineFault::Write);
                 };
                 is_refused |= refused;
             }
             Next::Last(meaning) => {
-                let Ok(refused) = answer(alloc, &mut session, number, meaning, out) else {
+                let Ok(refused) = answer(alloc, &mut session, number, meaning, out, want_cut) else {
                     return Err(EngineFault::Write);
                 };
                 is_refused |= refused;
@@ -78,8 +80,9 @@ pub fn run_session<P: Source, C: Source, W: Sink>(
     problem: &mut P,
     commands: &mut C,
     out: &mut W,
+    want_cut: bool,
 ) -> Result<Status, EngineFault>
-    ensures { RunsSession
+    ensures { RunsSession want_cut
         (record { known = P.remaining problem.old; has_failed = P.has_failed problem.old })
         (record { known = P.remaining problem.new; has_failed = P.has_failed problem.new })
         (record {
@@ -100,7 +103,7 @@ pub fn run_session<P: Source, C: Source, W: Sink>(
     let Ok(history) = WholeHistory::new(alloc, state) else {
         return Err(EngineFault::NoMemory);
     };
-    run_commands(alloc, Session::new(history), commands, out)
+    run_commands(alloc, Session::new(history), commands, out, want_cut)
 }
 
 fn status(is_refused: bool) -> Status
@@ -120,14 +123,15 @@ fn answer<H: History, W: Sink>(
     number: u32,
     meaning: Meaning,
     out: &mut W,
+    want_cut: bool,
 ) -> Result<bool, WriteFault>
     requires room { (H.timeline session.old).place < MAX_CHANGES }
-    ensures { WritesLine W.contents W.has_failed out.old out.new number
+    ensures { WritesLine want_cut W.contents W.has_failed out.old out.new number
         (H.timeline session.old) meaning (H.timeline session.new) result }
 {
     match meaning {
         Ok(None) => Ok(false),
-        Ok(Some(command)) => answer_command(alloc, session, number, command, out),
+        Ok(Some(command)) => answer_command(alloc, session, number, command, out, want_cut),
         Err(refusal) => refuse(number, &refusal, out),
     }
 }
@@ -138,14 +142,15 @@ fn answer_command<H: History, W: Sink>(
     number: u32,
     command: Command,
     out: &mut W,
+    want_cut: bool,
 ) -> Result<bool, WriteFault>
     requires room { (H.timeline session.old).place < MAX_CHANGES }
-    ensures { WritesLine W.contents W.has_failed out.old out.new number
+    ensures { WritesLine want_cut W.contents W.has_failed out.old out.new number
         (H.timeline session.old) (Ok (Some command)) (H.timeline session.new) result }
 {
-    match session.step(alloc, command) {
+    match session.step(alloc, command, want_cut) {
         Ok(reply) => {
-            show(command, reply, session.present(), out)?;
+            show(command, &reply, session.present(), out)?;
             Ok(false)
         }
         Err(refusal) => refuse(number, &refusal, out),

@@ -1,16 +1,20 @@
 //! A problem is solved, from bytes to bytes.
 ghost use Rattle.std.specs.Prelude.{IfOk};
 ghost use Rattle.dmf_net.specs.Change.{Solve, Becomes};
+ghost use Rattle.dmf_session.specs.Optimal.{IsOptimal};
+ghost use Rattle.dmf_session.specs.Step.{IsSideWanted};
 ghost use Rattle.dmf_run.specs.SolveRun.{RunsSolve};
 
 use crate::fault::{EngineFault, Status};
 use crate::problem::read_state;
-use crate::reply::put_solution;
-use dmf_net::{NoMemory, State, plan_solve};
+use crate::reply::put_solved;
+use dmf_net::{NoMemory, Side, State, plan_solve, smallest_side};
+use dmf_session::greatest_is_optimal;
 use dmf_text::{Sink, Source};
 use std::alloc::Global;
 
-/// Reads a problem, solves it, and then writes the solution and flushes it.
+/// Reads a problem, solves it, and then writes the solution, with `want_cut` the smallest minimum cut after it, and flushes
+/// them. No flow has a larger value than the solution, which is the capacity of that cut.
 ///
 /// Stopped before anything is written by [`EngineFault::Problem`], where the problem text has a fault, by
 /// [`EngineFault::Read`] and [`EngineFault::TooMuchInput`] in reading it, and by [`EngineFault::NoMemory`]; and by
@@ -19,8 +23,9 @@ pub fn run_solve<P: Source, W: Sink>(
     alloc: Global,
     problem: &mut P,
     out: &mut W,
+    want_cut: bool,
 ) -> Result<Status, EngineFault>
-    ensures { RunsSolve
+    ensures { RunsSolve want_cut
         (record { known = P.remaining problem.old; has_failed = P.has_failed problem.old })
         (record { known = P.remaining problem.new; has_failed = P.has_failed problem.new })
         (record { contents = W.contents out.old; has_failed = W.has_failed out.old })
@@ -28,22 +33,42 @@ pub fn run_solve<P: Source, W: Sink>(
         result }
 {
     let state = read_state(alloc, problem)?;
-    let Ok(solved) = solved(alloc, state) else {
+    let Ok(solved) = solve(alloc, state, want_cut) else {
         return Err(EngineFault::NoMemory);
     };
-    let Ok(()) = put_solution(&solved, out) else {
+    let Ok(()) = put_solved(&solved.state, &solved.side, out) else {
         return Err(EngineFault::Write);
     };
     Ok(Status::Well)
 }
 
-/// The state with the greatest flow that augmenting reaches from its own. The state is dropped where memory is refused.
-fn solved(alloc: Global, mut state: State) -> Result<State, NoMemory>
-    ensures { IfOk result (λ solved. Becomes state Solve solved) }
+/// A state with a greatest flow, and a cut, where one is wanted.
+#[derive(Drop)]
+struct Solved {
+    state: State,
+    side: Option<Side>,
+}
+
+/// The state with the greatest flow that augmenting reaches from its own, and the smallest side of its network, where it is
+/// wanted. The state is dropped where memory is refused.
+fn solve(alloc: Global, mut state: State, want_cut: bool) -> Result<Solved, NoMemory>
+    ensures becomes { IfOk result (λ solved. Becomes state Solve solved.state) }
+    ensures optimal { IfOk result (λ solved. IsOptimal solved.state) }
+    ensures side { IfOk result (λ solved. IsSideWanted want_cut solved.state.network solved.side) }
 {
+    greatest_is_optimal();
     let Ok(edit) = plan_solve(alloc, &state) else {
         return Err(NoMemory);
     };
     state.apply(&edit)?;
-    Ok(state)
+    let side = if want_cut {
+        // The flow is greatest, so only memory can be refused.
+        let Ok(side) = smallest_side(alloc, &state) else {
+            return Err(NoMemory);
+        };
+        Some(side)
+    } else {
+        None
+    };
+    Ok(Solved { state, side })
 }

@@ -15,8 +15,8 @@ loop-number-init g c =
     let feed : Feed = record { pending = record { bytes = []; count = 0 }; known = known; has_failed = read_failed } in
     let held : Held = record { contents = g.W.Sink.contents c.args.out.now; has_failed = g.W.Sink.has_failed c.args.out.now } in
     let t = g.H.History.timeline c.args.session in
-    subst (λ pending. Progress t feed (record { pending = pending; known = known; has_failed = read_failed }) held held 1 t false) (sym c.new-input.ensures)
-    (Progress-none t feed held (record { none_pending = refl; none_taken = refl }) c.requires.at_first c.requires.one_state)
+    subst (λ pending. Progress c.args.want_cut t feed (record { pending = pending; known = known; has_failed = read_failed }) held held 1 t false) (sym c.new-input.ensures)
+    (Progress-none c.args.want_cut t feed held (record { none_pending = refl; none_taken = refl }) c.requires.at_first c.requires.one_state)
 
 pub returns-in_err-meaning : goal.returns-in_err-meaning
 returns-in_err-meaning g c =
@@ -26,8 +26,8 @@ returns-in_err-meaning g c =
     let before : Feed = record { pending = record { bytes = []; count = 0 }; known = g.C.Source.remaining c.args.commands.now; has_failed = g.C.Source.has_failed c.args.commands.now } in
     let held : Held = record { contents = g.W.Sink.contents c.args.out.now; has_failed = g.W.Sink.has_failed c.args.out.now } in
     let holds : Held = record { contents = g.W.Sink.contents c.loop-number.out; has_failed = g.W.Sink.has_failed c.loop-number.out } in
-    subst (λ result. RunsCommands t (streams before held) (streams then holds) result) (sym (failed.1 ∙ ap Err failed.2))
-    (RunsCommands-refused t before _ then held holds c.loop-number.number _ _ c.in_err-meaning.field-0.0 (omega arith) c.loop-number.invariant c.in_err-meaning.ensures)
+    subst (λ result. RunsCommands c.args.want_cut t (streams before held) (streams then holds) result) (sym (failed.1 ∙ ap Err failed.2))
+    (RunsCommands-refused c.args.want_cut t before _ then held holds c.loop-number.number _ _ c.in_err-meaning.field-0.0 (omega arith) c.loop-number.invariant c.in_err-meaning.ensures)
 
 pub returns-in_default : goal.returns-in_default
 returns-in_default g c =
@@ -36,9 +36,9 @@ returns-in_default g c =
     let then : Feed = record { pending = c.next_line.new.self; known = g.C.Source.remaining c.next_line.new.source; has_failed = g.C.Source.has_failed c.next_line.new.source } in
     let holds : Held = record { contents = g.W.Sink.contents c.loop-number.out; has_failed = g.W.Sink.has_failed c.loop-number.out } in
     let next : Held = record { contents = g.W.Sink.contents c.answer.new.out; has_failed = g.W.Sink.has_failed c.answer.new.out } in
-    let broken : Broken (g.H.History.timeline c.loop-number.session) c.in-Line.meaning c.loop-number.number holds next (g.H.History.timeline c.answer.new.session) =
+    let broken : Broken c.args.want_cut (g.H.History.timeline c.loop-number.session) c.in-Line.meaning c.loop-number.number holds next (g.H.History.timeline c.answer.new.session) =
     record { text = told.0; refused = told.1; runs = told.2; front = told.3.0; rest = told.3.1; text_is = told.3.2; appends = told.3.3; writer = told.3.4 } in
-    RunsCommands-write _ _ _ then _ holds next c.loop-number.number _ _ c.in-Line.meaning _ c.loop-number.invariant gave broken
+    RunsCommands-write c.args.want_cut _ _ _ then _ holds next c.loop-number.number _ _ c.in-Line.meaning _ c.loop-number.invariant gave broken
 
 pub returns-in_default-answer : goal.returns-in_default-answer
 returns-in_default-answer g c =
@@ -47,9 +47,9 @@ returns-in_default-answer g c =
     let then : Feed = record { pending = c.next_line.new.self; known = g.C.Source.remaining c.next_line.new.source; has_failed = g.C.Source.has_failed c.next_line.new.source } in
     let holds : Held = record { contents = g.W.Sink.contents c.loop-number.out; has_failed = g.W.Sink.has_failed c.loop-number.out } in
     let next : Held = record { contents = g.W.Sink.contents c.answer-in-Last.new.out; has_failed = g.W.Sink.has_failed c.answer-in-Last.new.out } in
-    let broken : Broken (g.H.History.timeline c.loop-number.session) c.in-Last.meaning c.loop-number.number holds next (g.H.History.timeline c.answer-in-Last.new.session) =
+    let broken : Broken c.args.want_cut (g.H.History.timeline c.loop-number.session) c.in-Last.meaning c.loop-number.number holds next (g.H.History.timeline c.answer-in-Last.new.session) =
     record { text = told.0; refused = told.1; runs = told.2; front = told.3.0; rest = told.3.1; text_is = told.3.2; appends = told.3.3; writer = told.3.4 } in
-    RunsCommands-write_last _ _ _ then _ holds next c.loop-number.number _ _ c.in-Last.meaning _ c.loop-number.invariant gave broken
+    RunsCommands-write_last c.args.want_cut _ _ _ then _ holds next c.loop-number.number _ _ c.in-Last.meaning _ c.loop-number.invariant gave broken
 
 pub returns-in-Last : goal.returns-in-Last
 returns-in-Last g c =
@@ -60,14 +60,14 @@ returns-in-Last g c =
     let next : Held = record { contents = g.W.Sink.contents c.answer-in-Last.new.out; has_failed = g.W.Sink.has_failed c.answer-in-Last.new.out } in
     let u = g.H.History.timeline c.loop-number.session in
     let v = g.H.History.timeline c.answer-in-Last.new.session in
-    let carried : Carried u c.in-Last.meaning c.loop-number.number holds next c.in-Ok-answer.refused v =
-    record { text = told.0; runs = subst (λ r. LineRuns c.loop-number.number u c.in-Last.meaning told.0 r v) (sym told.4) told.2; appends = told.3.0; writer = told.3.1 } in
-    RunsCommands-last _ _ _ then _ holds next c.loop-number.number u c.loop-number.is_refused c.in-Last.meaning c.in-Ok-answer.refused v c.status.result (omega arith) c.status.ensures c.loop-number.invariant gave carried
+    let carried : Carried c.args.want_cut u c.in-Last.meaning c.loop-number.number holds next c.in-Ok-answer.refused v =
+    record { text = told.0; runs = subst (λ r. LineRuns c.args.want_cut c.loop-number.number u c.in-Last.meaning told.0 r v) (sym told.4) told.2; appends = told.3.0; writer = told.3.1 } in
+    RunsCommands-last c.args.want_cut _ _ _ then _ holds next c.loop-number.number u c.loop-number.is_refused c.in-Last.meaning c.in-Ok-answer.refused v c.status.result (omega arith) c.status.ensures c.loop-number.invariant gave carried
 
 pub returns-in-End : goal.returns-in-End
 returns-in-End g c =
     let gave = rw c.in-End.is at c.in_ok-meaning.ensures in
-    RunsCommands-end _ _ _ _ _ _ c.loop-number.number _ _ c.status-in-End.result (omega arith) c.status-in-End.ensures c.loop-number.invariant gave.0 gave.1
+    RunsCommands-end c.args.want_cut _ _ _ _ _ _ c.loop-number.number _ _ c.status-in-End.result (omega arith) c.status-in-End.ensures c.loop-number.invariant gave.0 gave.1
 
 pub loop-number-preserved : goal.loop-number-preserved
 loop-number-preserved g c =
@@ -78,9 +78,9 @@ loop-number-preserved g c =
     let next : Held = record { contents = g.W.Sink.contents c.answer.new.out; has_failed = g.W.Sink.has_failed c.answer.new.out } in
     let u = g.H.History.timeline c.loop-number.session in
     let v = g.H.History.timeline c.answer.new.session in
-    let carried : Carried u c.in-Line.meaning c.loop-number.number holds next c.in-Ok.refused v =
-    record { text = told.0; runs = subst (λ r. LineRuns c.loop-number.number u c.in-Line.meaning told.0 r v) (sym told.4) told.2; appends = told.3.0; writer = told.3.1 } in
-    Progress-more _ _ _ then _ holds next c.loop-number.number u c.loop-number.is_refused c.in-Line.meaning c.in-Ok.refused v c.loop-number.invariant gave carried
+    let carried : Carried c.args.want_cut u c.in-Line.meaning c.loop-number.number holds next c.in-Ok.refused v =
+    record { text = told.0; runs = subst (λ r. LineRuns c.args.want_cut c.loop-number.number u c.in-Line.meaning told.0 r v) (sym told.4) told.2; appends = told.3.0; writer = told.3.1 } in
+    Progress-more c.args.want_cut _ _ _ then _ holds next c.loop-number.number u c.loop-number.is_refused c.in-Line.meaning c.in-Ok.refused v c.loop-number.invariant gave carried
 
 pub returns-in_err-expect_end : goal.returns-in_err-expect_end
 returns-in_err-expect_end g c =
@@ -93,11 +93,11 @@ returns-in_err-expect_end g c =
     let holds : Held = record { contents = g.W.Sink.contents c.loop-number.out; has_failed = g.W.Sink.has_failed c.loop-number.out } in
     let now : Feed = record { pending = c.loop-number.input; known = g.C.Source.remaining c.loop-number.commands; has_failed = g.C.Source.has_failed c.loop-number.commands } in
     let u = g.H.History.timeline c.loop-number.session in
-    let p = subst (λ n. Progress t before now held holds n u c.loop-number.is_refused) last c.loop-number.invariant in
-    subst (λ result. RunsCommands t (streams before held) (streams then holds) result) (sym (failed.1 ∙ ap Err failed.2))
-    (RunsCommands-past t before now then held holds u c.loop-number.is_refused c.in_err-expect_end.field-0.0 p c.in_err-expect_end.ensures)
+    let p = subst (λ n. Progress c.args.want_cut t before now held holds n u c.loop-number.is_refused) last c.loop-number.invariant in
+    subst (λ result. RunsCommands c.args.want_cut t (streams before held) (streams then holds) result) (sym (failed.1 ∙ ap Err failed.2))
+    (RunsCommands-past c.args.want_cut t before now then held holds u c.loop-number.is_refused c.in_err-expect_end.field-0.0 p c.in_err-expect_end.ensures)
 
 pub returns : goal.returns
 returns g c =
     let gave = c.in_ok-expect_end.ensures in
-    RunsCommands-end _ _ _ _ _ _ c.loop-number.number _ _ c.status-2.result (omega arith) c.status-2.ensures c.loop-number.invariant gave.0 gave.1
+    RunsCommands-end c.args.want_cut _ _ _ _ _ _ c.loop-number.number _ _ c.status-2.result (omega arith) c.status-2.ensures c.loop-number.invariant gave.0 gave.1

@@ -10,7 +10,7 @@ invariant-loop-number g l =
     let read_failed = g.C.Source.has_failed in
     let contents = g.W.Sink.contents in
     let write_failed = g.W.Sink.has_failed in
-    Progress (timeline l.fn.session)
+    Progress l.fn.want_cut (timeline l.fn.session)
     (record { pending = record { bytes = []; count = 0 }; known = known l.fn.commands; has_failed = read_failed l.fn.commands })
     (record { pending = l.input; known = known l.commands; has_failed = read_failed l.commands })
     (record { contents = contents l.fn.out; has_failed = write_failed l.fn.out })
