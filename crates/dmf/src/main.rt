@@ -23,23 +23,24 @@ fn main(rt: HostRuntime) -> ExitCode {
 
 fn run(rt: &HostRuntime) -> Result<Status, Fault> {
     match words::read_task(rt)? {
-        Task::Solve => solve(rt),
-        Task::Session(path) => hold_session(rt, path.as_str()),
+        Task::Solve { want_cut } => solve(rt, want_cut),
+        Task::Session { want_cut, path } => hold_session(rt, path.as_str(), want_cut),
     }
 }
 
-/// Solves the problem on standard input.
-fn solve(rt: &HostRuntime) -> Result<Status, Fault> {
+/// Solves the problem on standard input, and tells the cut where it is wanted.
+fn solve(rt: &HostRuntime, want_cut: bool) -> Result<Status, Fault> {
     let Ok(writer) = BufWriter::new(rt.alloc(), rt.stdout()) else {
         return Err(Fault::NO_MEMORY);
     };
     let mut problem = StdSource::new(rt.stdin());
     let mut out = StdSink::new(writer);
-    run_solve(rt.alloc(), &mut problem, &mut out).map_err(Fault::Run)
+    run_solve(rt.alloc(), &mut problem, &mut out, want_cut).map_err(Fault::Run)
 }
 
-/// Holds a session on the problem in the file at the path, with the commands from standard input.
-fn hold_session(rt: &HostRuntime, path: &str) -> Result<Status, Fault> {
+/// Holds a session on the problem in the file at the path, with the commands from standard input, and tells the cut of
+/// each solve where it is wanted.
+fn hold_session(rt: &HostRuntime, path: &str, want_cut: bool) -> Result<Status, Fault> {
     let Ok(file) = File::open(rt, path) else {
         return Err(Fault::Open);
     };
@@ -49,7 +50,7 @@ fn hold_session(rt: &HostRuntime, path: &str) -> Result<Status, Fault> {
     let mut problem = StdSource::new(file);
     let mut commands = StdSource::new(rt.stdin());
     let mut out = StdSink::new(writer);
-    run_session(rt.alloc(), &mut problem, &mut commands, &mut out).map_err(Fault::Run)
+    run_session(rt.alloc(), &mut problem, &mut commands, &mut out, want_cut).map_err(Fault::Run)
 }
 
 /// The status with which the program ends: 2 for words that it does not take, 4 where the problem cannot be opened,
