@@ -23,10 +23,12 @@ class Session:
     lines: list
     status: int
     written: str
-    # The lines, counted from 1, that may be refused memory: changes, and steps forward over an added arc.
+    # The lines, counted from 1, that may be refused memory: changes, cuts, and steps forward over an added arc.
     take_memory: list
     # Those of them that are refused it where some request is refused.
     are_refused: list
+    # The words with which the program holds the session.
+    words: tuple = ("session", "examples/a.max")
 
 
 SOLVED = "s 12\nf 1 2 2\nf 1 3 2\nf 2 3 0\nf 2 4 2\nf 3 4 3\nf 1 4 7\nf 1 3 1\n"
@@ -62,6 +64,15 @@ DRAINING = Session(
     [1, 2, 3, 5, 6, 7],
     [1, 2, 3, 6, 7],
 )
+CUT = "c cut 5\nc side 1\n"
+CUTTING = Session(
+    ["solve", "print cut", "undo", "print cut", "solve", "print cut"],
+    1,
+    f"{SOLUTION}{CUT}{CUT}c undo value 0\nc refused 4 flow is not greatest\n{SOLUTION}{CUT}{CUT}",
+    [1, 2, 4, 5, 6],
+    [1, 2, 4, 5, 6],
+    ("session", "--cut", "examples/a.max"),
+)
 NOTHING = (5, "", "dmf: no memory\n")
 MOST_REQUESTS = 10_000
 
@@ -74,9 +85,9 @@ def run(words, text, **environment):
     return ran.returncode, ran.stdout, ran.stderr
 
 
-def hold(lines):
-    """The same of a session."""
-    return run(["session", "examples/a.max"], as_text(lines))
+def hold(session, lines):
+    """The same of a session on these lines."""
+    return run(session.words, as_text(lines))
 
 
 def as_text(lines):
@@ -87,8 +98,8 @@ def without(session, number):
     """What is wanted where this line is refused memory."""
     lines = list(session.lines)
     lines[number - 1] = "c"
-    before = hold(lines[: number - 1])[1]
-    whole = hold(lines)[1]
+    before = hold(session, lines[: number - 1])[1]
+    whole = hold(session, lines)[1]
     return 1, before + f"c refused {number} no memory\n" + whole[len(before) :], ""
 
 
@@ -115,10 +126,10 @@ def refuse_each(words, text, wanted, needed):
 def refuse_in_session(session):
     """Refuses each request of a session."""
     ample = (session.status, session.written, "")
-    if hold(session.lines) != ample:
-        return f"with ample memory the session ended so: {hold(session.lines)}"
+    if hold(session, session.lines) != ample:
+        return f"with ample memory the session ended so: {hold(session, session.lines)}"
     return refuse_each(
-        ["session", "examples/a.max"],
+        session.words,
         as_text(session.lines),
         {
             NOTHING: "nothing written",
@@ -129,12 +140,19 @@ def refuse_in_session(session):
     )
 
 
-def refuse_in_solve():
+def refuse_in_solve(words, written):
     """Refuses each request of a run that solves a problem."""
-    ample = (0, SOLUTION, "")
-    if run(["solve"], PROBLEM) != ample:
-        return f"with ample memory the problem was solved so: {run(['solve'], PROBLEM)}"
-    return refuse_each(["solve"], PROBLEM, {NOTHING: "nothing written", ample: "no difference"}, {"nothing written"})
+    ample = (0, written, "")
+    if run(words, PROBLEM) != ample:
+        return f"with ample memory the problem was solved so: {run(words, PROBLEM)}"
+    return refuse_each(words, PROBLEM, {NOTHING: "nothing written", ample: "no difference"}, {"nothing written"})
 
 
-sys.exit(refuse_in_session(ADDING) or refuse_in_session(DRAINING) or refuse_in_solve() or 0)
+sys.exit(
+    refuse_in_session(ADDING)
+    or refuse_in_session(DRAINING)
+    or refuse_in_session(CUTTING)
+    or refuse_in_solve(["solve"], SOLUTION)
+    or refuse_in_solve(["solve", "--cut"], SOLUTION + CUT)
+    or 0
+)

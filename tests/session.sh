@@ -62,6 +62,7 @@ run_script() {
     fi
 }
 
+cut_a=$'c cut 5\nc side 1\n'
 solution_a=$'s 5\nf 1 2 3\nf 1 3 2\nf 2 3 1\nf 2 4 2\nf 3 4 3\n'
 network_a=$'p max 4 5\nn 1 s\nn 4 t\na 1 2 3\na 1 3 2\na 2 3 5\na 2 4 2\na 3 4 3\n'
 
@@ -72,6 +73,12 @@ fi
 
 # Words.
 run "an unknown word" 2 "" $'dmf: usage\n' wash </dev/null
+run "a cut alone" 2 "" $'dmf: usage\n' --cut <examples/a.max
+run "two cuts" 2 "" $'dmf: usage\n' solve --cut --cut <examples/a.max
+run "a word behind the cut" 2 "" $'dmf: usage\n' solve --cut examples/a.max </dev/null
+run "a cut and no problem" 2 "" $'dmf: usage\n' session --cut </dev/null
+run "a cut behind the problem" 2 "" $'dmf: usage\n' session examples/a.max --cut </dev/null
+run "a cut and two problems" 2 "" $'dmf: usage\n' session --cut examples/a.max examples/b.max </dev/null
 run "a word behind solve" 2 "" $'dmf: usage\n' solve examples/a.max </dev/null
 run "an empty word" 2 "" $'dmf: usage\n' "" <examples/a.max
 run "no problem is named" 2 "" $'dmf: usage\n' session </dev/null
@@ -80,6 +87,10 @@ run "two problems are named" 2 "" $'dmf: usage\n' session examples/a.max example
 # Solving.
 run "no words" 0 "$solution_a" "" <examples/a.max
 run "the word solve" 0 "$solution_a" "" solve <examples/a.max
+run "a problem is solved with its cut" 0 "$solution_a$cut_a" "" solve --cut <examples/a.max
+printf 'p max 2 0\nn 1 s\nn 2 t\n' >"$work/no_arcs.max"
+run "no arcs are solved with their cut" 0 $'s 0\nc cut 0\nc side 1\n' "" solve --cut <"$work/no_arcs.max"
+run "nothing is to be solved with its cut" 3 "" $'dmf: line 1: problem line expected\n' solve --cut </dev/null
 run "a lenient text is solved" 0 $'s 9\nf 1 2 4\nf 2 2 0\nf 1 2 5\nf 2 1 0\nf 2 3 9\n' "" <examples/n.max
 run "nothing is to be solved" 3 "" $'dmf: line 1: problem line expected\n' </dev/null
 head -n 7 examples/a.max >"$work/cut.max"
@@ -110,6 +121,12 @@ run "an arc is drained, closed, and opened again by undo" 0 \
 run "an arc that is not there, and one that is closed" 1 \
     $'c refused 1 no such arc\nc close value 0\nc refused 3 arc is closed\nc refused 4 capacities past 64 bits\n' "" \
     session examples/a.max <<<$'cap 6 1\nclose 2\ncap 2 1\ncap 1 18446744073709551615'
+run "a flow that is not greatest has no cut" 1 \
+    $'c refused 1 flow is not greatest\n'"$solution_a$cut_a" "" \
+    session examples/a.max <<<$'print cut\nsolve\nprint cut'
+run "each solve of a session is told with its cut" 0 \
+    "$solution_a$cut_a"$'c cap value 3\ns 3\nf 1 2 3\nf 1 3 0\nf 2 3 1\nf 2 4 2\nf 3 4 1\nc cut 3\nc side 1\nc side 2\nc side 3\n' "" \
+    session --cut examples/a.max <<<$'solve\ncap 5 1\nsolve'
 run "a lenient text is written plainly" 0 \
     $'p max 3 5\nn 1 s\nn 3 t\na 1 2 4\na 2 2 9\na 1 2 7\na 2 1 6\na 2 3 9\n' "" \
     session examples/n.max <<<"print problem"

@@ -21,7 +21,7 @@ fn command_lines_are_read(rt: HostRuntime) {
         head: 4,
         cap: 7,
     };
-    let table: [(&[u8], Command); 15] = [
+    let table: [(&[u8], Command); 17] = [
         (b"cap 9 18446744073709551615", capacity),
         (b" cap\t09 18446744073709551615", capacity),
         (b"add 1 4 7", addition),
@@ -37,6 +37,8 @@ fn command_lines_are_read(rt: HostRuntime) {
         (b"redo 18446744073709551615", Command::Redo(u64::MAX)),
         (b"print problem", Command::PrintProblem),
         (b"print flow", Command::PrintFlow),
+        (b"print cut", Command::PrintCut),
+        (b" print\tcut ", Command::PrintCut),
     ];
     for (line, command) in table {
         assert_eq!(rt; read_command(line), Ok(Some(command)), "{line:?}");
@@ -49,7 +51,7 @@ fn command_lines_are_read(rt: HostRuntime) {
 
 #[test]
 fn command_lines_are_refused(rt: HostRuntime) {
-    let table: [(&[u8], Refusal); 36] = [
+    let table: [(&[u8], Refusal); 38] = [
         (b"cNote", Refusal::UnknownCommand),
         (b"ca 1 2", Refusal::UnknownCommand),
         (b"capx 1", Refusal::UnknownCommand),
@@ -73,9 +75,11 @@ fn command_lines_are_refused(rt: HostRuntime) {
         (b"print", Refusal::FieldCount),
         (b"print side x", Refusal::FieldCount),
         (b"print flow x", Refusal::FieldCount),
+        (b"print cut 1", Refusal::FieldCount),
         (b"print side", Refusal::UnknownCommand),
         (b"print Problem", Refusal::UnknownCommand),
         (b"print flows", Refusal::UnknownCommand),
+        (b"print cu", Refusal::UnknownCommand),
         (b"cap 1 -1", Refusal::NotANumber),
         (b"cap x 18446744073709551616", Refusal::NotANumber),
         (b"cap 18446744073709551616 x", Refusal::TooLarge),

@@ -4,6 +4,8 @@
 #[cfg(test)]
 mod calls;
 #[cfg(test)]
+mod cutting;
+#[cfg(test)]
 mod draining;
 #[cfg(test)]
 mod failures;

@@ -25,6 +25,23 @@ pub fn hold_over<P: Read + Drop, C: Read + Drop, W: Write + Drop>(
         &mut StdSource::new(problem),
         &mut StdSource::new(commands),
         &mut StdSink::new(writer),
+        false,
+    )
+}
+
+/// Holds a session that tells a cut after each solve.
+pub fn hold_with_cuts<P: Read + Drop, C: Read + Drop, W: Write + Drop>(
+    alloc: Global,
+    problem: P,
+    commands: C,
+    writer: W,
+) -> Outcome {
+    run_session(
+        alloc,
+        &mut StdSource::new(problem),
+        &mut StdSource::new(commands),
+        &mut StdSink::new(writer),
+        true,
     )
 }
 
@@ -43,6 +60,21 @@ pub fn solve_over<P: Read + Drop, W: Write + Drop>(
         alloc,
         &mut StdSource::new(problem),
         &mut StdSink::new(writer),
+        false,
+    )
+}
+
+/// Solves a problem, and tells the cut after its solution.
+pub fn solve_with_cut<P: Read + Drop, W: Write + Drop>(
+    alloc: Global,
+    problem: P,
+    writer: W,
+) -> Outcome {
+    run_solve(
+        alloc,
+        &mut StdSource::new(problem),
+        &mut StdSink::new(writer),
+        true,
     )
 }
 
