@@ -148,9 +148,11 @@ fn a_refused_change_is_no_state(rt: HostRuntime) -> Result<(), Fail> {
 fn a_solve_is_a_change_also_of_a_greatest_flow(rt: HostRuntime) -> Result<(), Fail> {
     let mut session = example(rt.alloc())?;
     for past in [1, 2] {
-        assert_eq!(rt;
-            answer(&rt, rt.alloc(), &mut session, Command::Solve),
-            Ok(Reply::Solution(None))
+        assert!(rt;
+            matches!(
+                answer(&rt, rt.alloc(), &mut session, Command::Solve),
+                Ok(Reply::Solution(None))
+            )
         );
         assert_eq!(rt; (session.past(), session.present().value()), (past, 5));
     }
@@ -176,13 +178,22 @@ fn a_solve_is_a_change_also_of_a_greatest_flow(rt: HostRuntime) -> Result<(), Fa
     Ok(())
 }
 
+/// The value that a reply tells, if it tells one.
+fn value_of(answer: Result<Reply, Refusal>) -> Result<Option<u64>, Refusal> {
+    match answer {
+        Ok(Reply::Value(value)) => Ok(Some(value)),
+        Ok(_) => Ok(None),
+        Err(refusal) => Err(refusal),
+    }
+}
+
 #[test]
 fn capacities_are_changed_and_arcs_closed(rt: HostRuntime) -> Result<(), Fail> {
     let mut session = example(rt.alloc())?;
     let table = [
-        (Command::Solve, Ok(Reply::Solution(None))),
-        (Command::Cap { arc: 5, cap: 1 }, Ok(Reply::Value(3))),
-        (Command::Close { arc: 1 }, Ok(Reply::Value(0))),
+        (Command::Solve, Ok(None)),
+        (Command::Cap { arc: 5, cap: 1 }, Ok(Some(3))),
+        (Command::Close { arc: 1 }, Ok(Some(0))),
         (Command::Close { arc: 1 }, Err(Refusal::Closed)),
         (Command::Cap { arc: 1, cap: 1 }, Err(Refusal::Closed)),
         (Command::Cap { arc: 6, cap: 1 }, Err(Refusal::NoSuchArc)),
@@ -194,17 +205,61 @@ fn capacities_are_changed_and_arcs_closed(rt: HostRuntime) -> Result<(), Fail> {
             },
             Err(Refusal::SumTooLarge),
         ),
-        (Command::Undo(2), Ok(Reply::Value(5))),
-        (Command::Redo(1), Ok(Reply::Value(3))),
+        (Command::Undo(2), Ok(Some(5))),
+        (Command::Redo(1), Ok(Some(3))),
     ];
-    for (command, reply) in table {
+    for (command, value) in table {
         assert_eq!(rt;
-            answer(&rt, rt.alloc(), &mut session, command),
-            reply,
+            value_of(answer(&rt, rt.alloc(), &mut session, command)),
+            value,
             "{command:?}"
         );
     }
     assert_eq!(rt; (session.past(), session.future()), (2, 1));
     assert_eq!(rt; session.present().arcs().last(), Some(&Arc::open(3, 4, 1)));
+    Ok(())
+}
+
+/// Whether an answer tells the cut with these nodes and this capacity.
+fn tells_cut(answer: Result<Reply, Refusal>, ids: &[u32], capacity: u64) -> bool {
+    match answer {
+        Ok(Reply::Solution(Some(side))) => side.ids() == ids && side.capacity() == capacity,
+        Ok(Reply::Cut(side)) => side.ids() == ids && side.capacity() == capacity,
+        _ => false,
+    }
+}
+
+#[test]
+fn cuts_are_told_of_greatest_flows(rt: HostRuntime) -> Result<(), Fail> {
+    let mut session = example(rt.alloc())?;
+    assert!(rt;
+        matches!(
+            answer(&rt, rt.alloc(), &mut session, Command::PrintCut),
+            Err(Refusal::NotGreatest)
+        )
+    );
+    assert!(rt; session.past() < MAX_CHANGES);
+    let solved = session.step(rt.alloc(), Command::Solve, true);
+    assert!(rt; tells_cut(solved, &[1], 5));
+    assert!(rt;
+        tells_cut(
+            answer(&rt, rt.alloc(), &mut session, Command::PrintCut),
+            &[1],
+            5
+        )
+    );
+    assert!(rt;
+        matches!(
+            answer(&rt, rt.alloc(), &mut session, Command::Undo(1)),
+            Ok(Reply::Value(0))
+        )
+    );
+    assert!(rt;
+        matches!(
+            answer(&rt, rt.alloc(), &mut session, Command::PrintCut),
+            Err(Refusal::NotGreatest)
+        )
+    );
+    assert_eq!(rt; (session.past(), session.future()), (0, 1));
     Ok(())
 }
