@@ -1,9 +1,12 @@
 pub mod FieldLemmas
+pub mod JudgingLemmas
 pub mod LineLemmas
 pub mod NumberLemmas
+pub mod PairLemmas
 pub mod ProblemLemmas
 pub mod ReadingLemmas
 pub mod RoundTrip
+pub mod SolutionLemmas
 pub mod WritingLemmas
 pub mod WrittenLemmas
 pub mod WrittenLines

@@ -11,10 +11,12 @@ use Rattle.dmf_net.specs.Node.{IsNode, is_node}
 use Rattle.dmf_net.specs.Arc.{IsArc, capacity_sum, open_count}
 use Rattle.dmf_net.specs.Network.{Network, IsNetwork}
 use Rattle.dmf_text.specs.Number.{number_of}
-use Rattle.dmf_text.specs.Problem.{Line, Said, Counts, said_by, counts_named, problem_line, node_named, terminal_line, arc_line, judged, ended, state_of, outcome_after, problem_of}
+use Rattle.dmf_text.specs.Judging.{Line}
+use Rattle.dmf_text.specs.Problem.{Said, Counts, said_by, counts_named, problem_line, node_named, terminal_line, arc_line, judged, ended, state_of, problem_fault, problem_after, problem_of}
 use Rattle.dmf_text.specs.Reading.{with_line}
 use Rattle.dmf_text.specs.Written.{open_arcs, arc_fields, problem_lines, problem_text, open_network, idle_state}
-use Rattle.dmf_text.proofs.ProblemLemmas.{outcome-good, outcome-end, said_by-push}
+use Rattle.dmf_text.proofs.JudgingLemmas.{outcome-good, outcome-end}
+use Rattle.dmf_text.proofs.ProblemLemmas.{said_by-push}
 use Rattle.dmf_text.proofs.WrittenLines.{IsField, AreFields, plain, decimal-field, number_of-decimal, lines-written}
 
 is-node : (nodes v : ℕ) → IsNode nodes v → is_node nodes v ≡ true
@@ -95,9 +97,9 @@ pub record IsOpenArc (nodes : ℕ) (arc : Arc) : Type 0 where
 module _ (counts : Counts) (source sink : ℕ) (few-nodes : counts.nodes ≤ MAX_NODES) where
   arcs-walk : (todo done : List Arc) (before : List Line) → said_by before ≡ after-arcs counts source sink done → AllByRecursion (IsOpenArc counts.nodes) todo
       → length done + length todo ≡ counts.arcs → capacity_sum (done ++ todo) < 2 ^ 64
-      → outcome_after before (map arc_fields todo) ≡ Ok (state_of (after-arcs counts source sink (done ++ todo)))
+      → problem_after before (map arc_fields todo) ≡ Ok (state_of (after-arcs counts source sink (done ++ todo)))
   arcs-walk [] done before said are count fits =
-      outcome-end before (Ok (state_of (after-arcs counts source sink done)))
+      outcome-end said_by judged ended problem_fault before (Ok (state_of (after-arcs counts source sink done)))
       (sym (ap ended said ∙ ended-good counts source sink done (omega arith)))
       ∙ ap (λ arcs. Ok (state_of (after-arcs counts source sink arcs))) (sym (append-nil done))
   arcs-walk (arc ∷ todo) done before said are count fits =
@@ -116,7 +118,7 @@ module _ (counts : Counts) (source sink : ℕ) (few-nodes : counts.nodes ≤ MAX
       said_by-push before (arc_fields arc) ∙ ap (λ s. with_line s (arc_fields arc)) said ∙ with-arc counts source sink done arc is small small-head small-cap are.0.opened in
       let joined : (done ++ arc ∷ []) ++ todo ≡ done ++ arc ∷ todo = append_assoc done (arc ∷ []) todo in
       let long = length-append done (arc ∷ []) in
-      outcome-good before (arc_fields arc) (map arc_fields todo)
+      outcome-good said_by judged ended problem_fault before (arc_fields arc) (map arc_fields todo)
       (ap (λ s. judged s (arc_fields arc)) said ∙ arc-good counts source sink done arc is small small-head small-cap room fits-here)
       ∙ arcs-walk todo (done ++ arc ∷ []) next said-next are.1 (omega (arith, long)) (rw joined fits)
       ∙ ap (λ arcs. Ok (state_of (after-arcs counts source sink arcs))) joined
@@ -214,9 +216,9 @@ module _ (n : Network) (is : IsNetwork n) where
       ∙ sink-good (counts_of n) n.source (decimal n.sink) n.sink (sink-named n.nodes (decimal n.sink) n.sink sink-is is.sink) (λ same. is.two_terminals (sym same)) in
       let said-t : said_by (p ∷ s ∷ t ∷ []) ≡ after-arcs (counts_of n) n.source n.sink [] =
       said_by-push (p ∷ s ∷ []) t ∙ ap (λ said. with_line said t) said-s ∙ said-sink in
-      ap (outcome_after []) (lines-written (problem_lines n) lines-are)
-      ∙ outcome-good [] p (s ∷ t ∷ arcs) good-p
-      ∙ outcome-good (p ∷ []) s (t ∷ arcs) good-s
-      ∙ outcome-good (p ∷ s ∷ []) t arcs good-t
+      ap (problem_after []) (lines-written (problem_lines n) lines-are)
+      ∙ outcome-good said_by judged ended problem_fault [] p (s ∷ t ∷ arcs) good-p
+      ∙ outcome-good said_by judged ended problem_fault (p ∷ []) s (t ∷ arcs) good-s
+      ∙ outcome-good said_by judged ended problem_fault (p ∷ s ∷ []) t arcs good-t
       ∙ arcs-walk (counts_of n) n.source n.sink is.at_most_nodes (open_arcs n.arcs) [] (p ∷ s ∷ t ∷ []) said-t are-open
       (zero-add (length (open_arcs n.arcs)) ∙ length-filter (λ arc. not arc.closed) n.arcs) open-fits

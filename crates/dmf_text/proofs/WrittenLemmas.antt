@@ -13,7 +13,7 @@ use Rattle.dmf_net.specs.Network.{Network}
 use Rattle.dmf_net.specs.NetworkState.{NetworkState}
 use Rattle.dmf_net.specs.Side.{CutSide}
 use Rattle.std.specs.List.{zip}
-use Rattle.dmf_text.specs.Problem.{Line}
+use Rattle.dmf_text.specs.Judging.{Line}
 use Rattle.dmf_text.specs.Written.{written_line, written, flow_fields, arcs_text, flows_text, nodes_text, problem_text, solution_text, cut_text}
 
 -- lines, field by field

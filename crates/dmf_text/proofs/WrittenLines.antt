@@ -13,7 +13,7 @@ use Rattle.std.specs.Str.Parse.{AllDigits}
 use Rattle.dmf_text.specs.declared.digits.NumberFault.TheVariants.{TooLarge}
 use Rattle.dmf_text.specs.Fields.{is_blank, fields}
 use Rattle.dmf_text.specs.Number.{within, number_of}
-use Rattle.dmf_text.specs.Problem.{Line}
+use Rattle.dmf_text.specs.Judging.{Line}
 use Rattle.dmf_text.specs.Written.{written_line, written}
 use Rattle.dmf_text.proofs.LineLemmas.{parts-more}
 use Rattle.dmf_text.proofs.NumberLemmas.{within-below, number_of-digits}

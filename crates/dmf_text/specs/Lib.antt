@@ -2,7 +2,10 @@ pub mod Lines
 pub mod Fields
 pub mod Number
 pub mod Writing
+pub mod Judging
 pub mod Problem
+pub mod Solution
 pub mod Written
 pub mod Terminal
 pub mod Reading
+pub mod SolutionReading

@@ -1,8 +1,7 @@
 -- Problem texts, in the format of the First DIMACS Implementation Challenge (Problem Definitions and Specifications,
 -- 1990, maximum flow): which line is at fault, and what a text stands for.
-use Rattle.std.specs.Prelude.{ℕ, List, [], ◌∷◌, ◌++◌, ◌+◌, ◌^◌, ◌==◌, ◌&&◌, ◌||◌, Bool, true, false, not, Option, Some, None, is_some, is_none, unwrap_or, Result, Ok, Err, if◌then◌else◌, length, replicate, map, codes, slice_get, nat_eq, nat_lt, nat_le}
-use Rattle.std.specs.Option.{option_or, option_map}
-use Rattle.std.specs.Result.{result_unwrap_or}
+use Rattle.std.specs.Prelude.{ℕ, List, [], ◌∷◌, ◌+◌, ◌^◌, ◌==◌, ◌&&◌, ◌||◌, Bool, true, not, Option, Some, None, is_some, is_none, unwrap_or, Result, Ok, Err, if◌then◌else◌, length, replicate, map, codes, nat_eq, nat_lt, nat_le}
+use Rattle.std.specs.Option.{option_map}
 use Rattle.std.specs.List.{filter_map, starts_with}
 use Rattle.std.specs.Str.{bytes_eq}
 use Rattle.std.specs.Str.Lines.{lines}
@@ -18,20 +17,7 @@ use Rattle.dmf_text.specs.declared.fault.ProblemFaultKind.{ProblemFaultKind}
 use Rattle.dmf_text.specs.declared.fault.ProblemFaultKind.TheVariants.{ProblemLineExpected, SecondProblemLine, UnknownLine, NotMax, FieldCount, NotANumber, TooLarge, CountOutOfRange, NodeOutOfRange, NotSourceOrSink, SecondTerminal, SameTerminals, ArcBeforeTerminals, TooManyArcs, TooFewArcs, TerminalMissing, SumTooLarge}
 use Rattle.dmf_text.specs.Fields.{fields}
 use Rattle.dmf_text.specs.Number.{number_of}
-
--- ---- lines
-
--- A line is a list of fields. Its first field tells its kind; the fields behind that are counted from 0.
-abbrev pub Line : Type 0
-Line = List (List ℕ)
-
--- field i, nothing where there is none
-abbrev pub field : ℕ → List (List ℕ) → List ℕ
-field i behind = unwrap_or (slice_get behind i) []
-
--- the number that field i spells, 0 where it spells none
-abbrev pub number_at : ℕ → List (List ℕ) → ℕ
-number_at i behind = result_unwrap_or (number_of (field i behind)) 0
+use Rattle.dmf_text.specs.Judging.{Line, field, number_at, first_said, ◌>>=◌, ◌>>◌, expect, told, outcome_after}
 
 -- ---- what good lines say
 
@@ -58,11 +44,6 @@ arc_in [] = None
 arc_in (kind ∷ behind) =
     if bytes_eq kind (codes "a") then Some (open_arc (number_at 0 behind) (number_at 1 behind) (number_at 2 behind)) else None
 
--- what the first line says that says it
-abbrev pub first_said : {X : Type 0} → (Line → Option X) → List Line → Option X
-first_said say [] = None
-first_said say (line ∷ more) = option_or (say line) (first_said say more)
-
 -- what lines say together
 pub record Said : Type 0 where
   pub counts : Option Counts
@@ -87,33 +68,14 @@ arc_count said = unwrap_or (option_map (λ counts. counts.arcs) said.counts) 0
 
 -- ---- the judgement of a line, given what the lines before it say
 
-infixl 10 ◌>>=◌
-abbrev pub ◌>>=◌ : {A B E : Type 0} → Result A E → (A → Result B E) → Result B E
-(Ok x) >>= next = next x
-(Err e) >>= next = Err e
-
-infixl 10 ◌>>◌
-abbrev pub ◌>>◌ : {A B E : Type 0} → Result A E → Result B E → Result B E
-(Ok x) >> next = next
-(Err e) >> next = Err e
-
--- the fault, unless the test holds
-abbrev pub expect : Bool → ProblemFaultKind → Result (Unit {0}) ProblemFaultKind
-expect true kind = Ok tt
-expect false kind = Err kind
-
 -- why a field is no number, as the fault of a line
 abbrev pub number_fault : NumberFault → ProblemFaultKind
 number_fault digits.NotANumber = NotANumber
 number_fault digits.TooLarge = TooLarge
 
-abbrev pub told : Result ℕ NumberFault → Result ℕ ProblemFaultKind
-told (Ok n) = Ok n
-told (Err fault) = Err (number_fault fault)
-
 -- the number that field i spells
 abbrev pub number_in : ℕ → List (List ℕ) → Result ℕ ProblemFaultKind
-number_in i behind = told (number_of (field i behind))
+number_in i behind = told number_fault (number_of (field i behind))
 
 -- `max NODES ARCS`
 unfoldable pub counts_named : List (List ℕ) → Result Counts ProblemFaultKind
@@ -210,17 +172,13 @@ ended said = do
   Ok (state_of said)
 
 -- a fault of the line with this number
-abbrev pub at_line : {A : Type 0} → ℕ → Result A ProblemFaultKind → Result A ProblemFault
-at_line number (Ok x) = Ok x
-at_line number (Err kind) = Err (record { line = number; kind = kind })
+abbrev pub problem_fault : ℕ → ProblemFaultKind → ProblemFault
+problem_fault number kind = record { line = number; kind = kind }
 
--- what a text stands for, of which `before` are the first lines, each good, and these are the others: the first
--- fault of a line, or that of the end, which has the number of lines plus one, or a state
-unfoldable pub outcome_after : List Line → List Line → Result NetworkState ProblemFault
-outcome_after before [] = at_line (length before + 1) (ended (said_by before))
-outcome_after before (line ∷ more) =
-    at_line (length before + 1) (judged (said_by before) line) >> outcome_after (before ++ line ∷ []) more
+-- what a problem text stands for, of which `before` are the first lines, each good, and these are the others
+abbrev pub problem_after : List Line → List Line → Result NetworkState ProblemFault
+problem_after before more = outcome_after said_by judged ended problem_fault before more
 
 -- what a problem text stands for
 abbrev pub problem_of : List ℕ → Result NetworkState ProblemFault
-problem_of text = outcome_after [] (map fields (lines text))
+problem_of text = problem_after [] (map fields (lines text))

@@ -10,7 +10,8 @@ use Rattle.dmf_text.specs.declared.reading.Head.{Head}
 use Rattle.dmf_text.specs.declared.reading.Body.{Body}
 use Rattle.dmf_text.specs.declared.reading.Reading.{Reading}
 use Rattle.dmf_text.specs.declared.reading.Reading.TheVariants.{Start, Terminals, Arcs}
-use Rattle.dmf_text.specs.Problem.{Line, Said, counts_in, terminal_in, arc_in}
+use Rattle.dmf_text.specs.Judging.{Line}
+use Rattle.dmf_text.specs.Problem.{Said, counts_in, terminal_in, arc_in}
 
 -- the fault of an arc line whose arc a network does not take
 abbrev pub arc_kind : NetFault → ProblemFaultKind

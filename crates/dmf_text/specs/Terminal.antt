@@ -3,7 +3,8 @@ use Rattle.std.specs.Prelude.{ℕ, ◌≡◌, List, Ok, true, codes}
 use Rattle.dmf_net.specs.Node.{is_node}
 use Rattle.dmf_text.specs.declared.terminal.Terminal.{Terminal}
 use Rattle.dmf_text.specs.declared.terminal.Terminal.TheVariants.{Source, Sink}
-use Rattle.dmf_text.specs.Problem.{field, number_at, node_named}
+use Rattle.dmf_text.specs.Judging.{field, number_at}
+use Rattle.dmf_text.specs.Problem.{node_named}
 
 -- the letter of a terminal
 abbrev pub letter_of : Terminal → List ℕ

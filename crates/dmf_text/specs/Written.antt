@@ -7,7 +7,7 @@ use Rattle.dmf_net.specs.Flow.{flow_value}
 use Rattle.dmf_net.specs.Network.{Network}
 use Rattle.dmf_net.specs.NetworkState.{NetworkState}
 use Rattle.dmf_net.specs.Side.{CutSide}
-use Rattle.dmf_text.specs.Problem.{Line}
+use Rattle.dmf_text.specs.Judging.{Line}
 
 -- a line: its fields with one space between each two, and a line feed
 unfoldable pub written_line : Line → List ℕ

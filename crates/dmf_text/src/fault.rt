@@ -1,6 +1,8 @@
-//! Why a text is no problem text.
+//! Why a text is no problem text, or no solution text.
+use crate::behind::WrongFieldCount;
 use crate::digits::NumberFault;
-use dmf_net::NetFault;
+use dmf_net::{FlowFault, NetFault};
+use std::alloc::AllocError;
 use thiserror::Error;
 
 /// What is wrong with a line of a problem text, or with its end.
@@ -76,6 +78,17 @@ impl From<NumberFault> for ProblemFaultKind {
     }
 }
 
+impl From<WrongFieldCount> for ProblemFaultKind {
+    ghost use Rattle.std.specs.Prelude.{◌≡◌};
+    ghost use Rattle.dmf_text.specs.declared.fault.ProblemFaultKind.TheVariants.{FieldCount};
+
+    ghost from_gives = { λ _ kind. kind ≡ FieldCount };
+
+    fn from(_count: WrongFieldCount) -> ProblemFaultKind {
+        ProblemFaultKind::FieldCount
+    }
+}
+
 impl From<NetFault> for ProblemFaultKind {
     ghost use Rattle.std.specs.Prelude.{◌≡◌};
     ghost use Rattle.dmf_text.specs.Reading.{arc_kind};
@@ -100,4 +113,104 @@ pub struct ProblemFault {
     /// [`ProblemFaultKind::NoMemory`] has 0.
     pub line: u64,
     pub kind: ProblemFaultKind,
+}
+
+/// What is wrong with a line of a solution text, or with its end.
+#[derive(Clone, Copy, Debug, PartialEq, Eq, Error)]
+pub enum SolutionFaultKind {
+    /// The first field is not `s` or `f`, and does not begin with `c`.
+    #[error("unknown line")]
+    UnknownLine,
+    /// The line has too few or too many fields.
+    #[error("wrong number of fields")]
+    FieldCount,
+    /// A byte of a number's field is no digit.
+    #[error("not a number")]
+    NotANumber,
+    /// A number is past 2^64 - 1.
+    #[error("number too large")]
+    TooLarge,
+    /// The network has no arc of this tail and head.
+    #[error("no such arc")]
+    NoSuchPair,
+    /// The flows from this tail to this head up to this line are more than the capacities of the arcs together.
+    #[error("over capacity")]
+    OverCapacity,
+    /// A value line comes after the value line.
+    #[error("second value line")]
+    SecondValue,
+    /// The text has no value line.
+    #[error("value line missing")]
+    ValueMissing,
+    /// At this node, neither source nor sink, outflow and inflow differ. It is the least such node.
+    #[error("flow not conserved at node {0}")]
+    NotConserved(u32),
+    /// The value of the flow is not that of the value line.
+    #[error("value differs")]
+    ValueDiffers,
+    /// A request for memory was refused.
+    #[error("no memory")]
+    NoMemory,
+}
+
+impl From<NumberFault> for SolutionFaultKind {
+    ghost use Rattle.std.specs.Prelude.{◌≡◌};
+    ghost use Rattle.dmf_text.specs.Solution.{number_fault};
+
+    ghost from_gives = { λ fault kind. kind ≡ number_fault fault };
+
+    fn from(fault: NumberFault) -> SolutionFaultKind {
+        match fault {
+            NumberFault::NotANumber => SolutionFaultKind::NotANumber,
+            NumberFault::TooLarge => SolutionFaultKind::TooLarge,
+        }
+    }
+}
+
+impl From<WrongFieldCount> for SolutionFaultKind {
+    ghost use Rattle.std.specs.Prelude.{◌≡◌};
+    ghost use Rattle.dmf_text.specs.declared.fault.SolutionFaultKind.TheVariants.{FieldCount};
+
+    ghost from_gives = { λ _ kind. kind ≡ FieldCount };
+
+    fn from(_count: WrongFieldCount) -> SolutionFaultKind {
+        SolutionFaultKind::FieldCount
+    }
+}
+
+impl From<FlowFault> for SolutionFaultKind {
+    ghost use Rattle.std.specs.Prelude.{◌≡◌};
+    ghost use Rattle.dmf_text.specs.SolutionReading.{flow_kind};
+
+    ghost from_gives = { λ fault kind. kind ≡ flow_kind fault };
+
+    fn from(fault: FlowFault) -> SolutionFaultKind {
+        match fault {
+            FlowFault::OverCapacity(_) => SolutionFaultKind::OverCapacity,
+            FlowFault::NotConserved(node) => SolutionFaultKind::NotConserved(node),
+            FlowFault::Negative => SolutionFaultKind::ValueDiffers,
+            FlowFault::NoMemory => SolutionFaultKind::NoMemory,
+        }
+    }
+}
+
+impl From<AllocError> for SolutionFaultKind {
+    ghost use Rattle.std.specs.Prelude.{◌≡◌};
+    ghost use Rattle.dmf_text.specs.declared.fault.SolutionFaultKind.TheVariants.{NoMemory};
+
+    ghost from_gives = { λ _ kind. kind ≡ NoMemory };
+
+    fn from(_error: AllocError) -> SolutionFaultKind {
+        SolutionFaultKind::NoMemory
+    }
+}
+
+/// The first fault of a solution text.
+#[derive(Clone, Copy, Debug, PartialEq, Eq, Error)]
+#[error("line {line}: {kind}")]
+pub struct SolutionFault {
+    /// The number of the line, from 1. A fault of the end has the number of lines plus one, and
+    /// [`SolutionFaultKind::NoMemory`] has 0.
+    pub line: u64,
+    pub kind: SolutionFaultKind,
 }

@@ -7,11 +7,14 @@ mod fault;
 mod field;
 mod line;
 mod line_buffer;
+mod pairs;
 mod problem;
 #[cfg(test)]
 mod problem_tests;
 mod reader;
 mod reading;
+mod solution;
+mod solution_reading;
 mod terminal;
 #[cfg(test)]
 mod tests;
@@ -19,11 +22,12 @@ mod writer;
 mod written;
 
 pub use digits::{NumberFault, number};
-pub use fault::{ProblemFault, ProblemFaultKind};
+pub use fault::{ProblemFault, ProblemFaultKind, SolutionFault, SolutionFaultKind};
 pub use field::Fields;
 pub use line::Lines;
 pub use line_buffer::LineBuffer;
 pub use problem::read_problem;
 pub use reader::{Failed, Source, StdSource};
+pub use solution::read_solution;
 pub use writer::{Sink, StdSink, WriteFault, put_all};
 pub use written::{write_cut, write_problem, write_solution};

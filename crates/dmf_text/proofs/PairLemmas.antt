@@ -1,0 +1,195 @@
+-- Lemmas on the pairs of arcs, and on what a map keeps of them.
+use Rattle.std.proofs.Common.{◌≡◌, ℕ, zero, suc, ◌+◌, ◌-◌, ◌<◌, ◌≤◌, min, List, [], ◌∷◌, ◌++◌, length, take, drop, get_or, Bool, true, false, ◌||◌, if◌then◌else◌, Option, Some, None, is_some, Ok, Err, refl, sym, ap, ◌∙◌, subst, ⊎_elim, arith, drop-cons}
+use Rattle.std.proofs.lemmas.Bool.{cases_Bool, cond-true, cond-false, and_parts, and_from, eqb-true, eq-eqb, le-leb, lt-leb}
+use Rattle.std.proofs.lemmas.List.{take_more}
+use Rattle.std.proofs.lemmas.List.Folds.{list_any-append}
+use Rattle.std.proofs.lemmas.List.Sums.{sum_by-append, sum_by-cons, sum_by_more_le_part}
+use Rattle.std.specs.HashMap.{HashMap, get, IsEmpty, Updates}
+use Rattle.std.specs.List.{slice_get}
+use Rattle.dmf_net.specs.declared.arc.Arc.{Arc}
+use Rattle.dmf_net.specs.Arc.{no_arc, capacity_sum}
+use Rattle.dmf_text.specs.declared.fault.SolutionFaultKind.{SolutionFaultKind}
+use Rattle.dmf_text.specs.declared.pairs.PairFlow.{PairFlow}
+use Rattle.dmf_text.specs.Solution.{Pair, same_pair, ends, has_pair, pair_capacity, pair_flow, Said, flow_fits, put_behind}
+use Rattle.dmf_text.specs.SolutionReading.{cap_of, flow_of, KeepsPairs, AddsFlow, CannotAdd}
+
+-- ---- pairs
+
+pub same-is : (p q : Pair) → same_pair p q ≡ true → p ≡ q
+same-is p q same = let parts = and_parts _ _ same in λ i. (eqb-true p.0 q.0 parts.0 i, eqb-true p.1 q.1 parts.1 i)
+
+pub same-self : (p : Pair) → same_pair p p ≡ true
+same-self p = and_from _ _ (eq-eqb p.0 p.0 refl) (eq-eqb p.1 p.1 refl)
+
+or-last : (b : Bool) → (b || (true || false)) ≡ true
+or-last true = refl
+or-last false = refl
+
+or-none : (b : Bool) → (b || (false || false)) ≡ b
+or-none true = refl
+or-none false = refl
+
+-- one more arc
+module _ (arcs : List Arc) (arc : Arc) where
+  has-more : (pair : Pair) → has_pair (arcs ++ arc ∷ []) pair ≡ (has_pair arcs pair || (same_pair (ends arc) pair || false))
+  has-more pair = list_any-append (λ a. same_pair (ends a) pair) arcs (arc ∷ [])
+
+  pub capacity-more : (pair : Pair) → pair_capacity (arcs ++ arc ∷ []) pair ≡ pair_capacity arcs pair + (if same_pair (ends arc) pair then arc.cap else 0)
+  capacity-more pair =
+      let cap : Arc → ℕ = λ a. if same_pair (ends a) pair then a.cap else 0 in
+      let joined = sum_by-append cap arcs (arc ∷ []) in
+      let one = sum_by-cons cap arc [] in
+      omega (arith, joined, one)
+
+-- one more line
+flow-more : (flows : List (Pair × ℕ)) (pair : Pair) (flow : ℕ) (q : Pair)
+    → pair_flow (flows ++ (pair, flow) ∷ []) q ≡ pair_flow flows q + (if same_pair pair q then flow else 0)
+flow-more flows pair flow q =
+    let part : Pair × ℕ → ℕ = λ said. if same_pair said.0 q then said.1 else 0 in
+    let joined = sum_by-append part flows ((pair, flow) ∷ []) in
+    let one = sum_by-cons part (pair, flow) [] in
+    omega (arith, joined, one)
+
+bad-at : (arcs : List Arc) (said : Said) (pair : Pair) (flow : ℕ) (kind : SolutionFaultKind) (known : Option PairFlow)
+    → is_some known ≡ has_pair arcs pair → cap_of known ≡ pair_capacity arcs pair → flow_of known ≡ pair_flow said.flows pair
+    → CannotAdd known flow kind → flow_fits arcs said pair flow ≡ Err kind
+bad-at arcs said pair flow kind None has cap before cannot = rw (sym has) (ap (λ k. Err k) (sym cannot))
+bad-at arcs said pair flow kind (Some known) has cap before cannot =
+    let over = cannot.0 in
+    let past : pair_capacity arcs pair < pair_flow said.flows pair + flow = omega (arith, cap, before, over) in
+    rw (sym has, lt-leb (pair_flow said.flows pair + flow) (pair_capacity arcs pair) past) (ap (λ k. Err k) (sym cannot.1))
+
+-- ---- what a map keeps
+
+module _ {S : Type 0} where
+  pub keeps-none : (pairs : HashMap Pair PairFlow S) → IsEmpty pairs → KeepsPairs [] (λ _. 0) pairs
+  keeps-none pairs empty = record {
+    there = λ pair. rw empty refl;
+    caps = λ pair. rw empty refl;
+    flows = λ pair. rw empty refl;
+  }
+
+  module _ (arcs later : List Arc) (flow more : Pair → ℕ) (old new : HashMap Pair PairFlow S) (pair : Pair) (known : PairFlow)
+      (kept : KeepsPairs arcs flow old) (updates : Updates same_pair old new pair (Some known)) where
+    -- A pair's entry is changed, and nothing else differs.
+    pub keeps-updated : has_pair later pair ≡ true → known.cap ≡ pair_capacity later pair → known.flow ≡ more pair
+        → ((q : Pair) → same_pair pair q ≡ false → has_pair arcs q ≡ has_pair later q)
+        → ((q : Pair) → same_pair pair q ≡ false → pair_capacity arcs q ≡ pair_capacity later q)
+        → ((q : Pair) → same_pair pair q ≡ false → flow q ≡ more q)
+        → KeepsPairs later more new
+    keeps-updated has cap flows has-others cap-others flow-others = record {
+      there = λ q. ⊎_elim
+          (λ here. subst (λ p. is_some (get same_pair new p) ≡ has_pair later p) (same-is pair q here) (ap is_some updates.1 ∙ sym has))
+          (λ other. ap is_some (updates.2 q other) ∙ kept.there q ∙ has-others q other)
+          (cases_Bool (same_pair pair q));
+      caps = λ q. ⊎_elim
+          (λ here. subst (λ p. cap_of (get same_pair new p) ≡ pair_capacity later p) (same-is pair q here) (ap cap_of updates.1 ∙ cap))
+          (λ other. ap cap_of (updates.2 q other) ∙ kept.caps q ∙ cap-others q other)
+          (cases_Bool (same_pair pair q));
+      flows = λ q. ⊎_elim
+          (λ here. subst (λ p. flow_of (get same_pair new p) ≡ more p) (same-is pair q here) (ap flow_of updates.1 ∙ flows))
+          (λ other. ap flow_of (updates.2 q other) ∙ kept.flows q ∙ flow-others q other)
+          (cases_Bool (same_pair pair q));
+    }
+
+  -- One arc more is counted.
+  pub keeps-more : (arcs : List Arc) (arc : Arc) (cap : ℕ) (old new : HashMap Pair PairFlow S) → KeepsPairs arcs (λ _. 0) old
+      → cap ≡ cap_of (get same_pair old (ends arc)) + arc.cap
+      → Updates same_pair old new (ends arc) (Some (record { cap = cap; flow = 0 }))
+      → KeepsPairs (arcs ++ arc ∷ []) (λ _. 0) new
+  keeps-more arcs arc cap old new kept is updates =
+      let pair = ends arc in
+      let count = capacity-more arcs arc pair in
+      let full : (if same_pair pair pair then arc.cap else 0) ≡ arc.cap = cond-true _ _ _ (same-self pair) in
+      let before = kept.caps pair in
+      keeps-updated arcs (arcs ++ arc ∷ []) (λ _. 0) (λ _. 0) old new pair (record { cap = cap; flow = 0 }) kept updates
+      (has-more arcs arc pair ∙ ap (λ b. has_pair arcs pair || (b || false)) (same-self pair) ∙ or-last (has_pair arcs pair))
+      (omega (arith, is, count, full, before))
+      refl
+      (λ q other. sym (has-more arcs arc q ∙ ap (λ b. has_pair arcs q || (b || false)) other ∙ or-none (has_pair arcs q)))
+      (λ q other. let more = capacity-more arcs arc q in
+      let none : (if same_pair pair q then arc.cap else 0) ≡ 0 = cond-false _ _ _ other in
+      omega (arith, more, none))
+      (λ q other. refl)
+
+  -- A flow is added to that of its pair.
+  pub keeps-added : (arcs : List Arc) (flows : List (Pair × ℕ)) (old new : HashMap Pair PairFlow S) (pair : Pair) (flow : ℕ)
+      → KeepsPairs arcs (pair_flow flows) old → AddsFlow old pair flow new → KeepsPairs arcs (pair_flow (flows ++ (pair, flow) ∷ [])) new
+  keeps-added arcs flows old new pair flow kept added =
+      let known = added.known in
+      let cap : known.cap ≡ pair_capacity arcs pair = sym (ap cap_of added.is_there) ∙ kept.caps pair in
+      let before : known.flow ≡ pair_flow flows pair = sym (ap flow_of added.is_there) ∙ kept.flows pair in
+      let count = flow-more flows pair flow pair in
+      let full : (if same_pair pair pair then flow else 0) ≡ flow = cond-true _ _ _ (same-self pair) in
+      keeps-updated arcs arcs (pair_flow flows) (pair_flow (flows ++ (pair, flow) ∷ [])) old new pair (record { cap = known.cap; flow = known.flow + flow })
+      kept added.updates
+      (sym (kept.there pair) ∙ ap is_some added.is_there)
+      cap
+      (omega (arith, before, count, full))
+      (λ q other. refl)
+      (λ q other. refl)
+      (λ q other. let more = flow-more flows pair flow q in
+      let none : (if same_pair pair q then flow else 0) ≡ 0 = cond-false _ _ _ other in
+      omega (arith, more, none))
+
+  -- The judgement of a flow that was added.
+  pub fits-good : (arcs : List Arc) (said : Said) (old new : HashMap Pair PairFlow S) (pair : Pair) (flow : ℕ)
+      → KeepsPairs arcs (pair_flow said.flows) old → AddsFlow old pair flow new → flow_fits arcs said pair flow ≡ Ok tt
+  fits-good arcs said old new pair flow kept added =
+      let known = added.known in
+      let has : has_pair arcs pair ≡ true = sym (kept.there pair) ∙ ap is_some added.is_there in
+      let cap : known.cap ≡ pair_capacity arcs pair = sym (ap cap_of added.is_there) ∙ kept.caps pair in
+      let before : known.flow ≡ pair_flow said.flows pair = sym (ap flow_of added.is_there) ∙ kept.flows pair in
+      let fits = added.fits in
+      let room : pair_flow said.flows pair + flow ≤ pair_capacity arcs pair = omega (arith, cap, before, fits) in
+      rw (has, le-leb (pair_flow said.flows pair + flow) (pair_capacity arcs pair) room) refl
+
+  -- And of one that was not.
+  pub fits-bad : (arcs : List Arc) (said : Said) (old : HashMap Pair PairFlow S) (pair : Pair) (flow : ℕ) (kind : SolutionFaultKind)
+      → KeepsPairs arcs (pair_flow said.flows) old → CannotAdd (get same_pair old pair) flow kind → flow_fits arcs said pair flow ≡ Err kind
+  fits-bad arcs said old pair flow kind kept cannot =
+      bad-at arcs said pair flow kind (get same_pair old pair) (kept.there pair) (kept.caps pair) (kept.flows pair) cannot
+
+  -- What is counted of a pair and one arc more are within the capacities of all arcs.
+  pub capacity-fits : (arcs : List Arc) (i : ℕ) (old : HashMap Pair PairFlow S) → KeepsPairs (take i arcs) (λ _. 0) old → i < length arcs
+      → cap_of (get same_pair old (ends (get_or arcs i no_arc))) + (get_or arcs i no_arc).cap ≤ capacity_sum arcs
+  capacity-fits arcs i old kept below =
+      let arc = get_or arcs i no_arc in
+      let cap : Arc → ℕ = λ a. if same_pair (ends a) (ends arc) then a.cap else 0 in
+      let part : (a : Arc) → cap a ≤ a.cap = λ a. ⊎_elim
+      (λ here. let is : cap a ≡ a.cap = cond-true _ _ _ here in omega (arith, is))
+      (λ other. let is : cap a ≡ 0 = cond-false _ _ _ other in omega (arith, is))
+      (cases_Bool (same_pair (ends a) (ends arc))) in
+      let sums = sum_by_more_le_part cap (λ a. a.cap) arcs i no_arc below part in
+      let before = kept.caps (ends arc) in
+      omega (arith, sums, before)
+
+-- ---- what is put on the arcs
+
+-- that on one arc, and on those behind it
+pub put-more : (flows : List (Pair × ℕ)) (arcs : List Arc) (i : ℕ) (d : Arc) → i < length arcs → put_behind flows (take i arcs) (drop i arcs)
+    ≡ min (get_or arcs i d).cap (pair_flow flows (ends (get_or arcs i d)) - pair_capacity (take i arcs) (ends (get_or arcs i d)))
+    ∷ put_behind flows (take (i + 1) arcs) (drop (i + 1) arcs)
+put-more flows arcs i d below =
+    let next : suc i ≡ i + 1 = omega arith in
+    ap (put_behind flows (take i arcs)) (drop-cons arcs i d below)
+    ∙ ap (λ before. min (get_or arcs i d).cap (pair_flow flows (ends (get_or arcs i d)) - pair_capacity (take i arcs) (ends (get_or arcs i d)))
+    ∷ put_behind flows before (drop (suc i) arcs)) (sym (take_more arcs i d below))
+    ∙ ap (λ k. min (get_or arcs i d).cap (pair_flow flows (ends (get_or arcs i d)) - pair_capacity (take i arcs) (ends (get_or arcs i d)))
+    ∷ put_behind flows (take (i + 1) arcs) (drop k arcs)) next
+
+-- there is one for each arc
+pub put-long : (flows : List (Pair × ℕ)) (before arcs : List Arc) → length (put_behind flows before arcs) ≡ length arcs
+put-long flows before [] = refl
+put-long flows before (arc ∷ more) = ap (λ n. suc n) (put-long flows (before ++ arc ∷ []) more)
+
+-- and it is within the arc's capacity
+pub put-within : (flows : List (Pair × ℕ)) (before arcs : List Arc) (k : ℕ) (arc : Arc) (flow : ℕ)
+    → slice_get arcs k ≡ Some arc → slice_get (put_behind flows before arcs) k ≡ Some flow → flow ≤ arc.cap
+put-within flows before [] k arc flow is put = absurd (let wrong : ⊥ = cc in wrong)
+put-within flows before (a ∷ more) zero arc flow is put =
+    let same : a ≡ arc = cc in
+    let least : min a.cap (pair_flow flows (ends a) - pair_capacity before (ends a)) ≡ flow = cc in
+    let cap = ap (λ b. b.cap) same in
+    omega (arith, least, cap)
+put-within flows before (a ∷ more) (suc k) arc flow is put = put-within flows (before ++ a ∷ []) more k arc flow is put

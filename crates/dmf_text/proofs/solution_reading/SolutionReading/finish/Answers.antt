@@ -1,0 +1,53 @@
+use Rattle.std.proofs.Common.{◌≡◌, ◌∙◌, ℕ, List, Ok, Err, inl, inr, pos, arith, sym, ap, subst, ⊎_elim}
+use Rattle.std.proofs.lemmas.Int.{ints}
+use Rattle.std.proofs.lemmas.Result.{err_from_is_err_and}
+use Rattle.dmf_net.specs.Flow.{flow_value, IsFlow}
+use Rattle.dmf_net.specs.FlowFault.{FlowFaultHolds}
+use Rattle.dmf_net.specs.NetworkState.{with_flows}
+use Rattle.dmf_text.specs.Solution.{Pair, pair_flow, put_on, Said}
+use Rattle.dmf_text.specs.SolutionReading.{KeepsPairs, Keeps}
+use Rattle.dmf_text.proofs.SolutionLemmas.{ended-refused, ended-differs, ended-good}
+use Rattle.dmf_text.proofs.solution_reading.SolutionReading.finish.Goals as goal
+use Rattle.dmf_text.proofs.solution_reading.SolutionReading.finish.Goals.{After-put_on}
+
+-- the flows are those that are put on the arcs of the network
+put-is : (c : After-put_on) (flows : List ℕ)
+    → ((said : List (Pair × ℕ)) → KeepsPairs c.arcs.result.now (pair_flow said) c.args.self.pairs → flows ≡ put_on said c.arcs.result.now)
+    → (said : Said) → Keeps c.args.state.now.network.arcs said c.args.self → flows ≡ put_on said.flows c.args.state.now.network.arcs
+put-is c flows put said kept =
+    put said.flows (subst (λ arcs. KeepsPairs arcs (pair_flow said.flows) c.args.self.pairs) (sym c.arcs.ensures.value) kept.pairs)
+    ∙ ap (put_on said.flows) c.arcs.ensures.value
+
+pub returns-in_err-solution : goal.returns-in_err-solution
+returns-in_err-solution c = λ said kept.
+    let state = c.args.state.now in
+    let put = put-is (goal.at.returns-in_err-solution c).After-put_on c.in_ok-flows.flows.items c.in_ok-flows.ensures.put said kept in
+    let failed = err_from_is_err_and c.from_residual-in_err-solution.result c.from_residual-in_err-solution.ensures.1 in
+    let why = c.in_err-solution.field-0.0 in
+    let holds = subst (λ flows. FlowFaultHolds state.network flows why) put c.in_err-solution.ensures.fault in
+    let told = failed.1 ∙ ap (λ kind. Err kind) failed.2 in
+    ⊎_elim (λ memory. inl (told ∙ ap (λ kind. Err kind) memory)) (λ end. inr (told ∙ end))
+    (ended-refused state said c.in-Some.value (sym kept.value ∙ c.in-Some.is) why holds)
+
+pub returns-then-value : goal.returns-then-value
+returns-then-value c = λ said kept.
+    let state = c.args.state.now in
+    let put = put-is (goal.at.returns-then-value c).After-put_on c.in_ok-flows.flows.items c.in_ok-flows.ensures.put said kept in
+    let is = c.in_ok-solution.ensures.ok in
+    let value = c.value.ensures.value ∙ ap (λ s. flow_value s.network s.flows) is in
+    let flow = c.in_ok-solution.ensures.state.flow in
+    inr (ended-differs state said c.in-Some.value (sym kept.value ∙ c.in-Some.is)
+    (subst (λ flows. IsFlow state.network flows) put flow)
+    (λ same. c.if-value.true (let equal : pos c.value.result ≡ pos c.in-Some.value = value ∙ ap (flow_value state.network) put ∙ same in omega (arith, ints, equal))))
+
+pub returns : goal.returns
+returns c = λ said kept.
+    let state = c.args.state.now in
+    let put = put-is (goal.at.returns c).After-put_on c.in_ok-flows.flows.items c.in_ok-flows.ensures.put said kept in
+    let is = c.in_ok-solution.ensures.ok in
+    let value = c.value.ensures.value ∙ ap (λ s. flow_value s.network s.flows) is in
+    let flow = c.in_ok-solution.ensures.state.flow in
+    inr (ap (λ s. Ok s) (is ∙ ap (λ flows. with_flows state flows) put)
+    ∙ ended-good state said c.in-Some.value (sym kept.value ∙ c.in-Some.is)
+    (subst (λ flows. IsFlow state.network flows) put flow)
+    (ap (flow_value state.network) (sym put) ∙ sym value ∙ ap (λ n. pos n) c.if-value.false))

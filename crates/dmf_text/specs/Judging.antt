@@ -1,0 +1,64 @@
+-- Texts that are judged line by line, each line by what the lines before it say, and then by their end.
+use Rattle.std.specs.Prelude.{ℕ, List, [], ◌∷◌, ◌++◌, ◌+◌, Bool, true, false, Option, None, unwrap_or, Result, Ok, Err, length, slice_get}
+use Rattle.std.specs.Option.{option_or}
+use Rattle.std.specs.Result.{result_unwrap_or}
+use Rattle.dmf_text.specs.declared.digits.NumberFault.{NumberFault}
+use Rattle.dmf_text.specs.Number.{number_of}
+
+-- ---- lines
+
+-- A line is a list of fields. Its first field tells its kind; the fields behind that are counted from 0.
+abbrev pub Line : Type 0
+Line = List (List ℕ)
+
+-- field i, nothing where there is none
+abbrev pub field : ℕ → List (List ℕ) → List ℕ
+field i behind = unwrap_or (slice_get behind i) []
+
+-- the number that field i spells, 0 where it spells none
+abbrev pub number_at : ℕ → List (List ℕ) → ℕ
+number_at i behind = result_unwrap_or (number_of (field i behind)) 0
+
+-- what the first line says that says it
+abbrev pub first_said : {X : Type 0} → (Line → Option X) → List Line → Option X
+first_said say [] = None
+first_said say (line ∷ more) = option_or (say line) (first_said say more)
+
+-- ---- judgements
+
+infixl 10 ◌>>=◌
+abbrev pub ◌>>=◌ : {A B E : Type 0} → Result A E → (A → Result B E) → Result B E
+(Ok x) >>= next = next x
+(Err e) >>= next = Err e
+
+infixl 10 ◌>>◌
+abbrev pub ◌>>◌ : {A B E : Type 0} → Result A E → Result B E → Result B E
+(Ok x) >> next = next
+(Err e) >> next = Err e
+
+-- the fault, unless the test holds
+abbrev pub expect : {Kind : Type 0} → Bool → Kind → Result (Unit {0}) Kind
+expect true kind = Ok tt
+expect false kind = Err kind
+
+-- a number, or why a field is none, as a fault of such a kind
+abbrev pub told : {Kind : Type 0} → (NumberFault → Kind) → Result ℕ NumberFault → Result ℕ Kind
+told kind_of (Ok n) = Ok n
+told kind_of (Err fault) = Err (kind_of fault)
+
+-- ---- what a text stands for
+
+-- what is judged, with the fault that a line with this number has where it has one of this kind
+abbrev pub at_line : {A Kind Fault : Type 0} → (ℕ → Kind → Fault) → ℕ → Result A Kind → Result A Fault
+at_line fault number (Ok x) = Ok x
+at_line fault number (Err kind) = Err (fault number kind)
+
+-- Lines say something together, a line is judged by what the lines before it say, and the end by what all say.
+module _ {Said Kind Fault A : Type 0} (said_by : List Line → Said) (judged : Said → Line → Result (Unit {0}) Kind)
+    (ended : Said → Result A Kind) (fault : ℕ → Kind → Fault) where
+  -- what a text stands for, of which `before` are the first lines, each good, and these are the others: the first
+  -- fault of a line, or that of the end, which has the number of lines plus one, or what the end gives
+  unfoldable pub outcome_after : List Line → List Line → Result A Fault
+  outcome_after before [] = at_line fault (length before + 1) (ended (said_by before))
+  outcome_after before (line ∷ more) =
+      at_line fault (length before + 1) (judged (said_by before) line) >> outcome_after (before ++ line ∷ []) more

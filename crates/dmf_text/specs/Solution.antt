@@ -1,0 +1,154 @@
+-- Solution texts, in the format of the First DIMACS Implementation Challenge (Problem Definitions and Specifications,
+-- 1990, maximum flow): which line is at fault, and what a text stands for, given the network that it speaks of.
+use Rattle.std.specs.Prelude.{ℕ, List, [], ◌∷◌, ◌++◌, ◌+◌, ◌-◌, ◌==◌, ◌&&◌, Bool, not, Option, Some, None, is_none, Result, Ok, Err, ok_or, if◌then◌else◌, length, map, codes, min, nat_eq, nat_le, pos, sum_by}
+use Rattle.std.specs.List.{filter_map, find, list_any, range_with_len, starts_with}
+use Rattle.std.specs.Ordering.{int_eq}
+use Rattle.std.specs.Str.{bytes_eq}
+use Rattle.std.specs.Str.Lines.{lines}
+use Rattle.dmf_net.specs.declared.arc.Arc.{Arc}
+use Rattle.dmf_net.specs.Network.{Network}
+use Rattle.dmf_net.specs.Flow.{outflow, inflow, flow_value}
+use Rattle.dmf_net.specs.NetworkState.{NetworkState, with_flows}
+use Rattle.dmf_text.specs.declared.digits.NumberFault.{NumberFault}
+use Rattle.dmf_text.specs.declared.digits.NumberFault.TheVariants as digits
+use Rattle.dmf_text.specs.declared.fault.SolutionFault.{SolutionFault}
+use Rattle.dmf_text.specs.declared.fault.SolutionFaultKind.{SolutionFaultKind}
+use Rattle.dmf_text.specs.declared.fault.SolutionFaultKind.TheVariants.{UnknownLine, FieldCount, NotANumber, TooLarge, NoSuchPair, OverCapacity, SecondValue, ValueMissing, NotConserved, ValueDiffers}
+use Rattle.dmf_text.specs.Fields.{fields}
+use Rattle.dmf_text.specs.Number.{number_of}
+use Rattle.dmf_text.specs.Judging.{Line, field, number_at, first_said, ◌>>=◌, ◌>>◌, expect, told, outcome_after}
+
+-- ---- pairs of nodes
+
+-- A pair is two numbers: a tail and a head. Arcs of the same pair are parallel.
+abbrev pub Pair : Type 0
+Pair = ℕ × ℕ
+
+abbrev pub same_pair : Pair → Pair → Bool
+same_pair p q = nat_eq p.0 q.0 && nat_eq p.1 q.1
+
+-- the pair of an arc
+abbrev pub ends : Arc → Pair
+ends arc = (arc.tail, arc.head)
+
+-- whether one of the arcs has the pair
+abbrev pub has_pair : List Arc → Pair → Bool
+has_pair arcs pair = list_any (λ arc. same_pair (ends arc) pair) arcs
+
+-- The capacities of the arcs of a pair together. That of a closed arc is 0, so it counts for nothing.
+abbrev pub pair_capacity : List Arc → Pair → ℕ
+pair_capacity arcs pair = sum_by (λ arc. if same_pair (ends arc) pair then arc.cap else 0) arcs
+
+-- ---- what good lines say
+
+-- `s VALUE`
+abbrev pub value_in : Line → Option ℕ
+value_in [] = None
+value_in (kind ∷ behind) = if bytes_eq kind (codes "s") then Some (number_at 0 behind) else None
+
+-- `f SRC DST FLOW`: so much flows on the arcs of the pair
+abbrev pub flow_in : Line → Option (Pair × ℕ)
+flow_in [] = None
+flow_in (kind ∷ behind) =
+    if bytes_eq kind (codes "f") then Some ((number_at 0 behind, number_at 1 behind), number_at 2 behind) else None
+
+-- what lines say together
+pub record Said : Type 0 where
+  pub value : Option ℕ
+  pub flows : List (Pair × ℕ)
+
+abbrev pub said_by : List Line → Said
+said_by lines = record { value = first_said value_in lines; flows = filter_map flow_in lines }
+
+-- the flows of all lines of a pair together
+abbrev pub pair_flow : List (Pair × ℕ) → Pair → ℕ
+pair_flow flows pair = sum_by (λ said. if same_pair said.0 pair then said.1 else 0) flows
+
+-- ---- the judgement of a line, given the arcs of the network and what the lines before it say
+
+-- why a field is no number, as the fault of a line
+abbrev pub number_fault : NumberFault → SolutionFaultKind
+number_fault digits.NotANumber = NotANumber
+number_fault digits.TooLarge = TooLarge
+
+-- the number that field i spells
+abbrev pub number_in : ℕ → List (List ℕ) → Result ℕ SolutionFaultKind
+number_in i behind = told number_fault (number_of (field i behind))
+
+-- `s`, and behind it `VALUE`
+unfoldable pub value_line : Said → List (List ℕ) → Result (Unit {0}) SolutionFaultKind
+value_line said behind = do
+  expect (is_none said.value) SecondValue
+  expect (length behind == 1) FieldCount
+  value ← number_in 0 behind
+  Ok tt
+
+-- so much more flows on the arcs of the pair
+abbrev pub flow_fits : List Arc → Said → Pair → ℕ → Result (Unit {0}) SolutionFaultKind
+flow_fits arcs said pair flow = do
+  expect (has_pair arcs pair) NoSuchPair
+  expect (nat_le (pair_flow said.flows pair + flow) (pair_capacity arcs pair)) OverCapacity
+
+-- `f`, and behind it `SRC DST FLOW`
+unfoldable pub flow_line : List Arc → Said → List (List ℕ) → Result (Unit {0}) SolutionFaultKind
+flow_line arcs said behind = do
+  expect (length behind == 3) FieldCount
+  tail ← number_in 0 behind
+  head ← number_in 1 behind
+  flow ← number_in 2 behind
+  flow_fits arcs said (tail, head) flow
+
+-- a line of any kind: a line without fields is blank and one whose first field begins with `c` is a comment, and
+-- these have no fault
+abbrev pub judged : List Arc → Said → Line → Result (Unit {0}) SolutionFaultKind
+judged arcs said [] = Ok tt
+judged arcs said (kind ∷ behind) =
+    if bytes_eq kind (codes "f") then flow_line arcs said behind
+    else if bytes_eq kind (codes "s") then value_line said behind
+    else if starts_with nat_eq kind (codes "c") then Ok tt
+    else Err UnknownLine
+
+-- ---- what a text stands for
+
+-- What flows on arcs that come behind others in the network. Of the flow of its pair an arc takes as much as its
+-- capacity allows of what is left by the arcs of the pair before it. Nothing is left where their capacities together
+-- are more than that flow: a difference of whole numbers is then 0.
+abbrev pub put_behind : List (Pair × ℕ) → List Arc → List Arc → List ℕ
+put_behind flows before [] = []
+put_behind flows before (arc ∷ more) =
+    min arc.cap (pair_flow flows (ends arc) - pair_capacity before (ends arc)) ∷ put_behind flows (before ++ arc ∷ []) more
+
+-- what flows on the arcs of a network
+abbrev pub put_on : List (Pair × ℕ) → List Arc → List ℕ
+put_on flows arcs = put_behind flows [] arcs
+
+-- whether outflow and inflow differ at a node other than the source and the sink
+abbrev pub is_unbalanced : Network → List ℕ → ℕ → Bool
+is_unbalanced n flows v =
+    (not (v == n.source) && not (v == n.sink)) && not (outflow n.arcs flows v == inflow n.arcs flows v)
+
+-- the least node, of the nodes 1 to the last, at which they differ
+abbrev pub first_unbalanced : Network → List ℕ → Option ℕ
+first_unbalanced n flows = find (is_unbalanced n flows) (range_with_len 1 n.nodes)
+
+-- the flow is conserved: there is no such node
+abbrev pub expect_none : Option ℕ → Result (Unit {0}) SolutionFaultKind
+expect_none None = Ok tt
+expect_none (Some node) = Err (NotConserved node)
+
+-- the end of a text, given what its lines say
+unfoldable pub ended : NetworkState → Said → Result NetworkState SolutionFaultKind
+ended s said = do
+  value ← ok_or said.value ValueMissing
+  expect_none (first_unbalanced s.network (put_on said.flows s.network.arcs))
+  expect (int_eq (flow_value s.network (put_on said.flows s.network.arcs)) (pos value)) ValueDiffers
+  Ok (with_flows s (put_on said.flows s.network.arcs))
+
+-- a fault of the line with this number
+abbrev pub solution_fault : ℕ → SolutionFaultKind → SolutionFault
+solution_fault number kind = record { line = number; kind = kind }
+
+-- what a solution text stands for, where this state has the network: the same network with the flows of the text
+abbrev pub solution_of : NetworkState → List ℕ → Result NetworkState SolutionFault
+solution_of s text =
+    outcome_after said_by (judged s.network.arcs) (ended s) solution_fault [] (map fields (lines text))

@@ -1,0 +1,68 @@
+-- What the reader of a solution text keeps of the network, and of the lines that it took.
+use Rattle.std.specs.Prelude.{ℕ, ◌≡◌, ◌+◌, ◌<◌, ◌≤◌, List, ◌++◌, Option, Some, None, is_some, Result, Ok, Err, MatchResult}
+use Rattle.std.specs.Option.{option_or, option_to_list}
+use Rattle.std.specs.HashMap.{HashMap, get, Updates}
+use Rattle.dmf_net.specs.declared.arc.Arc.{Arc}
+use Rattle.dmf_net.specs.declared.fault.FlowFault.{FlowFault}
+use Rattle.dmf_net.specs.declared.fault.FlowFault.TheVariants as flow
+use Rattle.dmf_text.specs.declared.fault.SolutionFault.{SolutionFault}
+use Rattle.dmf_text.specs.declared.fault.SolutionFaultKind.{SolutionFaultKind}
+use Rattle.dmf_text.specs.declared.fault.SolutionFaultKind.TheVariants.{NoSuchPair, OverCapacity, NotConserved, ValueDiffers, NoMemory}
+use Rattle.dmf_text.specs.declared.pairs.PairFlow.{PairFlow}
+use Rattle.dmf_text.specs.declared.solution_reading.SolutionReading.{SolutionReading}
+use Rattle.dmf_text.specs.Judging.{Line}
+use Rattle.dmf_text.specs.Solution.{Pair, same_pair, has_pair, pair_capacity, pair_flow, Said, value_in, flow_in}
+
+-- the fault of a text whose flows are not taken
+abbrev pub flow_kind : FlowFault → SolutionFaultKind
+flow_kind (flow.OverCapacity arc) = OverCapacity
+flow_kind (flow.NotConserved node) = NotConserved node
+flow_kind flow.Negative = ValueDiffers
+flow_kind flow.NoMemory = NoMemory
+
+abbrev pub solution_out_of_memory : SolutionFault
+solution_out_of_memory = record { line = 0; kind = NoMemory }
+
+-- what a map has of a pair: a capacity and a flow, 0 where it has none
+abbrev pub cap_of : Option PairFlow → ℕ
+cap_of None = 0
+cap_of (Some known) = known.cap
+
+abbrev pub flow_of : Option PairFlow → ℕ
+flow_of None = 0
+flow_of (Some known) = known.flow
+
+-- The map has just the pairs of these arcs, each with the capacities of its arcs together and with its flow.
+pub record KeepsPairs {S : Type 0} (arcs : List Arc) (flow : Pair → ℕ) (pairs : HashMap Pair PairFlow S) : Type 0 where
+  pub there : (pair : Pair) → is_some (get same_pair pairs pair) ≡ has_pair arcs pair
+  pub caps : (pair : Pair) → cap_of (get same_pair pairs pair) ≡ pair_capacity arcs pair
+  pub flows : (pair : Pair) → flow_of (get same_pair pairs pair) ≡ flow pair
+
+-- The flow was added to that of its pair, which has room for it.
+pub record AddsFlow {S : Type 0} (old : HashMap Pair PairFlow S) (pair : Pair) (flow : ℕ) (new : HashMap Pair PairFlow S) : Type 0 where
+  pub known : PairFlow
+  pub is_there : get same_pair old pair ≡ Some known
+  pub fits : known.flow + flow ≤ known.cap
+  pub updates : Updates same_pair old new pair (Some (record { cap = known.cap; flow = known.flow + flow }))
+
+-- why the flow was not added
+abbrev pub CannotAdd : Option PairFlow → ℕ → SolutionFaultKind → Type 0
+CannotAdd None flow kind = kind ≡ NoSuchPair
+CannotAdd (Some known) flow kind = (known.cap < known.flow + flow) × (kind ≡ OverCapacity)
+
+-- The reader has what is said of a network with these arcs.
+pub record Keeps (arcs : List Arc) (said : Said) (reading : SolutionReading) : Type 0 where
+  pub value : reading.value ≡ said.value
+  pub pairs : KeepsPairs arcs (pair_flow said.flows) reading.pairs
+
+-- what lines say, and one more line
+abbrev pub with_line : Said → Line → Said
+with_line said line = record {
+  value = option_or said.value (value_in line);
+  flows = said.flows ++ option_to_list (flow_in line);
+}
+
+-- The line was taken, of which this is the judgement, by a reader that had what was `said` before it; or its fault is told.
+abbrev pub TakesLine : List Arc → Said → Line → Result (Unit {0}) SolutionFaultKind → SolutionReading → Result (Unit {0}) SolutionFaultKind → Type 0
+TakesLine arcs said line judgement now outcome =
+    MatchResult outcome (λ _. (judgement ≡ Ok tt) × Keeps arcs (with_line said line) now) (λ kind. judgement ≡ Err kind)

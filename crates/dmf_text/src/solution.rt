@@ -1,0 +1,48 @@
+//! Solution texts.
+ghost use Rattle.std.specs.Prelude.{◌≡◌, ◌⊎◌, IsErrOf};
+ghost use Rattle.dmf_text.specs.Solution.{solution_of};
+ghost use Rattle.dmf_text.specs.SolutionReading.{solution_out_of_memory};
+
+use crate::fault::{SolutionFault, SolutionFaultKind};
+use crate::line::Lines;
+use crate::solution_reading::SolutionReading;
+use dmf_net::State;
+use std::alloc::Global;
+
+/// Reads a solution text of a state's network, in the format of the First DIMACS Implementation Challenge (1990), maximum
+/// flow. The flow of the state plays no part.
+///
+/// The flows of all lines with the same tail and head are added up and put on the arcs from this tail to this head in
+/// order, each as far as its capacity allows. A text with a fault is told by the first one; want of memory may be told
+/// instead, with line 0.
+pub fn read_solution(alloc: Global, text: &[u8], state: &State) -> Result<State, SolutionFault>
+    ensures { IsErrOf result solution_out_of_memory ⊎ (result ≡ solution_of state.now text.now) }
+{
+    let Ok(mut reading) = SolutionReading::new(alloc, state) else {
+        return Err(fault_at(0, SolutionFaultKind::NoMemory));
+    };
+    let mut last = 0;
+    for (number, line) in Lines::new(text) {
+        if let Err(kind) = reading.take_line(line) {
+            return Err(fault_at(number, kind));
+        }
+        last = number;
+    }
+    match reading.finish(alloc, state) {
+        Ok(state) => Ok(state),
+        Err(kind) => Err(fault_at(last + 1, kind)),
+    }
+}
+
+// The fault of a line, or of no line where memory was refused.
+fn fault_at(line: u64, kind: SolutionFaultKind) -> SolutionFault
+    ensures memory { kind ≡ SolutionFaultKind.NoMemory → result ≡ solution_out_of_memory }
+    ensures told { (result ≡ solution_out_of_memory) ⊎ (result ≡ record { line = line; kind = kind }) }
+{
+    let line = if kind == SolutionFaultKind::NoMemory {
+        0
+    } else {
+        line
+    };
+    SolutionFault { line, kind }
+}
