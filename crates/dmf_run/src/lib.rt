@@ -7,6 +7,7 @@ pub use input::{MAX_BYTES, MAX_LINE};
 pub use refusal::refusal_text;
 pub use session::{MAX_LINES, run_commands, run_session};
 pub use solve::run_solve;
+pub use words::{Mode, WordsFault, read_words};
 
 mod command_line;
 mod fault;
@@ -16,3 +17,4 @@ mod refusal;
 mod reply;
 mod session;
 mod solve;
+mod words;
