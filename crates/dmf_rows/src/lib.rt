@@ -23,3 +23,5 @@ mod sessions;
 mod solving;
 #[cfg(test)]
 mod streams;
+#[cfg(test)]
+mod words;

@@ -1,0 +1,127 @@
+//! The words of the command line.
+use dmf_run::{Mode, WordsFault, read_words};
+use std::alloc::{AllocError, Global};
+use std::test::Fail;
+
+/// What the words behind the program's name ask for. They are given with one space between them.
+fn read(alloc: Global, line: &str) -> Result<Result<Mode, WordsFault>, AllocError> {
+    let mut words = Vec::new(alloc);
+    words.push(String::from_str(alloc, "bin/dmf")?)?;
+    for word in line.split_ascii_whitespace() {
+        words.push(String::from_str(alloc, word)?)?;
+    }
+    Ok(read_words(alloc, words))
+}
+
+fn session(alloc: Global, cut: bool, problem: &str) -> Result<Mode, AllocError> {
+    Ok(Mode::Session {
+        cut,
+        problem: String::from_str(alloc, problem)?,
+    })
+}
+
+#[test]
+fn words_ask_for_a_run(rt: HostRuntime) -> Result<(), Fail> {
+    let alloc = rt.alloc();
+    let check = Mode::Check {
+        problem: String::from_str(alloc, "P")?,
+    };
+    for (line, wanted) in [
+        ("", Mode::Solve { cut: false }),
+        ("solve", Mode::Solve { cut: false }),
+        ("solve --cut", Mode::Solve { cut: true }),
+        ("session P", session(alloc, false, "P")?),
+        ("session --cut P", session(alloc, true, "P")?),
+        ("session P --cut", session(alloc, true, "P")?),
+        ("session nets/day-1.max", session(alloc, false, "nets/day-1.max")?),
+        ("session -", session(alloc, false, "-")?),
+        ("session -- --cut", session(alloc, false, "--cut")?),
+        ("session solve", session(alloc, false, "solve")?),
+        ("check P", check),
+    ] {
+        let read = read(alloc, line)?;
+        assert!(rt; read == Ok(wanted), "{line}: {read:?}");
+    }
+    Ok(())
+}
+
+#[test]
+fn no_words_at_all_ask_for_solving(rt: HostRuntime) {
+    let alloc = rt.alloc();
+    let read = read_words(alloc, Vec::new(alloc));
+    assert!(rt; read == Ok(Mode::Solve { cut: false }));
+}
+
+#[test]
+fn words_are_refused_with_a_text(rt: HostRuntime) -> Result<(), Fail> {
+    let alloc = rt.alloc();
+    // What the words are, and what their text has.
+    for (line, part) in [
+        ("--cut", "unexpected argument '--cut' found"),
+        ("session", "<PROBLEM>"),
+        ("session --cut", "<PROBLEM>"),
+        ("check", "<PROBLEM>"),
+        ("solve P", "unexpected argument 'P' found"),
+        ("session P Q", "unexpected argument 'Q' found"),
+        ("check --cut P", "unexpected argument '--cut' found"),
+        ("check P Q", "unexpected argument 'Q' found"),
+        ("wash", "unrecognized subcommand 'wash'"),
+        ("Solve", "unrecognized subcommand 'Solve'"),
+        ("solve --cut --cut", "cannot be used multiple times"),
+        ("solve --cut=yes", "unexpected value 'yes' for '--cut' found"),
+        ("--version", "unexpected argument '--version' found"),
+    ] {
+        let Err(WordsFault::Usage(text)) = read(alloc, line)? else {
+            return Err(Fail::from(line));
+        };
+        assert!(rt; text.as_str().contains(part), "{line}: {text}");
+        assert!(rt; text.as_str().contains("Usage: dmf"), "{line}: {text}");
+    }
+    Ok(())
+}
+
+const HELP: &str = "Solve maximum-flow problems in the DIMACS format, and hold what-if sessions on them
+
+Usage: dmf [COMMAND]
+
+Commands:
+  solve    Solve the problem on standard input (without a command, dmf does so too)
+  session  Carry out the commands on standard input, on the problem in a file
+  check    Judge the solution on standard input, of the problem in a file
+  help     Print this message or the help of the given subcommand(s)
+
+Options:
+  -h, --help  Print help
+
+Status:
+  0  all is well
+  1  a command was refused, or the checked flow is not the greatest
+  2  the words are none that dmf takes
+  3  the problem or the solution has a fault
+  4  a read or a write failed, PROBLEM cannot be opened, or a limit of size was passed
+  5  a request for memory was refused
+";
+
+#[test]
+fn help_is_told(rt: HostRuntime) -> Result<(), Fail> {
+    let alloc = rt.alloc();
+    // What the words are, and what the text has.
+    for (line, part) in [
+        ("--help", HELP),
+        ("-h", HELP),
+        ("help", HELP),
+        ("solve --help", "Usage: dmf solve [OPTIONS]\n"),
+        ("solve --help", "--cut   Write the smallest minimum cut after the solution\n"),
+        ("session --help", "Usage: dmf session [OPTIONS] <PROBLEM>\n"),
+        ("session --help", "--cut   Write the smallest minimum cut after each solution\n"),
+        ("session --help", "  undo [K], redo [K]  "),
+        ("check --help", "Usage: dmf check <PROBLEM>\n"),
+        ("help check", "Usage: dmf check <PROBLEM>\n"),
+    ] {
+        let Err(WordsFault::Help(text)) = read(alloc, line)? else {
+            return Err(Fail::from(line));
+        };
+        assert!(rt; text.as_str().contains(part), "{line}: {text}");
+    }
+    Ok(())
+}
