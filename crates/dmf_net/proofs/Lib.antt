@@ -41,3 +41,4 @@ pub mod SmallestSide
 pub mod LargerFlow
 pub mod Ascending
 pub mod GreatestFlow
+pub mod SomeSide

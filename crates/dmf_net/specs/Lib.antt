@@ -15,3 +15,4 @@ pub mod Solve
 pub mod Drain
 pub mod Change
 pub mod Edit
+pub mod Laws

@@ -1,6 +1,7 @@
 ghost use Rattle.dmf_net.specs.Change.{HasOneOutcome, HasOutcome};
 ghost use Rattle.dmf_net.specs.Cut.{HasGreatestFlow, MaxFlowMinCut};
 ghost use Rattle.dmf_net.specs.Edit.{HasOneBefore};
+ghost use Rattle.dmf_net.specs.Laws.{HasSmallestSide, IsGreatestOrSurpassed, SolvedIsGreatest};
 ghost use Rattle.dmf_net.specs.Side.{HasOneSmallestSide};
 
 /// The law that an edit can be undone in one way alone: two states that it fits, and of which it makes the same
@@ -30,4 +31,19 @@ pub fn max_flow_min_cut()
 /// The law that a network has one smallest side: any two lists of nodes with a capacity that are one are the same.
 pub fn one_smallest_side()
     ensures { HasOneSmallestSide }
+{}
+
+/// The law that a network has a smallest side.
+pub fn a_smallest_side()
+    ensures { HasSmallestSide }
+{}
+
+/// The law that a flow is greatest, or some flow has a larger value.
+pub fn greatest_or_surpassed()
+    ensures { IsGreatestOrSurpassed }
+{}
+
+/// The law that the flow which solving makes of a state's is greatest.
+pub fn solved_is_greatest()
+    ensures { SolvedIsGreatest }
 {}

@@ -4,7 +4,10 @@
 pub use arc::Arc;
 pub use edit::{Edit, Move};
 pub use fault::{ArcFault, CutFault, FlowFault, NetFault, NoMemory, PlanFault};
-pub use laws::{an_outcome, max_flow_min_cut, one_outcome, one_smallest_side, one_state_before};
+pub use laws::{
+    a_smallest_side, an_outcome, greatest_or_surpassed, max_flow_min_cut, one_outcome,
+    one_smallest_side, one_state_before, solved_is_greatest,
+};
 pub use limits::{MAX_ARCS, MAX_NODES};
 pub use plan::{plan_add, plan_cap, plan_close, plan_solve};
 pub use side::{Side, side_after, smallest_side};
