@@ -1,3 +1,4 @@
 pub mod Moving
 pub mod Appending
 pub mod Optimal
+pub mod Answering

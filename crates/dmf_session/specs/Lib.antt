@@ -1,6 +1,7 @@
 pub mod Timeline
 pub mod Optimal
 pub mod Step
+pub mod Laws
 pub use Rattle.dmf_net.specs.NetworkState
 pub use Rattle.dmf_net.specs.Change
 pub use Rattle.dmf_net.specs.Edit

@@ -1,7 +1,10 @@
+ghost use Rattle.dmf_session.specs.Laws.{HasAnswer};
 ghost use Rattle.dmf_session.specs.Optimal.{GreatestIsOptimal};
 ghost use Rattle.dmf_session.specs.Step.{SolvedIsOptimal};
 
-use dmf_net::max_flow_min_cut;
+use dmf_net::{
+    a_smallest_side, an_outcome, greatest_or_surpassed, max_flow_min_cut, solved_is_greatest,
+};
 
 /// The law that a greatest flow has as its value the capacity of a least cut, and so that of the smallest side.
 pub fn greatest_is_optimal()
@@ -15,3 +18,14 @@ pub fn greatest_is_optimal()
 pub fn solved_is_optimal()
     ensures { SolvedIsOptimal }
 {}
+
+/// The law that each command has an answer which tells of no want of memory.
+pub fn an_answer()
+    ensures { HasAnswer }
+{
+    an_outcome();
+    solved_is_greatest();
+    max_flow_min_cut();
+    a_smallest_side();
+    greatest_or_surpassed();
+}

@@ -1,0 +1,223 @@
+-- Each command has an answer.
+use Rattle.std.proofs.Common.{ℕ, ◌≡◌, ◌≢◌, ◌+◌, ◌≤◌, List, length, take, Bool, true, false, cond, Option, Some, None, is_none, option_map, Result, Ok, Err, nat_le, refl, ap, ◌∙◌, subst, arith, ⊎_elim}
+use Rattle.std.proofs.lemmas.Bool.{leb-true}
+use Rattle.std.proofs.lemmas.List.{length_push, length-take-le}
+use Rattle.std.proofs.lemmas.List.Elements.{All-get_or, All-take, All-push}
+use Rattle.std.proofs.lemmas.Option.{slice_get_cases}
+use Rattle.dmf_net.specs.declared.fault.ArcFault.{ArcFault}
+use Rattle.dmf_net.specs.declared.fault.ArcFault.TheVariants as arc
+use Rattle.dmf_net.specs.declared.fault.PlanFault.{PlanFault}
+use Rattle.dmf_net.specs.declared.fault.PlanFault.TheVariants as plan
+use Rattle.dmf_net.specs.Network.{Network}
+use Rattle.dmf_net.specs.NetworkState.{NetworkState, IsState}
+use Rattle.dmf_net.specs.Change.{Change, change_fault, plan_fault, HasOutcome}
+use Rattle.dmf_net.specs.Change as change
+use Rattle.dmf_net.specs.Cut.{MaxFlowMinCut}
+use Rattle.dmf_net.specs.Greatest.{IsGreatest, IsSurpassed}
+use Rattle.dmf_net.specs.Side.{CutSide}
+use Rattle.dmf_net.specs.Laws.{HasSmallestSide, IsGreatestOrSurpassed, SolvedIsGreatest}
+use Rattle.dmf_session.specs.declared.command.Command.{Command}
+use Rattle.dmf_session.specs.declared.command.Command.TheVariants.{Cap, Add, Close, Solve, Undo, Redo, PrintProblem, PrintFlow, PrintCut}
+use Rattle.dmf_session.specs.declared.command.Reply.{Reply}
+use Rattle.dmf_session.specs.declared.command.Reply.TheVariants.{Value, Added, Solution, Problem, Flow, Cut}
+use Rattle.dmf_session.specs.declared.command.Refusal.{Refusal}
+use Rattle.dmf_session.specs.declared.command.Refusal.TheVariants.{NothingToUndo, NothingToRedo, NotGreatest, NoMemory}
+use Rattle.dmf_session.specs.Timeline.{Timeline, IsPresent, future_of, appended, back, forward}
+use Rattle.dmf_session.specs.Step.{Steps, Changes, IsChanged, IsRefused, IsMoved, IsSolved, IsSideWanted, refusal_of, value_of}
+use Rattle.dmf_session.specs.Laws.{HasStates, Answered, HasAnswer}
+use Rattle.dmf_session.proofs.Optimal.{greatest-optimal}
+
+-- what is so of networks
+pub record NetworkLaws : Type 0 where
+  pub outcome : HasOutcome
+  pub solved : SolvedIsGreatest
+  pub min_cut : MaxFlowMinCut
+  pub side : HasSmallestSide
+  pub greatest : IsGreatestOrSurpassed
+
+-- ---- timelines
+
+-- the state at the place
+pub record SomePresent (t : Timeline) : Type 0 where
+  pub state : NetworkState
+  pub present : IsPresent t state
+  pub is : IsState state
+
+-- Where the place is in the list there is a present state.
+pub some-present : (t : Timeline) → HasStates t → SomePresent t
+some-present t has = ⊎_elim
+    (λ found. record { state = found.0; present = found.2; is = subst IsState found.3 (All-get_or IsState t.states t.place found.0 found.1 has.states) })
+    (λ past. absurd (omega (arith, past.0, has.place)))
+    (slice_get_cases t.states t.place).1
+
+-- A state may be appended.
+HasStates-appended : (t : Timeline) (s : NetworkState) → HasStates t → IsState s → HasStates (appended t s)
+HasStates-appended t s has state =
+    let front : List NetworkState = take (t.place + 1) t.states in
+    record {
+      place = omega (arith, has.place, length_push front s, length-take-le (t.place + 1) t.states);
+      states = All-push IsState front s (All-take IsState (t.place + 1) t.states has.states) state;
+    }
+
+-- The place may be moved to another in the list.
+HasStates-back : (t : Timeline) (steps : ℕ) → HasStates t → HasStates (back t steps)
+HasStates-back t steps has = record { place = omega (arith, has.place); states = has.states }
+
+HasStates-forward : (t : Timeline) (steps : ℕ) → HasStates t → steps ≤ future_of t → HasStates (forward t steps)
+HasStates-forward t steps has within = record { place = omega (arith, has.place, within); states = has.states }
+
+-- ---- changes
+
+-- No change is refused for want of memory.
+close-fault : (has closed : Bool) → cond has (cond closed (Some plan.Closed) None) (Some plan.NoSuchArc) ≢ Some plan.NoMemory
+close-fault false closed e = cc
+close-fault true true e = cc
+close-fault true false e = cc
+
+cap-fault : (has closed small : Bool) → cond (is_none (cond has (cond closed (Some plan.Closed) None) (Some plan.NoSuchArc))) (cond small None (Some plan.SumTooLarge)) (cond has (cond closed (Some plan.Closed) None) (Some plan.NoSuchArc)) ≢ Some plan.NoMemory
+cap-fault false closed small e = cc
+cap-fault true true small e = cc
+cap-fault true false false e = cc
+cap-fault true false true e = cc
+
+add-fault : (f : Option ArcFault) → option_map plan_fault f ≢ Some plan.NoMemory
+add-fault None e = cc
+add-fault (Some arc.NoSuchNode) e = cc
+add-fault (Some arc.TooManyArcs) e = cc
+add-fault (Some arc.SumTooLarge) e = cc
+
+no-memory-fault : (s : NetworkState) (asked : Change) → change_fault s asked ≢ Some plan.NoMemory
+no-memory-fault s (change.Cap j cap) e = cap-fault _ _ _ e
+no-memory-fault s (change.Close j) e = close-fault _ _ e
+no-memory-fault s (change.Add tail head cap) e = add-fault _ e
+no-memory-fault s change.Solve e = cc
+
+-- A fault that is not want of memory refuses with something else.
+refusal-not-memory : (f : PlanFault) → f ≢ plan.NoMemory → refusal_of f ≢ NoMemory
+refusal-not-memory plan.NoMemory differs e = differs refl
+refusal-not-memory f differs e = cc
+
+-- A change that is asked of the state has an answer.
+record Changed (t : Timeline) (s : NetworkState) (asked : Change) (reply : NetworkState → Reply) : Type 0 where
+  result : Result Reply Refusal
+  after : Timeline
+  changes : Changes t s asked reply result after
+  memory : result ≢ Err NoMemory
+  has_states : HasStates after
+
+changed-by : HasOutcome → (t : Timeline) (s : NetworkState) (asked : Change) (reply : NetworkState → Reply) → HasStates t → IsState s → (fault : Option PlanFault) → change_fault s asked ≡ fault → Changed t s asked reply
+changed-by outcome t s asked reply has state None none =
+    let made = outcome s asked state none in
+    let is : IsChanged t s asked reply (Ok (reply made.after)) (appended t made.after) = record { new = made.after; becomes = made.becomes; told = refl; appends = refl } in
+    record {
+      result = Ok (reply made.after);
+      after = appended t made.after;
+      changes = rw none is;
+      memory = λ e. cc;
+      has_states = HasStates-appended t made.after has made.state;
+    }
+changed-by outcome t s asked reply has state (Some f) some =
+    let is : IsRefused t (refusal_of f) (Err (refusal_of f)) t = record { told = refl; unchanged = refl } in
+    record {
+      result = Err (refusal_of f);
+      after = t;
+      changes = rw some is;
+      memory = λ e. refusal-not-memory f (λ same. no-memory-fault s asked (some ∙ ap (λ x. Some x) same)) (cc);
+      has_states = has;
+    }
+
+changed : HasOutcome → (t : Timeline) (s : NetworkState) (asked : Change) (reply : NetworkState → Reply) → HasStates t → IsState s → Changed t s asked reply
+changed outcome t s asked reply has state = changed-by outcome t s asked reply has state (change_fault s asked) refl
+
+-- ---- solving
+
+-- a side, where one is wanted
+record SomeWanted (want_cut : Bool) (n : Network) : Type 0 where
+  side : Option CutSide
+  is : IsSideWanted want_cut n side
+
+wanted : HasSmallestSide → (want_cut : Bool) (s : NetworkState) → IsState s → SomeWanted want_cut s.network
+wanted law true s state = let some = law s.network state.network in record { side = Some some.0; is = some.1 }
+wanted law false s state = record { side = None; is = tt }
+
+solve-answered : NetworkLaws → (want_cut : Bool) (t : Timeline) → HasStates t → Answered want_cut t Solve
+solve-answered laws want_cut t has =
+    let s = some-present t has in
+    let made = laws.outcome s.state change.Solve s.is refl in
+    let some = wanted laws.side want_cut made.after made.state in
+    let is : IsSolved want_cut t s.state (Ok (Solution some.side)) (appended t made.after) = record {
+      new = made.after;
+      becomes = made.becomes;
+      optimal = greatest-optimal laws.min_cut made.after made.state (laws.solved s.state made.after s.is made.becomes);
+      side = some.side;
+      side_is = some.is;
+      told = refl;
+      appends = refl;
+    } in
+    record {
+      result = Ok (Solution some.side);
+      after = appended t made.after;
+      steps = (s.state, s.present, is);
+      memory = λ e. cc;
+      has_states = HasStates-appended t made.after has made.state;
+    }
+
+-- ---- steps back and forward
+
+-- A move to a place in the list tells the value of the state there.
+moved : (t : Timeline) (has : HasStates t) → IsMoved t (Ok (Value (value_of (some-present t has).state))) t
+moved t has = let s = some-present t has in record { state = s.state; present = s.present; told = refl; moves = refl }
+
+undo-by : (want_cut : Bool) (t : Timeline) (count : ℕ) → HasStates t → (b : Bool) → nat_le count t.place ≡ b → Answered want_cut t (Undo count)
+undo-by want_cut t count has true within =
+    let u = back t count in
+    let there = HasStates-back t count has in
+    record { result = Ok (Value (value_of (some-present u there).state)); after = u; steps = rw within (moved u there); memory = λ e. cc; has_states = there }
+undo-by want_cut t count has false past =
+    let is : IsRefused t NothingToUndo (Err NothingToUndo) t = record { told = refl; unchanged = refl } in
+    record { result = Err NothingToUndo; after = t; steps = rw past is; memory = λ e. cc; has_states = has }
+
+redo-by : (want_cut : Bool) (t : Timeline) (count : ℕ) → HasStates t → (b : Bool) → nat_le count (future_of t) ≡ b → Answered want_cut t (Redo count)
+redo-by want_cut t count has true within =
+    let u = forward t count in
+    let there = HasStates-forward t count has (leb-true count (future_of t) within) in
+    record { result = Ok (Value (value_of (some-present u there).state)); after = u; steps = rw within (moved u there); memory = λ e. cc; has_states = there }
+redo-by want_cut t count has false past =
+    let is : IsRefused t NothingToRedo (Err NothingToRedo) t = record { told = refl; unchanged = refl } in
+    record { result = Err NothingToRedo; after = t; steps = rw past is; memory = λ e. cc; has_states = has }
+
+-- ---- telling a cut
+
+cut-answered : NetworkLaws → (want_cut : Bool) (t : Timeline) → HasStates t → Answered want_cut t PrintCut
+cut-answered laws want_cut t has =
+    let s = some-present t has in
+    ⊎_elim
+    (λ (greatest : IsGreatest s.state.network s.state.flows).
+    let some = laws.side s.state.network s.is.network in
+    record { result = Ok (Cut some.0); after = t; steps = ((s.state, s.present, (greatest, some.1)), refl); memory = λ e. cc; has_states = has })
+    (λ (larger : IsSurpassed s.state.network s.state.flows).
+    record { result = Err NotGreatest; after = t; steps = ((s.state, s.present, larger), refl); memory = λ e. cc; has_states = has })
+    (laws.greatest s.state.network s.state.flows s.is.network s.is.flow)
+
+-- ---- each command
+
+-- An answer to a change.
+changed-answered : NetworkLaws → (want_cut : Bool) (t : Timeline) (command : Command) (asked : Change) (reply : NetworkState → Reply) → HasStates t
+    → ((result : Result Reply Refusal) (u : Timeline) → (s : NetworkState) × IsPresent t s × Changes t s asked reply result u → Steps want_cut t command result u) → Answered want_cut t command
+changed-answered laws want_cut t command asked reply has steps =
+    let s = some-present t has in
+    let made = changed laws.outcome t s.state asked reply has s.is in
+    record { result = made.result; after = made.after; steps = steps made.result made.after (s.state, s.present, made.changes); memory = made.memory; has_states = made.has_states }
+
+-- Each command has an answer.
+pub has-answer : NetworkLaws → HasAnswer
+has-answer laws want_cut t (Cap j cap) has = changed-answered laws want_cut t (Cap j cap) (change.Cap j cap) (λ new. Value (value_of new)) has (λ result u is. is)
+has-answer laws want_cut t (Add tail head cap) has =
+    changed-answered laws want_cut t (Add tail head cap) (change.Add tail head cap) (λ new. Added (length new.network.arcs) (value_of new)) has (λ result u is. is)
+has-answer laws want_cut t (Close j) has = changed-answered laws want_cut t (Close j) (change.Close j) (λ new. Value (value_of new)) has (λ result u is. is)
+has-answer laws want_cut t Solve has = solve-answered laws want_cut t has
+has-answer laws want_cut t (Undo count) has = undo-by want_cut t count has (nat_le count t.place) refl
+has-answer laws want_cut t (Redo count) has = redo-by want_cut t count has (nat_le count (future_of t)) refl
+has-answer laws want_cut t PrintProblem has = record { result = Ok Problem; after = t; steps = (refl, refl); memory = λ e. cc; has_states = has }
+has-answer laws want_cut t PrintFlow has = record { result = Ok Flow; after = t; steps = (refl, refl); memory = λ e. cc; has_states = has }
+has-answer laws want_cut t PrintCut has = cut-answered laws want_cut t has

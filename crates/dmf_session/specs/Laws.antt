@@ -1,0 +1,26 @@
+-- Each command has an answer.
+use Rattle.std.specs.Prelude.{◌≢◌, ◌<◌, length, All, Bool, Result, Err}
+use Rattle.dmf_net.specs.NetworkState.{IsState}
+use Rattle.dmf_session.specs.declared.command.Command.{Command}
+use Rattle.dmf_session.specs.declared.command.Reply.{Reply}
+use Rattle.dmf_session.specs.declared.command.Refusal.{Refusal}
+use Rattle.dmf_session.specs.declared.command.Refusal.TheVariants.{NoMemory}
+use Rattle.dmf_session.specs.Timeline.{Timeline}
+use Rattle.dmf_session.specs.Step.{Steps}
+
+-- The place is in the list, and what stands in the list are states.
+pub record HasStates (t : Timeline) : Type 0 where
+  pub place : t.place < length t.states
+  pub states : All IsState t.states
+
+-- An answer to the command: a result, which tells of no want of memory, and a timeline after it, which has states again.
+pub record Answered (want_cut : Bool) (t : Timeline) (command : Command) : Type 0 where
+  pub result : Result Reply Refusal
+  pub after : Timeline
+  pub steps : Steps want_cut t command result after
+  pub memory : result ≢ Err NoMemory
+  pub has_states : HasStates after
+
+-- Each command has an answer.
+abbrev pub HasAnswer : Type 0
+HasAnswer = (want_cut : Bool) (t : Timeline) (command : Command) → HasStates t → Answered want_cut t command
