@@ -1,6 +1,6 @@
 -- Every network has a smallest side, and every flow is greatest or surpassed.
 use Rattle.std.proofs.Common.{ℕ, zero, suc, ◌≡◌, ◌+◌, ◌-◌, List, [], ◌∷◌, ◌++◌, length, get_or, Bool, true, false, refl, ap, sym, ◌∙◌, subst, arith, ⊎_elim, inl, inr}
-use Rattle.std.proofs.lemmas.Bool.{cases_eq}
+use Rattle.std.proofs.lemmas.Bool.{both_ways, cases_eq}
 use Rattle.std.proofs.lemmas.List.{get_or_append_left, get_or_push, length_push}
 use Rattle.dmf_net.specs.Node.{IsNode}
 use Rattle.dmf_net.specs.Network.{Network, IsNetwork}
@@ -12,7 +12,7 @@ use Rattle.dmf_net.specs.Path.{HasNoPath}
 use Rattle.dmf_net.specs.Residual.{residual_steps}
 use Rattle.dmf_net.specs.Change.{Solve}
 use Rattle.dmf_net.specs.Laws.{HasSmallestSide, IsGreatestOrSurpassed, SolvedIsGreatest}
-use Rattle.dmf_net.proofs.Ascending.{AreMarkedUpTo, marked-none, marked-skip, marked-push}
+use Rattle.dmf_net.proofs.Ascending.{AreMarkedUpTo, marked-skip, marked-push}
 use Rattle.dmf_net.proofs.Reached.{is_reached, AreReachedFrom-is_reached}
 use Rattle.dmf_net.proofs.MaxFlowMinCut.{AreReached, reached-capacity}
 use Rattle.dmf_net.proofs.SmallestSide.{IsSmallestSide-reached}
@@ -50,13 +50,23 @@ record Listed (marks : List Bool) (count : ℕ) : Type 0 where
   ids : List ℕ
   are : AreMarkedUpTo marks count ids
 
+-- none of no nodes
+none-listed : (marks : List Bool) → Listed marks 0
+none-listed marks = record {
+  ids = [];
+  are = record {
+    ascending = λ k h. absurd (omega (arith, h));
+    marked = λ v. (λ has. absurd (both_ways false refl has), λ is. absurd (omega (arith, is.0.from_one, is.0.to_last)));
+  };
+}
+
 -- one node more
 next-listed : (marks : List Bool) (count : ℕ) (mark : Bool) → get_or marks count false ≡ mark → Listed marks count → Listed marks (count + 1)
 next-listed marks count true is before = record { ids = before.ids ++ (count + 1) ∷ []; are = marked-push marks count before.ids is before.are }
 next-listed marks count false is before = record { ids = before.ids; are = marked-skip marks count before.ids is before.are }
 
 listed : (marks : List Bool) (count : ℕ) → Listed marks count
-listed marks zero = record { ids = []; are = marked-none marks [] refl }
+listed marks zero = none-listed marks
 listed marks (suc count) =
     let one_more : count + 1 ≡ suc count = omega arith in
     subst (λ k. Listed marks k) one_more (next-listed marks count (get_or marks count false) refl (listed marks count))
