@@ -5,3 +5,4 @@ pub mod LineLemmas
 pub mod Progress
 pub mod Endings
 pub mod SessionLemmas
+pub mod Running

@@ -3,6 +3,7 @@ pub mod RefusalText
 pub mod Pending
 pub mod Line
 pub mod Run
+pub mod Laws
 pub mod Input
 pub mod Outcome
 pub mod Session

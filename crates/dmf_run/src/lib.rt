@@ -4,6 +4,7 @@
 pub use command_line::read_command;
 pub use fault::{EngineFault, Status, status_of};
 pub use input::{MAX_BYTES, MAX_LINE};
+pub use laws::a_run;
 pub use refusal::refusal_text;
 pub use session::{MAX_LINES, run_commands, run_session};
 pub use solve::run_solve;
@@ -12,6 +13,7 @@ pub use words::{Mode, WordsFault, read_words};
 mod command_line;
 mod fault;
 mod input;
+mod laws;
 mod problem;
 mod refusal;
 mod reply;
