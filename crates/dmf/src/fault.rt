@@ -2,11 +2,14 @@ use dmf_run::EngineFault;
 use thiserror::Error;
 
 /// Why the program gives no answer.
-#[derive(Clone, Copy, Debug, PartialEq, Eq, Error)]
+#[derive(Debug, Drop, Error)]
 pub enum Fault {
-    /// The words are none that the program takes.
-    #[error("usage")]
-    Usage,
+    /// The words are none that the program takes, and this text says why.
+    #[error("{0}")]
+    Usage(String),
+    /// A word is no UTF-8, so that it cannot be read.
+    #[error("a word is not UTF-8")]
+    Words,
     /// The problem's file cannot be opened.
     #[error("cannot open the problem")]
     Open,

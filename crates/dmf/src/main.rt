@@ -1,30 +1,35 @@
-//! The program `dmf`: opens what a run needs, calls the run, and tells how it ended.
+//! The program `dmf`: reads its words, opens what a run needs, calls the run, and tells how it ended.
 #![tactic(auto)]
 
 mod fault;
 mod words;
 
-use dmf_run::{Status, run_session, run_solve, status_of};
+use dmf_run::{
+    EngineFault, Mode, Status, WordsFault, read_words, run_check, run_session, run_solve, status_of,
+};
 use dmf_text::{StdSink, StdSource};
 use fault::Fault;
 use std::fs::File;
 use std::io::BufWriter;
 use std::process::ExitCode;
-use words::Task;
 
 fn main(rt: HostRuntime) -> ExitCode {
     let outcome = run(&rt);
     if let Err(fault) = &outcome {
         // Where this cannot be told, the status still tells it.
-        let _ = eprintln!(rt; "dmf: {fault}");
+        let _ = tell(&rt, fault);
     }
     ExitCode::from(program_status(outcome))
 }
 
 fn run(rt: &HostRuntime) -> Result<Status, Fault> {
-    match words::read_task(rt)? {
-        Task::Solve { want_cut } => solve(rt, want_cut),
-        Task::Session { want_cut, path } => hold_session(rt, path.as_str(), want_cut),
+    match read_words(rt.alloc(), words::words(rt)?) {
+        Ok(Mode::Solve { cut }) => solve(rt, cut),
+        Ok(Mode::Session { cut, problem }) => hold_session(rt, problem.as_str(), cut),
+        Ok(Mode::Check { problem }) => check(rt, problem.as_str()),
+        Err(WordsFault::Help(text)) => help(rt, text.as_str()),
+        Err(WordsFault::Usage(text)) => Err(Fault::Usage(text)),
+        Err(WordsFault::NoMemory) => Err(Fault::NO_MEMORY),
     }
 }
 
@@ -53,12 +58,42 @@ fn hold_session(rt: &HostRuntime, path: &str, want_cut: bool) -> Result<Status, 
     run_session(rt.alloc(), &mut problem, &mut commands, &mut out, want_cut).map_err(Fault::Run)
 }
 
+/// Checks the solution on standard input of the problem in the file at the path.
+fn check(rt: &HostRuntime, path: &str) -> Result<Status, Fault> {
+    let Ok(file) = File::open(rt, path) else {
+        return Err(Fault::Open);
+    };
+    let Ok(writer) = BufWriter::new(rt.alloc(), rt.stdout()) else {
+        return Err(Fault::NO_MEMORY);
+    };
+    let mut problem = StdSource::new(file);
+    let mut solution = StdSource::new(rt.stdin());
+    let mut out = StdSink::new(writer);
+    run_check(rt.alloc(), &mut problem, &mut solution, &mut out).map_err(Fault::Run)
+}
+
+/// Writes the help that was asked for.
+fn help(rt: &HostRuntime, text: &str) -> Result<Status, Fault> {
+    match print!(rt; "{text}") {
+        Ok(()) => Ok(Status::Well),
+        Err(_) => Err(Fault::Run(EngineFault::Write)),
+    }
+}
+
+/// Tells a fault on standard error: that of the words by the text that says what is wrong with them.
+fn tell(rt: &HostRuntime, fault: &Fault) -> std::io::Result<()> {
+    match fault {
+        Fault::Usage(text) => eprint!(rt; "{text}"),
+        fault => eprintln!(rt; "dmf: {fault}"),
+    }
+}
+
 /// The status with which the program ends: 2 for words that it does not take, 4 where the problem cannot be opened,
 /// and else that of the run's end.
 fn program_status(outcome: Result<Status, Fault>) -> u8 {
     match outcome {
         Ok(status) => status_of(&Ok(status)),
-        Err(Fault::Usage) => 2,
+        Err(Fault::Usage(_) | Fault::Words) => 2,
         Err(Fault::Open) => 4,
         Err(Fault::Run(fault)) => status_of(&Err(fault)),
     }

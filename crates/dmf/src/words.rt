@@ -1,42 +1,17 @@
-//! The words of the command line.
+//! The words of the command line, as the system gives them.
 use crate::fault::Fault;
 use std::env;
 use std::io::ErrorKind;
 
-/// What the program is asked to do.
-#[derive(Debug, Drop)]
-pub enum Task {
-    /// Solve the problem on standard input: no words, or `solve`.
-    Solve {
-        /// Whether `--cut` stands behind `solve`.
-        want_cut: bool,
-    },
-    /// Hold a session: `session`.
-    Session {
-        /// Whether `--cut` stands directly behind `session`.
-        want_cut: bool,
-        /// The path of the problem's file, which is the last word.
-        path: String,
-    },
-}
-
-/// What the words ask for. All words but those of a [`Task`] are refused.
-pub fn read_task(rt: &HostRuntime) -> Result<Task, Fault> {
-    let mut words = match env::args(rt) {
+/// The words, of which the first is the program's name.
+pub fn words(rt: &HostRuntime) -> Result<Vec<String>, Fault> {
+    let words = match env::args(rt) {
         Ok(words) => words,
         Err(error) => return Err(fault_of(error.kind())),
     };
-    let _program = words.next();
-    let Some(run) = words.next() else {
-        return Ok(Task::Solve { want_cut: false });
-    };
-    let second = words.next();
-    let want_cut = matches!(&second, Some(word) if word.as_str() == "--cut");
-    let next = if want_cut { words.next() } else { second };
-    match (run.as_str(), next, words.next()) {
-        ("solve", None, _) => Ok(Task::Solve { want_cut }),
-        ("session", Some(path), None) => Ok(Task::Session { want_cut, path }),
-        _ => Err(Fault::Usage),
+    match words.collect(rt.alloc()) {
+        Ok(words) => Ok(words),
+        Err(_) => Err(Fault::NO_MEMORY),
     }
 }
 
@@ -45,6 +20,6 @@ fn fault_of(kind: ErrorKind) -> Fault {
     if kind == ErrorKind::OutOfMemory {
         Fault::NO_MEMORY
     } else {
-        Fault::Usage
+        Fault::Words
     }
 }

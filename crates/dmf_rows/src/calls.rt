@@ -2,7 +2,7 @@
 use crate::streams::Outcome;
 use dmf_run::{EngineFault, Status, read_command, refusal_text, status_of};
 use dmf_session::{Command, Refusal};
-use dmf_text::{ProblemFault, ProblemFaultKind};
+use dmf_text::{ProblemFault, ProblemFaultKind, SolutionFault, SolutionFaultKind};
 use std::test::Fail;
 
 /// A problem fault as a run tells it.
@@ -122,10 +122,16 @@ fn refusals_have_texts(rt: HostRuntime) {
 #[test]
 fn outcomes_have_statuses(rt: HostRuntime) {
     let fault = problem_fault(5, ProblemFaultKind::SumTooLarge);
-    let table: [(Outcome, u8); 7] = [
+    let solution_fault = SolutionFault {
+        line: 2,
+        kind: SolutionFaultKind::NoSuchPair,
+    };
+    let table: [(Outcome, u8); 9] = [
         (Ok(Status::Well), 0),
         (Ok(Status::SomeRefused), 1),
+        (Ok(Status::NotGreatest), 1),
         (Err(fault), 3),
+        (Err(EngineFault::Solution(solution_fault)), 3),
         (Err(EngineFault::Read), 4),
         (Err(EngineFault::Write), 4),
         (Err(EngineFault::TooMuchInput), 4),

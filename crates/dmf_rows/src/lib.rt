@@ -4,6 +4,8 @@
 #[cfg(test)]
 mod calls;
 #[cfg(test)]
+mod checking;
+#[cfg(test)]
 mod cutting;
 #[cfg(test)]
 mod draining;

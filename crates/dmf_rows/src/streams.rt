@@ -1,5 +1,5 @@
 //! Readers and writers that are slow, or fail.
-use dmf_run::{EngineFault, Status, run_session, run_solve};
+use dmf_run::{EngineFault, Status, run_check, run_session, run_solve};
 use dmf_text::{StdSink, StdSource};
 use std::alloc::Global;
 use std::io;
@@ -75,6 +75,26 @@ pub fn solve_with_cut<P: Read + Drop, W: Write + Drop>(
         &mut StdSource::new(problem),
         &mut StdSink::new(writer),
         true,
+    )
+}
+
+/// Checks a solution over memory, and adds what is written to `written`.
+pub fn check(alloc: Global, problem: &[u8], solution: &[u8], written: &mut Vec<u8>) -> Outcome {
+    check_over(alloc, problem, solution, written)
+}
+
+/// Checks a solution over any readers and writer.
+pub fn check_over<P: Read + Drop, C: Read + Drop, W: Write + Drop>(
+    alloc: Global,
+    problem: P,
+    solution: C,
+    writer: W,
+) -> Outcome {
+    run_check(
+        alloc,
+        &mut StdSource::new(problem),
+        &mut StdSource::new(solution),
+        &mut StdSink::new(writer),
     )
 }
 

@@ -165,6 +165,7 @@ RunsCommands-refused want_cut t before now then held holds number u is_refused f
 RunsCommands-refused want_cut t before now then held holds number u is_refused fault.TooMuchInput few p gave = RunsCommands-bytes want_cut t before now then held holds number u is_refused gave.0 few p gave.1 gave.2 gave.3
 RunsCommands-refused want_cut t before now then held holds number u is_refused fault.Write few p gave = absurd gave
 RunsCommands-refused want_cut t before now then held holds number u is_refused (fault.Problem f) few p gave = absurd gave
+RunsCommands-refused want_cut t before now then held holds number u is_refused (fault.Solution f) few p gave = absurd gave
 RunsCommands-refused want_cut t before now then held holds number u is_refused fault.NoMemory few p gave = absurd gave
 
 -- asking for the end was refused
@@ -174,6 +175,7 @@ RunsCommands-past want_cut t before now then held holds u is_refused fault.Read 
 RunsCommands-past want_cut t before now then held holds u is_refused fault.TooMuchInput p gave = RunsCommands-lines want_cut t before now then held holds u is_refused gave.0 p gave.1 gave.2 gave.3 gave.4
 RunsCommands-past want_cut t before now then held holds u is_refused fault.Write p gave = absurd gave
 RunsCommands-past want_cut t before now then held holds u is_refused (fault.Problem f) p gave = absurd gave
+RunsCommands-past want_cut t before now then held holds u is_refused (fault.Solution f) p gave = absurd gave
 RunsCommands-past want_cut t before now then held holds u is_refused fault.NoMemory p gave = absurd gave
 
 -- the rest is a line that no line feed ended

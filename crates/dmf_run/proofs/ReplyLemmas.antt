@@ -5,6 +5,10 @@ use Rattle.std.proofs.KnownBytes.{Appends-trans}
 use Rattle.dmf_text.specs.Writing.{Writes}
 use Rattle.dmf_text.specs.Written.{written_line}
 
+pub line-of_three : (x y z : List ℕ) → written_line (x ∷ y ∷ z ∷ []) ≡ x ++ (32 ∷ (y ++ (32 ∷ (z ++ 10 ∷ []))))
+unfolding written_line
+line-of_three x y z = simp append_assoc
+
 pub line-of_four : (w x y z : List ℕ) → written_line (w ∷ x ∷ y ∷ z ∷ []) ≡ w ++ (32 ∷ (x ++ (32 ∷ (y ++ (32 ∷ (z ++ 10 ∷ []))))))
 unfolding written_line
 line-of_four w x y z = simp append_assoc

@@ -11,5 +11,6 @@ answered-by_run want_cut from to old new text (Ok status) r = r
 answered-by_run want_cut from to old new text (Err fault.Read) r = inr r
 answered-by_run want_cut from to old new text (Err fault.Write) r = r
 answered-by_run want_cut from to old new text (Err (fault.Problem f)) r = inr r
+answered-by_run want_cut from to old new text (Err (fault.Solution f)) r = inr r
 answered-by_run want_cut from to old new text (Err fault.NoMemory) r = absurd r.runs.4
 answered-by_run want_cut from to old new text (Err fault.TooMuchInput) r = inr r

@@ -8,4 +8,5 @@ pub mod Input
 pub mod Outcome
 pub mod Session
 pub mod SolveRun
+pub mod CheckRun
 pub mod Status

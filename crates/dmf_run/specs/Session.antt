@@ -41,7 +41,7 @@ ReadsProblem old new text (Err (fault.Problem f)) = GaveWhole old new text × (p
 ReadsProblem old new text (Err fault.Read) = new.has_failed ≡ true
 ReadsProblem old new text (Err fault.TooMuchInput) = GaveTooMuch old new text
 ReadsProblem old new text (Err fault.NoMemory) = new.has_failed ≡ old.has_failed
-ReadsProblem old new text (Err fault.Write) = ⊥
+ReadsProblem old new text (Err told) = ⊥
 
 -- No command byte was taken, and nothing was written.
 abbrev pub Untouched : Streams → Streams → Type 0

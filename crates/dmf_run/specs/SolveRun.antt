@@ -9,7 +9,7 @@ use Rattle.dmf_session.specs.Optimal.{IsOptimal}
 use Rattle.dmf_session.specs.Step.{IsSideWanted}
 use Rattle.dmf_text.specs.Writing.{Writes}
 use Rattle.dmf_run.specs.declared.fault.Status.{Status}
-use Rattle.dmf_run.specs.declared.fault.Status.TheVariants.{Well, SomeRefused}
+use Rattle.dmf_run.specs.declared.fault.Status.TheVariants.{Well}
 use Rattle.dmf_run.specs.declared.fault.EngineFault.{EngineFault}
 use Rattle.dmf_run.specs.declared.fault.EngineFault.TheVariants as fault
 use Rattle.dmf_run.specs.Run.{solved_text}
@@ -36,7 +36,7 @@ pub record WritesSolved (want_cut : Bool) (from to : Reader) (old new : Writer) 
 -- fault but that of the writer nothing was written.
 abbrev pub SolveAnswered : Bool → Reader → Reader → Writer → Writer → List ℕ → Result Status EngineFault → Type 0
 SolveAnswered want_cut from to old new text (Ok Well) = WritesSolved want_cut from to old new text (Ok Well)
-SolveAnswered want_cut from to old new text (Ok SomeRefused) = ⊥
+SolveAnswered want_cut from to old new text (Ok status) = ⊥
 SolveAnswered want_cut from to old new text (Err fault.Write) = WritesSolved want_cut from to old new text (Err fault.Write)
 SolveAnswered want_cut from to old new text (Err fault.NoMemory) = (to.has_failed ≡ from.has_failed) × (new ≡ old)
 SolveAnswered want_cut from to old new text (Err told) = ReadsProblem from to text (Err told) × (new ≡ old)

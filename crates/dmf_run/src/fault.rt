@@ -1,7 +1,7 @@
 ghost use Rattle.std.specs.Prelude.{◌≡◌};
 ghost use Rattle.dmf_run.specs.Status.{status_of};
 
-use dmf_text::ProblemFault;
+use dmf_text::{ProblemFault, SolutionFault};
 use thiserror::Error;
 
 /// How a run ended that was not stopped.
@@ -11,6 +11,8 @@ pub enum Status {
     Well,
     /// At least one command was refused.
     SomeRefused,
+    /// The checked flow is not greatest.
+    NotGreatest,
 }
 
 /// What stopped a run.
@@ -25,6 +27,9 @@ pub enum EngineFault {
     /// The problem text has a fault.
     #[error(transparent)]
     Problem(ProblemFault),
+    /// The solution text has a fault.
+    #[error(transparent)]
+    Solution(SolutionFault),
     /// A request for memory was refused.
     #[error("no memory")]
     NoMemory,
@@ -33,15 +38,17 @@ pub enum EngineFault {
     TooMuchInput,
 }
 
-/// The status with which the program ends after a run: 0 where all is well, 1 where a command was refused, 3 for a
-/// fault in a text, 4 for a read, write or size fault, 5 for want of memory.
+/// The status with which the program ends after a run: 0 where all is well, 1 where a command was refused or a
+/// checked flow is not greatest, 3 for a fault in a text, 4 for a read, write or size fault, 5 for want of memory.
 pub fn status_of(outcome: &Result<Status, EngineFault>) -> u8
     ensures { result ≡ status_of outcome.now }
 {
     match outcome {
         Ok(Status::Well) => 0,
         Ok(Status::SomeRefused) => 1,
+        Ok(Status::NotGreatest) => 1,
         Err(EngineFault::Problem(_)) => 3,
+        Err(EngineFault::Solution(_)) => 3,
         Err(EngineFault::Read) => 4,
         Err(EngineFault::Write) => 4,
         Err(EngineFault::TooMuchInput) => 4,

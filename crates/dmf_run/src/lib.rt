@@ -1,6 +1,7 @@
 //! The runs of `dmf` over any reader and writer: from the bytes that come in to the bytes that go out.
 #![tactic(auto)]
 
+pub use check::run_check;
 pub use command_line::read_command;
 pub use fault::{EngineFault, Status, status_of};
 pub use input::{MAX_BYTES, MAX_LINE};
@@ -10,6 +11,7 @@ pub use session::{MAX_LINES, run_commands, run_session};
 pub use solve::run_solve;
 pub use words::{Mode, WordsFault, read_words};
 
+mod check;
 mod command_line;
 mod fault;
 mod input;

@@ -12,7 +12,7 @@ use std::alloc::Global;
 const PIECE: usize = 65536;
 
 /// Reads a whole text, of at most [`MAX_BYTES`] bytes.
-fn read_all<P: Source>(alloc: Global, source: &mut P) -> Result<Vec<u8>, EngineFault>
+pub fn read_all<P: Source>(alloc: Global, source: &mut P) -> Result<Vec<u8>, EngineFault>
     ensures { (text : List ℕ) × Consumes (P.remaining source.old) (P.remaining source.new) text
         × (let from : Reader = record { known = P.remaining source.old; has_failed = P.has_failed source.old } in
         let to : Reader = record { known = P.remaining source.new; has_failed = P.has_failed source.new } in

@@ -18,7 +18,8 @@ pub fn refuse<W: Sink>(number: u32, refusal: &Refusal, out: &mut W) -> Result<bo
     Ok(true)
 }
 
-fn put_line<W: Sink>(line: &LineBuffer, out: &mut W) -> Result<(), WriteFault>
+/// Writes a line, and flushes it.
+pub fn put_line<W: Sink>(line: &LineBuffer, out: &mut W) -> Result<(), WriteFault>
     ensures { Writes W.contents W.has_failed out.old out.new result line.now }
 {
     let Ok(()) = put_all(out, line.as_bytes()) else {

@@ -15,6 +15,8 @@ mod reader;
 mod reading;
 mod solution;
 mod solution_reading;
+#[cfg(test)]
+mod solution_tests;
 mod terminal;
 #[cfg(test)]
 mod tests;
