@@ -51,6 +51,33 @@ run() {
     judge "$name" "$status" "$wanted" "$out" "$err"
 }
 
+# Runs the program on words that it does not take: the case's name and the words. It ends with status 2, and says on
+# standard error what is wrong and how it is used.
+refuse_words() {
+    local name=$1 status
+    shift
+    timeout 60 ./dmf "$@" <examples/a.max >"$work/out" 2>"$work/err"
+    status=$?
+    if [ "$status" -eq 2 ] && [ ! -s "$work/out" ] && grep -q '^error: ' "$work/err" && grep -q '^Usage: dmf' "$work/err"; then
+        pass
+    else
+        fail "$name: status $status, standard error: $(head -c 300 "$work/err")"
+    fi
+}
+
+# Asks the program for help: the case's name and the words. The help is on standard output, and the status is 0.
+help_words() {
+    local name=$1 status
+    shift
+    timeout 60 ./dmf "$@" </dev/null >"$work/out" 2>"$work/err"
+    status=$?
+    if [ "$status" -eq 0 ] && [ ! -s "$work/err" ] && grep -q '^Usage: dmf' "$work/out"; then
+        pass
+    else
+        fail "$name: status $status, standard output: $(head -c 300 "$work/out")"
+    fi
+}
+
 # Judges a script in Python: the case's name, the script and its arguments. It says on standard output what failed.
 run_script() {
     local name=$1
@@ -72,17 +99,35 @@ if ! ./dmf session examples/a.max </dev/null >"$work/out" 2>"$work/err"; then
 fi
 
 # Words.
-run "an unknown word" 2 "" $'dmf: usage\n' wash </dev/null
-run "a cut alone" 2 "" $'dmf: usage\n' --cut <examples/a.max
-run "two cuts" 2 "" $'dmf: usage\n' solve --cut --cut <examples/a.max
-run "a word behind the cut" 2 "" $'dmf: usage\n' solve --cut examples/a.max </dev/null
-run "a cut and no problem" 2 "" $'dmf: usage\n' session --cut </dev/null
-run "a cut behind the problem" 2 "" $'dmf: usage\n' session examples/a.max --cut </dev/null
-run "a cut and two problems" 2 "" $'dmf: usage\n' session --cut examples/a.max examples/b.max </dev/null
-run "a word behind solve" 2 "" $'dmf: usage\n' solve examples/a.max </dev/null
-run "an empty word" 2 "" $'dmf: usage\n' "" <examples/a.max
-run "no problem is named" 2 "" $'dmf: usage\n' session </dev/null
-run "two problems are named" 2 "" $'dmf: usage\n' session examples/a.max examples/b.max </dev/null
+refuse_words "an unknown word" wash
+refuse_words "a cut alone" --cut
+refuse_words "two cuts" solve --cut --cut
+refuse_words "a word behind the cut" solve --cut examples/a.max
+refuse_words "a cut and no problem" session --cut
+refuse_words "a cut and two problems" session --cut examples/a.max examples/b.max
+refuse_words "a word behind solve" solve examples/a.max
+refuse_words "an empty word" ""
+refuse_words "no problem is named" session
+refuse_words "two problems are named" session examples/a.max examples/b.max
+refuse_words "no problem is checked" check
+refuse_words "a cut of a check" check --cut examples/a.max
+help_words "help" --help
+help_words "help on solve" solve --help
+help_words "help on session" session --help
+help_words "help on check" check --help
+run "a cut behind the problem" 0 "$solution_a$cut_a" "" session examples/a.max --cut <<<solve
+run "words that are not UTF-8" 2 "" $'dmf: a word is not UTF-8\n' session $'\xff' </dev/null
+
+# Checks.
+for example in examples/*.max; do
+    value=$(./dmf solve <"$example" | sed -n 's/^s //p')
+    ./dmf solve <"$example" >"$work/solution"
+    run "what is solved is called greatest: $example" 0 "c greatest $value"$'\n' "" check "$example" <"$work/solution"
+done
+run "a flow that is not greatest" 1 $'c flow 3\n' "" check examples/a.max <<<$'s 3\nf 1 2 3\nf 2 3 1\nf 2 4 2\nf 3 4 1'
+run "a value that differs" 3 "" $'dmf: line 6: value differs\n' check examples/a.max <<<$'s 4\nf 1 2 3\nf 2 3 1\nf 2 4 2\nf 3 4 1'
+run "an empty solution" 3 "" $'dmf: line 1: value line missing\n' check examples/a.max </dev/null
+run "a solution of no problem" 4 "" $'dmf: cannot open the problem\n' check "$work/none" </dev/null
 
 # Solving.
 run "no words" 0 "$solution_a" "" <examples/a.max
