@@ -6,3 +6,5 @@ pub mod Progress
 pub mod Endings
 pub mod SessionLemmas
 pub mod Running
+pub mod Table
+pub mod Reading

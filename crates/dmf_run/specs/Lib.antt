@@ -10,3 +10,5 @@ pub mod Session
 pub mod SolveRun
 pub mod CheckRun
 pub mod Status
+pub mod Words
+pub mod Matches

@@ -1,4 +1,11 @@
 //! The words of the command line.
+ghost use Rattle.std.specs.Prelude.{◌≡◌, ◌≢◌, IfOk, Bool, Option, Some, None, codes, drop, map, false};
+ghost use Rattle.clap.specs.Words.{app_of, first_value, found_of, kind_of, rule_of, subcommand_rows_of};
+ghost use Rattle.clap.specs.Values.{bool_text};
+ghost use Rattle.dmf_run.specs.Matches.{asked_of, command_line, cut_rule, problem_rule};
+ghost use Rattle.dmf_run.specs.Words.{Gives, IsHelp, IsUsage, ReadsWords, Text, solving, holding, checking};
+ghost use Rattle.dmf_run.specs.declared.words.WordsFault.TheVariants.{NoMemory};
+
 use clap::error::ErrorKind;
 use clap::{Arg, ArgAction, ArgMatches, Command, Error};
 use std::alloc::{AllocError, Global};
@@ -48,7 +55,9 @@ const COMMANDS: &str = "Commands, one a line on standard input:
 /// No words behind it, or `solve`, ask for [`Mode::Solve`]; `session PROBLEM` asks for [`Mode::Session`], and
 /// `check PROBLEM` for [`Mode::Check`]. The flag `--cut` may stand behind `solve` and `session`. All others are refused by
 /// [`WordsFault::Usage`], but for those that ask for help.
-pub fn read_words(alloc: Global, words: Vec<String>) -> Result<Mode, WordsFault> {
+pub fn read_words(alloc: Global, words: Vec<String>) -> Result<Mode, WordsFault>
+    ensures { ReadsWords (drop 1 (map (λ word. word.bytes.items) words.items)) result }
+{
     let Ok(command) = command(alloc) else {
         return Err(WordsFault::NoMemory);
     };
@@ -59,36 +68,46 @@ pub fn read_words(alloc: Global, words: Vec<String>) -> Result<Mode, WordsFault>
 }
 
 /// The command line that the program takes.
-fn command<'a>(alloc: Global) -> Result<Command<'a>, AllocError> {
-    let cut_of_solve = Arg::new(alloc, "cut")
-        .long("cut")
-        .action(ArgAction::SetTrue)
-        .help("Write the smallest minimum cut after the solution");
+fn command<'a>(alloc: Global) -> Result<Command<'a>, AllocError>
+    ensures { IfOk result (λ made. app_of made ≡ command_line) }
+{
     let solve = Command::new(alloc, "solve")
         .about("Solve the problem on standard input (without a command, dmf does so too)")
-        .arg(cut_of_solve)?;
-    let cut_of_session = Arg::new(alloc, "cut")
-        .long("cut")
-        .action(ArgAction::SetTrue)
-        .help("Write the smallest minimum cut after each solution");
+        .arg(cut(alloc, "Write the smallest minimum cut after the solution"))?;
     let session = Command::new(alloc, "session")
         .about("Carry out the commands on standard input, on the problem in a file")
         .after_help(COMMANDS)
-        .arg(cut_of_session)?
+        .arg(cut(alloc, "Write the smallest minimum cut after each solution"))?
         .arg(problem(alloc))?;
     let check = Command::new(alloc, "check")
         .about("Judge the solution on standard input, of the problem in a file")
         .arg(problem(alloc))?;
     Command::new(alloc, "dmf")
-        .about("Solve maximum-flow problems in the DIMACS format, and hold what-if sessions on them")
+        .about(
+            "Solve maximum-flow problems in the DIMACS format, and hold what-if sessions on them",
+        )
         .after_help(STATUSES)
         .subcommand(solve)?
         .subcommand(session)?
         .subcommand(check)
 }
 
+/// The flag with which the cut is wanted.
+fn cut<'a>(alloc: Global, help: &'a str) -> Arg<'a>
+    ensures rule { rule_of result ≡ cut_rule }
+    ensures local { result.global ≡ false }
+{
+    Arg::new(alloc, "cut")
+        .long("cut")
+        .action(ArgAction::SetTrue)
+        .help(help)
+}
+
 /// The word that names the problem's file.
-fn problem<'a>(alloc: Global) -> Arg<'a> {
+fn problem<'a>(alloc: Global) -> Arg<'a>
+    ensures rule { rule_of result ≡ problem_rule }
+    ensures local { result.global ≡ false }
+{
     Arg::new(alloc, "problem")
         .value_name("PROBLEM")
         .required(true)
@@ -96,15 +115,34 @@ fn problem<'a>(alloc: Global) -> Arg<'a> {
 }
 
 /// What the words that the command line took ask for.
-fn mode_of(alloc: Global, matches: &ArgMatches<'_>) -> Result<Mode, WordsFault> {
+fn mode_of(alloc: Global, matches: &ArgMatches<'_>) -> Result<Mode, WordsFault>
+    ensures nothing { asked_of (subcommand_rows_of matches.now) ≡ None → Gives (solving false) result }
+    ensures solve { (cut : Bool) (path : Option Text)
+        → asked_of (subcommand_rows_of matches.now) ≡ Some (codes "solve", Some (bool_text cut), path)
+        → Gives (solving cut) result }
+    ensures session { (cut : Bool) (path : Text)
+        → asked_of (subcommand_rows_of matches.now) ≡ Some (codes "session", Some (bool_text cut), Some path)
+        → Gives (holding cut path) result }
+    ensures check { (cut : Option Text) (path : Text)
+        → asked_of (subcommand_rows_of matches.now) ≡ Some (codes "check", cut, Some path)
+        → Gives (checking path) result }
+{
     match matches.subcommand() {
-        Some(("session", session)) => Ok(Mode::Session {
-            cut: session.get_flag("cut"),
-            problem: path_of(alloc, session)?,
-        }),
-        Some(("check", check)) => Ok(Mode::Check {
-            problem: path_of(alloc, check)?,
-        }),
+        Some(("session", session)) => {
+            let Ok(problem) = path_of(alloc, session) else {
+                return Err(WordsFault::NoMemory);
+            };
+            Ok(Mode::Session {
+                cut: session.get_flag("cut"),
+                problem,
+            })
+        }
+        Some(("check", check)) => {
+            let Ok(problem) = path_of(alloc, check) else {
+                return Err(WordsFault::NoMemory);
+            };
+            Ok(Mode::Check { problem })
+        }
         Some((_, solve)) => Ok(Mode::Solve {
             cut: solve.get_flag("cut"),
         }),
@@ -113,13 +151,20 @@ fn mode_of(alloc: Global, matches: &ArgMatches<'_>) -> Result<Mode, WordsFault> 
 }
 
 /// The path of the problem's file. It is required, so it is there.
-fn path_of(alloc: Global, matches: &ArgMatches<'_>) -> Result<String, WordsFault> {
-    let path = matches.get_str("problem").unwrap_or("");
-    String::from_str(alloc, path).map_err(|_| WordsFault::NoMemory)
+fn path_of(alloc: Global, matches: &ArgMatches<'_>) -> Result<String, AllocError>
+    ensures { (path : Text) → first_value (found_of matches.now) (codes "problem") ≡ Some path
+        → IfOk result (λ read. read.bytes.items ≡ path) }
+{
+    String::from_str(alloc, matches.get_str("problem").unwrap_or(""))
 }
 
 /// Why the words were not taken.
-fn fault_of(alloc: Global, error: &Error) -> WordsFault {
+fn fault_of(alloc: Global, error: &Error) -> WordsFault
+    ensures memory { kind_of error.now ≡ ErrorKind.OutOfMemory → result ≡ NoMemory }
+    ensures help { kind_of error.now ≡ ErrorKind.DisplayHelp → IsHelp result }
+    ensures usage { kind_of error.now ≢ ErrorKind.DisplayHelp → kind_of error.now ≢ ErrorKind.DisplayVersion
+        → IsUsage result }
+{
     if error.kind() == ErrorKind::OutOfMemory {
         return WordsFault::NoMemory;
     }

@@ -1,0 +1,151 @@
+-- From what the parser says of the words to what they ask for.
+use Rattle.std.proofs.Common.{◌≡◌, ◌≢◌, ◌⊎◌, ◌∙◌, ap, sym, subst, inl, inr, Bool, true, false, List, [], ◌∷◌, Option, Some, None, codes, Result, Err, option_map}
+use Rattle.clap.specs.Kinds.{Kinds, IsAmong}
+use Rattle.clap.specs.Values.{bool_text}
+use Rattle.clap.specs.declared.error.kind.ErrorKind.{ErrorKind}
+use Rattle.clap.specs.declared.error.kind.ErrorKind.TheVariants.{DisplayHelp, DisplayVersion, UnknownArgument, InvalidSubcommand, MissingRequiredArgument, OutOfMemory}
+use Rattle.dmf_run.specs.declared.words.Mode.{Mode}
+use Rattle.dmf_run.specs.declared.words.WordsFault.{WordsFault}
+use Rattle.dmf_run.specs.declared.words.WordsFault.TheVariants.{NoMemory}
+use Rattle.dmf_run.specs.Matches.{Asked, asked_of}
+use Rattle.clap.specs.Words.{Row, first_of, one_of}
+use Rattle.dmf_run.specs.Words.{Text, Gives, IsHelp, IsUsage, ReadsWords, solving, holding, checking}
+use Rattle.dmf_run.proofs.Table.{faults_in, asked_in, nothing_taken, nothing_asked, solve_taken, solve_asked, solve_cut_taken, solve_cut_asked, session_taken, session_asked, cut_first_taken, cut_first_asked, cut_last_taken, cut_last_asked, check_taken, check_asked, help_asked, solve_help_asked, session_help_asked, check_help_asked, cut_alone_refused, session_alone_refused, check_alone_refused, solve_path_refused, session_second_refused, check_second_refused, check_cut_refused, unknown_refused}
+
+-- a list of no kinds has no first one
+no_kinds : {k : ErrorKind} {ks : Kinds} → [] ≡ k ∷ ks → ⊥
+no_kinds e = cc
+
+-- the words were taken
+module _ (words : List Text) (asked : Asked) (result : Result Mode WordsFault)
+    (clean : faults_in words ≡ []) (found : asked ≡ asked_in words) where
+  -- words in which there is a fault were not taken
+  untaken : (row : List Text) {k : ErrorKind} {ks : Kinds} → words ≡ row → faults_in row ≡ k ∷ ks → ⊥
+  untaken row is faulty = no_kinds (sym clean ∙ (ap faults_in is ∙ faulty))
+
+  finds : (row : List Text) (what : Asked) → words ≡ row → asked_in row ≡ what → asked ≡ what
+  finds row what is known = found ∙ (ap asked_in is ∙ known)
+
+  pub taken_reads : (asked ≡ None → Gives (solving false) result)
+      → ((cut : Bool) (path : Option Text) → asked ≡ Some (codes "solve", Some (bool_text cut), path)
+      → Gives (solving cut) result)
+      → ((cut : Bool) (path : Text) → asked ≡ Some (codes "session", Some (bool_text cut), Some path)
+      → Gives (holding cut path) result)
+      → ((cut : Option Text) (path : Text) → asked ≡ Some (codes "check", cut, Some path) → Gives (checking path) result)
+      → ReadsWords words result
+  taken_reads nothing solve session check = record {
+    nothing = λ is. nothing (finds _ _ is nothing_asked);
+    solve = λ is. solve false None (finds _ _ is solve_asked);
+    solve_cut = λ is. solve true None (finds _ _ is solve_cut_asked);
+    session = λ path plain is. session false path (finds _ _ is (session_asked path plain));
+    session_cut = λ path plain is. elim is [
+      | inl first ↦ session true path (finds _ _ first (cut_first_asked path plain))
+      | inr last ↦ session true path (finds _ _ last (cut_last_asked path plain))
+    ];
+    check = λ path plain is. check None path (finds _ _ is (check_asked path plain));
+    help = λ is. absurd (untaken _ is help_asked);
+    solve_help = λ is. absurd (untaken _ is solve_help_asked);
+    session_help = λ is. absurd (untaken _ is session_help_asked);
+    check_help = λ is. absurd (untaken _ is check_help_asked);
+    cut_alone = λ rest is. absurd (untaken _ is (cut_alone_refused rest));
+    no_problem = λ is. elim is [
+      | inl held ↦ absurd (untaken _ held session_alone_refused)
+      | inr checked ↦ absurd (untaken _ checked check_alone_refused)
+    ];
+    solve_path = λ path plain is. absurd (untaken _ is (solve_path_refused path plain));
+    second_path = λ command path other either plain also is. elim either [
+      | inl held ↦ absurd (untaken _ (is ∙ ap (λ w. w ∷ path ∷ other ∷ []) held) (session_second_refused path other plain also))
+      | inr checked ↦ absurd (untaken _ (is ∙ ap (λ w. w ∷ path ∷ other ∷ []) checked) (check_second_refused path other plain also))
+    ];
+    check_cut = λ path is. absurd (untaken _ is (check_cut_refused path));
+    unknown = λ word rest named is. absurd (untaken _ is (unknown_refused word rest named));
+  }
+
+-- the words were not taken, for a fault of this kind
+module _ (words : List Text) (kind : ErrorKind) (fault : WordsFault)
+    (among : (kind ≡ OutOfMemory) ⊎ IsAmong kind (faults_in words))
+    (memory : kind ≡ OutOfMemory → fault ≡ NoMemory) (help : kind ≡ DisplayHelp → IsHelp fault)
+    (usage : kind ≢ DisplayHelp → kind ≢ DisplayVersion → IsUsage fault) where
+  -- words without a fault are refused for want of memory alone
+  short : (row : List Text) → words ≡ row → faults_in row ≡ [] → fault ≡ NoMemory
+  short row is clean = elim among [
+    | inl no_memory ↦ memory no_memory
+    | inr other ↦ absurd (subst (IsAmong kind) (ap faults_in is ∙ clean) other)
+  ]
+
+  helped : (row : List Text) → words ≡ row → faults_in row ≡ DisplayHelp ∷ [] → IsHelp fault
+  helped row is known = elim among [
+    | inl no_memory ↦ subst IsHelp (sym (memory no_memory)) tt
+    | inr other ↦ elim (subst (IsAmong kind) (ap faults_in is ∙ known) other) [ inl asked ↦ help asked | inr none ↦ absurd none ]
+  ]
+
+  told : (k : ErrorKind) → k ≢ DisplayHelp → k ≢ DisplayVersion → kind ≡ k → IsUsage fault
+  told k no_help no_version is = usage (λ e. no_help (sym is ∙ e)) (λ e. no_version (sym is ∙ e))
+
+  refused : (row : List Text) (k : ErrorKind) → k ≢ DisplayHelp → k ≢ DisplayVersion → words ≡ row → faults_in row ≡ k ∷ []
+      → IsUsage fault
+  refused row k no_help no_version is known = elim among [
+    | inl no_memory ↦ subst IsUsage (sym (memory no_memory)) tt
+    | inr other ↦ elim (subst (IsAmong kind) (ap faults_in is ∙ known) other)
+        [ inl one ↦ told k no_help no_version one | inr none ↦ absurd none ]
+  ]
+
+  stray : (row : List Text) → words ≡ row → faults_in row ≡ UnknownArgument ∷ [] → IsUsage fault
+  stray row = refused row UnknownArgument (λ e. cc) (λ e. cc)
+
+  missing : (row : List Text) → words ≡ row → faults_in row ≡ MissingRequiredArgument ∷ [] → IsUsage fault
+  missing row = refused row MissingRequiredArgument (λ e. cc) (λ e. cc)
+
+  unknown : (row : List Text) → words ≡ row → faults_in row ≡ UnknownArgument ∷ InvalidSubcommand ∷ [] → IsUsage fault
+  unknown row is known = elim among [
+    | inl no_memory ↦ subst IsUsage (sym (memory no_memory)) tt
+    | inr other ↦ elim (subst (IsAmong kind) (ap faults_in is ∙ known) other) [
+      | inl one ↦ told UnknownArgument (λ e. cc) (λ e. cc) one
+      | inr (inl two) ↦ told InvalidSubcommand (λ e. cc) (λ e. cc) two
+      | inr (inr none) ↦ absurd none
+    ]
+  ]
+
+  pub refused_reads : ReadsWords words (Err fault)
+  refused_reads = record {
+    nothing = λ is. short _ is nothing_taken;
+    solve = λ is. short _ is solve_taken;
+    solve_cut = λ is. short _ is solve_cut_taken;
+    session = λ path plain is. short _ is (session_taken path plain);
+    session_cut = λ path plain is. elim is [
+      | inl first ↦ short _ first (cut_first_taken path plain)
+      | inr last ↦ short _ last (cut_last_taken path plain)
+    ];
+    check = λ path plain is. short _ is (check_taken path plain);
+    help = λ is. helped _ is help_asked;
+    solve_help = λ is. helped _ is solve_help_asked;
+    session_help = λ is. helped _ is session_help_asked;
+    check_help = λ is. helped _ is check_help_asked;
+    cut_alone = λ rest is. stray _ is (cut_alone_refused rest);
+    no_problem = λ is. elim is [ inl held ↦ missing _ held session_alone_refused | inr checked ↦ missing _ checked check_alone_refused ];
+    solve_path = λ path plain is. stray _ is (solve_path_refused path plain);
+    second_path = λ command path other either plain also is. elim either [
+      | inl held ↦ stray _ (is ∙ ap (λ w. w ∷ path ∷ other ∷ []) held) (session_second_refused path other plain also)
+      | inr checked ↦ stray _ (is ∙ ap (λ w. w ∷ path ∷ other ∷ []) checked) (check_second_refused path other plain also)
+    ];
+    check_cut = λ path is. stray _ is (check_cut_refused path);
+    unknown = λ word rest named is. unknown _ is (unknown_refused word rest named);
+  }
+
+-- what was asked of the rows of a command that was found
+pub asked_rows : (found : Option (Text × List Row)) (rows : List Row) (name : Text) (flag path : Option Text)
+    → Some rows ≡ option_map (λ p. p.1) found → asked_of found ≡ Some (name, flag, path)
+    → (one_of (codes "cut") rows ≡ flag) × (first_of (codes "problem") rows ≡ path)
+asked_rows None rows name flag path has asked = cc
+asked_rows (Some p) rows name flag path has asked =
+    let same : rows ≡ p.1 = cc in
+    let parts : (p.0, one_of (codes "cut") p.1, first_of (codes "problem") p.1) ≡ (name, flag, path) = cc in
+    let flag_is : one_of (codes "cut") p.1 ≡ flag = ap (λ (q : Text × Option Text × Option Text). q.1) parts in
+    let path_is : first_of (codes "problem") p.1 ≡ path = ap (λ (q : Text × Option Text × Option Text). q.2) parts in
+    (rw same flag_is, rw same path_is)
+
+-- a flag reads as its text says
+pub flag_reads : (cut read : Bool) (text : Option Text) → (text ≡ Some (codes "true") → read ≡ true)
+    → (text ≡ Some (codes "false") → read ≡ false) → text ≡ Some (bool_text cut) → read ≡ cut
+flag_reads true read text given absent is = given is
+flag_reads false read text given absent is = absent is

@@ -1,0 +1,30 @@
+-- The command line that the program takes, as its parser sees it, and what the parser found.
+use Rattle.std.specs.Prelude.{List, Option, Some, codes, true, option_map}
+use Rattle.clap.specs.Words.{App, Row, Rule, Text, first_of, new_app, new_rule, one_of, with_rule, with_subcommand}
+use Rattle.clap.specs.declared.builder.action.ArgAction.TheVariants.{SetTrue}
+
+abbrev pub cut_rule : Rule
+cut_rule = record (new_rule (codes "cut")) { long = Some (codes "cut"); action = Some SetTrue }
+
+abbrev pub problem_rule : Rule
+problem_rule = record (new_rule (codes "problem")) { value_names = 1; required = true }
+
+abbrev pub solve_line : App
+solve_line = with_rule (new_app (codes "solve")) cut_rule
+
+abbrev pub session_line : App
+session_line = with_rule (with_rule (new_app (codes "session")) cut_rule) problem_rule
+
+abbrev pub check_line : App
+check_line = with_rule (new_app (codes "check")) problem_rule
+
+abbrev pub command_line : App
+command_line =
+    with_subcommand (with_subcommand (with_subcommand (new_app (codes "dmf")) solve_line.top) session_line.top) check_line.top
+
+-- the command that was found, with the texts of its flag and of its path, where it has them
+abbrev pub Asked : Type 0
+Asked = Option (Text × Option Text × Option Text)
+
+abbrev pub asked_of : Option (Text × List Row) → Asked
+asked_of = option_map (λ found. (found.0, one_of (codes "cut") found.1, first_of (codes "problem") found.1))

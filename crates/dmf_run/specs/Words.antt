@@ -1,0 +1,78 @@
+-- The words of the command line: what they ask for.
+use Rattle.std.specs.Prelude.{ℕ, ◌≡◌, ◌≢◌, ◌⊎◌, ◌==◌, Bool, true, false, List, [], ◌∷◌, Result, MatchResult, IsErrAnd, codes, ⊤}
+use Rattle.dmf_run.specs.declared.words.Mode.{Mode}
+use Rattle.dmf_run.specs.declared.words.Mode.TheVariants as mode
+use Rattle.dmf_run.specs.declared.words.WordsFault.{WordsFault}
+use Rattle.dmf_run.specs.declared.words.WordsFault.TheVariants.{Help, Usage, NoMemory}
+
+abbrev pub Text : Type 0
+Text = List ℕ
+
+-- what the program is asked to do, with the path of the problem's file; a test says whether the cut is wanted
+pub data Task : Type 0 where
+  solving : Bool → Task
+  holding : Bool → Text → Task
+  checking : Text → Task
+
+abbrev pub task_of : Mode → Task
+task_of (mode.Solve cut) = solving cut
+task_of (mode.Session cut problem) = holding cut problem.bytes.items
+task_of (mode.Check problem) = checking problem.bytes.items
+
+-- Reading the words gave this task, or memory was refused.
+abbrev pub Gives : Task → Result Mode WordsFault → Type 0
+Gives task = λ result. MatchResult result (λ m. task_of m ≡ task) (λ fault. fault ≡ NoMemory)
+
+abbrev pub IsHelp : WordsFault → Type 0
+IsHelp (Help text) = ⊤
+IsHelp (Usage text) = ⊥
+IsHelp NoMemory = ⊤
+
+abbrev pub IsUsage : WordsFault → Type 0
+IsUsage (Help text) = ⊥
+IsUsage (Usage text) = ⊤
+IsUsage NoMemory = ⊤
+
+-- Reading the words gave a text of help, or memory was refused.
+abbrev pub GivesHelp : Result Mode WordsFault → Type 0
+GivesHelp result = IsErrAnd result IsHelp
+
+-- The words were refused with a text, or memory was refused.
+abbrev pub GivesUsage : Result Mode WordsFault → Type 0
+GivesUsage result = IsErrAnd result IsUsage
+
+-- The word does not begin with a dash (45).
+abbrev pub IsPlain : Text → Type 0
+IsPlain [] = ⊤
+IsPlain (byte ∷ rest) = (byte == 45) ≡ false
+
+-- The word names no command: it is neither of the three, nor `help`.
+pub record IsNoCommand (word : Text) : Type 0 where
+  pub plain : IsPlain word
+  pub solve : word ≢ codes "solve"
+  pub session : word ≢ codes "session"
+  pub check : word ≢ codes "check"
+  pub help : word ≢ codes "help"
+
+-- What reading gives, by the words behind the program's name. The path of a problem is any word that does not begin with
+-- a dash.
+pub record ReadsWords (words : List Text) (result : Result Mode WordsFault) : Type 0 where
+  pub nothing : words ≡ [] → Gives (solving false) result
+  pub solve : words ≡ codes "solve" ∷ [] → Gives (solving false) result
+  pub solve_cut : words ≡ codes "solve" ∷ codes "--cut" ∷ [] → Gives (solving true) result
+  pub session : (path : Text) → IsPlain path → words ≡ codes "session" ∷ path ∷ [] → Gives (holding false path) result
+  pub session_cut : (path : Text) → IsPlain path
+      → (words ≡ codes "session" ∷ codes "--cut" ∷ path ∷ []) ⊎ (words ≡ codes "session" ∷ path ∷ codes "--cut" ∷ [])
+      → Gives (holding true path) result
+  pub check : (path : Text) → IsPlain path → words ≡ codes "check" ∷ path ∷ [] → Gives (checking path) result
+  pub help : words ≡ codes "--help" ∷ [] → GivesHelp result
+  pub solve_help : words ≡ codes "solve" ∷ codes "--help" ∷ [] → GivesHelp result
+  pub session_help : words ≡ codes "session" ∷ codes "--help" ∷ [] → GivesHelp result
+  pub check_help : words ≡ codes "check" ∷ codes "--help" ∷ [] → GivesHelp result
+  pub cut_alone : (rest : List Text) → words ≡ codes "--cut" ∷ rest → GivesUsage result
+  pub no_problem : (words ≡ codes "session" ∷ []) ⊎ (words ≡ codes "check" ∷ []) → GivesUsage result
+  pub solve_path : (path : Text) → IsPlain path → words ≡ codes "solve" ∷ path ∷ [] → GivesUsage result
+  pub second_path : (command path other : Text) → (command ≡ codes "session") ⊎ (command ≡ codes "check")
+      → IsPlain path → IsPlain other → words ≡ command ∷ path ∷ other ∷ [] → GivesUsage result
+  pub check_cut : (path : Text) → words ≡ codes "check" ∷ codes "--cut" ∷ path ∷ [] → GivesUsage result
+  pub unknown : (word : Text) (rest : List Text) → IsNoCommand word → words ≡ word ∷ rest → GivesUsage result
