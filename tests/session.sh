@@ -118,17 +118,6 @@ help_words "help on check" check --help
 run "a cut behind the problem" 0 "$solution_a$cut_a" "" session examples/a.max --cut <<<solve
 run "words that are not UTF-8" 2 "" $'dmf: a word is not UTF-8\n' session $'\xff' </dev/null
 
-# Checks.
-for example in examples/*.max; do
-    value=$(./dmf solve <"$example" | sed -n 's/^s //p')
-    ./dmf solve <"$example" >"$work/solution"
-    run "what is solved is called greatest: $example" 0 "c greatest $value"$'\n' "" check "$example" <"$work/solution"
-done
-run "a flow that is not greatest" 1 $'c flow 3\n' "" check examples/a.max <<<$'s 3\nf 1 2 3\nf 2 3 1\nf 2 4 2\nf 3 4 1'
-run "a value that differs" 3 "" $'dmf: line 6: value differs\n' check examples/a.max <<<$'s 4\nf 1 2 3\nf 2 3 1\nf 2 4 2\nf 3 4 1'
-run "an empty solution" 3 "" $'dmf: line 1: value line missing\n' check examples/a.max </dev/null
-run "a solution of no problem" 4 "" $'dmf: cannot open the problem\n' check "$work/none" </dev/null
-
 # Solving.
 run "no words" 0 "$solution_a" "" <examples/a.max
 run "the word solve" 0 "$solution_a" "" solve <examples/a.max

@@ -33,7 +33,10 @@ fn words_ask_for_a_run(rt: HostRuntime) -> Result<(), Fail> {
         ("session P", session(alloc, false, "P")?),
         ("session --cut P", session(alloc, true, "P")?),
         ("session P --cut", session(alloc, true, "P")?),
-        ("session nets/day-1.max", session(alloc, false, "nets/day-1.max")?),
+        (
+            "session nets/day-1.max",
+            session(alloc, false, "nets/day-1.max")?,
+        ),
         ("session -", session(alloc, false, "-")?),
         ("session -- --cut", session(alloc, false, "--cut")?),
         ("session solve", session(alloc, false, "solve")?),
@@ -68,7 +71,10 @@ fn words_are_refused_with_a_text(rt: HostRuntime) -> Result<(), Fail> {
         ("wash", "unrecognized subcommand 'wash'"),
         ("Solve", "unrecognized subcommand 'Solve'"),
         ("solve --cut --cut", "cannot be used multiple times"),
-        ("solve --cut=yes", "unexpected value 'yes' for '--cut' found"),
+        (
+            "solve --cut=yes",
+            "unexpected value 'yes' for '--cut' found",
+        ),
         ("--version", "unexpected argument '--version' found"),
     ] {
         let Err(WordsFault::Usage(text)) = read(alloc, line)? else {
@@ -80,7 +86,8 @@ fn words_are_refused_with_a_text(rt: HostRuntime) -> Result<(), Fail> {
     Ok(())
 }
 
-const HELP: &str = "Solve maximum-flow problems in the DIMACS format, and hold what-if sessions on them
+const HELP: &str =
+    "Solve maximum-flow problems in the DIMACS format, and hold what-if sessions on them
 
 Usage: dmf [COMMAND]
 
@@ -111,9 +118,15 @@ fn help_is_told(rt: HostRuntime) -> Result<(), Fail> {
         ("-h", HELP),
         ("help", HELP),
         ("solve --help", "Usage: dmf solve [OPTIONS]\n"),
-        ("solve --help", "--cut   Write the smallest minimum cut after the solution\n"),
+        (
+            "solve --help",
+            "--cut   Write the smallest minimum cut after the solution\n",
+        ),
         ("session --help", "Usage: dmf session [OPTIONS] <PROBLEM>\n"),
-        ("session --help", "--cut   Write the smallest minimum cut after each solution\n"),
+        (
+            "session --help",
+            "--cut   Write the smallest minimum cut after each solution\n",
+        ),
         ("session --help", "  undo [K], redo [K]  "),
         ("check --help", "Usage: dmf check <PROBLEM>\n"),
         ("help check", "Usage: dmf check <PROBLEM>\n"),
