@@ -2,7 +2,7 @@
 
 Each session ends in one of three ways: with status 5 and nothing written; as a run with ample memory; or with one reply
 `c refused L no memory`, where line L is one that may take memory, and all other replies as if that line were a comment.
-A run that solves a problem ends in one of the first two ways.
+A run that solves a problem or checks a solution ends in one of the first two ways.
 """
 
 import os
@@ -14,6 +14,7 @@ from dataclasses import dataclass
 PROGRAM = "crates/dmf/out/dmf"
 PROBLEM = "p max 4 5\nn 1 s\nn 4 t\na 1 2 3\na 1 3 2\na 2 3 5\na 2 4 2\na 3 4 3\n"
 SOLUTION = "s 5\nf 1 2 3\nf 1 3 2\nf 2 3 1\nf 2 4 2\nf 3 4 3\n"
+LESS = "s 3\nf 1 2 3\nf 2 3 1\nf 2 4 2\nf 3 4 1\n"
 
 
 @dataclass
@@ -140,19 +141,21 @@ def refuse_in_session(session):
     )
 
 
-def refuse_in_solve(words, written):
-    """Refuses each request of a run that solves a problem."""
-    ample = (0, written, "")
-    if run(words, PROBLEM) != ample:
-        return f"with ample memory the problem was solved so: {run(words, PROBLEM)}"
-    return refuse_each(words, PROBLEM, {NOTHING: "nothing written", ample: "no difference"}, {"nothing written"})
+def refuse_in_run(words, text, status, written):
+    """Refuses each request of a run that solves a problem or checks a solution, with this text on standard input."""
+    ample = (status, written, "")
+    if run(words, text) != ample:
+        return f"with ample memory {words} ended so: {run(words, text)}"
+    return refuse_each(words, text, {NOTHING: "nothing written", ample: "no difference"}, {"nothing written"})
 
 
 sys.exit(
     refuse_in_session(ADDING)
     or refuse_in_session(DRAINING)
     or refuse_in_session(CUTTING)
-    or refuse_in_solve(["solve"], SOLUTION)
-    or refuse_in_solve(["solve", "--cut"], SOLUTION + CUT)
+    or refuse_in_run(["solve"], PROBLEM, 0, SOLUTION)
+    or refuse_in_run(["solve", "--cut"], PROBLEM, 0, SOLUTION + CUT)
+    or refuse_in_run(["check", "examples/a.max"], SOLUTION, 0, "c greatest 5\n")
+    or refuse_in_run(["check", "examples/a.max"], LESS, 1, "c flow 3\n")
     or 0
 )

@@ -1,6 +1,5 @@
 -- Each list of lines has a run.
-use Rattle.std.proofs.Common.{ℕ, ◌≡◌, ◌≢◌, ◌+◌, ◌<◌, List, [], ◌∷◌, ◌++◌, length, Bool, true, false, ◌||◌, Option, Some, None, Result, Ok, Err, refl, subst, arith, ⊎_elim}
-use Rattle.std.specs.List.{All}
+use Rattle.std.proofs.Common.{ℕ, ◌≢◌, ◌+◌, ◌<◌, List, [], ◌∷◌, ◌++◌, length, Bool, true, false, ◌||◌, Option, Some, None, Result, Ok, Err, refl, arith, ⊎_elim}
 use Rattle.std.proofs.lemmas.List.Elements.{All-cons, All-nil}
 use Rattle.std.proofs.lemmas.Option.{slice_get_cases}
 use Rattle.dmf_net.specs.NetworkState.{NetworkState, IsState}
@@ -10,9 +9,9 @@ use Rattle.dmf_session.specs.declared.command.Refusal.{Refusal}
 use Rattle.dmf_session.specs.declared.command.Refusal.TheVariants.{NoMemory}
 use Rattle.dmf_session.specs.Timeline.{Timeline, IsPresent, start}
 use Rattle.dmf_session.specs.Step.{Steps, Answers}
-use Rattle.dmf_session.specs.Laws.{HasStates, Answered, HasAnswer}
+use Rattle.dmf_session.specs.Laws.{HasStates, HasAnswer}
 use Rattle.dmf_run.specs.Line.{line_meaning}
-use Rattle.dmf_run.specs.Run.{reply_text, refused_text, Shows, LineRuns, Runs}
+use Rattle.dmf_run.specs.Run.{reply_text, refused_text, Shows, LineRuns}
 use Rattle.dmf_run.specs.Laws.{SomeRun, HasRun}
 
 -- The start of a state has states.

@@ -1,4 +1,4 @@
--- What the parser makes of the words of the table.
+-- What the parser makes of each list of words of which `ReadsWords` speaks.
 use Rattle.std.proofs.Common.{◌≡◌, ◌≢◌, Bool, true, false, List, [], ◌∷◌, Some, None, codes, refl, sym}
 use Rattle.std.specs.Str.{bytes_eq}
 use Rattle.std.proofs.lemmas.Slice.Eq.{bytes_eq-Decides}

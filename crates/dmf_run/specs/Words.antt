@@ -46,7 +46,7 @@ abbrev pub IsPlain : Text → Type 0
 IsPlain [] = ⊤
 IsPlain (byte ∷ rest) = (byte == 45) ≡ false
 
--- The word names no command: it is neither of the three, nor `help`.
+-- The word names no command: it is none of the three, nor `help`.
 pub record IsNoCommand (word : Text) : Type 0 where
   pub plain : IsPlain word
   pub solve : word ≢ codes "solve"

@@ -53,8 +53,10 @@ const COMMANDS: &str = "Commands, one a line on standard input:
 /// Reads the words of a command line, of which the first is the program's name.
 ///
 /// No words behind it, or `solve`, ask for [`Mode::Solve`]; `session PROBLEM` asks for [`Mode::Session`], and
-/// `check PROBLEM` for [`Mode::Check`]. The flag `--cut` may stand behind `solve` and `session`. All others are refused by
-/// [`WordsFault::Usage`], but for those that ask for help.
+/// `check PROBLEM` for [`Mode::Check`]. The flag `--cut` may stand behind `solve` and `session`, and `--help` behind each
+/// command and alone: it is answered by [`WordsFault::Help`]. A PROBLEM that begins with a dash stands behind `--`. All
+/// other words are refused by [`WordsFault::Usage`]; the texts are those of `clap`. [`WordsFault::NoMemory`] may come in
+/// place of any answer.
 pub fn read_words(alloc: Global, words: Vec<String>) -> Result<Mode, WordsFault>
     ensures { ReadsWords (drop 1 (map (λ word. word.bytes.items) words.items)) result }
 {
