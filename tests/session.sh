@@ -1,55 +1,6 @@
 #!/usr/bin/env bash
-# Tests the built program by what its caller sees: statuses, standard output and standard error. Each failed case is
-# named. The last line is 'N passed, M failed', and the status is 0 only if nothing failed.
-set -u
-cd "$(dirname "$0")/.." || exit 1
-
-work=$(mktemp -d)
-trap 'rm -rf "$work"' EXIT
-passed=0
-failed=0
-
-pass() {
-    passed=$((passed + 1))
-}
-
-fail() {
-    failed=$((failed + 1))
-    echo "failed: $*"
-}
-
-finish() {
-    echo "$passed passed, $failed failed"
-    [ "$failed" -eq 0 ]
-    exit
-}
-
-# Judges a run that left its output in the files out and err: the case's name, its status and the wanted one, and what
-# is wanted on standard output and on standard error.
-judge() {
-    local name=$1 status=$2 wanted=$3
-    printf '%s' "$4" >"$work/wanted_out"
-    printf '%s' "$5" >"$work/wanted_err"
-    if [ "$status" -ne "$wanted" ]; then
-        fail "$name: status $status, and not $wanted"
-    elif ! cmp -s "$work/out" "$work/wanted_out"; then
-        fail "$name: standard output: $(head -c 300 "$work/out")"
-    elif ! cmp -s "$work/err" "$work/wanted_err"; then
-        fail "$name: standard error: $(head -c 300 "$work/err")"
-    else
-        pass
-    fi
-}
-
-# Runs the program on the words after the first four, and judges it: the case's name, the status, what is written and
-# what is told. Its standard input is the caller's.
-run() {
-    local name=$1 wanted=$2 out=$3 err=$4 status
-    shift 4
-    timeout 60 ./dmf "$@" >"$work/out" 2>"$work/err"
-    status=$?
-    judge "$name" "$status" "$wanted" "$out" "$err"
-}
+# Tests the built program by what its caller sees: statuses, standard output and standard error.
+. "$(dirname "$0")/cases.bash"
 
 # Runs the program on words that it does not take: the case's name and the words. It ends with status 2, and says on
 # standard error what is wrong and how it is used.
@@ -92,11 +43,6 @@ run_script() {
 cut_a=$'c cut 5\nc side 1\n'
 solution_a=$'s 5\nf 1 2 3\nf 1 3 2\nf 2 3 1\nf 2 4 2\nf 3 4 3\n'
 network_a=$'p max 4 5\nn 1 s\nn 4 t\na 1 2 3\na 1 3 2\na 2 3 5\na 2 4 2\na 3 4 3\n'
-
-if ! ./dmf session examples/a.max </dev/null >"$work/out" 2>"$work/err"; then
-    fail "the program is built: $(tail -c 3000 "$work/err")"
-    finish
-fi
 
 # Words.
 refuse_words "an unknown word" wash

@@ -1,0 +1,58 @@
+# What the test scripts share, which source this first: the folder, the counts of cases, and how runs of the built program
+# are judged. Each failed case is named. A script ends by `finish`: the last line is then 'N passed, M failed', and the
+# status is 0 only if nothing failed.
+set -u
+cd "$(dirname "${BASH_SOURCE[0]}")/.." || exit 1
+
+work=$(mktemp -d)
+trap 'rm -rf "$work"' EXIT
+passed=0
+failed=0
+
+pass() {
+    passed=$((passed + 1))
+}
+
+fail() {
+    failed=$((failed + 1))
+    echo "failed: $*"
+}
+
+finish() {
+    echo "$passed passed, $failed failed"
+    [ "$failed" -eq 0 ]
+    exit
+}
+
+# Judges a run that left its output in the files out and err: the case's name, its status and the wanted one, and what
+# is wanted on standard output and on standard error.
+judge() {
+    local name=$1 status=$2 wanted=$3
+    printf '%s' "$4" >"$work/wanted_out"
+    printf '%s' "$5" >"$work/wanted_err"
+    if [ "$status" -ne "$wanted" ]; then
+        fail "$name: status $status, and not $wanted"
+    elif ! cmp -s "$work/out" "$work/wanted_out"; then
+        fail "$name: standard output: $(head -c 300 "$work/out")"
+    elif ! cmp -s "$work/err" "$work/wanted_err"; then
+        fail "$name: standard error: $(head -c 300 "$work/err")"
+    else
+        pass
+    fi
+}
+
+# Runs the program on the words after the first four, and judges it: the case's name, the status, what is written and
+# what is told. Its standard input is the caller's.
+run() {
+    local name=$1 wanted=$2 out=$3 err=$4 status
+    shift 4
+    timeout 60 ./dmf "$@" >"$work/out" 2>"$work/err"
+    status=$?
+    judge "$name" "$status" "$wanted" "$out" "$err"
+}
+
+# The first call builds the program where it is not built.
+if ! ./dmf session examples/a.max </dev/null >"$work/out" 2>"$work/err"; then
+    fail "the program is built: $(tail -c 3000 "$work/err")"
+    finish
+fi
