@@ -1,23 +1,22 @@
 -- What planning the greatest flow says of the state that it makes.
-use Rattle.std.proofs.Common.{ℕ, List, ◌≡◌, ◌<◌, Bool, true, false, Option, Some, None, Ok, Err, pos, arith, refl, sym, ap, ◌∙◌, subst, length}
+use Rattle.std.proofs.Common.{ℕ, List, ◌≡◌, Bool, Option, Ok, Err, pos, arith, refl, sym, ap, ◌∙◌, subst}
 use Rattle.std.proofs.lemmas.Int.{ints}
 use Rattle.std.proofs.lemmas.Option.{slice_get_within}
 use Rattle.dmf_net.specs.declared.edit.Edit.{Edit}
 use Rattle.dmf_net.specs.declared.fault.CutFault.{CutFault}
 use Rattle.dmf_net.specs.declared.fault.CutFault.TheVariants as cut
-use Rattle.dmf_net.specs.Network.{Network, IsNetwork}
-use Rattle.dmf_net.specs.Flow.{flow_value}
-use Rattle.dmf_net.specs.NetworkState.{NetworkState, IsState}
+use Rattle.dmf_net.specs.Network.{Network}
+use Rattle.dmf_net.specs.NetworkState.{NetworkState}
 use Rattle.dmf_net.specs.Change.{Becomes}
 use Rattle.dmf_net.specs.Change as change
 use Rattle.dmf_net.specs.Edit.{applied, Fits}
 use Rattle.dmf_net.specs.Greatest.{IsGreatest, IsSurpassed}
 use Rattle.dmf_net.specs.Cut.{MaxFlowMinCut, IsLeastCut, cut_capacity}
-use Rattle.dmf_net.specs.Side.{CutSide, IsSmallestSide}
+use Rattle.dmf_net.specs.Side.{CutSide}
 use Rattle.dmf_session.specs.declared.command.Command.TheVariants.{Solve}
 use Rattle.dmf_session.specs.declared.command.Reply.TheVariants.{Solution}
 use Rattle.dmf_session.specs.Timeline.{Timeline, IsPresent, appended, Appends}
-use Rattle.dmf_session.specs.Optimal.{IsOptimal, GreatestIsOptimal}
+use Rattle.dmf_session.specs.Optimal.{GreatestIsOptimal}
 use Rattle.dmf_session.specs.Step.{Answers, IsSolved, IsSideWanted, SolvedIsOptimal, refusal_of_cut}
 use Rattle.dmf_session.proofs.Appending.{one-present, appended-present}
 
