@@ -1,6 +1,8 @@
 -- The changes that a user may ask for: which are refused, and what the others make of a state.
-use Rattle.std.specs.Prelude.{ℕ, ◌≡◌, ◌+◌, ◌-◌, ◌^◌, ◌&&◌, if◌then◌else◌, length, nat_lt, Option, Some, None, is_none, option_map}
+use Rattle.std.specs.Prelude.{ℕ, ◌≡◌, ◌+◌, ◌-◌, ◌^◌, ◌&&◌, if◌then◌else◌, length, nat_lt, Option, Some, None, is_none, option_map, ⊤}
 use Rattle.dmf_net.specs.declared.limits.TheConstants.{MAX_ARCS}
+use Rattle.dmf_net.specs.declared.edit.Edit.{Edit}
+use Rattle.dmf_net.specs.declared.edit.Edit.TheVariants as edit
 use Rattle.dmf_net.specs.declared.fault.ArcFault.{ArcFault}
 use Rattle.dmf_net.specs.declared.fault.ArcFault.TheVariants.{NoSuchNode, TooManyArcs, SumTooLarge}
 use Rattle.dmf_net.specs.declared.fault.NetFault.{NetFault}
@@ -73,6 +75,15 @@ Becomes s (Close j) t =
     (t.network ≡ with_arc s.network j (closed_arc (arc_number s.network j))) × Drains s.network j 0 s.flows t.flows
 Becomes s (Add tail head cap) t = t ≡ with_idle_arc s (open_arc tail head cap)
 Becomes s Solve t = (t.network ≡ s.network) × Solves s.network s.flows t.flows
+
+-- The edit is one of this change: of the same kind, for the arc, the ends and the capacity that were asked for. What else
+-- it says is pinned down by `Fits` (the old capacity) and `ListsDifferences` (the moves).
+abbrev pub IsEditOf : Change → Edit → Type 0
+IsEditOf (Cap j cap) (edit.Cap arc old new moves) = (arc ≡ j) × (new ≡ cap)
+IsEditOf (Close j) (edit.Close arc old moves) = arc ≡ j
+IsEditOf (Add tail head cap) (edit.Add from to capacity) = (from ≡ tail) × (to ≡ head) × (capacity ≡ cap)
+IsEditOf Solve (edit.Solve moves) = ⊤
+IsEditOf change other = ⊥
 
 -- Any two outcomes of a change from one state are equal.
 abbrev pub HasOneOutcome : Type 0

@@ -1,6 +1,6 @@
 ghost use Rattle.std.specs.Prelude.{◌≡◌, ◌≢◌, ◌≤◌, Err, IfOk, IsOkUnless, MatchOption};
 ghost use Rattle.std.specs.Result.{result_err};
-ghost use Rattle.dmf_net.specs.Change.{Cap, Close, Add, Solve, change_fault, Becomes};
+ghost use Rattle.dmf_net.specs.Change.{Cap, Close, Add, Solve, change_fault, Becomes, IsEditOf};
 ghost use Rattle.dmf_net.specs.Cut.{HasCutOf};
 ghost use Rattle.dmf_net.specs.Drain.{TakesOff};
 ghost use Rattle.dmf_net.specs.Edit.{applied, Fits, ListsDifferences};
@@ -26,6 +26,7 @@ pub fn plan_cap(alloc: Global, state: &State, j: u64, cap: u64) -> Result<Edit, 
         (IsOkUnless result PlanFault.NoMemory)
         (λ fault. result ≡ Err fault) }
     ensures at_once { flow_on state.now.flows j ≤ cap → result ≢ Err PlanFault.NoMemory }
+    ensures kind { IfOk result (IsEditOf (Cap j cap)) }
     ensures fits { IfOk result (λ edit. Fits edit state.now) }
     ensures becomes { IfOk result (λ edit. Becomes state.now (Cap j cap) (applied edit state.now)) }
     ensures moves { IfOk result (λ edit. ListsDifferences edit state.now) }
@@ -54,6 +55,7 @@ pub fn plan_close(alloc: Global, state: &State, j: u64) -> Result<Edit, PlanFaul
         (IsOkUnless result PlanFault.NoMemory)
         (λ fault. result ≡ Err fault) }
     ensures at_once { flow_on state.now.flows j ≡ 0 → result ≢ Err PlanFault.NoMemory }
+    ensures kind { IfOk result (IsEditOf (Close j)) }
     ensures fits { IfOk result (λ edit. Fits edit state.now) }
     ensures becomes { IfOk result (λ edit. Becomes state.now (Close j) (applied edit state.now)) }
     ensures moves { IfOk result (λ edit. ListsDifferences edit state.now) }
@@ -70,6 +72,7 @@ pub fn plan_close(alloc: Global, state: &State, j: u64) -> Result<Edit, PlanFaul
 /// [`PlanFault::SumTooLarge`].
 pub fn plan_add(state: &State, tail: u64, head: u64, cap: u64) -> Result<Edit, PlanFault>
     ensures refused { result_err result ≡ change_fault state.now (Add tail head cap) }
+    ensures kind { IfOk result (IsEditOf (Add tail head cap)) }
     ensures fits { IfOk result (λ edit. Fits edit state.now) }
     ensures becomes { IfOk result (λ edit. Becomes state.now (Add tail head cap) (applied edit state.now)) }
     ensures moves { IfOk result (λ edit. ListsDifferences edit state.now) }
@@ -91,6 +94,7 @@ pub fn plan_add(state: &State, tail: u64, head: u64, cap: u64) -> Result<Edit, P
 /// [`PlanFault::NoMemory`].
 pub fn plan_solve(alloc: Global, state: &State) -> Result<Edit, PlanFault>
     ensures refused { IsOkUnless result PlanFault.NoMemory }
+    ensures kind { IfOk result (IsEditOf Solve) }
     ensures fits { IfOk result (λ edit. Fits edit state.now) }
     ensures becomes { IfOk result (λ edit. Becomes state.now Solve (applied edit state.now)) }
     ensures moves { IfOk result (λ edit. ListsDifferences edit state.now) }
