@@ -35,7 +35,7 @@ greatest-optimal law s state greatest =
     }
 
 -- No flow has a larger value than a greatest one.
-not-surpassed : (n : Network) (flows : List ℕ) → IsGreatest n flows → IsSurpassed n flows → ⊥
+pub not-surpassed : (n : Network) (flows : List ℕ) → IsGreatest n flows → IsSurpassed n flows → ⊥
 not-surpassed n flows greatest larger = omega (arith, ints, greatest.none_larger larger.larger larger.flow, larger.exceeds)
 
 -- The flow that was planned is greatest on the network of the state that the edit makes.

@@ -1,5 +1,5 @@
--- Each command has an answer.
-use Rattle.std.specs.Prelude.{◌≢◌, ◌<◌, length, All, Bool, Result, Err}
+-- Where memory is there each command has an answer, and one alone.
+use Rattle.std.specs.Prelude.{◌≡◌, ◌≢◌, ◌<◌, length, All, Bool, Result, Err}
 use Rattle.dmf_net.specs.NetworkState.{IsState}
 use Rattle.dmf_session.specs.declared.command.Command.{Command}
 use Rattle.dmf_session.specs.declared.command.Reply.{Reply}
@@ -24,3 +24,9 @@ pub record Answered (want_cut : Bool) (t : Timeline) (command : Command) : Type 
 -- Each command has an answer.
 abbrev pub HasAnswer : Type 0
 HasAnswer = (want_cut : Bool) (t : Timeline) (command : Command) → HasStates t → Answered want_cut t command
+
+-- Each command has one answer: any two from one timeline are the same, and leave the same timeline.
+abbrev pub HasOneAnswer : Type 0
+HasOneAnswer =
+    (want_cut : Bool) (t u v : Timeline) (command : Command) (result other : Result Reply Refusal) → HasStates t
+    → Steps want_cut t command result u → Steps want_cut t command other v → (result ≡ other) × (u ≡ v)

@@ -1,9 +1,10 @@
-ghost use Rattle.dmf_session.specs.Laws.{HasAnswer};
+ghost use Rattle.dmf_session.specs.Laws.{HasAnswer, HasOneAnswer};
 ghost use Rattle.dmf_session.specs.Optimal.{GreatestIsOptimal};
 ghost use Rattle.dmf_session.specs.Step.{SolvedIsOptimal};
 
 use dmf_net::{
-    a_smallest_side, an_outcome, greatest_or_surpassed, max_flow_min_cut, solved_is_greatest,
+    a_smallest_side, an_outcome, greatest_or_surpassed, max_flow_min_cut, one_outcome,
+    one_smallest_side, solved_is_greatest,
 };
 
 /// The law that a greatest flow has as its value the capacity of a least cut, and so that of the smallest side.
@@ -28,4 +29,13 @@ pub fn an_answer()
     max_flow_min_cut();
     a_smallest_side();
     greatest_or_surpassed();
+}
+
+/// The law that each command has one answer where memory is there: any two from one timeline are the same, and leave the
+/// same timeline.
+pub fn one_answer()
+    ensures { HasOneAnswer }
+{
+    one_outcome();
+    one_smallest_side();
 }
