@@ -1,9 +1,8 @@
 -- Each command has an answer.
-use Rattle.std.proofs.Common.{ℕ, ◌≡◌, ◌≢◌, ◌+◌, ◌≤◌, List, length, take, Bool, true, false, cond, Option, Some, None, is_none, option_map, Result, Ok, Err, nat_le, refl, ap, ◌∙◌, subst, arith, ⊎_elim}
+use Rattle.std.proofs.Common.{ℕ, ◌≡◌, ◌≢◌, ◌+◌, ◌≤◌, List, length, take, Bool, true, false, cond, Option, Some, None, is_none, option_map, Result, Ok, Err, nat_le, refl, ap, ◌∙◌, arith, ⊎_elim}
 use Rattle.std.proofs.lemmas.Bool.{leb-true}
 use Rattle.std.proofs.lemmas.List.{length_push, length-take-le}
-use Rattle.std.proofs.lemmas.List.Elements.{All-get_or, All-take, All-push}
-use Rattle.std.proofs.lemmas.Option.{slice_get_cases}
+use Rattle.std.proofs.lemmas.List.Elements.{All-take, All-push}
 use Rattle.dmf_net.specs.declared.fault.ArcFault.{ArcFault}
 use Rattle.dmf_net.specs.declared.fault.ArcFault.TheVariants as arc
 use Rattle.dmf_net.specs.declared.fault.PlanFault.{PlanFault}
@@ -12,10 +11,9 @@ use Rattle.dmf_net.specs.Network.{Network}
 use Rattle.dmf_net.specs.NetworkState.{NetworkState, IsState}
 use Rattle.dmf_net.specs.Change.{Change, change_fault, plan_fault, HasOutcome}
 use Rattle.dmf_net.specs.Change as change
-use Rattle.dmf_net.specs.Cut.{MaxFlowMinCut}
 use Rattle.dmf_net.specs.Greatest.{IsGreatest, IsSurpassed}
 use Rattle.dmf_net.specs.Side.{CutSide}
-use Rattle.dmf_net.specs.Laws.{HasSmallestSide, IsGreatestOrSurpassed, SolvedIsGreatest}
+use Rattle.dmf_net.specs.Laws.{HasSmallestSide, IsGreatestOrSurpassed}
 use Rattle.dmf_session.specs.declared.command.Command.{Command}
 use Rattle.dmf_session.specs.declared.command.Command.TheVariants.{Cap, Add, Close, Solve, Undo, Redo, PrintProblem, PrintFlow, PrintCut}
 use Rattle.dmf_session.specs.declared.command.Reply.{Reply}
@@ -25,30 +23,15 @@ use Rattle.dmf_session.specs.declared.command.Refusal.TheVariants.{NothingToUndo
 use Rattle.dmf_session.specs.Timeline.{Timeline, IsPresent, future_of, appended, back, forward}
 use Rattle.dmf_session.specs.Step.{Steps, Changes, IsChanged, IsRefused, IsMoved, IsSolved, IsSideWanted, refusal_of, value_of}
 use Rattle.dmf_session.specs.Laws.{HasStates, Answered, HasAnswer}
-use Rattle.dmf_session.proofs.Optimal.{greatest-optimal}
+use Rattle.dmf_session.proofs.Appending.{some-present}
 
 -- what is so of networks
 pub record NetworkLaws : Type 0 where
   pub outcome : HasOutcome
-  pub solved : SolvedIsGreatest
-  pub min_cut : MaxFlowMinCut
   pub side : HasSmallestSide
   pub greatest : IsGreatestOrSurpassed
 
 -- ---- timelines
-
--- the state at the place
-pub record SomePresent (t : Timeline) : Type 0 where
-  pub state : NetworkState
-  pub present : IsPresent t state
-  pub is : IsState state
-
--- Where the place is in the list there is a present state.
-pub some-present : (t : Timeline) → HasStates t → SomePresent t
-some-present t has = ⊎_elim
-    (λ found. record { state = found.0; present = found.2; is = subst IsState found.3 (All-get_or IsState t.states t.place found.0 found.1 has.states) })
-    (λ past. absurd (omega (arith, past.0, has.place)))
-    (slice_get_cases t.states t.place).1
 
 -- A state may be appended.
 HasStates-appended : (t : Timeline) (s : NetworkState) → HasStates t → IsState s → HasStates (appended t s)
@@ -148,7 +131,6 @@ solve-answered laws want_cut t has =
     let is : IsSolved want_cut t s.state (Ok (Solution some.side)) (appended t made.after) = record {
       new = made.after;
       becomes = made.becomes;
-      optimal = greatest-optimal laws.min_cut made.after made.state (laws.solved s.state made.after s.is made.becomes);
       side = some.side;
       side_is = some.is;
       told = refl;

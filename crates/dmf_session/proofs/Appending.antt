@@ -1,12 +1,13 @@
--- What a change appends is the present state.
-use Rattle.std.proofs.Common.{ℕ, ◌≡◌, ◌+◌, ◌<◌, List, ◌∷◌, [], ◌++◌, length, take, Option, Some, None, Result, Ok, Err, MatchOption, IsOkUnless, pos, nat_abs, arith, sym, ap, ◌∙◌, subst}
+-- The present state, and that it is what a change appended.
+use Rattle.std.proofs.Common.{ℕ, ◌≡◌, ◌+◌, ◌<◌, List, ◌∷◌, [], ◌++◌, length, take, Option, Some, None, Result, Ok, Err, MatchOption, IsOkUnless, pos, nat_abs, arith, sym, ap, ◌∙◌, subst, ⊎_elim}
 use Rattle.std.proofs.lemmas.List.{get_or_at, length_push, length-take-le}
-use Rattle.std.proofs.lemmas.Option.{get_or_from_slice_get, slice_get-get_or}
+use Rattle.std.proofs.lemmas.List.Elements.{All-get_or}
+use Rattle.std.proofs.lemmas.Option.{get_or_from_slice_get, slice_get-get_or, slice_get_cases}
 use Rattle.dmf_net.specs.declared.edit.Edit.{Edit}
 use Rattle.dmf_net.specs.declared.fault.PlanFault.{PlanFault}
 use Rattle.dmf_net.specs.declared.fault.PlanFault.TheVariants.{NoMemory}
 use Rattle.dmf_net.specs.Flow.{flow_value}
-use Rattle.dmf_net.specs.NetworkState.{NetworkState}
+use Rattle.dmf_net.specs.NetworkState.{NetworkState, IsState}
 use Rattle.dmf_net.specs.Change.{Change, change_fault, Becomes}
 use Rattle.dmf_net.specs.Edit.{applied}
 use Rattle.dmf_session.specs.declared.command.Reply.{Reply}
@@ -14,12 +15,30 @@ use Rattle.dmf_session.specs.declared.command.Reply.TheVariants.{Value, Added}
 use Rattle.dmf_session.specs.declared.command.Refusal.{Refusal}
 use Rattle.dmf_session.specs.Timeline.{Timeline, IsPresent, appended, Appends}
 use Rattle.dmf_session.specs.Step.{Changes, IsChanged, IsRefused, refusal_of, value_of}
+use Rattle.dmf_session.specs.Laws.{HasStates}
 
 -- there is one present state
 pub one-present : (t : Timeline) (s p : NetworkState) → IsPresent t s → IsPresent t p → s ≡ p
 one-present t s p a b = cc
 
--- and after a change it is what was appended
+-- the state at the place
+pub record SomePresent (t : Timeline) : Type 0 where
+  pub state : NetworkState
+  pub present : IsPresent t state
+  pub is : IsState state
+
+-- Where the place is in the list there is a present state.
+pub some-present : (t : Timeline) → HasStates t → SomePresent t
+some-present t has = ⊎_elim
+    (λ found. record { state = found.0; present = found.2; is = subst IsState found.3 (All-get_or IsState t.states t.place found.0 found.1 has.states) })
+    (λ past. absurd (omega (arith, past.0, has.place)))
+    (slice_get_cases t.states t.place).1
+
+-- The present state of a timeline that has states is a state.
+pub is-state : (t : Timeline) (s : NetworkState) → HasStates t → IsPresent t s → IsState s
+is-state t s has present = let some = some-present t has in subst IsState (one-present t some.state s some.present present) some.is
+
+-- After a change what was appended is the present one.
 present-appended : (t : Timeline) (s p : NetworkState) → t.place < length t.states → IsPresent (appended t s) p → p ≡ s
 present-appended t s p within is =
     let front : List NetworkState = take (t.place + 1) t.states in

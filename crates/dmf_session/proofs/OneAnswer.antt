@@ -17,18 +17,13 @@ use Rattle.dmf_session.specs.declared.command.Refusal.TheVariants.{NothingToUndo
 use Rattle.dmf_session.specs.Timeline.{Timeline, IsPresent, future_of, appended, back, forward}
 use Rattle.dmf_session.specs.Step.{Changes, IsChanged, IsRefused, IsMoved, IsSolved, IsSideWanted, TellsCut, refusal_of, value_of}
 use Rattle.dmf_session.specs.Laws.{HasStates, HasOneAnswer}
-use Rattle.dmf_session.proofs.Appending.{one-present}
 use Rattle.dmf_session.proofs.Optimal.{not-surpassed}
-use Rattle.dmf_session.proofs.Answering.{some-present}
+use Rattle.dmf_session.proofs.Appending.{one-present, is-state}
 
 -- what is so of networks
 pub record NetworkOneLaws : Type 0 where
   pub outcome : HasOneOutcome
   pub side : HasOneSmallestSide
-
--- The present state of a timeline that has states is a state.
-is-state : (t : Timeline) (s : NetworkState) → HasStates t → IsPresent t s → IsState s
-is-state t s has present = let some = some-present t has in subst IsState (one-present t some.state s some.present present) some.is
 
 -- ---- changes
 

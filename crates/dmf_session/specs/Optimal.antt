@@ -5,6 +5,7 @@ use Rattle.dmf_net.specs.NetworkState.{NetworkState, IsState}
 use Rattle.dmf_net.specs.Greatest.{IsGreatest}
 use Rattle.dmf_net.specs.Cut.{HasLeastCutOf}
 use Rattle.dmf_net.specs.Side.{CutSide, IsSmallestSide}
+use Rattle.dmf_session.specs.Timeline.{Timeline, IsPresent}
 
 -- No flow of the network has a larger value than that of the state, and this value is the capacity of a least cut, and
 -- so that of the smallest side.
@@ -12,6 +13,12 @@ pub record IsOptimal (s : NetworkState) : Type 0 where
   pub greatest : IsGreatest s.network s.flows
   pub least_cut : HasLeastCutOf s.network (flow_value s.network s.flows)
   pub smallest_side : (side : CutSide) → IsSmallestSide s.network side → pos side.capacity ≡ flow_value s.network s.flows
+
+-- The present state is optimal.
+pub record HasOptimalPresent (t : Timeline) : Type 0 where
+  pub state : NetworkState
+  pub present : IsPresent t state
+  pub optimal : IsOptimal state
 
 -- A state whose flow is greatest is optimal.
 abbrev pub GreatestIsOptimal : Type 0

@@ -17,7 +17,6 @@ use Rattle.dmf_session.specs.declared.command.Reply.{Reply}
 use Rattle.dmf_session.specs.declared.command.Reply.TheVariants.{Value, Added, Solution, Problem, Flow, Cut}
 use Rattle.dmf_session.specs.declared.command.Refusal.{Refusal}
 use Rattle.dmf_session.specs.declared.command.Refusal.TheVariants.{NoSuchArc, Closed, NoSuchNode, TooManyArcs, SumTooLarge, NothingToUndo, NothingToRedo, NotGreatest, NoMemory}
-use Rattle.dmf_session.specs.Optimal.{IsOptimal}
 use Rattle.dmf_session.specs.Timeline.{Timeline, IsPresent, future_of, appended, back, forward, AddsArcs}
 
 -- the value of a state's flow, which is not below 0
@@ -70,12 +69,11 @@ IsSideWanted true n None = ⊥
 IsSideWanted false n (Some side) = ⊥
 IsSideWanted false n None = Unit {0}
 
--- Solving, which is never refused: what it becomes is appended, and that state is optimal. The reply has the smallest side
--- of its network, where it is wanted.
+-- Solving, which is never refused: what it becomes is appended. The reply has the smallest side of its network, where it is
+-- wanted.
 pub record IsSolved (want_cut : Bool) (t : Timeline) (s : NetworkState) (result : Result Reply Refusal) (u : Timeline) : Type 0 where
   pub new : NetworkState
   pub becomes : Becomes s change.Solve new
-  pub optimal : IsOptimal new
   pub side : Option CutSide
   pub side_is : IsSideWanted want_cut new.network side
   pub told : result ≡ Ok (Solution side)
@@ -140,9 +138,3 @@ IsChange (Redo steps) = ⊥
 IsChange PrintProblem = ⊥
 IsChange PrintFlow = ⊥
 IsChange PrintCut = ⊥
-
--- After a solve that was not refused the present state is optimal.
-abbrev pub SolvedIsOptimal : Type 0
-SolvedIsOptimal =
-    (want_cut : Bool) (t u : Timeline) (reply : Reply) → Answers want_cut t Solve (Ok reply) u
-    → (s : NetworkState) × IsPresent u s × IsOptimal s

@@ -1,6 +1,5 @@
-ghost use Rattle.dmf_session.specs.Laws.{HasAnswer, HasOneAnswer};
+ghost use Rattle.dmf_session.specs.Laws.{HasAnswer, HasOneAnswer, SolvedIsOptimal};
 ghost use Rattle.dmf_session.specs.Optimal.{GreatestIsOptimal};
-ghost use Rattle.dmf_session.specs.Step.{SolvedIsOptimal};
 
 use dmf_net::{
     a_smallest_side, an_outcome, greatest_or_surpassed, max_flow_min_cut, one_outcome,
@@ -18,15 +17,16 @@ pub fn greatest_is_optimal()
 /// capacity of the smallest minimum cut.
 pub fn solved_is_optimal()
     ensures { SolvedIsOptimal }
-{}
+{
+    solved_is_greatest();
+    max_flow_min_cut();
+}
 
 /// The law that each command has an answer which tells of no want of memory.
 pub fn an_answer()
     ensures { HasAnswer }
 {
     an_outcome();
-    solved_is_greatest();
-    max_flow_min_cut();
     a_smallest_side();
     greatest_or_surpassed();
 }

@@ -1,8 +1,9 @@
-ghost use Rattle.std.specs.Prelude.{◌≡◌, ◌<◌, ◌≤◌, Bool};
+ghost use Rattle.std.specs.Prelude.{◌≡◌, ◌<◌, ◌≤◌, Bool, OnOk};
 ghost use Rattle.dmf_session.specs.declared.history.TheConstants.{MAX_CHANGES};
-ghost use Rattle.dmf_session.specs.declared.command.Command.TheVariants as command;
+ghost use Rattle.dmf_session.specs.declared.command.Command.TheVariants.{Cap, Add, Close, Solve, Undo, Redo, PrintCut};
 ghost use Rattle.dmf_session.specs.Timeline.{IsTimeline, IsPresent, future_of, back};
 ghost use Rattle.dmf_session.specs.Step.{Answers, IsChange};
+ghost use Rattle.dmf_session.specs.Optimal.{HasOptimalPresent};
 
 use crate::command::{Command, Refusal, Reply};
 use crate::history::{History, RedoFault};
@@ -67,7 +68,8 @@ impl<H: History> Session<H> {
         want_cut: bool,
     ) -> Result<Reply, Refusal>
         requires room { IsChange command → (H.timeline self.old).place < MAX_CHANGES }
-        ensures { Answers want_cut (H.timeline self.old) command result (H.timeline self.new) }
+        ensures answer { Answers want_cut (H.timeline self.old) command result (H.timeline self.new) }
+        ensures optimal { command ≡ Solve → OnOk result (HasOptimalPresent (H.timeline self.new)) }
     {
         match command {
             Command::Cap { arc, cap } => self.cap(alloc, arc, cap),
@@ -84,7 +86,7 @@ impl<H: History> Session<H> {
 
     fn cap(&mut self, alloc: Global, arc: u64, cap: u64) -> Result<Reply, Refusal>
         requires room { (H.timeline self.old).place < MAX_CHANGES }
-        ensures { (want_cut : Bool) → Answers want_cut (H.timeline self.old) (command.Cap arc cap) result (H.timeline self.new) }
+        ensures { (want_cut : Bool) → Answers want_cut (H.timeline self.old) (Cap arc cap) result (H.timeline self.new) }
     {
         let edit = plan_cap(alloc, self.history.present(), arc, cap)?;
         self.history.append(edit)?;
@@ -93,7 +95,7 @@ impl<H: History> Session<H> {
 
     fn add(&mut self, tail: u64, head: u64, cap: u64) -> Result<Reply, Refusal>
         requires room { (H.timeline self.old).place < MAX_CHANGES }
-        ensures { (want_cut : Bool) → Answers want_cut (H.timeline self.old) (command.Add tail head cap) result (H.timeline self.new) }
+        ensures { (want_cut : Bool) → Answers want_cut (H.timeline self.old) (Add tail head cap) result (H.timeline self.new) }
     {
         let edit = plan_add(self.history.present(), tail, head, cap)?;
         self.history.append(edit)?;
@@ -103,7 +105,7 @@ impl<H: History> Session<H> {
 
     fn close(&mut self, alloc: Global, arc: u64) -> Result<Reply, Refusal>
         requires room { (H.timeline self.old).place < MAX_CHANGES }
-        ensures { (want_cut : Bool) → Answers want_cut (H.timeline self.old) (command.Close arc) result (H.timeline self.new) }
+        ensures { (want_cut : Bool) → Answers want_cut (H.timeline self.old) (Close arc) result (H.timeline self.new) }
     {
         let edit = plan_close(alloc, self.history.present(), arc)?;
         self.history.append(edit)?;
@@ -113,7 +115,8 @@ impl<H: History> Session<H> {
     // A side that is wanted is made before the solve is recorded: where memory is refused for it, nothing has changed.
     fn solve(&mut self, alloc: Global, want_cut: bool) -> Result<Reply, Refusal>
         requires room { (H.timeline self.old).place < MAX_CHANGES }
-        ensures { Answers want_cut (H.timeline self.old) command.Solve result (H.timeline self.new) }
+        ensures answer { Answers want_cut (H.timeline self.old) Solve result (H.timeline self.new) }
+        ensures optimal { OnOk result (HasOptimalPresent (H.timeline self.new)) }
     {
         greatest_is_optimal();
         let present = self.history.present();
@@ -128,13 +131,13 @@ impl<H: History> Session<H> {
     }
 
     fn cut(&self, alloc: Global) -> Result<Reply, Refusal>
-        ensures { (want_cut : Bool) → Answers want_cut (H.timeline self.now) command.PrintCut result (H.timeline self.now) }
+        ensures { (want_cut : Bool) → Answers want_cut (H.timeline self.now) PrintCut result (H.timeline self.now) }
     {
         Ok(Reply::Cut(smallest_side(alloc, self.history.present())?))
     }
 
     fn undo(&mut self, steps: u64) -> Result<Reply, Refusal>
-        ensures { (want_cut : Bool) → Answers want_cut (H.timeline self.old) (command.Undo steps) result (H.timeline self.new) }
+        ensures { (want_cut : Bool) → Answers want_cut (H.timeline self.old) (Undo steps) result (H.timeline self.new) }
     {
         if steps > u64::from(self.history.past()) {
             return Err(Refusal::NothingToUndo);
@@ -144,7 +147,7 @@ impl<H: History> Session<H> {
     }
 
     fn redo(&mut self, steps: u64) -> Result<Reply, Refusal>
-        ensures { (want_cut : Bool) → Answers want_cut (H.timeline self.old) (command.Redo steps) result (H.timeline self.new) }
+        ensures { (want_cut : Bool) → Answers want_cut (H.timeline self.old) (Redo steps) result (H.timeline self.new) }
     {
         if steps > u64::from(self.history.future()) {
             return Err(Refusal::NothingToRedo);

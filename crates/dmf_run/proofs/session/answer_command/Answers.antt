@@ -5,4 +5,4 @@ use Rattle.dmf_run.proofs.session.answer_command.Goals as goal
 pub returns-in-Err : goal.returns-in-Err
 returns-in-Err g c =
     let refusal = c.in-Err.refusal in
-    (refused_text c.args.number refusal, true, (Err refusal, c.in-Err.ensures, (refl, refl)), c.refuse.ensures.text, c.refuse.ensures.refused)
+    (refused_text c.args.number refusal, true, (Err refusal, c.in-Err.ensures.answer, (refl, refl)), c.refuse.ensures.text, c.refuse.ensures.refused)
