@@ -1,0 +1,31 @@
+// igraph's push-relabel. It computes with fractions, which are exact up to 2^53.
+#include "dimacs.hpp"
+
+#include <igraph.h>
+
+int main() {
+    dimacs::Clock clock;
+    const dimacs::Network network = dimacs::read_network();
+    clock.lap("read");
+    const auto arcs = static_cast<igraph_integer_t>(network.arcs());
+    igraph_vector_int_t ends;
+    igraph_vector_t capacities, flow;
+    igraph_vector_int_init(&ends, 2 * arcs);
+    igraph_vector_init(&capacities, arcs);
+    igraph_vector_init(&flow, 0);
+    for (igraph_integer_t j = 0; j < arcs; ++j) {
+        VECTOR(ends)[2 * j] = network.tails[j] - 1;
+        VECTOR(ends)[2 * j + 1] = network.heads[j] - 1;
+        VECTOR(capacities)[j] = static_cast<double>(network.capacities[j]);
+    }
+    igraph_t graph;
+    igraph_create(&graph, &ends, network.nodes, IGRAPH_DIRECTED);
+    igraph_vector_int_destroy(&ends);
+    clock.lap("build");
+    igraph_real_t value;
+    igraph_maxflow(&graph, &value, &flow, nullptr, nullptr, nullptr, network.source - 1, network.sink - 1, &capacities,
+                   nullptr);
+    clock.lap("solve");
+    dimacs::write_solution(network, static_cast<uint64_t>(value), [&](size_t j) { return VECTOR(flow)[j]; });
+    clock.lap("write");
+}

@@ -1,0 +1,61 @@
+"""What the scripts of this folder share: the cache folder, the drivers that are built there, and the networks."""
+
+import hashlib
+import os
+import shutil
+import subprocess
+import sys
+from pathlib import Path
+
+BENCH = Path(__file__).resolve().parent
+DMF = BENCH.parent / "crates/dmf/out/dmf"
+CACHE = Path(os.environ.get("DMF_BENCH_CACHE") or Path.home() / ".cache/dmf-bench")
+SEED = 1990
+
+# By driver: the Debian package that it needs, a file of it, and what it is linked with.
+PACKAGES = {
+    "lemon": ("liblemon-dev", "/usr/include/lemon/preflow.h", []),
+    "boost": ("libboost-graph-dev", "/usr/include/boost/graph/push_relabel_max_flow.hpp", []),
+    "igraph": ("libigraph-dev", "/usr/include/igraph/igraph.h", ["-I/usr/include/igraph", "-ligraph"]),
+    "maxflow": ("libmaxflow-dev", "/usr/include/maxflow-3.0/maxflow.h", ["-I/usr/include/maxflow-3.0"]),
+    "glpsol": ("glpk-utils", "/usr/bin/glpsol", []),
+}
+
+
+def is_there(driver):
+    """Whether a driver's package is there; a root user gets it installed."""
+    package, file, _ = PACKAGES[driver]
+    if not Path(file).exists() and os.geteuid() == 0 and shutil.which("apt-get"):
+        print(f"installing {package}", file=sys.stderr)
+        command = ["apt-get", "install", "-y", "--no-install-recommends", package]
+        environment = {**os.environ, "DEBIAN_FRONTEND": "noninteractive"}
+        subprocess.run(command, stdout=subprocess.DEVNULL, stderr=subprocess.DEVNULL, env=environment)
+    if not Path(file).exists():
+        print(f"skipped: {driver}, since {package} is not there", file=sys.stderr)
+        return False
+    return True
+
+
+def build(name):
+    """Compiles a program of this folder, as a packager would, and tells where it is."""
+    source, program = BENCH / f"{name}.cpp", CACHE / name
+    sources = [source, *BENCH.glob("*.hpp")]
+    if not program.exists() or max(file.stat().st_mtime for file in sources) > program.stat().st_mtime:
+        CACHE.mkdir(parents=True, exist_ok=True)
+        flags = PACKAGES.get(name, ("", "", []))[2]
+        subprocess.run(["g++", "-O2", "-DNDEBUG", "-std=c++17", "-o", program, source, *flags], check=True)
+    return program
+
+
+def network(family, arcs):
+    """The file of a network, which is made where it is missing or its maker has changed."""
+    makers = b"".join((BENCH / name).read_bytes() for name in ("generate.cpp", "dimacs.hpp"))
+    file = CACHE / f"networks-{hashlib.sha256(makers).hexdigest()[:8]}" / f"{family}-{arcs}.max"
+    if not file.exists():
+        generate = build("generate")
+        file.parent.mkdir(exist_ok=True)
+        unfinished = file.with_suffix(".part")
+        with unfinished.open("wb") as text:
+            subprocess.run([generate, family, str(arcs), str(SEED)], stdout=text, check=True)
+        unfinished.rename(file)
+    return file

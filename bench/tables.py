@@ -1,0 +1,98 @@
+"""The tables of a run, in Markdown."""
+
+import math
+import os
+import platform
+import subprocess
+from pathlib import Path
+
+# In place of what a run took: the time limit passed.
+LATE = (math.inf, 0)
+
+
+def machine():
+    info = Path("/proc/cpuinfo").read_text().splitlines()
+    model = next((line.split(":")[1].strip() for line in info if line.startswith("model name")), platform.machine())
+    system = next(line.split('"')[1] for line in Path("/etc/os-release").read_text().splitlines() if "PRETTY_NAME" in line)
+    compiler = subprocess.run(["g++", "-dumpfullversion"], capture_output=True, text=True).stdout.strip()
+    load = os.getloadavg()[1]
+    return f"{os.cpu_count()} x {model}, {system}, g++ {compiler} -O2; load {load:.1f} at the end."
+
+
+def table(head, rows):
+    aligned = ["---", *["--:"] * (len(head) - 1)]
+    return "\n".join("| " + " | ".join(map(str, row)) + " |" for row in [head, aligned, *rows])
+
+
+def seconds(took):
+    return f"{took:.3f}" if took < 0.1 else f"{took:.2f}" if took < 10 else f"{took:.1f}"
+
+
+def time_cell(took, best, limit, name):
+    if took is None:
+        return ""
+    if took == LATE:
+        return f"> {limit}"
+    if name == "dmf check":
+        return seconds(took[0])
+    return f"{seconds(took[0])} ({took[0] / best:.1f})"
+
+
+def solving(best, name):
+    """The seconds of a run that solved, if it did."""
+    took = best.get(name, LATE)
+    return took[0] if name != "dmf check" and took != LATE else None
+
+
+def time_rows(results, names, limit):
+    for (family, arcs), best in results.items():
+        least = min((took for name in names if (took := solving(best, name))), default=math.inf)
+        yardstick = min(solving(best, "phases") or math.inf, solving(best, "tree") or math.inf)
+        dmf = solving(best, "dmf")
+        ratio = f"{dmf / yardstick:.2f}" if dmf and yardstick < math.inf else ""
+        yield [f"{family} {arcs:,}", *(time_cell(best.get(name), least, limit, name) for name in names), ratio]
+
+
+def memory_rows(results, names):
+    for (family, arcs), best in results.items():
+        if arcs < 100_000:
+            continue
+        kept = [best.get(name) for name in names]
+        cells = [f"{took[1] * 1024 / arcs:.0f}" if took and took != LATE else "" for took in kept]
+        yield [f"{family} {arcs:,}", *cells]
+
+
+def growth_rows(results, names):
+    for family in dict.fromkeys(family for family, _ in results):
+        sizes = [arcs for place, arcs in results if place == family]
+        least, most = results[family, sizes[0]], results[family, sizes[-1]]
+        if len(sizes) < 2:
+            continue
+        cells = []
+        for name in names:
+            before, after = least.get(name), most.get(name)
+            is_known = before and after and LATE not in (before, after)
+            cells.append(f"{after[0] / before[0]:.0f}" if is_known else "")
+        yield [f"{family} {sizes[0]:,} to {sizes[-1]:,}", *cells]
+
+
+def text(results, names, repeat, limit, patience):
+    """The tables of what was measured, by family and number of arcs and then by solver."""
+    parts = [
+        f"Measured on {machine()}",
+        f"Seconds to read, solve and write, the least of {repeat} runs (one, where it took more than {patience} s; `> {limit}`: "
+        "not done by then, here or on a smaller network of the family). Behind them the ratio to the quickest of the row. The "
+        "last column is `dmf` to the quicker of its two yardsticks.",
+        table(["network", *names, "to yardstick"], time_rows(results, names, limit)),
+        "Peak memory in bytes for each arc, from 100,000 arcs on.",
+        table(["network", *names], memory_rows(results, names)),
+        "How many times as long the largest network of a family takes as the smallest.",
+        table(["network", *names], growth_rows(results, names)),
+    ]
+    return "\n\n".join(parts)
+
+
+def put(file, text, begin, end):
+    """Puts a text between two marks in a file."""
+    before, rest = file.read_text().split(begin)
+    file.write_text(f"{before}{begin}\n\n{text}\n\n{end}{rest.split(end)[1]}")
