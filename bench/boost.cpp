@@ -48,8 +48,8 @@ int main(int count, char **words) {
             : boost::boykov_kolmogorov_max_flow(graph, capacity_of, room_of, partner_of, vertex, network.source,
                                                 network.sink);
     clock.lap("solve");
-    std::vector<uint64_t> flows(network.arcs());
-    links.for_each_arc(network, [&](size_t j, Place along, Place) { flows[j] = capacities[along] - rooms[along]; });
-    dimacs::write_solution(network, value, [&](size_t j) { return flows[j]; });
+    dimacs::write_solution(network, value, [&](size_t j) {
+        return links.along(j) == NO_PLACE ? 0 : capacities[links.along(j)] - rooms[links.along(j)];
+    });
     clock.lap("write");
 }

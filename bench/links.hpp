@@ -14,6 +14,7 @@ using Node = uint32_t;
 using Place = uint32_t;
 
 constexpr uint32_t NO_LABEL = UINT32_MAX;
+constexpr Place NO_PLACE = UINT32_MAX;
 constexpr uint64_t NO_LIMIT = UINT64_MAX;
 
 // Both steps of each arc that is no self loop, by the node that they leave, those of a node in order of rank. The links of
@@ -25,34 +26,36 @@ struct Links {
     std::vector<uint64_t> rooms;
     std::vector<uint8_t> is_entered; // whether the partner has room
 
-    explicit Links(const Network &network) : first(network.nodes + 2) {
-        for (size_t j = 0; j < network.arcs(); ++j) {
-            const Node tail = network.tails[j], head = network.heads[j];
-            if (tail != head) ++first[tail + 1], ++first[head + 1];
-        }
+    std::vector<Place> places; // by rank: the place of the step along the arc at index j is at 2j, and against it at 2j + 1
+
+    explicit Links(const Network &network) : first(network.nodes + 2), places(2 * network.arcs(), NO_PLACE) {
+        const auto for_each_arc = [&](auto visit) {
+            for (size_t j = 0; j < network.arcs(); ++j)
+                if (network.tails[j] != network.heads[j]) visit(j, network.tails[j], network.heads[j]);
+        };
+        for_each_arc([&](size_t, Node tail, Node head) { ++first[tail + 1], ++first[head + 1]; });
         for (size_t v = 1; v < first.size(); ++v) first[v] += first[v - 1];
-        heads.resize(first.back());
-        partners.resize(first.back());
-        rooms.resize(first.back());
-        is_entered.resize(first.back());
-        for_each_arc(network, [&](size_t j, Place along, Place against) {
-            heads[along] = network.heads[j];
-            heads[against] = network.tails[j];
-            partners[along] = against;
-            partners[against] = along;
-            rooms[along] = network.capacities[j];
-            is_entered[against] = network.capacities[j] != 0;
+        std::vector<Place> next = first;
+        for_each_arc([&](size_t j, Node tail, Node head) {
+            places[2 * j] = next[tail]++;
+            places[2 * j + 1] = next[head]++;
         });
+        // A loop for each vector: writes all over several of them in turn take thrice as long on large networks.
+        heads.resize(first.back());
+        for_each_arc([&](size_t j, Node tail, Node head) { heads[along(j)] = head, heads[against(j)] = tail; });
+        partners.resize(first.back());
+        for_each_arc([&](size_t j, Node, Node) { partners[along(j)] = against(j), partners[against(j)] = along(j); });
+        rooms.resize(first.back());
+        for_each_arc([&](size_t j, Node, Node) { rooms[along(j)] = network.capacities[j]; });
+        is_entered.resize(first.back());
+        for_each_arc([&](size_t j, Node, Node) { is_entered[against(j)] = network.capacities[j] != 0; });
     }
 
-    // Calls `visit(j, along, against)` for each arc that is no self loop, with the places of its two links.
-    template <typename Visit> void for_each_arc(const Network &network, Visit visit) const {
-        std::vector<Place> next = first;
-        for (size_t j = 0; j < network.arcs(); ++j) {
-            const Node tail = network.tails[j], head = network.heads[j];
-            if (tail != head) visit(j, next[tail]++, next[head]++);
-        }
-    }
+    Place along(size_t j) const { return places[2 * j]; }
+    Place against(size_t j) const { return places[2 * j + 1]; }
+
+    // What flows on the arc at index j.
+    uint64_t flow(size_t j) const { return against(j) == NO_PLACE ? 0 : rooms[against(j)]; }
 
     Node tail(Place place) const { return heads[partners[place]]; }
 
@@ -127,9 +130,7 @@ template <typename Walk> void run() {
     uint64_t value = 0;
     for (; labels.find(links); ++counts.phases) value += walk.augment_all();
     clock.lap("solve");
-    std::vector<uint64_t> flows(network.arcs());
-    links.for_each_arc(network, [&](size_t j, Place, Place against) { flows[j] = links.rooms[against]; });
-    dimacs::write_solution(network, value, [&](size_t j) { return flows[j]; });
+    dimacs::write_solution(network, value, [&](size_t j) { return links.flow(j); });
     clock.lap("write");
     clock.tell("phases " + std::to_string(counts.phases) + " augmentations " + std::to_string(counts.augmentations) +
                " links " + std::to_string(counts.links));
