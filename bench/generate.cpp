@@ -3,7 +3,6 @@
 #include "dimacs.hpp"
 
 #include <cmath>
-#include <map>
 #include <utility>
 
 using dimacs::Network;
