@@ -7,6 +7,7 @@ use Rattle.std.proofs.lemmas.List.{length-append, take_at}
 use Rattle.std.proofs.lemmas.List.Elements.{All-nil}
 use Rattle.dmf_session.specs.declared.command.Command.{Command}
 use Rattle.dmf_session.specs.declared.command.Refusal.{Refusal}
+use Rattle.dmf_session.specs.Step.{Answers}
 use Rattle.dmf_session.specs.Timeline.{Timeline}
 use Rattle.dmf_run.specs.declared.fault.Status.{Status}
 use Rattle.dmf_run.specs.declared.fault.EngineFault.{EngineFault}
@@ -39,7 +40,7 @@ given-by : (before now : Feed) (bytes : List ℕ) → IsFresh before → Takes b
 given-by before now bytes fresh takes = Consumes-given before.pending now.pending before.known now.known bytes fresh.none_pending takes.consumes
 
 -- the lines so far are all
-abbrev all-so-far : (want_cut : Bool) (t : Timeline) (lines : List (List ℕ)) (written : List ℕ) (is_refused : Bool) (u : Timeline) → All HasNoFeed lines → Runs want_cut 1 t lines written is_refused u → RunsAll want_cut t (fed lines) written is_refused
+abbrev all-so-far : (want_cut : Bool) (t : Timeline) (lines : List (List ℕ)) (written : List ℕ) (is_refused : Bool) (u : Timeline) → All HasNoFeed lines → Runs (Answers want_cut) 1 t lines written is_refused u → RunsAll (Answers want_cut) t (fed lines) written is_refused
 all-so-far want_cut t lines written is_refused u each runs = record {
   lines = lines;
   rest = [];
@@ -179,7 +180,7 @@ RunsCommands-past want_cut t before now then held holds u is_refused (fault.Solu
 RunsCommands-past want_cut t before now then held holds u is_refused fault.NoMemory p gave = absurd gave
 
 -- the rest is a line that no line feed ended
-rest-runs : (want_cut : Bool) (number : ℕ) (u : Timeline) (line text : List ℕ) (refused : Bool) (v : Timeline) → 0 < length line → LineRuns want_cut number u (line_meaning false line) text refused v → RestRuns want_cut number u line text refused
+rest-runs : (want_cut : Bool) (number : ℕ) (u : Timeline) (line text : List ℕ) (refused : Bool) (v : Timeline) → 0 < length line → LineRuns (Answers want_cut) number u (line_meaning false line) text refused v → RestRuns (Answers want_cut) number u line text refused
 rest-runs want_cut number u [] text refused v some runs = absurd (omega (arith, some))
 rest-runs want_cut number u (byte ∷ line) text refused v some runs = (v, runs)
 
@@ -189,7 +190,7 @@ count-le lines (byte ∷ rest) = omega arith
 
 -- the lines so far, and a last line
 abbrev all-with-last : (want_cut : Bool) (t : Timeline) (lines : List (List ℕ)) (line : List ℕ) (written text : List ℕ) (is_refused refused : Bool) (u v : Timeline) → All HasNoFeed lines → HasNoFeed line → 0 < length line
-    → Runs want_cut 1 t lines written is_refused u → LineRuns want_cut (length lines + 1) u (line_meaning false line) text refused v → RunsAll want_cut t (fed lines ++ line) (written ++ text) (is_refused || refused)
+    → Runs (Answers want_cut) 1 t lines written is_refused u → LineRuns (Answers want_cut) (length lines + 1) u (line_meaning false line) text refused v → RunsAll (Answers want_cut) t (fed lines ++ line) (written ++ text) (is_refused || refused)
 all-with-last want_cut t lines line written text is_refused refused u v each no_feed some runs then = record {
   lines = lines;
   rest = line;
@@ -214,7 +215,7 @@ RunsCommands-last want_cut t before now then held holds next number u is_refused
     let bytes = fed p.lines ++ line in
     let all = Takes-trans before now then (fed p.lines) line p.takes gave.2 in
     let nothing : bytes ++ then.pending.bytes ≡ bytes = ap (λ x. bytes ++ x) ended.none_pending ∙ append-nil bytes in
-    let runs = subst (λ n. LineRuns want_cut n u (line_meaning false line) c.text refused v) (sym p.counted) (subst (λ m. LineRuns want_cut number u m c.text refused v) gave.3 c.runs) in (
+    let runs = subst (λ n. LineRuns (Answers want_cut) n u (line_meaning false line) c.text refused v) (sym p.counted) (subst (λ m. LineRuns (Answers want_cut) number u m c.text refused v) gave.3 c.runs) in (
       bytes,
       p.written ++ c.text,
       subst (λ x. Consumes before.known then.known x) nothing (given-by before then bytes p.fresh all),
@@ -232,7 +233,7 @@ RunsCommands-last want_cut t before now then held holds next number u is_refused
 pub record Broken (want_cut : Bool) (u : Timeline) (meaning : Result (Option Command) Refusal) (number : ℕ) (holds next : Held) (v : Timeline) : Type 0 where
   pub text : List ℕ
   pub refused : Bool
-  pub runs : LineRuns want_cut number u meaning text refused v
+  pub runs : LineRuns (Answers want_cut) number u meaning text refused v
   pub front : List ℕ
   pub rest : List ℕ
   pub text_is : text ≡ front ++ rest
@@ -275,7 +276,7 @@ RunsCommands-write_last want_cut t before now then held holds next number u is_r
     let line : List ℕ = gave.0 in
     let bytes = fed p.lines ++ line in
     let all = Takes-trans before now then (fed p.lines) line p.takes gave.2 in
-    let runs = subst (λ n. LineRuns want_cut n u (line_meaning false line) b.text b.refused v) (sym p.counted) (subst (λ m. LineRuns want_cut number u m b.text b.refused v) gave.3 b.runs) in (
+    let runs = subst (λ n. LineRuns (Answers want_cut) n u (line_meaning false line) b.text b.refused v) (sym p.counted) (subst (λ m. LineRuns (Answers want_cut) number u m b.text b.refused v) gave.3 b.runs) in (
       bytes ++ then.pending.bytes,
       p.written ++ b.front,
       given-by before then bytes p.fresh all,

@@ -5,6 +5,8 @@ pub mod LineLemmas
 pub mod Progress
 pub mod Endings
 pub mod SessionLemmas
+pub mod Cutting
 pub mod Running
+pub mod OneRun
 pub mod Table
 pub mod Reading

@@ -89,7 +89,7 @@ steps-grow want_cut t u PrintProblem result within s = same t u within s.1
 steps-grow want_cut t u PrintFlow result within s = same t u within s.1
 steps-grow want_cut t u PrintCut result within s = same t u within s.1
 
-pub LineRuns-grows : (want_cut : Bool) (number : ℕ) (t : Timeline) (meaning : Result (Option Command) Refusal) (text : List ℕ) (refused : Bool) (u : Timeline) → t.place < length t.states → LineRuns want_cut number t meaning text refused u → Grows t u
+pub LineRuns-grows : (want_cut : Bool) (number : ℕ) (t : Timeline) (meaning : Result (Option Command) Refusal) (text : List ℕ) (refused : Bool) (u : Timeline) → t.place < length t.states → LineRuns (Answers want_cut) number t meaning text refused u → Grows t u
 LineRuns-grows want_cut number t (Ok None) text refused u within l = same t u within l.2
 LineRuns-grows want_cut number t (Ok (Some command)) text refused u within l =
     ⊎_elim (λ (e : u ≡ t). same t u within e) (λ (s : Steps want_cut t command l.0 u). steps-grow want_cut t u command l.0 within s) (answers-cases want_cut t command l.0 u l.1)
@@ -104,7 +104,7 @@ or-assoc true b c = refl
 or-assoc false b c = refl
 
 -- one line more
-pub Runs-push : (want_cut : Bool) (number : ℕ) (t : Timeline) (lines : List (List ℕ)) (text : List ℕ) (refused : Bool) (u : Timeline) (line more : List ℕ) (later : Bool) (v : Timeline) → Runs want_cut number t lines text refused u → LineRuns want_cut (number + length lines) u (line_meaning true line) more later v → Runs want_cut number t (lines ++ line ∷ []) (text ++ more) (refused || later) v
+pub Runs-push : (want_cut : Bool) (number : ℕ) (t : Timeline) (lines : List (List ℕ)) (text : List ℕ) (refused : Bool) (u : Timeline) (line more : List ℕ) (later : Bool) (v : Timeline) → Runs (Answers want_cut) number t lines text refused u → LineRuns (Answers want_cut) (number + length lines) u (line_meaning true line) more later v → Runs (Answers want_cut) number t (lines ++ line ∷ []) (text ++ more) (refused || later) v
 Runs-push want_cut number t [] text refused u line more later v runs then =
     let here : number + 0 ≡ number = omega arith in
     record {
@@ -113,7 +113,7 @@ Runs-push want_cut number t [] text refused u line more later v runs then =
       here = later;
       more = [];
       later = false;
-      runs = subst (λ n. LineRuns want_cut n t (line_meaning true line) more later v) here (subst (λ w. LineRuns want_cut (number + 0) w (line_meaning true line) more later v) runs.2 then);
+      runs = subst (λ n. LineRuns (Answers want_cut) n t (line_meaning true line) more later v) here (subst (λ w. LineRuns (Answers want_cut) (number + 0) w (line_meaning true line) more later v) runs.2 then);
       goes_on = (refl, refl, refl);
       text_is = ap (λ x. x ++ more) runs.0 ∙ sym (append-nil more);
       refused_is = ap (λ b. b || later) runs.1 ∙ or-false later;
@@ -127,7 +127,7 @@ Runs-push want_cut number t (x ∷ lines) text refused u line more later v runs 
       more = runs.more ++ more;
       later = runs.later || later;
       runs = runs.runs;
-      goes_on = Runs-push want_cut (number + 1) runs.between lines runs.more runs.later u line more later v runs.goes_on (subst (λ n. LineRuns want_cut n u (line_meaning true line) more later v) place then);
+      goes_on = Runs-push want_cut (number + 1) runs.between lines runs.more runs.later u line more later v runs.goes_on (subst (λ n. LineRuns (Answers want_cut) n u (line_meaning true line) more later v) place then);
       text_is = ap (λ y. y ++ more) runs.text_is ∙ append_assoc runs.first runs.more more;
       refused_is = ap (λ b. b || later) runs.refused_is ∙ or-assoc runs.here runs.later later;
     }

@@ -8,6 +8,7 @@ use Rattle.std.proofs.lemmas.List.{length_push}
 use Rattle.std.proofs.lemmas.List.Elements.{All-push, All-nil}
 use Rattle.dmf_session.specs.declared.command.Command.{Command}
 use Rattle.dmf_session.specs.declared.command.Refusal.{Refusal}
+use Rattle.dmf_session.specs.Step.{Answers}
 use Rattle.dmf_session.specs.Timeline.{Timeline}
 use Rattle.dmf_run.specs.declared.input.Next.TheVariants.{Line}
 use Rattle.dmf_run.specs.Line.{HasNoFeed, fed, line_meaning}
@@ -41,7 +42,7 @@ pub record Progress (want_cut : Bool) (t : Timeline) (before now : Feed) (held h
   pub written : List ℕ
   pub appends : Appends held.contents holds.contents written
   pub writer : holds.has_failed ≡ held.has_failed
-  pub runs : Runs want_cut 1 t lines written is_refused u
+  pub runs : Runs (Answers want_cut) 1 t lines written is_refused u
   pub place : u.place < length u.states
   pub at_most : length u.states ≤ number
 
@@ -67,7 +68,7 @@ fed-push lines line = flat_map-append (λ l. l ++ 10 ∷ []) lines (line ∷ [])
 -- A line that was carried out.
 pub record Carried (want_cut : Bool) (u : Timeline) (meaning : Result (Option Command) Refusal) (number : ℕ) (holds next : Held) (refused : Bool) (v : Timeline) : Type 0 where
   pub text : List ℕ
-  pub runs : LineRuns want_cut number u meaning text refused v
+  pub runs : LineRuns (Answers want_cut) number u meaning text refused v
   pub appends : Appends holds.contents next.contents text
   pub writer : next.has_failed ≡ holds.has_failed
 
@@ -77,7 +78,7 @@ abbrev pub Progress-more : (want_cut : Bool) (t : Timeline) (before now then : F
 Progress-more want_cut t before now then held holds next number u is_refused meaning refused v p gave c =
     let line : List ℕ = gave.0 in
     let place : 1 + length p.lines ≡ number = omega (arith, p.counted) in
-    let runs = subst (λ m. LineRuns want_cut number u m c.text refused v) gave.3 c.runs in
+    let runs = subst (λ m. LineRuns (Answers want_cut) number u m c.text refused v) gave.3 c.runs in
     let grows = LineRuns-grows want_cut number u meaning c.text refused v p.place c.runs in
     record {
       fresh = p.fresh;
@@ -89,7 +90,7 @@ Progress-more want_cut t before now then held holds next number u is_refused mea
       written = p.written ++ c.text;
       appends = Appends-trans _ _ _ p.written c.text p.appends c.appends;
       writer = c.writer ∙ p.writer;
-      runs = Runs-push want_cut 1 t p.lines p.written is_refused u line c.text refused v p.runs (subst (λ n. LineRuns want_cut n u (line_meaning true line) c.text refused v) (sym place) runs);
+      runs = Runs-push want_cut 1 t p.lines p.written is_refused u line c.text refused v p.runs (subst (λ n. LineRuns (Answers want_cut) n u (line_meaning true line) c.text refused v) (sym place) runs);
       place = grows.place;
       at_most = omega (arith, grows.at_most, p.at_most);
     }

@@ -13,13 +13,14 @@ use Rattle.dmf_run.specs.declared.fault.EngineFault.TheVariants as fault
 use Rattle.dmf_run.specs.declared.input.TheConstants.{MAX_BYTES}
 use Rattle.dmf_run.specs.declared.session.TheConstants.{MAX_LINES}
 use Rattle.dmf_run.specs.Line.{HasNoFeed, fed, IsCut, line_meaning}
-use Rattle.dmf_run.specs.Run.{LineRuns, Runs}
+use Rattle.dmf_session.specs.Step.{Answers}
+use Rattle.dmf_run.specs.Run.{Answering, LineRuns, Runs}
 
 -- Carrying out one line, which means this, wrote its text or, where the writer failed, a front of it; on success the
 -- answer is whether the line was refused.
 abbrev pub WritesLine : {S : Type 0} → Bool → (S → Option (List ℕ)) → (S → Bool) → S → S → ℕ → Timeline → Result (Option Command) Refusal → Timeline → Result Bool WriteFault → Type 0
 WritesLine want_cut contents has_failed old new number t meaning u result =
-    (text : List ℕ) × (refused : Bool) × LineRuns want_cut number t meaning text refused u
+    (text : List ℕ) × (refused : Bool) × LineRuns (Answers want_cut) number t meaning text refused u
     × Writes contents has_failed old new result text × IfOk result (λ is_refused. is_refused ≡ refused)
 
 -- What a run ends on: what its reader has left and its writer holds, where they are known, and their marks.
@@ -30,13 +31,13 @@ pub record Streams : Type 0 where
   pub writer_failed : Bool
 
 -- a last line, which no line feed ended, if there is one
-abbrev pub RestRuns : Bool → ℕ → Timeline → List ℕ → List ℕ → Bool → Type 0
-RestRuns want_cut number t [] text refused = (text ≡ []) × (refused ≡ false)
-RestRuns want_cut number t (byte ∷ rest) text refused =
-    (u : Timeline) × LineRuns want_cut number t (line_meaning false (byte ∷ rest)) text refused u
+abbrev pub RestRuns : Answering → ℕ → Timeline → List ℕ → List ℕ → Bool → Type 0
+RestRuns Gives number t [] text refused = (text ≡ []) × (refused ≡ false)
+RestRuns Gives number t (byte ∷ rest) text refused =
+    (u : Timeline) × LineRuns Gives number t (line_meaning false (byte ∷ rest)) text refused u
 
--- All lines of the text that was given were carried out, and this was written.
-pub record RunsAll (want_cut : Bool) (t : Timeline) (given text : List ℕ) (refused : Bool) : Type 0 where
+-- All lines of the text that was given were carried out, and this was written; `refused` says whether one was refused.
+pub record RunsAll (Gives : Answering) (t : Timeline) (given text : List ℕ) (refused : Bool) : Type 0 where
   pub lines : List (List ℕ)
   pub rest : List ℕ
   pub cut : IsCut given lines rest
@@ -45,8 +46,8 @@ pub record RunsAll (want_cut : Bool) (t : Timeline) (given text : List ℕ) (ref
   pub here : Bool
   pub last : List ℕ
   pub later : Bool
-  pub runs : Runs want_cut 1 t lines first here between
-  pub rest_runs : RestRuns want_cut (length lines + 1) between rest last later
+  pub runs : Runs Gives 1 t lines first here between
+  pub rest_runs : RestRuns Gives (length lines + 1) between rest last later
   pub text_is : text ≡ first ++ last
   pub refused_is : refused ≡ (here || later)
 
@@ -57,7 +58,7 @@ pub record RunsFed (want_cut : Bool) (t : Timeline) (given text : List ℕ) : Ty
   pub cut : IsCut given lines rest
   pub refused : Bool
   pub after : Timeline
-  pub runs : Runs want_cut 1 t lines text refused after
+  pub runs : Runs (Answers want_cut) 1 t lines text refused after
 
 -- First lines of the text that was given were carried out, and this is a front of what they write. The last of them was
 -- ended by a line feed, or it is the last line of all, and the reader is at its end.
@@ -67,7 +68,7 @@ pub record RunsFront (want_cut : Bool) (t : Timeline) (known : Option (List ℕ)
   pub given_is : given ≡ front ++ behind
   pub whole : List ℕ
   pub refused : Bool
-  pub runs : RunsAll want_cut t front whole refused
+  pub runs : RunsAll (Answers want_cut) t front whole refused
   pub ends : (runs.rest ≡ []) ⊎ ((behind ≡ []) × IsAtEnd known)
   pub rest : List ℕ
   pub text_is : whole ≡ text ++ rest
@@ -85,7 +86,7 @@ pub record RunsWithin (want_cut : Bool) (t : Timeline) (given text : List ℕ) :
       ⊎ ((MAX_BYTES < length given) × HasNoFeed (take (MAX_BYTES - length (fed lines)) rest))
   pub refused : Bool
   pub after : Timeline
-  pub runs : Runs want_cut 1 t lines text refused after
+  pub runs : Runs (Answers want_cut) 1 t lines text refused after
 
 -- The answer tells whether a line was refused.
 abbrev pub status_if : Bool → Status
@@ -110,7 +111,7 @@ pub record IsWithin (new : Streams) (given : List ℕ) (count : ℕ) : Type 0 wh
 -- what a run of command lines answers, where these bytes were given and written; no answer but these is given
 abbrev pub Gave : Bool → Timeline → Streams → Streams → List ℕ → List ℕ → Result Status EngineFault → Type 0
 Gave want_cut t old new given written (Ok status) =
-    (refused : Bool) × (all : RunsAll want_cut t given written refused) × (status ≡ status_if refused)
+    (refused : Bool) × (all : RunsAll (Answers want_cut) t given written refused) × (status ≡ status_if refused)
     × IsWithin new given (line_count all.lines all.rest) × NoneFailed old new
 Gave want_cut t old new given written (Err fault.Read) =
     RunsFed want_cut t given written × (new.reader_failed ≡ true) × (new.writer_failed ≡ old.writer_failed)

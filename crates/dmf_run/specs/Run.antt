@@ -9,7 +9,6 @@ use Rattle.dmf_session.specs.declared.command.Reply.{Reply}
 use Rattle.dmf_session.specs.declared.command.Reply.TheVariants.{Value, Added, Solution, Problem, Flow, Cut}
 use Rattle.dmf_session.specs.declared.command.Refusal.{Refusal}
 use Rattle.dmf_session.specs.Timeline.{Timeline, IsPresent}
-use Rattle.dmf_session.specs.Step.{Answers}
 use Rattle.dmf_run.specs.RefusalText.{refusal_text}
 use Rattle.dmf_run.specs.Line.{line_meaning}
 
@@ -59,13 +58,17 @@ Shows number command (Ok reply) u text refused =
     (s : NetworkState) × IsPresent u s × (text ≡ reply_text command reply s) × (refused ≡ false)
 Shows number command (Err refusal) u text refused = (text ≡ refused_text number refusal) × (refused ≡ true)
 
--- A line that means this, in line `number`, turns the timeline `t` into `u` and writes the text; `want_cut`
--- says whether a cut is wanted after each solution that answers `solve`.
-abbrev pub LineRuns : Bool → ℕ → Timeline → Result (Option Command) Refusal → List ℕ → Bool → Timeline → Type 0
-LineRuns want_cut number t (Ok None) text refused u = (text ≡ []) × (refused ≡ false) × (u ≡ t)
-LineRuns want_cut number t (Ok (Some command)) text refused u =
-    (result : Result Reply Refusal) × Answers want_cut t command result u × Shows number command result u text refused
-LineRuns want_cut number t (Err refusal) text refused u = (text ≡ refused_text number refusal) × (refused ≡ true) × (u ≡ t)
+-- How a command that is given to a timeline may be answered, and which timeline the answer leaves.
+abbrev pub Answering : Type 1
+Answering = Timeline → Command → Result Reply Refusal → Timeline → Type 0
+
+-- A line that means this, in line `number`, turns the timeline `t` into `u` and writes the text; a command is answered as
+-- `Gives` says.
+abbrev pub LineRuns : Answering → ℕ → Timeline → Result (Option Command) Refusal → List ℕ → Bool → Timeline → Type 0
+LineRuns Gives number t (Ok None) text refused u = (text ≡ []) × (refused ≡ false) × (u ≡ t)
+LineRuns Gives number t (Ok (Some command)) text refused u =
+    (result : Result Reply Refusal) × Gives t command result u × Shows number command result u text refused
+LineRuns Gives number t (Err refusal) text refused u = (text ≡ refused_text number refusal) × (refused ≡ true) × (u ≡ t)
 
 -- A first line, and the lines after it.
 pub record FirstAndMore (First : List ℕ → Bool → Timeline → Type 0) (More : Timeline → List ℕ → Bool → Type 0)
@@ -81,9 +84,9 @@ pub record FirstAndMore (First : List ℕ → Bool → Timeline → Type 0) (Mor
   pub refused_is : refused ≡ (here || later)
 
 -- Lines, each ended by a line feed, of which the first has this number, turn the timeline `t` into `u` and write the
--- text; `refused` says whether one was refused. A line that wants memory may be refused it.
-abbrev pub Runs : Bool → ℕ → Timeline → List (List ℕ) → List ℕ → Bool → Timeline → Type 0
-Runs want_cut number t [] text refused u = (text ≡ []) × (refused ≡ false) × (u ≡ t)
-Runs want_cut number t (line ∷ lines) text refused u =
-    FirstAndMore (LineRuns want_cut number t (line_meaning true line))
-    (λ between more later. Runs want_cut (number + 1) between lines more later u) text refused
+-- text; `refused` says whether one was refused. Each command is answered as `Gives` says.
+abbrev pub Runs : Answering → ℕ → Timeline → List (List ℕ) → List ℕ → Bool → Timeline → Type 0
+Runs Gives number t [] text refused u = (text ≡ []) × (refused ≡ false) × (u ≡ t)
+Runs Gives number t (line ∷ lines) text refused u =
+    FirstAndMore (LineRuns Gives number t (line_meaning true line))
+    (λ between more later. Runs Gives (number + 1) between lines more later u) text refused

@@ -1,10 +1,29 @@
-ghost use Rattle.dmf_run.specs.Laws.{HasRun};
+ghost use Rattle.dmf_run.specs.Laws.{HasRun, HasOneRun, StepsAreAnswers};
 
-use dmf_session::an_answer;
+use dmf_session::{an_answer, one_answer};
 
-/// The law that each list of lines, of any bytes, has a run from the start of each state.
+/// The law that each command text, of any bytes, has a run from the start of each state in which no command is refused
+/// memory.
 pub fn a_run()
     ensures { HasRun }
 {
     an_answer();
+}
+
+/// The law that each command text has one such run: any two write the same text, and are the same in whether a line is
+/// refused.
+pub fn one_run()
+    ensures { HasOneRun }
+{
+    an_answer();
+    one_answer();
+}
+
+/// The law that each such run is one of those of which the contracts of runs speak, in which a command may be refused
+/// memory.
+pub fn steps_are_answers()
+    ensures { StepsAreAnswers }
+{
+    an_answer();
+    one_answer();
 }

@@ -1,5 +1,6 @@
 use Rattle.std.proofs.Common.{◌≡◌, ◌+◌, [], Err, refl, sym, ap, ◌∙◌, subst, arith, false}
 use Rattle.std.proofs.lemmas.Result.{err_from_is_err_and}
+use Rattle.dmf_session.specs.Step.{Answers}
 use Rattle.dmf_run.specs.declared.session.TheConstants.{MAX_LINES}
 use Rattle.dmf_run.specs.Input.{Feed}
 use Rattle.dmf_run.specs.Run.{LineRuns}
@@ -61,7 +62,7 @@ returns-in-Last g c =
     let u = g.H.History.timeline c.loop-number.session in
     let v = g.H.History.timeline c.answer-in-Last.new.session in
     let carried : Carried c.args.want_cut u c.in-Last.meaning c.loop-number.number holds next c.in-Ok-answer.refused v =
-    record { text = told.0; runs = subst (λ r. LineRuns c.args.want_cut c.loop-number.number u c.in-Last.meaning told.0 r v) (sym told.4) told.2; appends = told.3.0; writer = told.3.1 } in
+    record { text = told.0; runs = subst (λ r. LineRuns (Answers c.args.want_cut) c.loop-number.number u c.in-Last.meaning told.0 r v) (sym told.4) told.2; appends = told.3.0; writer = told.3.1 } in
     RunsCommands-last c.args.want_cut _ _ _ then _ holds next c.loop-number.number u c.loop-number.is_refused c.in-Last.meaning c.in-Ok-answer.refused v c.status.result (omega arith) c.status.ensures c.loop-number.invariant gave carried
 
 pub returns-in-End : goal.returns-in-End
@@ -79,7 +80,7 @@ loop-number-preserved g c =
     let u = g.H.History.timeline c.loop-number.session in
     let v = g.H.History.timeline c.answer.new.session in
     let carried : Carried c.args.want_cut u c.in-Line.meaning c.loop-number.number holds next c.in-Ok.refused v =
-    record { text = told.0; runs = subst (λ r. LineRuns c.args.want_cut c.loop-number.number u c.in-Line.meaning told.0 r v) (sym told.4) told.2; appends = told.3.0; writer = told.3.1 } in
+    record { text = told.0; runs = subst (λ r. LineRuns (Answers c.args.want_cut) c.loop-number.number u c.in-Line.meaning told.0 r v) (sym told.4) told.2; appends = told.3.0; writer = told.3.1 } in
     Progress-more c.args.want_cut _ _ _ then _ holds next c.loop-number.number u c.loop-number.is_refused c.in-Line.meaning c.in-Ok.refused v c.loop-number.invariant gave carried
 
 pub returns-in_err-expect_end : goal.returns-in_err-expect_end

@@ -1,0 +1,5 @@
+use Rattle.dmf_run.proofs.Running.{steps-are-answers}
+use Rattle.dmf_run.proofs.laws.steps_are_answers.Goals as goal
+
+pub returns : goal.returns
+returns c = steps-are-answers c.an_answer.ensures c.one_answer.ensures
