@@ -9,7 +9,7 @@ use Rattle.dmf_net.specs.declared.step.Step.{Step}
 use Rattle.dmf_net.specs.Arc.{capacity_sum}
 use Rattle.dmf_net.specs.Path.{least_room}
 use Rattle.dmf_net.specs.Residual.{augmented}
-use Rattle.dmf_net.specs.Solve.{CanAugment}
+use Rattle.dmf_net.specs.AlongPath.{CanAugment}
 use Rattle.dmf_net.specs.Arc.{no_arc}
 use Rattle.dmf_net.proofs.Pushing.{arc_index, pushed_once, pushed, length-pushed_once, CanPush, along, against, CanPushInTurn}
 use Rattle.dmf_net.proofs.Augmenting.{CanPushInTurn-least, augmented-pushed}

@@ -6,7 +6,8 @@ use Rattle.dmf_net.specs.Node.{IsNode}
 use Rattle.dmf_net.specs.declared.flow_sums.NodeFlow.{NodeFlow}
 use Rattle.dmf_net.specs.Network.{Network, IsNetwork}
 use Rattle.dmf_net.specs.Flow.{flow_at, IsFlow, IsInnerNode, IsConservedAt, flow_value}
-use Rattle.dmf_net.specs.NetworkState.{NetworkState, IsState, with_flows, KeepsTotals}
+use Rattle.dmf_net.specs.NetworkState.{NetworkState, IsState, with_flows}
+use Rattle.dmf_net.specs.Totals.{KeepsTotals}
 use Rattle.dmf_net.specs.FlowFault.{IsLeast, IsUnbalanced}
 use Rattle.dmf_net.specs.FlowSums.{IsNodeFlow, AreFlowSums, IsInnerUpTo, AreSameAt, DifferAt}
 

@@ -10,7 +10,7 @@ use Rattle.dmf_net.specs.Node.{IsNode}
 use Rattle.dmf_net.specs.Arc.{no_arc}
 use Rattle.dmf_net.specs.Network.{Network, IsNetwork, arc_number, has_arc}
 use Rattle.dmf_net.specs.Flow.{flow_on, IsFlow, flow_value}
-use Rattle.dmf_net.specs.Path.{IsStep, AreSteps}
+use Rattle.dmf_net.specs.Steps.{IsStep, AreSteps}
 use Rattle.dmf_net.specs.Drain.{carried, carried_from, received, return_link, carrying_steps}
 use Rattle.dmf_net.proofs.ChangedArc.{has_arc-within}
 use Rattle.dmf_net.proofs.ResidualSteps.{LeadsAlong, in-optional, IsBefore, ascending-optional}

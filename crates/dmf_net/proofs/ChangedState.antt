@@ -10,7 +10,8 @@ use Rattle.dmf_net.specs.Arc.{no_arc, with_cap, closed_arc}
 use Rattle.dmf_net.specs.Network.{Network, IsNetwork, arc_number, has_arc, with_arc}
 use Rattle.dmf_net.specs.Change.{sum_with}
 use Rattle.dmf_net.specs.Flow.{flow_on}
-use Rattle.dmf_net.specs.NetworkState.{NetworkState, IsState, KeepsTotals}
+use Rattle.dmf_net.specs.NetworkState.{NetworkState, IsState}
+use Rattle.dmf_net.specs.Totals.{KeepsTotals}
 use Rattle.dmf_net.proofs.Changing.{within-at}
 use Rattle.dmf_net.proofs.ChangedArc.{has_arc-within, flow_at-replaced, IsNetwork-with_arc, IsFlow-with_arc, flow_value-with_arc}
 

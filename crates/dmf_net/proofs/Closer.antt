@@ -5,7 +5,7 @@ use Rattle.std.proofs.lemmas.List.Elements.{Contains-get_or}
 use Rattle.std.proofs.lemmas.Option.{same_Some}
 use Rattle.std.proofs.lemmas.Bool.{cases_lt}
 use Rattle.dmf_net.specs.declared.step.Step.{Step}
-use Rattle.dmf_net.specs.Path.{AreSteps}
+use Rattle.dmf_net.specs.Steps.{AreSteps}
 use Rattle.dmf_net.specs.Distances.{label_of, ComesCloser, IsFirstCloser}
 use Rattle.dmf_net.proofs.NoStep.{no_step}
 

@@ -7,7 +7,8 @@ use Rattle.std.proofs.lemmas.List.Elements.{All-contains}
 use Rattle.std.proofs.lemmas.Option.{same_Some, none-some}
 use Rattle.dmf_net.specs.declared.step.Step.{Step}
 use Rattle.dmf_net.specs.Node.{IsNode}
-use Rattle.dmf_net.specs.Path.{IsStep, IsPath}
+use Rattle.dmf_net.specs.Path.{IsPath}
+use Rattle.dmf_net.specs.Steps.{IsStep}
 use Rattle.dmf_net.specs.Distances.{label_of, labelled_count, AreDistances, LeadsToLabel, IsRound}
 use Rattle.dmf_net.proofs.Labels.{label-set_same, label-set_other, labelled_count-set}
 

@@ -8,7 +8,8 @@ use Rattle.dmf_net.specs.Network.{arc_number, has_arc}
 use Rattle.dmf_net.specs.Flow.{flow_on}
 use Rattle.dmf_net.specs.NetworkState.{NetworkState, IsState, with_flows}
 use Rattle.dmf_net.specs.Path.{IsLeastPath}
-use Rattle.dmf_net.specs.Drain.{carrying_steps, lowered, CanLower, Drains, TakesOff}
+use Rattle.dmf_net.specs.Drain.{carrying_steps, lowered, Drains, TakesOff}
+use Rattle.dmf_net.specs.AlongPath.{CanLower}
 use Rattle.dmf_net.specs.Edit.{moved, MovesFit, differences}
 use Rattle.dmf_net.proofs.ChangedArc.{has_arc-within}
 use Rattle.dmf_net.proofs.Draining.{drains-state}

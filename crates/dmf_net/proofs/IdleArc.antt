@@ -8,13 +8,13 @@ use Rattle.std.proofs.lemmas.List.Elements.{All-push}
 use Rattle.std.proofs.lemmas.Slice.Zip.{AllZip-long, all_zipped_more}
 use Rattle.dmf_net.specs.declared.arc.Arc.{Arc}
 use Rattle.dmf_net.specs.declared.flow_sums.NodeFlow.{NodeFlow}
-use Rattle.dmf_net.specs.declared.limits.TheConstants.{MAX_ARCS}
 use Rattle.dmf_net.specs.Node.{IsNode, is_node}
 use Rattle.dmf_net.specs.Arc.{IsArc, capacity_sum}
 use Rattle.dmf_net.specs.Network.{Network}
 use Rattle.dmf_net.specs.Flow.{flow_at, IsFlow, flow_value}
 use Rattle.dmf_net.specs.Edit.{differences}
-use Rattle.dmf_net.specs.NetworkState.{NetworkState, IsState, KeepsTotals, with_last_arc, with_idle_arc}
+use Rattle.dmf_net.specs.NetworkState.{NetworkState, IsState, with_last_arc, with_idle_arc}
+use Rattle.dmf_net.specs.Totals.{KeepsTotals}
 
 pub zip-push : {A B : Type 0} (xs : List A) (ys : List B) (x : A) (y : B) → length ys ≡ length xs → zip (xs ++ x ∷ []) (ys ++ y ∷ []) ≡ zip xs ys ++ (x, y) ∷ []
 zip-push [] [] x y e = refl
@@ -52,7 +52,7 @@ IsFlow-idle n flows arc flow =
     }
 
 -- A network that can take the arc is a state with it.
-pub IsState-idle : (s : NetworkState) (arc : Arc) → IsState s → IsArc s.network.nodes arc → length s.network.arcs < MAX_ARCS → capacity_sum s.network.arcs + arc.cap < 2 ^ 64 → IsState (with_idle_arc s arc)
+pub IsState-idle : (s : NetworkState) (arc : Arc) → IsState s → IsArc s.network.nodes arc → length s.network.arcs < 2 ^ 27 → capacity_sum s.network.arcs + arc.cap < 2 ^ 64 → IsState (with_idle_arc s arc)
 IsState-idle s arc state fits few small =
     let e = AllZip-long _ s.network.arcs s.flows state.flow.within in
     record {

@@ -3,7 +3,8 @@ use Rattle.std.proofs.Common.{ℕ, ◌≡◌, ◌+◌, ◌<◌, ⊎_elim, List, 
 use Rattle.std.proofs.lemmas.List.Elements.{All-contains}
 use Rattle.dmf_net.specs.declared.step.Step.{Step}
 use Rattle.dmf_net.specs.Node.{IsNode}
-use Rattle.dmf_net.specs.Path.{IsStep, AreSteps, IsPath, ComesBefore, ranks, IsLeastPath}
+use Rattle.dmf_net.specs.Path.{IsPath, ComesBefore, ranks, IsLeastPath}
+use Rattle.dmf_net.specs.Steps.{IsStep, AreSteps}
 use Rattle.dmf_net.specs.Distances.{label_of, AreDistances, IsDistance, ComesCloser, IsFirstCloser}
 use Rattle.dmf_net.proofs.Labels.{label_cases}
 use Rattle.dmf_net.proofs.OneLeast.{step-by_rank}

@@ -10,7 +10,8 @@ use Rattle.dmf_net.specs.declared.step.Step.{Step}
 use Rattle.dmf_net.specs.Network.{Network, arc_number}
 use Rattle.dmf_net.specs.Flow.{flow_on}
 use Rattle.dmf_net.specs.Path.{IsPath, has_rank, room_up_to}
-use Rattle.dmf_net.specs.Drain.{carrying_steps, lowered_from, CanLower}
+use Rattle.dmf_net.specs.Drain.{carrying_steps, lowered_from}
+use Rattle.dmf_net.specs.AlongPath.{CanLower}
 use Rattle.dmf_net.proofs.Augmenting.{room_up_to-le}
 use Rattle.dmf_net.proofs.CarryingSteps.{IsCarrying, along, returns, carrying-contained}
 use Rattle.dmf_net.proofs.ChangedArc.{has_arc-within}

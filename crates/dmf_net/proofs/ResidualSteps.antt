@@ -9,7 +9,7 @@ use Rattle.dmf_net.specs.declared.arc.Arc.{Arc}
 use Rattle.dmf_net.specs.declared.step.Step.{Step}
 use Rattle.dmf_net.specs.Node.{IsNode}
 use Rattle.dmf_net.specs.Arc.{IsArc}
-use Rattle.dmf_net.specs.Path.{IsStep, AreSteps}
+use Rattle.dmf_net.specs.Steps.{IsStep, AreSteps}
 use Rattle.dmf_net.specs.Residual.{forward, backward, residual_from, residual_steps}
 use Rattle.dmf_net.specs.Arc.{no_arc}
 

@@ -7,7 +7,7 @@ use Rattle.std.proofs.lemmas.List.Elements.{Contains-get_or}
 use Rattle.std.proofs.lemmas.Option.{same_Some}
 use Rattle.dmf_net.specs.declared.step.Step.{Step}
 use Rattle.dmf_net.specs.Node.{IsNode}
-use Rattle.dmf_net.specs.Path.{IsStep}
+use Rattle.dmf_net.specs.Steps.{IsStep}
 use Rattle.dmf_net.specs.Distances.{label_of, LeadsToLabel, IsRound}
 use Rattle.dmf_net.proofs.NoStep.{no_step}
 use Rattle.dmf_net.proofs.Labels.{label-set_same, label-set_other, label-set_some}

@@ -3,7 +3,6 @@ use Rattle.std.proofs.Common.{ℕ, ◌≡◌, ◌+◌, ◌^◌, ◌&&◌, zero, 
 use Rattle.std.proofs.lemmas.Bool.{both_ways}
 use Rattle.std.proofs.lemmas.Int.{ints}
 use Rattle.std.proofs.lemmas.Slice.Zip.{AllZip-long}
-use Rattle.dmf_net.specs.declared.limits.TheConstants.{MAX_ARCS}
 use Rattle.dmf_net.specs.declared.arc.Arc.{Arc}
 use Rattle.dmf_net.specs.declared.fault.ArcFault.TheVariants.{NoSuchNode, TooManyArcs, SumTooLarge}
 use Rattle.dmf_net.specs.declared.fault.PlanFault.TheVariants as plan
@@ -120,7 +119,7 @@ some-outcome s (Close j) state accepted =
       becomes = (refl, found.drains);
     }
 some-outcome s (Add tail head cap) state accepted =
-    let passes = each-passes (is_node s.network.nodes tail) (is_node s.network.nodes head) (ltb (length s.network.arcs) MAX_ARCS) (ltb (capacity_sum s.network.arcs + cap) (2 ^ 64)) accepted in
+    let passes = each-passes (is_node s.network.nodes tail) (is_node s.network.nodes head) (ltb (length s.network.arcs) (2 ^ 27)) (ltb (capacity_sum s.network.arcs + cap) (2 ^ 64)) accepted in
     let arc : IsArc s.network.nodes (open_arc tail head cap) = record {
       tail = IsNode-is_node s.network.nodes tail passes.0;
       head = IsNode-is_node s.network.nodes head passes.1;

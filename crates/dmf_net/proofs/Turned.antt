@@ -5,7 +5,8 @@ use Rattle.std.specs.Option.{is_some}
 use Rattle.std.proofs.lemmas.List.{get_or-map, length-map}
 use Rattle.dmf_net.specs.declared.step.Step.{Step}
 use Rattle.dmf_net.specs.Node.{IsNode}
-use Rattle.dmf_net.specs.Path.{IsStep, IsPath, IsReachable, turned_step}
+use Rattle.dmf_net.specs.Path.{IsPath}
+use Rattle.dmf_net.specs.Steps.{IsStep, IsReachable, turned_step}
 use Rattle.dmf_net.specs.Distances.{label_of, IsDistance, AreDistances}
 use Rattle.dmf_net.proofs.Labels.{label_cases, label-from_some_test}
 

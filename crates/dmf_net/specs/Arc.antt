@@ -1,4 +1,5 @@
 -- Arcs and sums over them.
+-- Public: a public contract says no more than this.
 use Rattle.std.specs.Prelude.{ℕ, ◌≡◌, List, true, false, not, sum_by, count_by}
 use Rattle.dmf_net.specs.declared.arc.Arc.{Arc}
 use Rattle.dmf_net.specs.Node.{IsNode}

@@ -1,6 +1,6 @@
 -- The changes that a user may ask for: which are refused, and what the others make of a state.
+-- Public: a public contract says no more than this.
 use Rattle.std.specs.Prelude.{ℕ, ◌≡◌, ◌+◌, ◌-◌, ◌^◌, ◌&&◌, if◌then◌else◌, length, nat_lt, Option, Some, None, is_none, option_map, ⊤}
-use Rattle.dmf_net.specs.declared.limits.TheConstants.{MAX_ARCS}
 use Rattle.dmf_net.specs.declared.edit.Edit.{Edit}
 use Rattle.dmf_net.specs.declared.edit.Edit.TheVariants as edit
 use Rattle.dmf_net.specs.declared.fault.ArcFault.{ArcFault}
@@ -31,7 +31,7 @@ pub data Change : Type 0 where
 abbrev pub arc_fault : Network → ℕ → ℕ → ℕ → Option ArcFault
 arc_fault n tail head cap =
     if is_node n.nodes tail && is_node n.nodes head then
-    (if nat_lt (length n.arcs) MAX_ARCS then
+    (if nat_lt (length n.arcs) (2 ^ 27) then
     (if nat_lt (capacity_sum n.arcs + cap) (2 ^ 64) then None else Some SumTooLarge)
     else Some TooManyArcs)
     else Some NoSuchNode

@@ -1,4 +1,5 @@
 -- Cuts, as the textbooks have them (Ahuja, Magnanti and Orlin, Network Flows, section 6.3).
+-- Public: a public contract says no more than this.
 use Rattle.std.specs.Prelude.{ℕ, ◌≡◌, ◌≤◌, Bool, true, false, not, ◌&&◌, if◌then◌else◌, List, sum_by, ℤ, pos}
 use Rattle.dmf_net.specs.declared.arc.Arc.{Arc}
 use Rattle.dmf_net.specs.Node.{IsNode}

@@ -1,4 +1,5 @@
 -- The distances of the nodes to a goal, and the steps that come closer to it.
+-- Private: only contracts inside the crate and proofs use this.
 use Rattle.std.specs.Prelude.{ℕ, ◌≡◌, ◌+◌, ◌-◌, ◌≤◌, ◌⊎◌, List, length, Option, Some, None, slice_index_or, count_by, Contains}
 use Rattle.std.specs.Option.{is_some}
 use Rattle.dmf_net.specs.declared.step.Step.{Step}

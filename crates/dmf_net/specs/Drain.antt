@@ -1,11 +1,12 @@
 -- Draining an arc: taking flow off it, together with the flow by which that flow comes back to the arc, until no more
 -- than a limit is left on it. A flow is taken off along cycles, as flow decomposition finds them (Ahuja, Magnanti and
 -- Orlin, Network Flows, section 3.5); what leaves at the sink comes back to the source over a return link.
-use Rattle.std.specs.Prelude.{ℕ, ◌≡◌, ◌+◌, ◌-◌, ◌*◌, ◌<◌, ◌≤◌, ◌==◌, ◌||◌, true, if◌then◌else◌, List, [], ◌∷◌, ◌++◌, length, nat_lt, pos, ◌-ℤ◌, ◌≤ℤ◌}
+-- Public: a public contract says no more than this.
+use Rattle.std.specs.Prelude.{ℕ, ◌≡◌, ◌+◌, ◌-◌, ◌*◌, ◌<◌, ◌≤◌, ◌==◌, ◌||◌, if◌then◌else◌, List, [], ◌∷◌, ◌++◌, length, nat_lt, pos, ◌-ℤ◌, ◌≤ℤ◌}
 use Rattle.std.specs.List.{AllZip}
 use Rattle.dmf_net.specs.declared.arc.Arc.{Arc}
 use Rattle.dmf_net.specs.declared.step.Step.{Step}
-use Rattle.dmf_net.specs.Network.{Network, IsNetwork, arc_number, has_arc}
+use Rattle.dmf_net.specs.Network.{Network, arc_number}
 use Rattle.dmf_net.specs.Flow.{flow_on, outflow, inflow, IsFlow, flow_value}
 use Rattle.dmf_net.specs.Path.{IsLeastPath, has_rank, room_up_to}
 
@@ -46,16 +47,6 @@ lowered_from i j amount path (flow ∷ flows) =
 -- above the limit
 abbrev pub lowered : ℕ → ℕ → List Step → List ℕ → List ℕ
 lowered j limit path flows = lowered_from 1 j (room_up_to (flow_on flows j - limit) path) path flows
-
--- On some network, more than the limit flows on arc number `j`, and the path is the least one of carrying steps from its
--- head to its tail.
-pub record CanLower (flows : List ℕ) (j limit : ℕ) (path : List Step) : Type 0 where
-  pub network : Network
-  pub is : IsNetwork network
-  pub flow : IsFlow network flows
-  pub is_there : has_arc network j ≡ true
-  pub above : limit < flow_on flows j
-  pub least : IsLeastPath (carrying_steps network flows) (arc_number network j).head (arc_number network j).tail path
 
 -- Lowering arc number `j` along these paths in turn, each the least path of carrying steps from its head to its tail, while
 -- more than the limit flows on it, makes `flows` into `last`.

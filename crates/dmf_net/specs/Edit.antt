@@ -1,4 +1,5 @@
 -- Edits: changes that were planned on a state, written down so that they can be applied to it.
+-- Public: a public contract says no more than this.
 use Rattle.std.specs.Prelude.{ℕ, ◌≡◌, ◌+◌, ◌-◌, ◌<◌, ◌==◌, if◌then◌else◌, List, [], ◌∷◌, slice_get, slice_set, Some, true, false, ⊤}
 use Rattle.dmf_net.specs.declared.edit.Move.{Move}
 use Rattle.dmf_net.specs.declared.edit.Edit.{Edit}
@@ -66,13 +67,7 @@ pub record Fits (edit : Edit) (s : NetworkState) : Type 0 where
   pub moves : MovesFit 0 (moves_of edit) s.flows
   pub applied : IsState (applied edit s)
 
--- The edit stands in the state: applying it to a state that it fits gave this one.
-pub record Stands (edit : Edit) (after : NetworkState) : Type 0 where
-  pub before : NetworkState
-  pub fits : Fits edit before
-  pub gives : applied edit before ≡ after
-
--- An edit stands in a state for one state before it alone.
+-- Two states that an edit fits, and of which it makes the same state, are the same.
 abbrev pub HasOneBefore : Type 0
 HasOneBefore = (edit : Edit) (s t : NetworkState) → Fits edit s → Fits edit t → applied edit s ≡ applied edit t → s ≡ t
 

@@ -1,5 +1,6 @@
 -- Flows of a network, as the textbooks have them (Ahuja, Magnanti and Orlin, Network Flows, section 1.2 and
 -- chapter 6). A flow is a list of numbers, one for each arc.
+-- Public: a public contract says no more than this.
 use Rattle.std.specs.Prelude.{ℕ, ◌≡◌, ◌≢◌, ◌-◌, ◌≤◌, ◌==◌, if◌then◌else◌, List, slice_index, sum_by, ℤ, pos, ◌-ℤ◌}
 use Rattle.std.specs.List.{zip, AllZip}
 use Rattle.dmf_net.specs.declared.arc.Arc.{Arc}

@@ -1,4 +1,5 @@
 -- Why numbers on the arcs of a network are no flow of a value from 0 on: the first of these that holds.
+-- Public: a public contract says no more than this.
 use Rattle.std.specs.Prelude.{ℕ, ◌≡◌, ◌<◌, ◌≤◌, ◌-◌, List, pos, ◌<ℤ◌, slice_get, Some}
 use Rattle.dmf_net.specs.declared.arc.Arc.{Arc}
 use Rattle.dmf_net.specs.declared.fault.FlowFault.{FlowFault}

@@ -1,4 +1,5 @@
 -- The sums of the flows at the nodes.
+-- Private: only contracts inside the crate and proofs use this.
 use Rattle.std.specs.Prelude.{ℕ, ◌≡◌, ◌≢◌, ◌+◌, ◌-◌, ◌≤◌, List, length, EachIndex, slice_index}
 use Rattle.dmf_net.specs.declared.arc.Arc.{Arc}
 use Rattle.dmf_net.specs.declared.flow_sums.NodeFlow.{NodeFlow}

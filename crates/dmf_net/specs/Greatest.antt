@@ -1,4 +1,5 @@
 -- Greatest flows, as the textbooks have them (Ahuja, Magnanti and Orlin, Network Flows, section 1.2).
+-- Public: a public contract says no more than this.
 use Rattle.std.specs.Prelude.{ℕ, List, ◌≤ℤ◌, ◌<ℤ◌}
 use Rattle.dmf_net.specs.Network.{Network}
 use Rattle.dmf_net.specs.Flow.{IsFlow, flow_value}

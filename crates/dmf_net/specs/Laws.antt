@@ -1,4 +1,5 @@
 -- What is so of every network, and of every outcome of solving.
+-- Public: a public contract says no more than this.
 use Rattle.std.specs.Prelude.{ℕ, ◌⊎◌, List}
 use Rattle.dmf_net.specs.Network.{Network, IsNetwork}
 use Rattle.dmf_net.specs.Flow.{IsFlow}

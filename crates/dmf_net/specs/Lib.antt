@@ -7,12 +7,15 @@ pub mod Cut
 pub mod Side
 pub mod FlowSums
 pub mod NetworkState
+pub mod Totals
 pub mod FlowFault
 pub mod Path
+pub mod Steps
 pub mod Distances
 pub mod Residual
 pub mod Solve
 pub mod Drain
+pub mod AlongPath
 pub mod Change
 pub mod Edit
 pub mod Laws

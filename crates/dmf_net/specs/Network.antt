@@ -1,8 +1,8 @@
 -- Networks, as the textbooks have them (Ahuja, Magnanti and Orlin, Network Flows, chapter 6), with the limits
 -- of this program.
+-- Public: a public contract says no more than this.
 use Rattle.std.specs.Prelude.{ℕ, ◌≢◌, ◌-◌, ◌^◌, ◌<◌, ◌≤◌, Bool, ◌&&◌, nat_le, List, length, All, slice_index_or, slice_set}
 use Rattle.dmf_net.specs.declared.arc.Arc.{Arc}
-use Rattle.dmf_net.specs.declared.limits.TheConstants.{MAX_NODES, MAX_ARCS}
 use Rattle.dmf_net.specs.Node.{IsNode}
 use Rattle.dmf_net.specs.Arc.{IsArc, no_arc, capacity_sum}
 
@@ -17,12 +17,12 @@ pub record Network : Type 0 where
 -- What makes such a record a network.
 pub record IsNetwork (n : Network) : Type 0 where
   pub at_least_two_nodes : 2 ≤ n.nodes
-  pub at_most_nodes : n.nodes ≤ MAX_NODES
+  pub at_most_nodes : n.nodes ≤ 2 ^ 24
   pub source : IsNode n.nodes n.source
   pub sink : IsNode n.nodes n.sink
   pub two_terminals : n.source ≢ n.sink
   pub arcs : All (IsArc n.nodes) n.arcs
-  pub at_most_arcs : length n.arcs ≤ MAX_ARCS
+  pub at_most_arcs : length n.arcs ≤ 2 ^ 27
   pub capacities : capacity_sum n.arcs < 2 ^ 64
 
 -- arc number `j`

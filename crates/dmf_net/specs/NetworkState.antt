@@ -1,11 +1,9 @@
 -- What a `State` is to its callers: a network with a flow on it.
-use Rattle.std.specs.Prelude.{ℕ, ◌≡◌, List, [], ◌∷◌, ◌++◌, pos, ◌≤ℤ◌}
+-- Public: a public contract says no more than this.
+use Rattle.std.specs.Prelude.{ℕ, List, [], ◌∷◌, ◌++◌, pos, ◌≤ℤ◌}
 use Rattle.dmf_net.specs.declared.arc.Arc.{Arc}
-use Rattle.dmf_net.specs.declared.flow_sums.NodeFlow.{NodeFlow}
-use Rattle.dmf_net.specs.Arc.{capacity_sum, open_count}
 use Rattle.dmf_net.specs.Network.{Network, IsNetwork}
 use Rattle.dmf_net.specs.Flow.{IsFlow, flow_value}
-use Rattle.dmf_net.specs.FlowSums.{IsNodeFlow}
 
 -- a network, and beside it one number for each of its arcs
 pub record NetworkState : Type 0 where
@@ -35,10 +33,3 @@ with_last_arc n arc =
 -- the state with one more arc, the last, on which nothing flows
 abbrev pub with_idle_arc : NetworkState → Arc → NetworkState
 with_idle_arc s arc = record { network = with_last_arc s.network arc; flows = s.flows ++ 0 ∷ [] }
-
--- The numbers that a `State` keeps beside its network and flow, so that they need not be summed again.
-pub record KeepsTotals (s : NetworkState) (sum : ℕ) (source : NodeFlow) (count : ℕ) : Type 0 where
-  pub state : IsState s
-  pub sum_is : sum ≡ capacity_sum s.network.arcs
-  pub at_source : IsNodeFlow s.network.arcs s.flows s.network.source source
-  pub count_is : count ≡ open_count s.network.arcs

@@ -1,4 +1,5 @@
 -- Nodes are the numbers from 1 to `nodes`.
+-- Public: a public contract says no more than this.
 use Rattle.std.specs.Prelude.{ℕ, ◌≤◌, Bool, ◌&&◌, nat_le}
 
 -- `v` is one of the nodes 1 to `nodes`.

@@ -1,5 +1,6 @@
 -- The residual network of a flow, as the textbooks have it (Ahuja, Magnanti and Orlin, Network Flows, section 2.4),
 -- as a list of steps.
+-- Public: a public contract says no more than this.
 use Rattle.std.specs.Prelude.{ℕ, ◌+◌, ◌-◌, ◌*◌, if◌then◌else◌, List, [], ◌∷◌, ◌++◌, nat_lt}
 use Rattle.dmf_net.specs.declared.arc.Arc.{Arc}
 use Rattle.dmf_net.specs.declared.step.Step.{Step}

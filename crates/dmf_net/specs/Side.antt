@@ -1,4 +1,5 @@
 -- The smallest side of a network: the nodes that every least cut has (Ahuja, Magnanti and Orlin, Network Flows, section 6.3).
+-- Public: a public contract says no more than this.
 use Rattle.std.specs.Prelude.{ℕ, ◌≡◌, ◌==◌, ◌↔◌, Bool, IsTrue, List}
 use Rattle.std.specs.List.{list_any}
 use Rattle.std.specs.List.Sorted.{IsStrictlyIncreasing}

@@ -3,7 +3,8 @@ ghost use Rattle.dmf_net.specs.Network.{arc_number, has_arc};
 ghost use Rattle.dmf_net.specs.Flow.{flow_on};
 ghost use Rattle.dmf_net.specs.NetworkState.{IsState, with_flows};
 ghost use Rattle.dmf_net.specs.Path.{IsLeastPath, room_up_to};
-ghost use Rattle.dmf_net.specs.Drain.{received, carrying_steps, lowered, CanLower, Drains, TakesOff};
+ghost use Rattle.dmf_net.specs.Drain.{received, carrying_steps, lowered, Drains, TakesOff};
+ghost use Rattle.dmf_net.specs.AlongPath.{CanLower};
 ghost use Rattle.dmf_net.specs.Edit.{moved, MovesFit, differences};
 
 use crate::edit::Move;

@@ -1,5 +1,4 @@
 ghost use Rattle.std.specs.Prelude.{◌≡◌, ℕ, ◌-◌, ◌^◌, ◌<◌, ◌≤◌, length, slice_index, All, IfOk, MatchOption};
-ghost use Rattle.dmf_net.specs.declared.limits.TheConstants.{MAX_ARCS, MAX_NODES};
 ghost use Rattle.dmf_net.specs.Arc.{IsArc, capacity_sum};
 ghost use Rattle.dmf_net.specs.Flow.{AreWithinCapacities};
 ghost use Rattle.dmf_net.specs.FlowFault.{IsLeast, IsOverCapacity};
@@ -49,7 +48,7 @@ impl FlowSums {
     /// The least node other than these two at which the sums differ.
     pub fn first_unbalanced(&self, source: u32, sink: u32) -> Option<u32>
         requires one_each { length self.now.leaving.items ≡ length self.now.entering.items }
-        requires at_most_nodes { length self.now.leaving.items ≤ MAX_NODES }
+        requires at_most_nodes { length self.now.leaving.items ≤ 2 ^ 24 }
         ensures { MatchOption result
             ((v : ℕ) → IsInnerUpTo (length self.now.leaving.items) source sink v → AreSameAt self.now.leaving.items self.now.entering.items v)
             (IsLeast (DifferAt source sink self.now.leaving.items self.now.entering.items)) }
@@ -82,7 +81,7 @@ impl FlowSums {
 /// The number of the first arc on which more flows than its capacity, counted from 1.
 pub fn first_over_capacity(arcs: &[Arc], flows: &[u64]) -> Option<u32>
     requires one_flow_each { length flows.now ≡ length arcs.now }
-    requires at_most_arcs { length arcs.now ≤ MAX_ARCS }
+    requires at_most_arcs { length arcs.now ≤ 2 ^ 27 }
     ensures { MatchOption result (AreWithinCapacities arcs.now flows.now) (IsLeast (IsOverCapacity arcs.now flows.now)) }
 {
     for (i, arc) in arcs.iter().enumerate() {

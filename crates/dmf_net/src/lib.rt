@@ -11,6 +11,7 @@ pub use laws::{
 pub use limits::{MAX_ARCS, MAX_NODES};
 pub use plan::{plan_add, plan_cap, plan_close, plan_solve};
 pub use side::{Side, side_after, smallest_side};
+pub use side_ids::SideIds;
 pub use state::State;
 
 mod arc;
@@ -24,6 +25,7 @@ mod moves;
 mod plan;
 mod search;
 mod side;
+mod side_ids;
 mod solve;
 mod state;
 mod step;

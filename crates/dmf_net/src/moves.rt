@@ -1,5 +1,4 @@
 ghost use Rattle.std.specs.Prelude.{◌≡◌, ◌+◌, ◌-◌, ◌^◌, ◌<◌, ◌≤◌, true, if◌then◌else◌, length, IfOk};
-ghost use Rattle.dmf_net.specs.declared.limits.TheConstants.{MAX_ARCS};
 ghost use Rattle.dmf_net.specs.Arc.{capacity_sum};
 ghost use Rattle.dmf_net.specs.Flow.{AreWithinCapacities};
 ghost use Rattle.dmf_net.specs.FlowSums.{IsNodeFlow};
@@ -13,7 +12,7 @@ use std::alloc::{AllocError, Global};
 /// The moves of the arcs on which the flow differs, in the order of their numbers.
 pub fn list_moves(alloc: Global, before: &[u64], after: &[u64]) -> Result<Vec<Move>, AllocError>
     requires one_each { length after.now ≡ length before.now }
-    requires at_most_arcs { length before.now ≤ MAX_ARCS }
+    requires at_most_arcs { length before.now ≤ 2 ^ 27 }
     ensures { IfOk result (λ moves. moves.items ≡ differences 1 before.now after.now) }
 {
     let mut moves = Vec::new(alloc);

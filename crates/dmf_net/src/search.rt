@@ -3,7 +3,8 @@ ghost use Rattle.std.specs.List.{slice_index_or};
 ghost use Rattle.std.specs.Option.{is_some};
 ghost use Rattle.dmf_net.specs.declared.step.Step.{Step};
 ghost use Rattle.dmf_net.specs.Node.{IsNode};
-ghost use Rattle.dmf_net.specs.Path.{IsStep, AreSteps, HasNoPath, IsLeastPath, IsReachable, turned_step};
+ghost use Rattle.dmf_net.specs.Path.{HasNoPath, IsLeastPath};
+ghost use Rattle.dmf_net.specs.Steps.{IsStep, AreSteps, IsReachable, turned_step};
 ghost use Rattle.dmf_net.specs.Distances.{AreDistances, IsRound, labelled_count, ComesCloser, IsFirstCloser};
 
 use crate::step::Step;

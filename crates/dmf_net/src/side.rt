@@ -1,18 +1,18 @@
-ghost use Rattle.std.specs.Prelude.{◌≡◌, ◌-◌, ◌≤◌, ◌↔◌, ℕ, false, length, pos, IfErr, IfOk, IsTrue, OnOk};
+ghost use Rattle.std.specs.Prelude.{◌≡◌, ◌-◌, ◌≤◌, ◌↔◌, ℕ, false, length, pos, IfErr, IfOk, IsTrue, OnOk, ◌^◌};
 ghost use Rattle.std.specs.List.{slice_index_or};
 ghost use Rattle.std.specs.List.Sorted.{IsStrictlyIncreasing};
-ghost use Rattle.dmf_net.specs.declared.limits.TheConstants.{MAX_NODES};
 ghost use Rattle.dmf_net.specs.Node.{IsNode};
 ghost use Rattle.dmf_net.specs.Flow.{flow_value};
 ghost use Rattle.dmf_net.specs.Greatest.{IsGreatest, IsSurpassed};
 ghost use Rattle.dmf_net.specs.Side.{has_node, IsSmallestSide};
-ghost use Rattle.dmf_net.specs.Path.{IsReachable};
+ghost use Rattle.dmf_net.specs.Steps.{IsReachable};
 ghost use Rattle.dmf_net.specs.Residual.{residual_steps};
 ghost use Rattle.dmf_net.specs.Edit.{applied, Fits};
 
 use crate::edit::Edit;
 use crate::fault::CutFault;
 use crate::search::reached;
+use crate::side_ids::SideIds;
 use crate::solve::residual;
 use crate::state::State;
 use std::alloc::{AllocError, Global};
@@ -54,11 +54,11 @@ impl Side {
     }
 
     /// The numbers of the nodes, ascending.
-    pub fn ids(&self) -> &[u32]
-        ensures value { result.now ≡ self.now.ids }
-        ensures ascending { IsStrictlyIncreasing self.now.ids }
+    pub fn ids(&self) -> SideIds<'_>
+        ensures value { result ≡ self.now.ids }
+        ensures ascending { IsStrictlyIncreasing result }
     {
-        &self.ids
+        SideIds::new(&self.ids)
     }
 }
 
@@ -111,7 +111,7 @@ fn reached_nodes(alloc: Global, state: &State) -> Result<Vec<bool>, AllocError>
 
 /// The numbers of the nodes that are marked, ascending. The first mark is that of node 1.
 fn marked_nodes(alloc: Global, marks: &[bool]) -> Result<Vec<u32>, AllocError>
-    requires { length marks.now ≤ MAX_NODES }
+    requires { length marks.now ≤ 2 ^ 24 }
     ensures ascending { IfOk result (λ ids. IsStrictlyIncreasing ids.items) }
     ensures marked { IfOk result (λ ids. (v : ℕ) →
         IsTrue (has_node ids.items v) ↔ (IsNode (length marks.now) v × IsTrue (slice_index_or marks.now (v - 1) false))) }

@@ -1,10 +1,10 @@
-ghost use Rattle.std.specs.Prelude.{◌≡◌, ◌≤◌, length, IfOk, MatchOption};
-ghost use Rattle.dmf_net.specs.declared.limits.TheConstants.{MAX_ARCS};
+ghost use Rattle.std.specs.Prelude.{◌≡◌, ◌≤◌, length, IfOk, MatchOption, ◌^◌};
 ghost use Rattle.dmf_net.specs.Flow.{AreWithinCapacities};
 ghost use Rattle.dmf_net.specs.NetworkState.{with_flows, IsState};
 ghost use Rattle.dmf_net.specs.Path.{HasNoPath, IsLeastPath, least_room};
 ghost use Rattle.dmf_net.specs.Residual.{residual_steps, augmented};
-ghost use Rattle.dmf_net.specs.Solve.{CanAugment, Solves};
+ghost use Rattle.dmf_net.specs.Solve.{Solves};
+ghost use Rattle.dmf_net.specs.AlongPath.{CanAugment};
 
 use crate::arc::Arc;
 use crate::search::least_path;
@@ -41,7 +41,7 @@ fn augmenting_path(
 
 /// The residual steps of these flows, in the order of their ranks.
 pub(crate) fn residual(alloc: Global, arcs: &[Arc], flows: &[u64]) -> Result<Vec<Step>, AllocError>
-    requires at_most_arcs { length arcs.now ≤ MAX_ARCS }
+    requires at_most_arcs { length arcs.now ≤ 2 ^ 27 }
     requires within { AreWithinCapacities arcs.now flows.now }
     ensures { IfOk result (λ steps. steps.items ≡ residual_steps arcs.now flows.now) }
 {

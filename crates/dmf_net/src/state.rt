@@ -1,6 +1,5 @@
 ghost use Rattle.std.specs.Prelude.{◌≡◌, ◌≢◌, ℕ, true, false, ◌+◌, ◌-◌, ◌^◌, ◌<◌, ◌≤◌, ◌↔◌, pos, length, slice_get, Some, None, Ok, Err, IsTrue, IfOk, IfErr, OnOk, OnErr, IsOkUnless, MatchOption};
 ghost use Rattle.std.specs.Result.{result_err};
-ghost use Rattle.dmf_net.specs.declared.limits.TheConstants.{MAX_NODES};
 ghost use Rattle.dmf_net.specs.Node.{IsNode, is_node};
 ghost use Rattle.dmf_net.specs.Arc.{open_arc, capacity_sum, open_count};
 ghost use Rattle.dmf_net.specs.Network.{arc_number, has_arc, with_arc};
@@ -38,7 +37,8 @@ pub struct State {
 }
 
 impl Model for State {
-    ghost use Rattle.dmf_net.specs.NetworkState.{NetworkState, KeepsTotals};
+    ghost use Rattle.dmf_net.specs.NetworkState.{NetworkState};
+    ghost use Rattle.dmf_net.specs.Totals.{KeepsTotals};
 
     ghost Value = { NetworkState };
 
@@ -59,7 +59,7 @@ impl State {
     /// The state without arcs. Takes no memory.
     pub fn new(alloc: Global, nodes: u32, source: u32, sink: u32) -> Self
         requires at_least_two_nodes { 2 ≤ nodes }
-        requires at_most_nodes { nodes ≤ MAX_NODES }
+        requires at_most_nodes { nodes ≤ 2 ^ 24 }
         requires source { IsNode nodes source }
         requires sink { IsNode nodes sink }
         requires two_terminals { source ≢ sink }

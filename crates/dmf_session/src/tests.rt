@@ -223,8 +223,9 @@ fn capacities_are_changed_and_arcs_closed(rt: HostRuntime) -> Result<(), Fail> {
 /// Whether an answer tells the cut with these nodes and this capacity.
 fn tells_cut(answer: Result<Reply, Refusal>, ids: &[u32], capacity: u64) -> bool {
     match answer {
-        Ok(Reply::Solution(Some(side))) => side.ids() == ids && side.capacity() == capacity,
-        Ok(Reply::Cut(side)) => side.ids() == ids && side.capacity() == capacity,
+        Ok(Reply::Solution(Some(side))) => side.ids().eq(ids.iter().copied())
+            && side.capacity() == capacity,
+        Ok(Reply::Cut(side)) => side.ids().eq(ids.iter().copied()) && side.capacity() == capacity,
         _ => false,
     }
 }

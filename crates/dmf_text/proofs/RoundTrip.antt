@@ -6,7 +6,6 @@ use Rattle.std.proofs.lemmas.List.Sums.{length-filter, count_by-le-length, sum_b
 use Rattle.std.proofs.lemmas.List.Filters.{sum_by-filter_both}
 use Rattle.std.specs.List.{AllByRecursion, list_all}
 use Rattle.dmf_net.specs.declared.arc.Arc.{Arc}
-use Rattle.dmf_net.specs.declared.limits.TheConstants.{MAX_NODES, MAX_ARCS}
 use Rattle.dmf_net.specs.Node.{IsNode, is_node}
 use Rattle.dmf_net.specs.Arc.{IsArc, capacity_sum, open_count}
 use Rattle.dmf_net.specs.Network.{Network, IsNetwork}
@@ -25,9 +24,9 @@ is-node nodes v node = and_from _ _ (le-leb 1 v node.from_one) (le-leb v nodes n
 -- ---- each line is good
 
 module _ (f g : List ℕ) (m n : ℕ) (first : number_of f ≡ Ok m) (second : number_of g ≡ Ok n) where
-  counts-good : 2 ≤ m → m ≤ MAX_NODES → n ≤ MAX_ARCS → counts_named (codes "max" ∷ f ∷ g ∷ []) ≡ Ok (record { nodes = m; arcs = n })
+  counts-good : 2 ≤ m → m ≤ 2 ^ 24 → n ≤ 2 ^ 27 → counts_named (codes "max" ∷ f ∷ g ∷ []) ≡ Ok (record { nodes = m; arcs = n })
   unfolding counts_named
-  counts-good low high few = rw (first, second, le-leb 2 m low, le-leb m MAX_NODES high, le-leb n MAX_ARCS few) refl
+  counts-good low high few = rw (first, second, le-leb 2 m low, le-leb m (2 ^ 24) high, le-leb n (2 ^ 27) few) refl
 
 module _ (nodes : ℕ) (f : List ℕ) (v : ℕ) (number : number_of f ≡ Ok v) (node : IsNode nodes v) where
   source-named : node_named nodes (f ∷ codes "s" ∷ []) ≡ Ok v
@@ -94,7 +93,7 @@ pub record IsOpenArc (nodes : ℕ) (arc : Arc) : Type 0 where
   pub is_arc : IsArc nodes arc
   pub opened : arc.closed ≡ false
 
-module _ (counts : Counts) (source sink : ℕ) (few-nodes : counts.nodes ≤ MAX_NODES) where
+module _ (counts : Counts) (source sink : ℕ) (few-nodes : counts.nodes ≤ 2 ^ 24) where
   arcs-walk : (todo done : List Arc) (before : List Line) → said_by before ≡ after-arcs counts source sink done → AllByRecursion (IsOpenArc counts.nodes) todo
       → length done + length todo ≡ counts.arcs → capacity_sum (done ++ todo) < 2 ^ 64
       → problem_after before (map arc_fields todo) ≡ Ok (state_of (after-arcs counts source sink (done ++ todo)))
@@ -132,7 +131,7 @@ open-are nodes (arc ∷ arcs) are =
     let more = open-are nodes arcs are.1 in
     cond_both (not arc.closed) (arc ∷ open_arcs arcs) (open_arcs arcs) P (λ t. (record { is_arc = are.0; opened = not-true _ t }, more)) (λ t. more)
 
-arcs-are : (nodes : ℕ) (arcs : List Arc) → nodes ≤ MAX_NODES → capacity_sum arcs < 2 ^ 64 → AllByRecursion (IsOpenArc nodes) arcs → AllByRecursion AreFields (map arc_fields arcs)
+arcs-are : (nodes : ℕ) (arcs : List Arc) → nodes ≤ 2 ^ 24 → capacity_sum arcs < 2 ^ 64 → AllByRecursion (IsOpenArc nodes) arcs → AllByRecursion AreFields (map arc_fields arcs)
 arcs-are nodes [] few fits are = tt
 arcs-are nodes (arc ∷ arcs) few fits are =
     let is = are.0.is_arc in
@@ -154,7 +153,7 @@ module _ (n : Network) (is : IsNetwork n) where
   nodes-small : n.nodes < 2 ^ 64
   nodes-small = let most = is.at_most_nodes in omega (arith, most)
 
-  open-few : open_count n.arcs ≤ MAX_ARCS
+  open-few : open_count n.arcs ≤ 2 ^ 27
   open-few = let most = is.at_most_arcs in omega (arith, most, count_by-le-length (λ arc. not arc.closed) n.arcs)
 
   small-node : (v : ℕ) → IsNode n.nodes v → v < 2 ^ 64

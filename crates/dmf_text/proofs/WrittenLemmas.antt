@@ -78,20 +78,14 @@ module _ {X : Type 0} (fields : X → Line) where
   unfolding written
   all-append xs ys = ap written (map-append fields xs ys) ∙ flat_map-append written_line (map fields xs) (map fields ys)
 
-  -- the lines of the list up to one, that one's, and those of what stands behind it
-  pub all-more : (xs : List X) (i : ℕ) (d : X) → i < length xs
-      → all_text (take (i + 1) xs) ≡ all_text (take i xs) ++ written_line (fields (get_or xs i d))
-  all-more xs i d below =
-      ap all_text (take_more xs i d below) ∙ all-append (take i xs) (get_or xs i d ∷ [])
-      ∙ ap (λ l. all_text (take i xs) ++ l) (all-one (get_or xs i d))
+  -- the lines of a list with one element at its end, and with one in its midst
+  pub all-last : (xs : List X) (x : X) → all_text (xs ++ x ∷ []) ≡ all_text xs ++ written_line (fields x)
+  all-last xs x = all-append xs (x ∷ []) ∙ ap (λ l. all_text xs ++ l) (all-one x)
 
-  pub all-split : (xs : List X) (i : ℕ) (d : X) → i < length xs
-      → all_text xs ≡ all_text (take i xs) ++ (written_line (fields (get_or xs i d)) ++ all_text (drop (suc i) xs))
-  all-split xs i d below =
-      ap all_text (sym (take-append-drop i xs) ∙ ap (λ l. take i xs ++ l) (drop-cons xs i d below))
-      ∙ all-append (take i xs) (get_or xs i d ∷ drop (suc i) xs)
-      ∙ ap (λ l. all_text (take i xs) ++ l) (all-append (get_or xs i d ∷ []) (drop (suc i) xs))
-      ∙ ap (λ l. all_text (take i xs) ++ (l ++ all_text (drop (suc i) xs))) (all-one (get_or xs i d))
+  pub all-split : (xs : List X) (x : X) (ys : List X) → all_text (xs ++ x ∷ ys) ≡ all_text xs ++ (written_line (fields x) ++ all_text ys)
+  all-split xs x ys =
+      all-append xs (x ∷ ys)
+      ∙ ap (λ l. all_text xs ++ l) (all-append (x ∷ []) ys ∙ ap (λ l. l ++ all_text ys) (all-one x))
 
 abbrev pub is_open : Arc → Bool
 is_open arc = not arc.closed

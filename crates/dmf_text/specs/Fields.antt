@@ -1,4 +1,5 @@
 -- The fields of a line.
+-- Public: a public contract says no more than this.
 use Rattle.std.specs.Prelude.{ℕ, List, Bool, length, filter, nat_lt, ◌==◌, ◌||◌}
 use Rattle.std.specs.List.{slice_split}
 

@@ -1,4 +1,5 @@
 -- Texts that are judged line by line, each line by what the lines before it say, and then by their end.
+-- Public: a public contract says no more than this.
 use Rattle.std.specs.Prelude.{ℕ, List, [], ◌∷◌, ◌++◌, ◌+◌, Bool, true, false, Option, None, unwrap_or, Result, Ok, Err, length, slice_get}
 use Rattle.std.specs.Option.{option_or}
 use Rattle.std.specs.Result.{result_unwrap_or}

@@ -1,4 +1,5 @@
 -- The numbers that fields spell.
+-- Public: a public contract says no more than this.
 use Rattle.std.specs.Prelude.{ℕ, List, Bool, Option, Some, None, Result, Err, length, nat_lt, ok_or, ◌^◌, ◌&&◌, if◌then◌else◌}
 use Rattle.std.specs.List.{list_all}
 use Rattle.std.specs.Char.{is_ascii_digit}

@@ -1,12 +1,12 @@
 -- Problem texts, in the format of the First DIMACS Implementation Challenge (Problem Definitions and Specifications,
 -- 1990, maximum flow): which line is at fault, and what a text stands for.
+-- Public: a public contract says no more than this.
 use Rattle.std.specs.Prelude.{ℕ, List, [], ◌∷◌, ◌+◌, ◌^◌, ◌==◌, ◌&&◌, ◌||◌, Bool, true, not, Option, Some, None, is_some, is_none, unwrap_or, Result, Ok, Err, if◌then◌else◌, length, replicate, map, codes, nat_eq, nat_lt, nat_le}
 use Rattle.std.specs.Option.{option_map}
 use Rattle.std.specs.List.{filter_map, starts_with}
 use Rattle.std.specs.Str.{bytes_eq}
 use Rattle.std.specs.Str.Lines.{lines}
 use Rattle.dmf_net.specs.declared.arc.Arc.{Arc}
-use Rattle.dmf_net.specs.declared.limits.TheConstants.{MAX_NODES, MAX_ARCS}
 use Rattle.dmf_net.specs.Node.{is_node}
 use Rattle.dmf_net.specs.Arc.{open_arc, capacity_sum}
 use Rattle.dmf_net.specs.NetworkState.{NetworkState}
@@ -14,7 +14,7 @@ use Rattle.dmf_text.specs.declared.digits.NumberFault.{NumberFault}
 use Rattle.dmf_text.specs.declared.digits.NumberFault.TheVariants as digits
 use Rattle.dmf_text.specs.declared.fault.ProblemFault.{ProblemFault}
 use Rattle.dmf_text.specs.declared.fault.ProblemFaultKind.{ProblemFaultKind}
-use Rattle.dmf_text.specs.declared.fault.ProblemFaultKind.TheVariants.{ProblemLineExpected, SecondProblemLine, UnknownLine, NotMax, FieldCount, NotANumber, TooLarge, CountOutOfRange, NodeOutOfRange, NotSourceOrSink, SecondTerminal, SameTerminals, ArcBeforeTerminals, TooManyArcs, TooFewArcs, TerminalMissing, SumTooLarge}
+use Rattle.dmf_text.specs.declared.fault.ProblemFaultKind.TheVariants.{ProblemLineExpected, SecondProblemLine, UnknownLine, NotMax, FieldCount, NotANumber, TooLarge, CountOutOfRange, NodeOutOfRange, NotSourceOrSink, SecondTerminal, SameTerminals, ArcBeforeTerminals, TooManyArcs, TooFewArcs, TerminalMissing, SumTooLarge, NoMemory}
 use Rattle.dmf_text.specs.Fields.{fields}
 use Rattle.dmf_text.specs.Number.{number_of}
 use Rattle.dmf_text.specs.Judging.{Line, field, number_at, first_said, ◌>>=◌, ◌>>◌, expect, told, outcome_after}
@@ -84,8 +84,8 @@ counts_named behind = do
   expect (bytes_eq (field 0 behind) (codes "max")) NotMax
   nodes ← number_in 1 behind
   arcs ← number_in 2 behind
-  expect (nat_le 2 nodes && nat_le nodes MAX_NODES) CountOutOfRange
-  expect (nat_le arcs MAX_ARCS) CountOutOfRange
+  expect (nat_le 2 nodes && nat_le nodes (2 ^ 24)) CountOutOfRange
+  expect (nat_le arcs (2 ^ 27)) CountOutOfRange
   Ok (record { nodes = nodes; arcs = arcs })
 
 -- `p`, and behind it `max NODES ARCS`
@@ -182,3 +182,7 @@ problem_after before more = outcome_after said_by judged ended problem_fault bef
 -- what a problem text stands for
 abbrev pub problem_of : List ℕ → Result NetworkState ProblemFault
 problem_of text = problem_after [] (map fields (lines text))
+
+-- the fault that is told where memory was refused: it is of no line
+abbrev pub out_of_memory : ProblemFault
+out_of_memory = record { line = 0; kind = NoMemory }

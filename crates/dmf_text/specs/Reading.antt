@@ -1,9 +1,9 @@
 -- What the reader of a problem text keeps of the lines that it took.
+-- Private: only contracts inside the crate and proofs use this.
 use Rattle.std.specs.Prelude.{◌≡◌, ◌⊎◌, [], ◌++◌, Some, None, Result, Ok, Err, MatchResult, codes}
 use Rattle.std.specs.Option.{option_or, option_to_list}
 use Rattle.dmf_net.specs.declared.fault.NetFault.{NetFault}
 use Rattle.dmf_net.specs.declared.fault.NetFault.TheVariants as net
-use Rattle.dmf_text.specs.declared.fault.ProblemFault.{ProblemFault}
 use Rattle.dmf_text.specs.declared.fault.ProblemFaultKind.{ProblemFaultKind}
 use Rattle.dmf_text.specs.declared.fault.ProblemFaultKind.TheVariants.{NodeOutOfRange, TooManyArcs, SumTooLarge, NoMemory}
 use Rattle.dmf_text.specs.declared.reading.Head.{Head}
@@ -19,9 +19,6 @@ arc_kind net.NoSuchNode = NodeOutOfRange
 arc_kind net.TooManyArcs = TooManyArcs
 arc_kind net.SumTooLarge = SumTooLarge
 arc_kind net.NoMemory = NoMemory
-
-abbrev pub out_of_memory : ProblemFault
-out_of_memory = record { line = 0; kind = NoMemory }
 
 -- what is said before any line is taken
 abbrev pub nothing_said : Said

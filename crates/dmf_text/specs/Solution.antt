@@ -1,5 +1,6 @@
 -- Solution texts, in the format of the First DIMACS Implementation Challenge (Problem Definitions and Specifications,
 -- 1990, maximum flow): which line is at fault, and what a text stands for, given the network that it speaks of.
+-- Public: a public contract says no more than this.
 use Rattle.std.specs.Prelude.{ℕ, List, [], ◌∷◌, ◌++◌, ◌+◌, ◌-◌, ◌==◌, ◌&&◌, Bool, not, Option, Some, None, is_none, Result, Ok, Err, ok_or, if◌then◌else◌, length, map, codes, min, nat_eq, nat_le, pos, sum_by}
 use Rattle.std.specs.List.{filter_map, find, list_any, range_with_len, starts_with}
 use Rattle.std.specs.Ordering.{int_eq}
@@ -13,7 +14,7 @@ use Rattle.dmf_text.specs.declared.digits.NumberFault.{NumberFault}
 use Rattle.dmf_text.specs.declared.digits.NumberFault.TheVariants as digits
 use Rattle.dmf_text.specs.declared.fault.SolutionFault.{SolutionFault}
 use Rattle.dmf_text.specs.declared.fault.SolutionFaultKind.{SolutionFaultKind}
-use Rattle.dmf_text.specs.declared.fault.SolutionFaultKind.TheVariants.{UnknownLine, FieldCount, NotANumber, TooLarge, NoSuchPair, OverCapacity, SecondValue, ValueMissing, NotConserved, ValueDiffers}
+use Rattle.dmf_text.specs.declared.fault.SolutionFaultKind.TheVariants.{UnknownLine, FieldCount, NotANumber, TooLarge, NoSuchPair, OverCapacity, SecondValue, ValueMissing, NotConserved, ValueDiffers, NoMemory}
 use Rattle.dmf_text.specs.Fields.{fields}
 use Rattle.dmf_text.specs.Number.{number_of}
 use Rattle.dmf_text.specs.Judging.{Line, field, number_at, first_said, ◌>>=◌, ◌>>◌, expect, told, outcome_after}
@@ -152,3 +153,7 @@ solution_fault number kind = record { line = number; kind = kind }
 abbrev pub solution_of : NetworkState → List ℕ → Result NetworkState SolutionFault
 solution_of s text =
     outcome_after said_by (judged s.network.arcs) (ended s) solution_fault [] (map fields (lines text))
+
+-- the fault that is told where memory was refused: it is of no line
+abbrev pub solution_out_of_memory : SolutionFault
+solution_out_of_memory = record { line = 0; kind = NoMemory }

@@ -1,11 +1,11 @@
 -- What the reader of a solution text keeps of the network, and of the lines that it took.
+-- Private: only contracts inside the crate and proofs use this.
 use Rattle.std.specs.Prelude.{ℕ, ◌≡◌, ◌+◌, ◌<◌, ◌≤◌, List, ◌++◌, Option, Some, None, is_some, Result, Ok, Err, MatchResult}
 use Rattle.std.specs.Option.{option_or, option_to_list}
 use Rattle.std.specs.HashMap.{HashMap, get, Updates}
 use Rattle.dmf_net.specs.declared.arc.Arc.{Arc}
 use Rattle.dmf_net.specs.declared.fault.FlowFault.{FlowFault}
 use Rattle.dmf_net.specs.declared.fault.FlowFault.TheVariants as flow
-use Rattle.dmf_text.specs.declared.fault.SolutionFault.{SolutionFault}
 use Rattle.dmf_text.specs.declared.fault.SolutionFaultKind.{SolutionFaultKind}
 use Rattle.dmf_text.specs.declared.fault.SolutionFaultKind.TheVariants.{NoSuchPair, OverCapacity, NotConserved, ValueDiffers, NoMemory}
 use Rattle.dmf_text.specs.declared.pairs.PairFlow.{PairFlow}
@@ -19,9 +19,6 @@ flow_kind (flow.OverCapacity arc) = OverCapacity
 flow_kind (flow.NotConserved node) = NotConserved node
 flow_kind flow.Negative = ValueDiffers
 flow_kind flow.NoMemory = NoMemory
-
-abbrev pub solution_out_of_memory : SolutionFault
-solution_out_of_memory = record { line = 0; kind = NoMemory }
 
 -- what a map has of a pair: a capacity and a flow, 0 where it has none
 abbrev pub cap_of : Option PairFlow → ℕ

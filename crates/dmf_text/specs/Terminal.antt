@@ -1,4 +1,5 @@
 -- The terminals that node lines name.
+-- Private: only contracts inside the crate and proofs use this.
 use Rattle.std.specs.Prelude.{ℕ, ◌≡◌, List, Ok, true, codes}
 use Rattle.dmf_net.specs.Node.{is_node}
 use Rattle.dmf_text.specs.declared.terminal.Terminal.{Terminal}

@@ -1,4 +1,5 @@
 -- What a writer does that puts a text into a sink.
+-- Public: a public contract says no more than this.
 use Rattle.std.specs.Prelude.{ℕ, ◌≡◌, List, ◌++◌, Bool, true, Option, Result, MatchResult}
 use Rattle.std.specs.Io.KnownBytes.{Appends}
 

@@ -1,4 +1,5 @@
 -- The bytes of written texts.
+-- Public: a public contract says no more than this.
 use Rattle.std.specs.Prelude.{ℕ, List, [], ◌∷◌, ◌++◌, not, codes, decimal, filter, length, map, nat_abs, replicate}
 use Rattle.std.specs.List.{join_with_byte, flat_map, zip}
 use Rattle.dmf_net.specs.declared.arc.Arc.{Arc}

@@ -1,7 +1,7 @@
 //! Problem texts.
 ghost use Rattle.std.specs.Prelude.{◌≡◌, ◌⊎◌, IsErrOf};
 ghost use Rattle.dmf_text.specs.Problem.{problem_of};
-ghost use Rattle.dmf_text.specs.Reading.{out_of_memory};
+ghost use Rattle.dmf_text.specs.Problem.{out_of_memory};
 
 use crate::fault::{ProblemFault, ProblemFaultKind};
 use crate::line::Lines;

@@ -18,7 +18,7 @@ fn fault_in(alloc: Global, text: &[u8]) -> (u64, u8) {
 
 #[test]
 fn faults_are_told(rt: HostRuntime) -> Result<(), Fail> {
-    let table: [(&[u8], u64, u8); 27] = [
+    let table: [(&[u8], u64, u8); 28] = [
         (b"", 1, 1),
         (b"n 1 s", 1, 1),
         (b"x", 1, 3),
@@ -39,6 +39,7 @@ fn faults_are_told(rt: HostRuntime) -> Result<(), Fail> {
         (b"p max 1 x", 1, 6),
         (b"p min 4", 1, 5),
         (b"a 9", 1, 1),
+        (b"p max 16777216 134217728", 2, 16),
         (b"p max 16777217 0", 1, 8),
         (b"p max 2 134217729", 1, 8),
         (b"p max 2 1\nn 0 x", 2, 10),

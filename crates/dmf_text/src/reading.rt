@@ -1,7 +1,6 @@
 //! The lines of a problem text, taken one after the other.
-ghost use Rattle.std.specs.Prelude.{◌≡◌, ◌≢◌, ◌≤◌, ◌&&◌, ◌∷◌, [], ℕ, false, true, codes, length, replicate, is_some, IsTrue, MatchResult, Ok, Err, Some, None};
+ghost use Rattle.std.specs.Prelude.{◌≡◌, ◌≢◌, ◌≤◌, ◌&&◌, ◌∷◌, [], ℕ, false, true, codes, length, replicate, is_some, IsTrue, MatchResult, Ok, Err, Some, None, ◌^◌};
 ghost use Rattle.std.specs.Option.{ForSome};
-ghost use Rattle.dmf_net.specs.declared.limits.TheConstants.{MAX_NODES, MAX_ARCS};
 ghost use Rattle.dmf_net.specs.Node.{is_node};
 
 use crate::behind::three_fields;
@@ -20,8 +19,8 @@ pub(crate) struct Head {
     source: Option<u32>,
     sink: Option<u32>,
     ghost at_least_two: { 2 ≤ nodes },
-    ghost at_most_nodes: { nodes ≤ MAX_NODES },
-    ghost at_most_arcs: { arcs ≤ MAX_ARCS },
+    ghost at_most_nodes: { nodes ≤ 2 ^ 24 },
+    ghost at_most_arcs: { arcs ≤ 2 ^ 27 },
     ghost source_is_node: { ForSome source (λ v. IsTrue (is_node nodes v)) },
     ghost sink_is_node: { ForSome sink (λ v. IsTrue (is_node nodes v)) },
     ghost not_both: { (is_some source && is_some sink) ≡ false },
@@ -32,7 +31,7 @@ pub(crate) struct Head {
 pub(crate) struct Body {
     arcs: u32,
     state: State,
-    ghost at_most_arcs: { arcs ≤ MAX_ARCS },
+    ghost at_most_arcs: { arcs ≤ 2 ^ 27 },
     ghost room: { length state.network.arcs ≤ arcs },
     ghost idle: { state.flows ≡ replicate (length state.network.arcs) 0 },
 }

@@ -1,7 +1,7 @@
 //! Solution texts.
 ghost use Rattle.std.specs.Prelude.{◌≡◌, ◌⊎◌, IsErrOf};
 ghost use Rattle.dmf_text.specs.Solution.{solution_of};
-ghost use Rattle.dmf_text.specs.SolutionReading.{solution_out_of_memory};
+ghost use Rattle.dmf_text.specs.Solution.{solution_out_of_memory};
 
 use crate::fault::{SolutionFault, SolutionFaultKind};
 use crate::line::Lines;

@@ -8,7 +8,7 @@ ghost use Rattle.dmf_text.specs.Written.{written_line, arcs_text, flows_text, no
 
 use crate::line_buffer::LineBuffer;
 use crate::writer::{Sink, WriteFault, put_all};
-use dmf_net::{Arc, Side, State};
+use dmf_net::{Arc, Side, SideIds, State};
 
 /// Writes the problem of a state's network: its open arcs in order, with the problem line and the node lines before
 /// them. Each line is put at once. It takes no memory and does not flush.
@@ -85,10 +85,10 @@ fn put_arc<W: Sink>(letter: &[u8], arc: &Arc, has: u64, out: &mut W) -> Result<(
 }
 
 // Writes a line for each node of a side.
-fn put_nodes<W: Sink>(ids: &[u32], out: &mut W) -> Result<(), WriteFault>
-    ensures { Writes W.contents W.has_failed out.old out.new result (nodes_text ids.now) }
+fn put_nodes<W: Sink>(ids: SideIds, out: &mut W) -> Result<(), WriteFault>
+    ensures { Writes W.contents W.has_failed out.old out.new result (nodes_text ids.entry) }
 {
-    for &id in ids {
+    for id in ids {
         put_all(out, side_line(id).as_bytes())?;
     }
     Ok(())

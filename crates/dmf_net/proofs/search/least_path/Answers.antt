@@ -1,7 +1,7 @@
 use Rattle.std.proofs.Common.{◌≡◌, ◌-◌, ◌<◌, length, None, arith, ap, sym, ◌∙◌, not}
 use Rattle.std.proofs.lemmas.List.{get_or_read, append-nil, append_assoc}
 use Rattle.std.proofs.lemmas.List.Elements.{All-contains}
-use Rattle.dmf_net.specs.Path.{IsStep}
+use Rattle.dmf_net.specs.Steps.{IsStep}
 use Rattle.dmf_net.specs.Distances.{label_of}
 use Rattle.dmf_net.proofs.Labels.{label-from_some_test}
 use Rattle.dmf_net.proofs.LeastPath.{least-cons, least-at_goal}

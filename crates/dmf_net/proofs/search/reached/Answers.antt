@@ -1,6 +1,6 @@
 use Rattle.std.proofs.Common.{◌≡◌, map, ◌∙◌}
 use Rattle.std.proofs.lemmas.Result.{IfOk-weaker}
-use Rattle.dmf_net.specs.Path.{turned_step}
+use Rattle.dmf_net.specs.Steps.{turned_step}
 use Rattle.dmf_net.proofs.Turned.{between-turned, reached-from_distances}
 use Rattle.dmf_net.proofs.search.reached.Goals as goal
 

@@ -1,29 +1,43 @@
-use Rattle.std.proofs.Common.{refl, ◌∙◌, subst, drop, suc, take, get_or}
+use Rattle.std.proofs.Common.{◌≡◌, [], ◌∷◌, ◌++◌, refl, ◌∙◌, ap, sym, subst, append-nil, append_assoc}
 use Rattle.std.proofs.lemmas.Result.{err_from_is_err_and}
 use Rattle.std.proofs.KnownBytes.{Appends-nil, Appends-trans}
 use Rattle.std.specs.Io.KnownBytes.{Appends}
 use Rattle.dmf_text.specs.Written.{nodes_text, side_fields, written_line}
-use Rattle.dmf_text.proofs.WrittenLemmas.{all-nil, all-more, all-split}
+use Rattle.dmf_text.proofs.WrittenLemmas.{all-nil, all-last, all-split}
 use Rattle.dmf_text.proofs.WritingLemmas.{Cut, cut-front, cut-more}
 use Rattle.dmf_text.proofs.written.put_nodes.Goals as goal
 
 pub loop-id-init : goal.loop-id-init
-loop-id-init g c = record { held = rw (all-nil side_fields) (Appends-nil _); mark = refl }
+loop-id-init g c = record {
+  given = c.into_iter-id-iterator.ensures.into_iter_gives;
+  held = rw (all-nil side_fields) (Appends-nil _);
+  mark = refl;
+}
 
 pub returns-in_err-put_all : goal.returns-in_err-put_all
 returns-in_err-put_all g c =
     let failed = err_from_is_err_and c.from_residual.result c.from_residual.ensures.1 in
-    let ids = c.args.ids.now in
-    let i = c.loop-id.id-index in
+    let id = c.in-Some.id in
+    let given = c.loop-id.yielded in
+    let left = c.next.new.self in
+    let all : given ++ (id ∷ left) ≡ c.args.ids = ap (λ ids. given ++ ids) (sym c.in-Some.ensures.steps) ∙ c.loop-id.invariant.given in
     let cut = subst (λ text. Cut g.W.Sink.contents g.W.Sink.has_failed c.loop-id.out c.put_all.new.out text) (c.as_bytes.ensures ∙ c.side_line.ensures) c.in_err-put_all.ensures in
-    rw (failed.1, all-split side_fields ids i 0 c.loop-id-test.true)
-    (cut-more g.W.Sink.contents g.W.Sink.has_failed _ c.loop-id.out _ (nodes_text (take i ids)) _ c.loop-id.invariant.held
-    (cut-front g.W.Sink.contents g.W.Sink.has_failed _ _ (written_line (side_fields (get_or ids i 0))) (nodes_text (drop (suc i) ids)) cut))
+    rw (failed.1, sym all, all-split side_fields given id left)
+    (cut-more g.W.Sink.contents g.W.Sink.has_failed _ c.loop-id.out _ (nodes_text given) _ c.loop-id.invariant.held
+    (cut-front g.W.Sink.contents g.W.Sink.has_failed _ _ (written_line (side_fields id)) (nodes_text left) cut))
 
 pub loop-id-preserved : goal.loop-id-preserved
 loop-id-preserved g c =
     let put = subst (λ text. Appends (g.W.Sink.contents c.loop-id.out) (g.W.Sink.contents c.put_all.new.out) text) (c.as_bytes.ensures ∙ c.side_line.ensures) c.in_ok-put_all.ensures.0 in
     record {
-      held = rw (all-more side_fields c.args.ids.now c.loop-id.id-index 0 c.loop-id-test.true) (Appends-trans _ _ _ _ _ c.loop-id.invariant.held put);
+      given = append_assoc c.loop-id.yielded (c.in-Some.id ∷ []) c.next.new.self
+          ∙ ap (λ ids. c.loop-id.yielded ++ ids) (sym c.in-Some.ensures.steps) ∙ c.loop-id.invariant.given;
+      held = rw (all-last side_fields c.loop-id.yielded c.in-Some.id) (Appends-trans _ _ _ _ _ c.loop-id.invariant.held put);
       mark = c.in_ok-put_all.ensures.1 ∙ c.loop-id.invariant.mark;
     }
+
+pub returns : goal.returns
+returns g c =
+    let all : c.loop-id.yielded ≡ c.args.ids =
+    sym (append-nil c.loop-id.yielded) ∙ ap (λ ids. c.loop-id.yielded ++ ids) (sym c.in-None.ensures.steps.0) ∙ c.loop-id.invariant.given in
+    (subst (λ ids. Appends (g.W.Sink.contents c.args.out.now) (g.W.Sink.contents c.loop-id.out) (nodes_text ids)) all c.loop-id.invariant.held, c.loop-id.invariant.mark)
