@@ -8,5 +8,6 @@ pub mod SessionLemmas
 pub mod Cutting
 pub mod Running
 pub mod OneRun
+pub mod OptimalRuns
 pub mod Table
 pub mod Reading

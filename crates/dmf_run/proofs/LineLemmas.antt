@@ -27,7 +27,7 @@ pub record Grows (t u : Timeline) : Type 0 where
 same : (t u : Timeline) → t.place < length t.states → u ≡ t → Grows t u
 same t u within e = subst (λ v. Grows t v) (sym e) (record { place = within; at_most = omega arith })
 
-answers-cases : (want_cut : Bool) (t : Timeline) (command : Command) (result : Result Reply Refusal) (u : Timeline) → Answers want_cut t command result u → (u ≡ t) ⊎ Steps want_cut t command result u
+pub answers-cases : (want_cut : Bool) (t : Timeline) (command : Command) (result : Result Reply Refusal) (u : Timeline) → Answers want_cut t command result u → (u ≡ t) ⊎ Steps want_cut t command result u
 answers-cases want_cut t command (Ok reply) u a = inr a
 answers-cases want_cut t command (Err UnknownCommand) u a = inr a
 answers-cases want_cut t command (Err FieldCount) u a = inr a

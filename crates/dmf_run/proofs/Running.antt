@@ -1,5 +1,5 @@
 -- Each command text has a run, and what is so of each answer is so of each run.
-use Rattle.std.proofs.Common.{ℕ, ◌≡◌, ◌≢◌, ◌+◌, ◌<◌, List, [], ◌∷◌, ◌++◌, length, Bool, true, false, ◌||◌, Option, Some, None, Result, Ok, Err, refl, sym, subst, arith, ⊎_elim}
+use Rattle.std.proofs.Common.{ℕ, ◌≢◌, ◌+◌, ◌<◌, List, [], ◌∷◌, ◌++◌, length, Bool, true, false, ◌||◌, Option, Some, None, Result, Ok, Err, refl, sym, subst, arith, ⊎_elim}
 use Rattle.std.proofs.lemmas.List.Elements.{All-cons, All-nil}
 use Rattle.std.proofs.lemmas.Option.{slice_get_cases}
 use Rattle.dmf_net.specs.NetworkState.{NetworkState, IsState}
@@ -13,7 +13,7 @@ use Rattle.dmf_session.specs.Laws.{HasStates, HasAnswer, HasOneAnswer}
 use Rattle.dmf_run.specs.Line.{line_meaning}
 use Rattle.dmf_run.specs.Run.{Answering, reply_text, refused_text, Shows, LineRuns, Runs}
 use Rattle.dmf_run.specs.Outcome.{RestRuns, RunsAll}
-use Rattle.dmf_run.specs.Laws.{SomeRun, HasRun, StepsAreAnswers}
+use Rattle.dmf_run.specs.Laws.{HasRun, StepsAreAnswers}
 use Rattle.dmf_run.proofs.Cutting.{some-cut}
 
 -- The start of a state has states.

@@ -1,9 +1,14 @@
--- Each command text has a run, and where memory is there one alone.
-use Rattle.std.specs.Prelude.{ℕ, ◌≡◌, List, Bool}
+-- Each command text has a run, and where memory is there one alone; and its solves are optimal.
+use Rattle.std.specs.Prelude.{ℕ, ◌≡◌, List, Bool, Result, Ok, OnOk}
 use Rattle.dmf_net.specs.NetworkState.{NetworkState, IsState}
+use Rattle.dmf_session.specs.declared.command.Command.{Command}
+use Rattle.dmf_session.specs.declared.command.Command.TheVariants.{Solve}
+use Rattle.dmf_session.specs.declared.command.Reply.{Reply}
+use Rattle.dmf_session.specs.declared.command.Refusal.{Refusal}
 use Rattle.dmf_session.specs.Timeline.{Timeline, start}
 use Rattle.dmf_session.specs.Step.{Steps, Answers}
-use Rattle.dmf_run.specs.Run.{Answering}
+use Rattle.dmf_session.specs.Optimal.{HasOptimalPresent}
+use Rattle.dmf_run.specs.Run.{Answering, Runs}
 use Rattle.dmf_run.specs.Outcome.{RunsAll}
 
 -- A run of the command text that was given, from the timeline `t`: what it writes, and whether a line is refused.
@@ -12,7 +17,7 @@ pub record SomeRun (Gives : Answering) (t : Timeline) (given : List ℕ) : Type 
   pub refused : Bool
   pub runs : RunsAll Gives t given text refused
 
--- Each command text has a run from the start of each state in which no command is refused memory.
+-- From the start of each state each command text has a run in which no command is refused memory.
 abbrev pub HasRun : Type 0
 HasRun = (want_cut : Bool) (s : NetworkState) (given : List ℕ) → IsState s → SomeRun (Steps want_cut) (start s) given
 
@@ -28,3 +33,22 @@ abbrev pub StepsAreAnswers : Type 0
 StepsAreAnswers =
     (want_cut : Bool) (s : NetworkState) (given text : List ℕ) (refused : Bool) → IsState s
     → RunsAll (Steps want_cut) (start s) given text refused → RunsAll (Answers want_cut) (start s) given text refused
+
+-- Wherever a run of lines has come to, in which commands may have been refused memory: a solve that is not refused leaves an
+-- optimal present state.
+abbrev pub SolvesAreOptimal : Type 0
+SolvesAreOptimal =
+    (want_cut : Bool) (s : NetworkState) (lines : List (List ℕ)) (text : List ℕ) (refused : Bool) (t u : Timeline) (reply : Reply)
+    → IsState s → Runs (Answers want_cut) 1 (start s) lines text refused t → Answers want_cut t Solve (Ok reply) u
+    → HasOptimalPresent u
+
+-- A command is answered so, and where it is a solve that is not refused, it leaves an optimal present state.
+pub record AnswersOptimally (want_cut : Bool) (t : Timeline) (command : Command) (result : Result Reply Refusal) (u : Timeline) : Type 0 where
+  pub answers : Answers want_cut t command result u
+  pub optimal : command ≡ Solve → OnOk result (HasOptimalPresent u)
+
+-- So each run of a command text is one in which each solve that is not refused leaves an optimal present state.
+abbrev pub RunsAreOptimal : Type 0
+RunsAreOptimal =
+    (want_cut : Bool) (s : NetworkState) (given text : List ℕ) (refused : Bool) → IsState s
+    → RunsAll (Answers want_cut) (start s) given text refused → RunsAll (AnswersOptimally want_cut) (start s) given text refused

@@ -1,8 +1,8 @@
-ghost use Rattle.dmf_run.specs.Laws.{HasRun, HasOneRun, StepsAreAnswers};
+ghost use Rattle.dmf_run.specs.Laws.{HasRun, HasOneRun, StepsAreAnswers, SolvesAreOptimal, RunsAreOptimal};
 
-use dmf_session::{an_answer, one_answer};
+use dmf_session::{an_answer, one_answer, solved_is_optimal};
 
-/// The law that each command text, of any bytes, has a run from the start of each state in which no command is refused
+/// The law that from the start of each state each command text, of any bytes, has a run in which no command is refused
 /// memory.
 pub fn a_run()
     ensures { HasRun }
@@ -26,4 +26,15 @@ pub fn steps_are_answers()
 {
     an_answer();
     one_answer();
+}
+
+/// The law that in each run, also one that may be refused memory, a solve that is not refused leaves a present state whose
+/// value is the greatest of all flows, and the capacity of the smallest minimum cut.
+pub fn solves_are_optimal()
+    ensures each { SolvesAreOptimal }
+    ensures whole { RunsAreOptimal }
+{
+    an_answer();
+    one_answer();
+    solved_is_optimal();
 }
