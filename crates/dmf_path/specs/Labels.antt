@@ -1,0 +1,49 @@
+-- Labels of nodes: how many links a node is from a root, where they are known.
+-- Private: only contracts inside the crate and proofs use this.
+use Rattle.std.specs.Prelude.{ℕ, ◌≡◌, ◌≢◌, ◌+◌, ◌<◌, ◌≤◌, ◌⊎◌, ◌==◌, List, length, slice_index, count_by, Contains}
+use Rattle.dmf_path.specs.Node.{IsNode}
+use Rattle.dmf_path.specs.Links.{Links, LiesAt, tail_of}
+
+-- what stands for the label of a node that has none; it is more than any label
+abbrev pub no_label : ℕ
+no_label = 4294967295
+
+-- An open link leads to the node from one whose label is less by one.
+pub record IsBacked (l : Links) (opens labels : List ℕ) (v : ℕ) : Type 0 where
+  pub place : ℕ
+  pub within : place < length l.heads
+  pub leads : slice_index l.heads place ≡ v
+  pub opened : slice_index opens place ≡ 1
+  pub label : slice_index labels (tail_of l place) + 1 ≡ slice_index labels v
+
+-- The labels of the nodes that open links reach from the root, at least as far as up to the label of the node `stop`.
+pub record AreLabels (l : Links) (opens : List ℕ) (root stop : ℕ) (labels : List ℕ) : Type 0 where
+  pub one_each : length labels ≡ l.nodes + 1
+  pub root_is : slice_index labels root ≡ 0
+  pub small : (v : ℕ) → IsNode l.nodes v → (slice_index labels v ≡ no_label) ⊎ (slice_index labels v < l.nodes)
+  pub near : (v p : ℕ) → IsNode l.nodes v → LiesAt l v p → slice_index opens p ≡ 1
+      → slice_index labels v + 1 < slice_index labels stop
+      → slice_index labels (slice_index l.heads p) ≤ slice_index labels v + 1
+  pub backed : (v : ℕ) → IsNode l.nodes v → v ≢ root → slice_index labels v ≢ no_label → IsBacked l opens labels v
+
+-- how many numbers stand for no label
+abbrev pub unlabelled_count : List ℕ → ℕ
+unlabelled_count labels = count_by (λ label. label == no_label) labels
+
+-- An open link at a place from `from` up to `end` leads to node `v`.
+pub record IsLedTo (heads opens : List ℕ) (from end v : ℕ) : Type 0 where
+  pub place : ℕ
+  pub from_first : from ≤ place
+  pub to_last : place < end
+  pub leads : slice_index heads place ≡ v
+  pub opened : slice_index opens place ≡ 1
+
+-- The nodes without a label to which the open links at the places from `from` up to `end` lead are given this label, which
+-- makes the labels `old` into `new`; `fresh` are these nodes.
+pub record Spreads (heads opens : List ℕ) (from end label : ℕ) (old new fresh : List ℕ) : Type 0 where
+  pub kept : (v : ℕ) → slice_index old v ≢ no_label → slice_index new v ≡ slice_index old v
+  pub done : (p : ℕ) → from ≤ p → p < end → slice_index opens p ≡ 1 → slice_index new (slice_index heads p) ≢ no_label
+  pub listed : (v : ℕ) → v < length old → slice_index old v ≡ no_label → slice_index new v ≢ no_label → Contains fresh v
+  pub labelled : (v : ℕ) → Contains fresh v → slice_index new v ≡ label
+  pub led_to : (v : ℕ) → Contains fresh v → IsLedTo heads opens from end v
+  pub counted : length fresh + unlabelled_count new ≡ unlabelled_count old

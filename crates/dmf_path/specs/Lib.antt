@@ -1,0 +1,7 @@
+pub mod Node
+pub mod Step
+pub mod Path
+pub mod Pair
+pub mod Links
+pub mod Labels
+pub mod Walk

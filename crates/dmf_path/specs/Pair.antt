@@ -1,0 +1,59 @@
+-- Pairs of opposite links, and the steps that they give.
+-- Public: a public contract says no more than this.
+use Rattle.std.specs.Prelude.{ℕ, ◌≡◌, ◌≢◌, ◌+◌, ◌-◌, ◌*◌, ◌^◌, ◌<◌, ◌≤◌, Bool, if◌then◌else◌, List, [], ◌∷◌, ◌++◌, length, nat_lt, slice_get, Option, Some, None}
+use Rattle.dmf_path.specs.declared.pair.Pair.{Pair}
+use Rattle.dmf_path.specs.Node.{IsNode}
+use Rattle.dmf_path.specs.Step.{Step}
+use Rattle.dmf_path.specs.Path.{has_rank}
+
+-- Both ends are nodes, and differ; what is pushed from the one room to the other fits 64 bits.
+pub record IsPair (nodes : ℕ) (p : Pair) : Type 0 where
+  pub tail : IsNode nodes p.tail
+  pub head : IsNode nodes p.head
+  pub no_loop : p.tail ≢ p.head
+  pub fits : p.along + p.against < 2 ^ 64
+
+-- Where there is a pair, it is one; there are at most as many as arcs and one more.
+pub record ArePairs (nodes : ℕ) (pairs : List (Option Pair)) : Type 0 where
+  pub each : (k : ℕ) (p : Pair) → slice_get pairs k ≡ Some (Some p) → IsPair nodes p
+  pub at_most : length pairs ≤ 2 ^ 27 + 1
+
+-- the steps of pair number `j`: the one along it, and then the one against it, each where it has room
+abbrev pub pair_steps : ℕ → Option Pair → List Step
+pair_steps j None = []
+pair_steps j (Some p) =
+    (if nat_lt 0 p.along then record { from = p.tail; to = p.head; rank = 2 * j; room = p.along } ∷ [] else [])
+    ++ (if nat_lt 0 p.against then record { from = p.head; to = p.tail; rank = 2 * j + 1; room = p.against } ∷ [] else [])
+
+-- the steps of the pairs from number `j` on, in the order of their ranks
+abbrev pub steps_from : ℕ → List (Option Pair) → List Step
+steps_from j [] = []
+steps_from j (p ∷ pairs) = pair_steps j p ++ steps_from (j + 1) pairs
+
+-- the steps of the pairs
+abbrev pub steps_of : List (Option Pair) → List Step
+steps_of pairs = steps_from 1 pairs
+
+-- pair number `j`, once `amount` is pushed along a path: it is taken off the room of each link on the path and, where it can
+-- be taken back, given to the room of the opposite link
+abbrev pub pushed_pair : Bool → ℕ → ℕ → List Step → Option Pair → Option Pair
+pushed_pair takes_back j amount path None = None
+pushed_pair takes_back j amount path (Some p) =
+    let along = if has_rank path (2 * j) then amount else 0 in
+    let against = if has_rank path (2 * j + 1) then amount else 0 in
+    Some (record {
+      tail = p.tail;
+      head = p.head;
+      along = p.along - along + (if takes_back then against else 0);
+      against = p.against - against + (if takes_back then along else 0);
+    })
+
+-- the pairs from number `j` on, once `amount` is pushed along a path
+abbrev pub pushed_from : Bool → ℕ → ℕ → List Step → List (Option Pair) → List (Option Pair)
+pushed_from takes_back j amount path [] = []
+pushed_from takes_back j amount path (p ∷ pairs) =
+    pushed_pair takes_back j amount path p ∷ pushed_from takes_back (j + 1) amount path pairs
+
+-- the pairs, once `amount` is pushed along a path
+abbrev pub pushed_pairs : Bool → ℕ → List Step → List (Option Pair) → List (Option Pair)
+pushed_pairs takes_back amount path pairs = pushed_from takes_back 1 amount path pairs

@@ -1,0 +1,64 @@
+-- Paths of steps between nodes, and which of them comes first.
+-- Public: a public contract says no more than this.
+use Rattle.std.specs.Prelude.{ℕ, ◌≡◌, ◌<◌, ◌≤◌, ◌⊎◌, ◌==◌, Bool, List, [], ◌∷◌, length, map, min, All, AllPairs, Contains}
+use Rattle.std.specs.List.{list_any}
+use Rattle.dmf_path.specs.Step.{Step}
+use Rattle.dmf_path.specs.Node.{IsNode}
+
+-- Both ends of the step are nodes.
+abbrev pub IsStep : ℕ → Step → Type 0
+IsStep nodes s = IsNode nodes s.from × IsNode nodes s.to
+
+-- The steps are between nodes, and are listed in the order of their ranks, which all differ.
+pub record AreSteps (nodes : ℕ) (steps : List Step) : Type 0 where
+  pub between : All (IsStep nodes) steps
+  pub ascending : AllPairs (λ s t. s.rank < t.rank) steps
+
+-- The steps of the list `path` lead from node `a` to node `b`: each is one of `steps`, the first leaves `a`, each next
+-- one leaves the node at which the one before it arrives, and the last arrives at `b`. The empty list leads from a node to
+-- itself.
+abbrev pub IsPath : List Step → ℕ → ℕ → List Step → Type 0
+IsPath steps a b [] = a ≡ b
+IsPath steps a b (s ∷ path) = Contains steps s × (s.from ≡ a) × IsPath steps s.to b path
+
+-- No path leads from `a` to `b`.
+abbrev pub HasNoPath : List Step → ℕ → ℕ → Type 0
+HasNoPath steps a b = (path : List Step) → ¬ IsPath steps a b path
+
+-- Some path leads from `a` to `b`.
+abbrev pub IsReachable : List Step → ℕ → ℕ → Type 0
+IsReachable steps a b = (path : List Step) × IsPath steps a b path
+
+-- the step that leads back
+abbrev pub turned_step : Step → Step
+turned_step s = record { from = s.to; to = s.from; rank = s.rank; room = s.room }
+
+-- The one list comes before the other in the lexicographic order. Only lists of one length are compared.
+abbrev pub ComesBefore : List ℕ → List ℕ → Type 0
+ComesBefore xs [] = ⊥
+ComesBefore [] (y ∷ ys) = ⊥
+ComesBefore (x ∷ xs) (y ∷ ys) = (x < y) ⊎ ((x ≡ y) × ComesBefore xs ys)
+
+-- the ranks of the steps of a path
+abbrev pub ranks : List Step → List ℕ
+ranks path = map (λ s. s.rank) path
+
+-- The path is as short as any from `a` to `b`, and among the shortest its list of ranks is the first.
+pub record IsLeastPath (steps : List Step) (a b : ℕ) (path : List Step) : Type 0 where
+  pub leads : IsPath steps a b path
+  pub shortest : (other : List Step) → IsPath steps a b other → length path ≤ length other
+  pub first : (other : List Step) → IsPath steps a b other → length other ≡ length path → ¬ ComesBefore (ranks other) (ranks path)
+
+-- whether the path has a step of this rank
+abbrev pub has_rank : List Step → ℕ → Bool
+has_rank path rank = list_any (λ s. s.rank == rank) path
+
+-- the least of `bound` and the rooms on the path
+abbrev pub room_up_to : ℕ → List Step → ℕ
+room_up_to bound [] = bound
+room_up_to bound (s ∷ path) = min s.room (room_up_to bound path)
+
+-- the least room on a path, and 0 for the path without steps
+abbrev pub least_room : List Step → ℕ
+least_room [] = 0
+least_room (s ∷ path) = room_up_to s.room path

@@ -1,0 +1,82 @@
+//! Labels: how far the nodes are from a root, over open links.
+ghost use Rattle.std.specs.Prelude.{◌≡◌, ◌≢◌, ℕ, ◌+◌, ◌++◌, ◌≤◌, ◌<◌, List, length, replicate, slice_index, vec_capacity};
+ghost use Rattle.dmf_path.specs.Node.{IsNode};
+ghost use Rattle.dmf_path.specs.Links.{AreLinks, links_of};
+ghost use Rattle.dmf_path.specs.Labels.{AreLabels, Spreads, no_label, unlabelled_count};
+
+use crate::links::LinkTable;
+
+/// What stands for the label of a node that has none.
+pub const NO_LABEL: u32 = u32::MAX;
+
+/// Labels each node that open links reach from the root with the number of links that it takes, level by level, until
+/// node `stop` has a label. Node 0 never has one.
+pub fn label_nodes(
+    table: &LinkTable,
+    opens: &[u8],
+    root: u32,
+    stop: u32,
+    labels: &mut [u32],
+    queue: &mut Vec<u32>,
+)
+    requires links { AreLinks (links_of table.now) }
+    requires one_flag_each { length opens.now ≡ length table.now.heads.items }
+    requires one_label_each { length labels.old ≡ table.now.nodes + 1 }
+    requires room { table.now.nodes + 1 ≤ vec_capacity queue.old }
+    requires root { IsNode table.now.nodes root }
+    requires stop { stop ≤ table.now.nodes }
+    ensures labels { AreLabels (links_of table.now) opens.now root stop labels.new }
+    ensures room { vec_capacity queue.new ≡ vec_capacity queue.old }
+{
+    clear(labels);
+    labels[root as usize] = 0;
+    queue.clear();
+    queue.push_reserved(root);
+    let mut done = 0;
+    while done < queue.len() && labels[stop as usize] == NO_LABEL {
+        let node = queue[done];
+        let label = labels[node as usize] + 1;
+        let from = table.first[node as usize];
+        let end = table.first[node as usize + 1];
+        spread(&table.heads, opens, from, end, label, labels, queue);
+        done += 1;
+    }
+}
+
+/// Takes off every label.
+fn clear(labels: &mut [u32])
+    ensures { labels.new ≡ replicate (length labels.old) no_label }
+{
+    for label in labels.iter_mut() {
+        *label = NO_LABEL;
+    }
+}
+
+/// Labels the nodes without a label to which the open links at the places from `from` up to `end` lead, and queues them.
+fn spread(
+    heads: &[u32],
+    opens: &[u8],
+    from: u32,
+    end: u32,
+    label: u32,
+    labels: &mut [u32],
+    queue: &mut Vec<u32>,
+)
+    requires range { from ≤ end }
+    requires links { end ≤ length heads.now }
+    requires one_flag_each { length opens.now ≡ length heads.now }
+    requires heads { (p : ℕ) → p < end → slice_index heads.now p < length labels.old }
+    requires label { label ≢ no_label }
+    requires room { length queue.old.items + unlabelled_count labels.old ≤ vec_capacity queue.old }
+    ensures spreads { (fresh : List ℕ) × (queue.new.items ≡ queue.old.items ++ fresh)
+        × Spreads heads.now opens.now from end label labels.old labels.new fresh }
+    ensures room { vec_capacity queue.new ≡ vec_capacity queue.old }
+{
+    for place in from as usize..end as usize {
+        let head = heads[place];
+        if opens[place] == 1 && labels[head as usize] == NO_LABEL {
+            labels[head as usize] = label;
+            queue.push_reserved(head);
+        }
+    }
+}

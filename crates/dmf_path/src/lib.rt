@@ -1,0 +1,10 @@
+//! Least paths over pairs of opposite links between nodes: the search on which the maximum-flow solver `dmf` stands.
+#![tactic(auto)]
+
+pub use pair::{Pair, Pairs};
+
+mod label;
+mod links;
+mod pair;
+mod push;
+mod walk;

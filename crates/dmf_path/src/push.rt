@@ -1,0 +1,58 @@
+//! Pushing along a trail.
+ghost use Rattle.std.specs.Prelude.{◌≡◌, ℕ, Bool, ◌+◌, ◌≤◌, ◌<◌, length, take, All, slice_index, vec_capacity};
+ghost use Rattle.dmf_path.specs.Links.{AreLinks, AreRooms, AreFlags, links_of};
+ghost use Rattle.dmf_path.specs.Walk.{least_on, pushed, CanPush};
+
+use crate::links::LinkTable;
+
+/// The least of the limit and the rooms of these links.
+pub fn least_room(rooms: &[u64], trail: &[u32], limit: u64) -> u64
+    requires { All (λ p. p < length rooms.now) trail.now }
+    ensures { result ≡ least_on rooms.now limit trail.now }
+{
+    let mut least = limit;
+    for &place in trail {
+        least = least.min(rooms[place as usize]);
+    }
+    least
+}
+
+/// Pushes an amount along these links: each loses it, and where it can be taken back, the opposite link gains it.
+pub fn push_along(
+    table: &LinkTable,
+    trail: &[u32],
+    amount: u64,
+    takes_back: bool,
+    rooms: &mut [u64],
+    flags: &mut [u8],
+)
+    requires links { AreLinks (links_of table.now) }
+    requires rooms { AreRooms (links_of table.now) rooms.old }
+    requires flags { AreFlags (links_of table.now) rooms.old flags.old }
+    requires can { CanPush (links_of table.now) takes_back amount trail.now rooms.old }
+    ensures rooms { rooms.new ≡ pushed (links_of table.now) takes_back amount trail.now rooms.old }
+    ensures sums { AreRooms (links_of table.now) rooms.new }
+    ensures flags { AreFlags (links_of table.now) rooms.new flags.new }
+{
+    for &place in trail {
+        let partner = table.partners[place as usize];
+        rooms[place as usize] -= amount;
+        flags[partner as usize] = u8::from(rooms[place as usize] > 0);
+        if takes_back {
+            rooms[partner as usize] += amount;
+            flags[place as usize] = u8::from(rooms[partner as usize] > 0);
+        }
+    }
+}
+
+/// Takes off the trail its first link without room, and all behind it.
+pub fn keep_open(rooms: &[u64], trail: &mut Vec<u32>)
+    requires { All (λ p. p < length rooms.now) trail.old.items }
+    ensures front { (kept : ℕ) × (trail.new.items ≡ take kept trail.old.items) }
+    ensures open_links { All (λ p. 0 < slice_index rooms.now p) trail.new.items }
+    ensures room { vec_capacity trail.new ≡ vec_capacity trail.old }
+{
+    if let Some(full) = trail.iter().position(|place| rooms[*place as usize] == 0) {
+        trail.truncate(full);
+    }
+}
