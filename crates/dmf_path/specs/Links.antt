@@ -40,6 +40,7 @@ pub record AreLinks (l : Links) : Type 0 where
   pub first_long : length l.first ≡ l.nodes + 2
   pub partners_long : length l.partners ≡ length l.heads
   pub at_most : length l.heads < 2 ^ 31
+  pub at_most_nodes : l.nodes < 2 ^ 31
   pub ascending : (v : ℕ) → v ≤ l.nodes → slice_index l.first v ≤ slice_index l.first (v + 1)
   pub last : slice_index l.first (l.nodes + 1) ≡ length l.heads
   pub each : (p : ℕ) → p < length l.heads → IsLink l p
