@@ -1,0 +1,25 @@
+-- Where the links of a node lie.
+use Rattle.std.proofs.Common.{ℕ, ◌≡◌, ◌≢◌, ◌+◌, ◌-◌, ◌<◌, ◌≤◌, length, get_or, zero, suc, ap, sym, ◌∙◌, arith}
+use Rattle.dmf_path.specs.Node.{IsNode}
+use Rattle.dmf_path.specs.Links.{Links, LiesAt, AreLinks}
+
+-- The links of a later node begin later.
+first-later : (l : Links) (v n : ℕ) → AreLinks l → v + n ≤ l.nodes + 1 → get_or l.first v 0 ≤ get_or l.first (v + n) 0
+first-later l v zero are within = let same : get_or l.first (v + 0) 0 ≡ get_or l.first v 0 = ap (λ u. get_or l.first u 0) (let e : v + 0 ≡ v = omega arith in e) in omega (arith, same)
+first-later l v (suc n) are within =
+    let before : get_or l.first v 0 ≤ get_or l.first (v + n) 0 = first-later l v n are (omega arith) in
+    let next : get_or l.first (v + n) 0 ≤ get_or l.first (v + n + 1) 0 = are.ascending (v + n) (omega arith) in
+    let same : get_or l.first (v + n + 1) 0 ≡ get_or l.first (v + suc n) 0 = ap (λ u. get_or l.first u 0) (let e : v + n + 1 ≡ v + suc n = omega arith in e) in
+    omega (arith, before, next, same)
+
+-- A link of a node is a link.
+pub lies-within : (l : Links) (v p : ℕ) → AreLinks l → IsNode l.nodes v → LiesAt l v p → p < length l.heads
+lies-within l v p are node lies =
+    let n : ℕ = l.nodes - v in
+    let later : get_or l.first (v + 1) 0 ≤ get_or l.first (v + 1 + n) 0 = first-later l (v + 1) n are (omega (arith, node.to_last)) in
+    let same : get_or l.first (v + 1 + n) 0 ≡ get_or l.first (l.nodes + 1) 0 = ap (λ u. get_or l.first u 0) (let e : v + 1 + n ≡ l.nodes + 1 = omega (arith, node.to_last) in e) in
+    omega (arith, later, same, are.last, lies.below)
+
+-- A link is not its own opposite.
+pub partner-other : (l : Links) (p : ℕ) → AreLinks l → p < length l.heads → get_or l.partners p 0 ≢ p
+partner-other l p are within same = (are.each p within).no_loop (ap (λ q. get_or l.heads q 0) same)
