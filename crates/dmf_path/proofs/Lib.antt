@@ -1,3 +1,4 @@
 pub mod LinkPlaces
 pub mod Steps
 pub mod Ranks
+pub mod Spreading

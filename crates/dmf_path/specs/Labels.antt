@@ -17,9 +17,11 @@ pub record IsBacked (l : Links) (opens labels : List ℕ) (v : ℕ) : Type 0 whe
   pub label : slice_index labels (tail_of l place) + 1 ≡ slice_index labels v
 
 -- The labels of the nodes that open links reach from the root, at least as far as up to the label of the node `stop`.
+-- Number 0, which is no node, has none.
 pub record AreLabels (l : Links) (opens : List ℕ) (root stop : ℕ) (labels : List ℕ) : Type 0 where
   pub one_each : length labels ≡ l.nodes + 1
   pub root_is : slice_index labels root ≡ 0
+  pub zero : slice_index labels 0 ≡ no_label
   pub small : (v : ℕ) → IsNode l.nodes v → (slice_index labels v ≡ no_label) ⊎ (slice_index labels v < l.nodes)
   pub near : (v p : ℕ) → IsNode l.nodes v → LiesAt l v p → slice_index opens p ≡ 1
       → slice_index labels v + 1 < slice_index labels stop

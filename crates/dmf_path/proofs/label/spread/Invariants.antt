@@ -1,0 +1,10 @@
+use Rattle.std.proofs.Common.{◌≡◌, List, ℕ, ◌++◌, vec_capacity}
+use Rattle.dmf_path.specs.Labels.{Spreads}
+use Rattle.dmf_path.proofs.label.spread.Given as goal
+
+abbrev pub invariant-loop-place : goal.invariant-loop-place
+invariant-loop-place l = record {
+  spreads : (fresh : List ℕ) × (l.queue.items ≡ l.initial.queue.items ++ fresh)
+      × Spreads l.heads l.opens l.from l.place l.label l.initial.labels l.labels fresh;
+  room : vec_capacity l.queue ≡ vec_capacity l.initial.queue;
+}
