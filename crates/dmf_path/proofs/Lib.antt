@@ -2,3 +2,4 @@ pub mod LinkPlaces
 pub mod Steps
 pub mod Ranks
 pub mod Spreading
+pub mod LinkSteps
