@@ -3,3 +3,5 @@ pub mod Steps
 pub mod Ranks
 pub mod Spreading
 pub mod LinkSteps
+pub mod OpenPaths
+pub mod LeastTrail
