@@ -5,3 +5,5 @@ pub mod Spreading
 pub mod LinkSteps
 pub mod OpenPaths
 pub mod LeastTrail
+pub mod Flags
+pub mod Reaching
