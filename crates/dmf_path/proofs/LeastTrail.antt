@@ -1,6 +1,6 @@
 -- A trail to the goal is the least path: no path is shorter than the labels fall, those that are just so long are walks, and
 -- none of them begins with a link that was passed.
-use Rattle.std.proofs.Common.{ℕ, ◌≡◌, ◌+◌, ◌<◌, ◌≤◌, ◌⊎◌, List, [], ◌∷◌, length, get_or, refl, ap, sym, subst, ◌∙◌, ⊎_elim, inl, inr, arith}
+use Rattle.std.proofs.Common.{ℕ, ◌≡◌, ◌+◌, ◌<◌, ◌≤◌, List, [], ◌∷◌, length, get_or, ap, sym, subst, ◌∙◌, ⊎_elim, inl, inr, arith}
 use Rattle.std.proofs.lemmas.Bool.{cases_lt, cases_order}
 use Rattle.std.proofs.lemmas.List.{length-map}
 use Rattle.dmf_path.specs.Step.{Step}
@@ -8,10 +8,10 @@ use Rattle.dmf_path.specs.Node.{IsNode}
 use Rattle.dmf_path.specs.Path.{IsPath, ComesBefore, ranks, IsLeastPath}
 use Rattle.dmf_path.specs.Pair.{steps_of}
 use Rattle.dmf_path.specs.Links.{Links, LiesAt, AreLinks, ArePlaces, pairs_at}
-use Rattle.dmf_path.specs.Walk.{IsAdmissible, IsWalk, AreValid, ArePassed, IsTrail, end_of, IsWalking}
+use Rattle.dmf_path.specs.Walk.{IsWalk, AreValid, ArePassed, IsTrail, end_of, IsWalking}
 use Rattle.dmf_path.proofs.Steps.{rank_of, step_on, path_on}
 use Rattle.dmf_path.proofs.Ranks.{rank_of-ascends}
-use Rattle.dmf_path.proofs.OpenPaths.{IsOpenPath, IsPathOn, head-node, path-of_links, links-of_path}
+use Rattle.dmf_path.proofs.OpenPaths.{IsOpenPath, head-node, path-of_links, links-of_path}
 
 -- No path to the goal is shorter than the label, as far as labels are valid.
 label-at_most : (l : Links) (rooms labels : List ℕ) (top goal v : ℕ) (ps : List ℕ) → AreLinks l → AreValid l labels rooms top → IsNode l.nodes v → IsOpenPath l rooms goal v ps → length ps + get_or labels goal 0 < top → get_or labels v 0 ≤ length ps + get_or labels goal 0

@@ -1,5 +1,5 @@
 -- Where the links of a node lie.
-use Rattle.std.proofs.Common.{ℕ, ◌≡◌, ◌≢◌, ◌+◌, ◌-◌, ◌<◌, ◌≤◌, length, get_or, zero, suc, ap, sym, ◌∙◌, arith}
+use Rattle.std.proofs.Common.{ℕ, ◌≡◌, ◌≢◌, ◌+◌, ◌-◌, ◌<◌, ◌≤◌, length, get_or, zero, suc, ap, arith}
 use Rattle.dmf_path.specs.Node.{IsNode}
 use Rattle.dmf_path.specs.Links.{Links, LiesAt, AreLinks}
 

@@ -6,7 +6,7 @@ use Rattle.dmf_path.specs.Path.{IsPath}
 use Rattle.dmf_path.specs.Pair.{steps_of}
 use Rattle.dmf_path.specs.Links.{Links, LiesAt, AreLinks, ArePlaces, tail_of, pairs_at}
 use Rattle.dmf_path.proofs.LinkPlaces.{lies-within}
-use Rattle.dmf_path.proofs.Steps.{step_on, path_on}
+use Rattle.dmf_path.proofs.Steps.{path_on}
 use Rattle.dmf_path.proofs.LinkSteps.{IsLinkStep, link-of_step, step-of_link}
 
 -- Links with room lead from node `v` to the goal, each next one from where the one before leads to.

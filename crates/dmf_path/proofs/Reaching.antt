@@ -1,8 +1,8 @@
 -- What has a label is what paths reach.
-use Rattle.std.proofs.Common.{ℕ, ◌≡◌, ◌≢◌, ◌+◌, ◌<◌, ◌≤◌, ◌⊎◌, ◌↔◌, List, [], ◌∷◌, ◌++◌, length, get_or, zero, suc, refl, ap, sym, subst, ◌∙◌, ⊎_elim, inl, inr, arith}
+use Rattle.std.proofs.Common.{ℕ, ◌≡◌, ◌≢◌, ◌+◌, ◌<◌, ◌≤◌, ◌↔◌, List, [], ◌∷◌, ◌++◌, length, get_or, zero, suc, refl, ap, sym, subst, ◌∙◌, ⊎_elim, arith}
 use Rattle.std.proofs.lemmas.Bool.{cases_eq}
 use Rattle.dmf_path.specs.Node.{IsNode}
-use Rattle.dmf_path.specs.Path.{IsPath, HasNoPath, IsReachable}
+use Rattle.dmf_path.specs.Path.{HasNoPath, IsReachable}
 use Rattle.dmf_path.specs.Pair.{steps_of}
 use Rattle.dmf_path.specs.Links.{Links, LiesAt, AreLinks, ArePlaces, AreFlags, open_flag, pairs_at, tail_of}
 use Rattle.dmf_path.specs.Labels.{AreLabels, IsBacked, no_label}
