@@ -7,3 +7,5 @@ pub mod OpenPaths
 pub mod LeastTrail
 pub mod Flags
 pub mod Reaching
+pub mod Pushing
+pub mod Pushed

@@ -1,7 +1,7 @@
 //! Pushing along a trail.
 ghost use Rattle.std.specs.Prelude.{◌≡◌, ℕ, Bool, ◌+◌, ◌≤◌, ◌<◌, length, take, All, slice_index, vec_capacity};
-ghost use Rattle.dmf_path.specs.Links.{AreLinks, AreRooms, AreFlags, links_of};
-ghost use Rattle.dmf_path.specs.Walk.{least_on, pushed, CanPush};
+ghost use Rattle.dmf_path.specs.Links.{AreLinks, AreRooms, AreFlags, links_of, open_flag};
+ghost use Rattle.dmf_path.specs.Walk.{least_on, pushed_once, pushed, CanPush};
 
 use crate::links::LinkTable;
 
@@ -35,14 +35,43 @@ pub fn push_along(
     ensures flags { AreFlags (links_of table.now) rooms.new flags.new }
 {
     for &place in trail {
-        let partner = table.partners[place as usize];
-        rooms[place as usize] -= amount;
-        flags[partner as usize] = u8::from(rooms[place as usize] > 0);
-        if takes_back {
-            rooms[partner as usize] += amount;
-            flags[place as usize] = u8::from(rooms[partner as usize] > 0);
-        }
+        push_once(table, place, amount, takes_back, rooms, flags);
     }
+}
+
+/// Pushes an amount along one link.
+fn push_once(
+    table: &LinkTable,
+    place: u32,
+    amount: u64,
+    takes_back: bool,
+    rooms: &mut [u64],
+    flags: &mut [u8],
+)
+    requires links { AreLinks (links_of table.now) }
+    requires rooms { AreRooms (links_of table.now) rooms.old }
+    requires flags { AreFlags (links_of table.now) rooms.old flags.old }
+    requires within { place < length table.now.heads.items }
+    requires room { amount ≤ slice_index rooms.old place }
+    ensures rooms { rooms.new ≡ pushed_once (links_of table.now) takes_back amount place rooms.old }
+    ensures sums { AreRooms (links_of table.now) rooms.new }
+    ensures flags { AreFlags (links_of table.now) rooms.new flags.new }
+{
+    let place = place as usize;
+    let partner = table.partners[place] as usize;
+    rooms[place] -= amount;
+    flags[partner] = open_flag(rooms[place]);
+    if takes_back {
+        rooms[partner] += amount;
+        flags[place] = open_flag(rooms[partner]);
+    }
+}
+
+/// 1 where there is room, and else 0.
+fn open_flag(room: u64) -> u8
+    ensures { result ≡ open_flag room }
+{
+    u8::from(room > 0)
 }
 
 /// Takes off the trail its first link without room, and all behind it.

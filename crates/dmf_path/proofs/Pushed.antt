@@ -1,0 +1,172 @@
+-- What a push along a trail keeps: labels stay valid, what was passed stays passed, and the links of the trail that still
+-- have room are one.
+use Rattle.std.proofs.Common.{ℕ, ◌≡◌, ◌≢◌, ◌+◌, ◌-◌, ◌<◌, ◌≤◌, ◌⊎◌, inl, inr, Bool, List, [], ◌∷◌, length, get_or, take, zero, suc, ap, sym, ◌∙◌, subst, arith, ⊎_elim, rules}
+use Rattle.std.specs.List.{All}
+use Rattle.dmf_path.specs.Node.{IsNode}
+use Rattle.dmf_path.specs.Links.{Links, LiesAt, AreLinks, AreRooms, tail_of}
+use Rattle.dmf_path.specs.Walk.{IsAdmissible, IsWalk, AreValid, ArePassed, IsTrail, IsWalking, least_on, pushed_once, pushed, CanPush}
+use Rattle.dmf_path.proofs.Pushing.{IsBeside, own, partner, other, is_beside, once-own, once-other, length-pushed_once}
+
+-- The link at place `p` of node `v` falls: it leads to a label less by one.
+pub record Falls (l : Links) (labels : List ℕ) (v p : ℕ) : Type 0 where
+  pub within : p < length l.heads
+  pub tail : tail_of l p ≡ v
+  pub label : get_or labels (get_or l.heads p 0) 0 + 1 ≡ get_or labels v 0
+
+-- Links that fall lead on from node `v`.
+abbrev pub FallsOn : Links → List ℕ → ℕ → List ℕ → Type 0
+FallsOn l labels v [] = Unit {0}
+FallsOn l labels v (p ∷ ps) = Falls l labels v p × FallsOn l labels (get_or l.heads p 0) ps
+
+-- The links of later nodes lie behind.
+up_from : (l : Links) (v : ℕ) → AreLinks l → (d : ℕ) → v + d ≤ l.nodes + 1 → get_or l.first v 0 ≤ get_or l.first (v + d) 0
+up_from l v links zero h = omega (arith, ap (λ n. get_or l.first n 0) (let same : v ≡ v + 0 = omega arith in same))
+up_from l v links (suc d) h =
+    let before = up_from l v links d (omega (arith, h)) in
+    let next = links.ascending (v + d) (omega (arith, h)) in
+    let same : v + d + 1 ≡ v + suc d = omega arith in
+    omega (arith, before, next, ap (λ n. get_or l.first n 0) same)
+
+-- A place at which a node's links lie is one of them all.
+pub below_all : (l : Links) (v p : ℕ) → AreLinks l → IsNode l.nodes v → LiesAt l v p → p < length l.heads
+below_all l v p links node lies =
+    let up : (d : ℕ) → v + 1 + d ≤ l.nodes + 1 → get_or l.first (v + 1) 0 ≤ get_or l.first (v + 1 + d) 0 = up_from l (v + 1) links in
+    let top = up (l.nodes - v) (omega (arith, node.to_last)) in
+    let same : v + 1 + (l.nodes - v) ≡ l.nodes + 1 = omega (arith, node.to_last) in
+    let last : get_or l.first (v + 1 + (l.nodes - v)) 0 ≡ length l.heads = ap (λ n. get_or l.first n 0) same ∙ links.last in
+    omega (arith, top, last, lies.below)
+
+-- an admissible link falls
+pub Falls-admissible : (l : Links) (labels rooms : List ℕ) (v p : ℕ) → AreLinks l → IsNode l.nodes v → IsAdmissible l labels rooms v p → Falls l labels v p
+Falls-admissible l labels rooms v p links node can = record {
+  within = below_all l v p links node can.lies;
+  tail = links.at_tail v p node can.lies;
+  label = can.falls;
+}
+
+-- so do those of a trail
+pub FallsOn-trail : (l : Links) (labels rooms current : List ℕ) (v : ℕ) (ps : List ℕ) → AreLinks l → IsNode l.nodes v → IsTrail l labels rooms current v ps → FallsOn l labels v ps
+FallsOn-trail l labels rooms current v [] links node trail = tt
+FallsOn-trail l labels rooms current v (p ∷ ps) links node trail =
+    let falls = Falls-admissible l labels rooms v p links node trail.0 in
+    (falls, FallsOn-trail l labels rooms current (get_or l.heads p 0) ps links (links.each p falls.within).head trail.2)
+
+-- A link that has room in `new` had it in `old`, or leads up by one label.
+abbrev pub OpensUpwards : Links → List ℕ → List ℕ → List ℕ → Type 0
+OpensUpwards l labels old new =
+    (v p : ℕ) → IsNode l.nodes v → LiesAt l v p → 0 < get_or new p 0
+    → (0 < get_or old p 0) ⊎ (get_or labels (get_or l.heads p 0) 0 ≡ get_or labels v 0 + 1)
+
+-- A push along a link that falls opens at most its opposite.
+opens-once : (l : Links) (takes_back : Bool) (amount : ℕ) (labels rooms : List ℕ) (u q : ℕ) → AreLinks l → length rooms ≡ length l.heads → Falls l labels u q → OpensUpwards l labels rooms (pushed_once l takes_back amount q rooms)
+opens-once l takes_back amount labels rooms u q links long falls v p node lies room =
+    let within = below_all l v p links node lies in
+    elim (is_beside l q p links falls.within within) [
+      | own same ↦
+          let mine = once-own l takes_back amount q rooms links long falls.within in
+          inl (omega (arith, room, mine, ap (λ r. get_or (pushed_once l takes_back amount q rooms) r 0) same, ap (λ r. get_or rooms r 0) same))
+      | partner same back ↦
+          let tail : get_or l.heads q 0 ≡ v = ap (λ r. get_or l.heads r 0) (sym back) ∙ links.at_tail v p node lies in
+          let head : get_or l.heads p 0 ≡ u = ap (λ r. get_or l.heads r 0) same ∙ falls.tail in
+          inr (ap (λ r. get_or labels r 0) head ∙ sym falls.label ∙ ap (λ r. get_or labels r 0 + 1) tail)
+      | other a b c d ↦ inl (omega (arith, room, once-other l takes_back amount q p rooms a b))
+    ]
+
+-- the same of a push along links that fall
+pub opens-pushed : (l : Links) (takes_back : Bool) (amount : ℕ) (labels rooms : List ℕ) (u : ℕ) (qs : List ℕ) → AreLinks l → length rooms ≡ length l.heads → FallsOn l labels u qs → OpensUpwards l labels rooms (pushed l takes_back amount qs rooms)
+opens-pushed l takes_back amount labels rooms u [] links long falls v p node lies room = inl room
+opens-pushed l takes_back amount labels rooms u (q ∷ qs) links long falls v p node lies room =
+    ⊎_elim
+    (λ (had : 0 < get_or (pushed_once l takes_back amount q rooms) p 0). opens-once l takes_back amount labels rooms u q links long falls.0 v p node lies had)
+    (λ (up : get_or labels (get_or l.heads p 0) 0 ≡ get_or labels v 0 + 1). inr up)
+    (opens-pushed l takes_back amount labels (pushed_once l takes_back amount q rooms) (get_or l.heads q 0) qs links (length-pushed_once l takes_back amount q rooms ∙ long) falls.1 v p node lies room)
+
+-- Labels stay valid.
+pub AreValid-opens : (l : Links) (labels old new : List ℕ) (top : ℕ) → OpensUpwards l labels old new → AreValid l labels old top → AreValid l labels new top
+AreValid-opens l labels old new top opens valid v p node lies room below =
+    ⊎_elim
+    (λ (had : 0 < get_or old p 0). valid v p node lies had below)
+    (λ (up : get_or labels (get_or l.heads p 0) 0 ≡ get_or labels v 0 + 1). omega (arith, up))
+    (opens v p node lies room)
+
+-- An admissible link was one before
+admissible-before : (l : Links) (labels old new : List ℕ) (v p : ℕ) → IsNode l.nodes v → OpensUpwards l labels old new → IsAdmissible l labels new v p → IsAdmissible l labels old v p
+admissible-before l labels old new v p node opens can = record {
+  lies = can.lies;
+  room = ⊎_elim
+      (λ (had : 0 < get_or old p 0). had)
+      (λ (up : get_or labels (get_or l.heads p 0) 0 ≡ get_or labels v 0 + 1). absurd (omega (arith, up, can.falls)))
+      (opens v p node can.lies can.room);
+  falls = can.falls;
+}
+
+-- so a walk was one
+walk-before : (l : Links) (labels old new : List ℕ) (goal v : ℕ) (ps : List ℕ) → AreLinks l → IsNode l.nodes v → OpensUpwards l labels old new → IsWalk l labels new goal v ps → IsWalk l labels old goal v ps
+walk-before l labels old new goal v [] links node opens walks = walks
+walk-before l labels old new goal v (p ∷ ps) links node opens walks =
+    let can = admissible-before l labels old new v p node opens walks.0 in
+    (can, walk-before l labels old new goal (get_or l.heads p 0) ps links (links.each p (below_all l v p links node can.lies)).head opens walks.1)
+
+-- and what was passed stays passed.
+pub ArePassed-opens : (l : Links) (labels old new : List ℕ) (goal : ℕ) (current : List ℕ) → AreLinks l → OpensUpwards l labels old new → ArePassed l labels old goal current → ArePassed l labels new goal current
+ArePassed-opens l labels old new goal current links opens passed v p ps node lies before walks =
+    passed v p ps node lies before (walk-before l labels old new goal v (p ∷ ps) links node opens walks)
+
+-- The links of a trail that have room still are one.
+pub IsTrail-open : (l : Links) (labels old new current : List ℕ) (v : ℕ) (ps : List ℕ) → IsTrail l labels old current v ps → All (λ p. 0 < get_or new p 0) ps → IsTrail l labels new current v ps
+IsTrail-open l labels old new current v [] trail room = tt
+IsTrail-open l labels old new current v (p ∷ ps) trail room = (
+  record { lies = trail.0.lies; room = room 0 0 (omega arith); falls = trail.0.falls },
+  trail.1,
+  IsTrail-open l labels old new current (get_or l.heads p 0) ps trail.2 (λ k d h. room (suc k) d (omega (arith, h))),
+)
+
+-- The front of a trail is one.
+pub IsTrail-take : (l : Links) (labels rooms current : List ℕ) (v k : ℕ) (ps : List ℕ) → IsTrail l labels rooms current v ps → IsTrail l labels rooms current v (take k ps)
+IsTrail-take l labels rooms current v zero ps trail = tt
+IsTrail-take l labels rooms current v (suc k) [] trail = tt
+IsTrail-take l labels rooms current v (suc k) (p ∷ ps) trail = (trail.0, trail.1, IsTrail-take l labels rooms current (get_or l.heads p 0) k ps trail.2)
+
+-- Each of these links has so much room.
+abbrev pub HaveRoom : ℕ → List ℕ → List ℕ → Type 0
+HaveRoom amount rooms [] = Unit {0}
+HaveRoom amount rooms (p ∷ ps) = (amount ≤ get_or rooms p 0) × HaveRoom amount rooms ps
+
+-- so they have, up to the least of their rooms
+pub HaveRoom-least : (amount limit : ℕ) (rooms ps : List ℕ) → amount ≤ least_on rooms limit ps → HaveRoom amount rooms ps
+HaveRoom-least amount limit rooms [] within = tt
+HaveRoom-least amount limit rooms (p ∷ ps) within = (omega (arith, within), HaveRoom-least amount limit rooms ps (omega (arith, within)))
+
+-- A push along a link leaves the rooms of links that fall on from its end.
+HaveRoom-once : (l : Links) (takes_back : Bool) (amount : ℕ) (labels rooms : List ℕ) (u q v : ℕ) (ps : List ℕ) → AreLinks l → Falls l labels u q → get_or labels v 0 < get_or labels u 0 → FallsOn l labels v ps → HaveRoom amount rooms ps → HaveRoom amount (pushed_once l takes_back amount q rooms) ps
+HaveRoom-once l takes_back amount labels rooms u q v [] links first lower falls have = tt
+HaveRoom-once l takes_back amount labels rooms u q v (p ∷ ps) links first lower falls have =
+    let not_own : p ≢ q = λ e. let same : v ≡ u = sym falls.0.tail ∙ ap (tail_of l) e ∙ first.tail in omega (arith, lower, ap (λ r. get_or labels r 0) same) in
+    let not_partner : p ≢ get_or l.partners q 0 = λ e.
+    let head : get_or l.heads p 0 ≡ u = ap (λ r. get_or l.heads r 0) e ∙ first.tail in
+    omega (arith, lower, falls.0.label, ap (λ r. get_or labels r 0) head) in (
+      omega (arith, have.0, once-other l takes_back amount q p rooms not_own not_partner),
+      HaveRoom-once l takes_back amount labels rooms u q (get_or l.heads p 0) ps links first (omega (arith, lower, falls.0.label)) falls.1 have.1,
+    )
+
+-- What each link of a trail has room for can be pushed along them in turn.
+pub CanPush-falls : (l : Links) (takes_back : Bool) (amount : ℕ) (labels rooms : List ℕ) (v : ℕ) (ps : List ℕ) → AreLinks l → FallsOn l labels v ps → HaveRoom amount rooms ps → CanPush l takes_back amount ps rooms
+CanPush-falls l takes_back amount labels rooms v [] links falls have = tt
+CanPush-falls l takes_back amount labels rooms v (p ∷ ps) links falls have = (
+  falls.0.within,
+  have.0,
+  CanPush-falls l takes_back amount labels (pushed_once l takes_back amount p rooms) (get_or l.heads p 0) ps links falls.1
+      (HaveRoom-once l takes_back amount labels rooms v p (get_or l.heads p 0) ps links falls.0 (omega (arith, falls.0.label)) falls.1 have.1),
+)
+
+-- After a push along a trail, as much of it as still has room goes on.
+pub IsWalking-pushed : (l : Links) (takes_back : Bool) (amount : ℕ) (labels rooms current trail : List ℕ) (start goal kept : ℕ) → AreLinks l → length rooms ≡ length l.heads → IsNode l.nodes start → IsWalking l labels rooms start goal current trail
+    → All (λ p. 0 < get_or (pushed l takes_back amount trail rooms) p 0) (take kept trail)
+    → IsWalking l labels (pushed l takes_back amount trail rooms) start goal current (take kept trail)
+IsWalking-pushed l takes_back amount labels rooms current trail start goal kept links long node walking room =
+    let opens = opens-pushed l takes_back amount labels rooms start trail links long (FallsOn-trail l labels rooms current start trail links node walking.trail_is) in
+    record {
+      current_is = walking.current_is;
+      passed = ArePassed-opens l labels rooms (pushed l takes_back amount trail rooms) goal current links opens walking.passed;
+      trail_is = IsTrail-open l labels rooms (pushed l takes_back amount trail rooms) current start (take kept trail) (IsTrail-take l labels rooms current start kept trail walking.trail_is) room;
+    }
