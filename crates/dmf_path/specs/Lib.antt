@@ -5,3 +5,5 @@ pub mod Pair
 pub mod Links
 pub mod Labels
 pub mod Walk
+pub mod Search
+pub mod Searching

@@ -2,6 +2,7 @@
 -- Private: only contracts inside the crate and proofs use this.
 use Rattle.std.specs.Prelude.{ℕ, ◌≡◌, ◌≢◌, ◌+◌, ◌*◌, ◌^◌, ◌<◌, ◌≤◌, ◌⊎◌, ◌==◌, nat_lt, if◌then◌else◌, List, [], ◌∷◌, length, map, slice_index, Option, Some, None}
 use Rattle.dmf_path.specs.declared.links.LinkTable.{LinkTable}
+use Rattle.dmf_path.specs.declared.links.Built.{Built}
 use Rattle.dmf_path.specs.declared.pair.Pair.{Pair}
 use Rattle.dmf_path.specs.Node.{IsNode}
 
@@ -93,3 +94,12 @@ open_flag room = if nat_lt 0 room then 1 else 0
 abbrev pub AreFlags : Links → List ℕ → List ℕ → Type 0
 AreFlags l rooms flags = (length flags ≡ length l.heads)
     × ((p : ℕ) → p < length l.heads → slice_index flags p ≡ open_flag (slice_index rooms (slice_index l.partners p)))
+
+-- Of these pairs between so many nodes links are made, with their places, rooms and flags.
+pub record AreBuilt (nodes : ℕ) (pairs : List (Option Pair)) (b : Built) : Type 0 where
+  pub nodes_are : b.table.nodes ≡ nodes
+  pub links : AreLinks (links_of b.table)
+  pub places : ArePlaces (links_of b.table) b.places.items
+  pub rooms : AreRooms (links_of b.table) b.rooms.items
+  pub flags : AreFlags (links_of b.table) b.rooms.items b.flags.items
+  pub pairs_are : pairs_at (links_of b.table) b.places.items b.rooms.items ≡ pairs

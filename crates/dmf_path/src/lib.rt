@@ -2,9 +2,11 @@
 #![tactic(auto)]
 
 pub use pair::{Pair, Pairs};
+pub use search::Search;
 
 mod label;
 mod links;
 mod pair;
 mod push;
+mod search;
 mod walk;

@@ -1,0 +1,37 @@
+-- What a search is to its callers: pairs of links between nodes, and the nodes between which it looks for least paths.
+-- Public: a public contract says no more than this.
+use Rattle.std.specs.Prelude.{ℕ, ◌≡◌, Bool, List, Option, Some, None, slice_index_or}
+use Rattle.dmf_path.specs.declared.pair.Pair.{Pair}
+use Rattle.dmf_path.specs.Step.{Step}
+use Rattle.dmf_path.specs.Path.{IsLeastPath, room_up_to}
+use Rattle.dmf_path.specs.Pair.{steps_of, pushed_pairs}
+
+-- the number of nodes, the pairs with their present rooms, the node from which paths lead and that to which they do, and
+-- whether what is pushed along one link of a pair can be pushed back along the other
+pub record Searched : Type 0 where
+  pub nodes : ℕ
+  pub pairs : List (Option Pair)
+  pub start : ℕ
+  pub goal : ℕ
+  pub takes_back : Bool
+
+-- the search with other pairs
+abbrev pub with_pairs : Searched → List (Option Pair) → Searched
+with_pairs s pairs = record { nodes = s.nodes; pairs = pairs; start = s.start; goal = s.goal; takes_back = s.takes_back }
+
+-- The amount, which is the least of the limit and the rooms on the least path from the start to the goal, is pushed along
+-- that path.
+pub record Augments (limit amount : ℕ) (old new : Searched) : Type 0 where
+  pub path : List Step
+  pub least : IsLeastPath (steps_of old.pairs) old.start old.goal path
+  pub amount_is : amount ≡ room_up_to limit path
+  pub gives : new ≡ with_pairs old (pushed_pairs old.takes_back amount path old.pairs)
+
+-- the room of the link against a pair
+abbrev pub against_of : Option Pair → Option ℕ
+against_of None = None
+against_of (Some p) = Some p.against
+
+-- the room of the link against the pair at index `k`
+abbrev pub against_at : List (Option Pair) → ℕ → Option ℕ
+against_at pairs k = against_of (slice_index_or pairs k None)
