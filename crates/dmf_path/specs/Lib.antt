@@ -3,6 +3,7 @@ pub mod Step
 pub mod Path
 pub mod Pair
 pub mod Links
+pub mod Building
 pub mod Labels
 pub mod Walk
 pub mod Search

@@ -1,9 +1,9 @@
 //! Pushing along a trail.
 ghost use Rattle.std.specs.Prelude.{◌≡◌, ℕ, Bool, ◌+◌, ◌≤◌, ◌<◌, length, take, All, slice_index, vec_capacity};
-ghost use Rattle.dmf_path.specs.Links.{AreLinks, AreRooms, AreFlags, links_of, open_flag};
+ghost use Rattle.dmf_path.specs.Links.{AreLinks, AreRooms, AreFlags, links_of};
 ghost use Rattle.dmf_path.specs.Walk.{least_on, pushed_once, pushed, CanPush};
 
-use crate::links::LinkTable;
+use crate::links::{LinkTable, open_flag};
 
 /// The least of the limit and the rooms of these links.
 pub fn least_room(rooms: &[u64], trail: &[u32], limit: u64) -> u64
@@ -65,13 +65,6 @@ fn push_once(
         rooms[partner] += amount;
         flags[place] = open_flag(rooms[partner]);
     }
-}
-
-/// 1 where there is room, and else 0.
-fn open_flag(room: u64) -> u8
-    ensures { result ≡ open_flag room }
-{
-    u8::from(room > 0)
 }
 
 /// Takes off the trail its first link without room, and all behind it.
