@@ -9,3 +9,4 @@ pub mod Flags
 pub mod Reaching
 pub mod Pushing
 pub mod Pushed
+pub mod PushedPairs
