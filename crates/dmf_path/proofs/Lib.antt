@@ -10,3 +10,5 @@ pub mod Reaching
 pub mod Pushing
 pub mod Pushed
 pub mod PushedPairs
+pub mod Labelling
+pub mod LabellingTurn

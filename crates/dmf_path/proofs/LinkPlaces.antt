@@ -1,5 +1,6 @@
 -- Where the links of a node lie.
-use Rattle.std.proofs.Common.{ℕ, ◌≡◌, ◌≢◌, ◌+◌, ◌-◌, ◌<◌, ◌≤◌, length, get_or, zero, suc, ap, arith}
+use Rattle.std.proofs.Common.{ℕ, ◌≡◌, ◌≢◌, ◌+◌, ◌-◌, ◌<◌, ◌≤◌, length, get_or, zero, suc, ap, sym, ◌∙◌, arith}
+use Rattle.std.proofs.lemmas.List.{get_or_default}
 use Rattle.dmf_path.specs.Node.{IsNode}
 use Rattle.dmf_path.specs.Links.{Links, LiesAt, AreLinks}
 
@@ -12,13 +13,23 @@ first-later l v (suc n) are within =
     let same : get_or l.first (v + n + 1) 0 ≡ get_or l.first (v + suc n) 0 = ap (λ u. get_or l.first u 0) (let e : v + n + 1 ≡ v + suc n = omega arith in e) in
     omega (arith, before, next, same)
 
+-- The links of a node end within the links.
+pub last-within : (l : Links) (v : ℕ) → AreLinks l → v ≤ l.nodes → get_or l.first (v + 1) 0 ≤ length l.heads
+last-within l v are within =
+    let n : ℕ = l.nodes - v in
+    let later : get_or l.first (v + 1) 0 ≤ get_or l.first (v + 1 + n) 0 = first-later l (v + 1) n are (omega arith) in
+    let same : get_or l.first (v + 1 + n) 0 ≡ get_or l.first (l.nodes + 1) 0 = ap (λ u. get_or l.first u 0) (let e : v + 1 + n ≡ l.nodes + 1 = omega arith in e) in
+    omega (arith, later, same, are.last)
+
+-- The same, where the end is read under a name of its own.
+pub end-within : (l : Links) (v end : ℕ) → AreLinks l → v ≤ l.nodes → end ≡ get_or l.first (v + 1) end → end ≤ length l.heads
+end-within l v end are within read =
+    let is : get_or l.first (v + 1) 0 ≡ end = get_or_default l.first (v + 1) 0 end (omega (arith, are.first_long)) ∙ sym read in
+    omega (arith, is, last-within l v are within)
+
 -- A link of a node is a link.
 pub lies-within : (l : Links) (v p : ℕ) → AreLinks l → IsNode l.nodes v → LiesAt l v p → p < length l.heads
-lies-within l v p are node lies =
-    let n : ℕ = l.nodes - v in
-    let later : get_or l.first (v + 1) 0 ≤ get_or l.first (v + 1 + n) 0 = first-later l (v + 1) n are (omega (arith, node.to_last)) in
-    let same : get_or l.first (v + 1 + n) 0 ≡ get_or l.first (l.nodes + 1) 0 = ap (λ u. get_or l.first u 0) (let e : v + 1 + n ≡ l.nodes + 1 = omega (arith, node.to_last) in e) in
-    omega (arith, later, same, are.last, lies.below)
+lies-within l v p are node lies = omega (arith, last-within l v are node.to_last, lies.below)
 
 -- A link is not its own opposite.
 pub partner-other : (l : Links) (p : ℕ) → AreLinks l → p < length l.heads → get_or l.partners p 0 ≢ p

@@ -19,7 +19,7 @@ unlabelled_count-set labels v label within none some =
     omega (arith, sums, was, gone)
 
 -- what a node's label is once node `v` is given one
-cases-set : (labels : List ℕ) (v u label : ℕ) → v < length labels → ((u ≡ v) × (slice_index (set labels v label) u ≡ label)) ⊎ ((u ≢ v) × (slice_index (set labels v label) u ≡ slice_index labels u))
+pub cases-set : (labels : List ℕ) (v u label : ℕ) → v < length labels → ((u ≡ v) × (slice_index (set labels v label) u ≡ label)) ⊎ ((u ≢ v) × (slice_index (set labels v label) u ≡ slice_index labels u))
 cases-set labels v u label within =
     ⊎_elim
     (λ (here : ((u == v) ≡ true) × (u ≡ v)). inl (here.1, rw here.1 (get_or-set_same labels v label 0 within)))

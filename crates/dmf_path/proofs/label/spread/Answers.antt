@@ -1,6 +1,5 @@
 -- A turn: an open link to a node without a label gives it one, and any other changes nothing.
-use Rattle.std.proofs.Common.{rules, refl, arith, ◌∙◌, ap, ◌∷◌, [], ◌≡◌, ◌≢◌, ℕ, ◌+◌, ◌++◌, ◌≤◌, ◌<◌, List, length, slice_index, append_assoc, vec_capacity}
-use Rattle.dmf_path.specs.Labels.{Spreads, no_label, unlabelled_count}
+use Rattle.std.proofs.Common.{arith, ◌∙◌, ap, ◌∷◌, [], ◌++◌, slice_index, append_assoc, vec_capacity}
 use Rattle.dmf_path.proofs.Spreading.{spreads-skip, spreads-next}
 use Rattle.dmf_path.proofs.label.spread.Goals as goal
 use Rattle.dmf_path.proofs.label.spread.Goals.{then-opens-place-eq1+then-labels-head, else-opens-place-eq1, else-opens-place-eq1-via-then-opens-place-eq1+else-labels-head, else-opens-place-eq1-via-else-opens-place-eq1}

@@ -1,0 +1,142 @@
+-- Spreading labels from a root, node by node in the order of a queue.
+use Rattle.std.proofs.Common.{ℕ, ◌≡◌, ◌≢◌, ◌+◌, ◌-◌, ◌≤◌, ◌<◌, ◌⊎◌, ⊎_elim, inl, inr, List, [], ◌∷◌, ◌++◌, length, set, replicate, slice_index, get_or, refl, ap, sym, subst, ◌∙◌, arith, true, false, ◌==◌, cond, Contains}
+use Rattle.std.proofs.lemmas.Bool.Decides.{eqb_tells}
+use Rattle.std.proofs.lemmas.Bool.{cases_lt}
+use Rattle.std.proofs.lemmas.List.{get_or-replicate, get_or-set_same, get_or-set_other, length-append, length-set, length-replicate, get_or_append_left, get_or-append_right, get_or_default}
+use Rattle.std.proofs.lemmas.List.Folds.{sum_by-replicate}
+use Rattle.std.proofs.lemmas.List.Elements.{Contains-append_left, Contains-append_right, Contains-get_or}
+use Rattle.dmf_path.specs.Node.{IsNode}
+use Rattle.dmf_path.specs.Links.{Links, LiesAt, AreLinks, tail_of}
+use Rattle.dmf_path.specs.Labels.{no_label, unlabelled_count, IsBacked, AreLabels, IsLedTo, Spreads}
+use Rattle.dmf_path.proofs.LinkPlaces.{lies-within}
+use Rattle.dmf_path.proofs.Spreading.{unlabelled_count-set, cases-set}
+
+-- At this place of the queue stands a node whose label is at most the place.
+pub record IsQueued (l : Links) (labels queue : List ℕ) (k : ℕ) : Type 0 where
+  pub node : IsNode l.nodes (slice_index queue k)
+  pub small : slice_index labels (slice_index queue k) ≤ k
+
+-- The queue lists the nodes with labels, in the order of the labels. The open links of the nodes before place `done` are
+-- looked at, and no label is more than that of the node looked at last and one.
+pub record AreSpread (l : Links) (opens : List ℕ) (root : ℕ) (labels queue : List ℕ) (done : ℕ) : Type 0 where
+  pub one_each : length labels ≡ l.nodes + 1
+  pub root_is : slice_index labels root ≡ 0
+  pub zero : slice_index labels 0 ≡ no_label
+  pub counted : length queue + unlabelled_count labels ≡ l.nodes + 1
+  pub come : done ≤ length queue
+  pub queued : (k : ℕ) → k < length queue → IsQueued l labels queue k
+  pub listed : (v : ℕ) → IsNode l.nodes v → slice_index labels v ≢ no_label → Contains queue v
+  pub ascending : (i j : ℕ) → i ≤ j → j < length queue → slice_index labels (slice_index queue i) ≤ slice_index labels (slice_index queue j)
+  pub close : (i j : ℕ) → done ≤ i + 1 → i < length queue → j < length queue → slice_index labels (slice_index queue j) ≤ slice_index labels (slice_index queue i) + 1
+  pub scanned : (k p : ℕ) → k < done → LiesAt l (slice_index queue k) p → slice_index opens p ≡ 1 → slice_index labels (slice_index l.heads p) ≤ slice_index labels (slice_index queue k) + 1
+  pub backed : (v : ℕ) → IsNode l.nodes v → v ≢ root → slice_index labels v ≢ no_label → IsBacked l opens labels v
+
+-- Number 0 is never in the queue, so that it has room for the nodes.
+pub queue-short : (l : Links) (opens : List ℕ) (root : ℕ) (labels queue : List ℕ) (done : ℕ) → AreSpread l opens root labels queue done → length queue ≤ l.nodes
+queue-short l opens root labels queue done so_far =
+    let one : 1 + unlabelled_count (set labels 0 0) ≡ unlabelled_count labels = unlabelled_count-set labels 0 0 (omega (arith, so_far.one_each)) so_far.zero (λ e. absurd (omega arith)) in
+    omega (arith, one, so_far.counted)
+
+-- A node with a label stands in the queue, and its label is less than the number of nodes.
+pub label-small : (l : Links) (opens : List ℕ) (root : ℕ) (labels queue : List ℕ) (done v : ℕ) → AreSpread l opens root labels queue done → IsNode l.nodes v → slice_index labels v ≢ no_label → (k : ℕ) × (k < length queue) × (slice_index queue k ≡ v) × (slice_index labels v ≤ k)
+label-small l opens root labels queue done v so_far node has =
+    let here = so_far.listed v node has in
+    let is : slice_index queue here.0 ≡ v = get_or_default queue here.0 0 v here.1 ∙ here.2 in
+    (here.0, here.1, is, omega (arith, ap (λ u. slice_index labels u) is, (so_far.queued here.0 here.1).small))
+
+-- where no number has a label
+unlabelled_count-replicate : (n : ℕ) → unlabelled_count (replicate n no_label) ≡ n
+unlabelled_count-replicate n =
+    let f : ℕ → ℕ = λ x. cond (x == no_label) 1 0 in
+    omega (arith, sum_by-replicate f n no_label)
+
+-- the labels at first: 0 at the root, and no others
+first-cases : (nodes root v : ℕ) → IsNode nodes root → v ≤ nodes → ((v ≡ root) × (slice_index (set (replicate (nodes + 1) no_label) root 0) v ≡ 0)) ⊎ ((v ≢ root) × (slice_index (set (replicate (nodes + 1) no_label) root 0) v ≡ no_label))
+first-cases nodes root v at_root within =
+    ⊎_elim
+    (λ (here : (v ≡ root) × (slice_index (set (replicate (nodes + 1) no_label) root 0) v ≡ 0)). inl here)
+    (λ (elsewhere : (v ≢ root) × (slice_index (set (replicate (nodes + 1) no_label) root 0) v ≡ slice_index (replicate (nodes + 1) no_label) v)).
+    inr (elsewhere.0, elsewhere.1 ∙ get_or-replicate (nodes + 1) v no_label 0 (omega arith)))
+    (cases-set (replicate (nodes + 1) no_label) root v 0 (omega (arith, length-replicate {A = ℕ} (nodes + 1) no_label, at_root.to_last)))
+
+pub spread-first : (l : Links) (opens : List ℕ) (root : ℕ) → IsNode l.nodes root → AreSpread l opens root (set (replicate (l.nodes + 1) no_label) root 0) (root ∷ []) 0
+spread-first l opens root at_root =
+    let labels : List ℕ = set (replicate (l.nodes + 1) no_label) root 0 in
+    let at : (v : ℕ) → v ≤ l.nodes → ((v ≡ root) × (slice_index labels v ≡ 0)) ⊎ ((v ≢ root) × (slice_index labels v ≡ no_label)) = λ v within. first-cases l.nodes root v at_root within in
+    let zero_at : slice_index labels root ≡ 0 = get_or-set_same (replicate (l.nodes + 1) no_label) root 0 0 (omega (arith, length-replicate {A = ℕ} (l.nodes + 1) no_label, at_root.to_last)) in
+    let only : (k : ℕ) → k < 1 → slice_index (root ∷ []) k ≡ root = λ k first. let e : k ≡ 0 = omega arith in rw e refl in
+    record {
+      one_each = length-set (replicate (l.nodes + 1) no_label) root 0 ∙ length-replicate (l.nodes + 1) no_label;
+      root_is = zero_at;
+      zero = ⊎_elim
+          (λ (here : (0 ≡ root) × (slice_index labels 0 ≡ 0)). absurd (omega (arith, here.0, at_root.from_one)))
+          (λ (elsewhere : (0 ≢ root) × (slice_index labels 0 ≡ no_label)). elsewhere.1)
+          (at 0 (omega arith));
+      counted = omega (arith, unlabelled_count-set (replicate (l.nodes + 1) no_label) root 0 (omega (arith, length-replicate {A = ℕ} (l.nodes + 1) no_label, at_root.to_last)) (get_or-replicate (l.nodes + 1) root no_label 0 (omega (arith, at_root.to_last))) (λ e. absurd (omega arith)), unlabelled_count-replicate (l.nodes + 1));
+      come = omega arith;
+      queued = λ k first. record { node = rw (only k first) at_root; small = rw (only k first) (omega (arith, zero_at)) };
+      listed = λ v node has. ⊎_elim
+          (λ (here : (v ≡ root) × (slice_index labels v ≡ 0)). (0, omega arith, sym here.0))
+          (λ (elsewhere : (v ≢ root) × (slice_index labels v ≡ no_label)). absurd (has elsewhere.1))
+          (at v node.to_last);
+      ascending = λ i j to first. let e : i ≡ j = omega arith in omega (arith, ap (λ k. slice_index labels (slice_index (root ∷ []) k)) e);
+      close = λ i j from first_i first_j. let e : i ≡ j = omega arith in omega (arith, ap (λ k. slice_index labels (slice_index (root ∷ []) k)) e);
+      scanned = λ k p none lies opened. absurd (omega arith);
+      backed = λ v node other has. ⊎_elim
+          (λ (here : (v ≡ root) × (slice_index labels v ≡ 0)). absurd (other here.0))
+          (λ (elsewhere : (v ≢ root) × (slice_index labels v ≡ no_label)). absurd (has elsewhere.1))
+          (at v node.to_last);
+    }
+
+-- A number with a label is a node.
+label-node : (l : Links) (opens : List ℕ) (root : ℕ) (labels queue : List ℕ) (done v : ℕ) → AreSpread l opens root labels queue done → v ≤ l.nodes → slice_index labels v ≢ no_label → IsNode l.nodes v
+label-node l opens root labels queue done v spread within has = record {
+  from_one = ⊎_elim
+      (λ (above : 0 < v). omega arith)
+      (λ (none : v ≤ 0). let zero_is : v ≡ 0 = omega arith in absurd (has (ap (λ u. slice_index labels u) zero_is ∙ spread.zero)))
+      (cases_lt 0 v);
+  to_last = within;
+}
+
+-- No label is more than what stands for none.
+label-most : (l : Links) (opens : List ℕ) (root : ℕ) (labels queue : List ℕ) (done v : ℕ) → AreLinks l → AreSpread l opens root labels queue done → v ≤ l.nodes → slice_index labels v ≤ no_label
+label-most l opens root labels queue done v are spread within =
+    ⊎_elim
+    (λ (none : ((slice_index labels v == no_label) ≡ true) × (slice_index labels v ≡ no_label)). omega (arith, none.1))
+    (λ (has : ((slice_index labels v == no_label) ≡ false) × (slice_index labels v ≢ no_label)).
+    let stands = label-small l opens root labels queue done v spread (label-node l opens root labels queue done v spread within has.1) has.1 in
+    omega (arith, stands.1, stands.3, queue-short l opens root labels queue done spread, are.at_most_nodes))
+    (eqb_tells (slice_index labels v) no_label)
+
+-- The labels once the queue is used up, or the node `stop` has a label.
+pub labels-spread : (l : Links) (opens : List ℕ) (root stop : ℕ) (labels queue : List ℕ) (done : ℕ) → AreLinks l → AreSpread l opens root labels queue done → stop ≤ l.nodes → (done ≡ length queue) ⊎ (slice_index labels stop ≢ no_label) → AreLabels l opens root stop labels
+labels-spread l opens root stop labels queue done are spread within ended =
+    let find : (v : ℕ) → IsNode l.nodes v → slice_index labels v ≢ no_label → (k : ℕ) × (k < length queue) × (slice_index queue k ≡ v) × (slice_index labels v ≤ k) = λ v node has. label-small l opens root labels queue done v spread node has in
+    record {
+      one_each = spread.one_each;
+      root_is = spread.root_is;
+      zero = spread.zero;
+      small = λ v node. ⊎_elim
+          (λ (none : ((slice_index labels v == no_label) ≡ true) × (slice_index labels v ≡ no_label)). inl none.1)
+          (λ (has : ((slice_index labels v == no_label) ≡ false) × (slice_index labels v ≢ no_label)).
+          let stands = find v node has.1 in
+          inr (omega (arith, stands.1, stands.3, queue-short l opens root labels queue done spread)))
+          (eqb_tells (slice_index labels v) no_label);
+      near = λ v p node lies opened below. ⊎_elim
+          (λ (none : ((slice_index labels v == no_label) ≡ true) × (slice_index labels v ≡ no_label)).
+          absurd (omega (arith, none.1, below, label-most l opens root labels queue done stop are spread within)))
+          (λ (has : ((slice_index labels v == no_label) ≡ false) × (slice_index labels v ≢ no_label)).
+          let stands = find v node has.1 in
+          let same : slice_index labels (slice_index queue stands.0) ≡ slice_index labels v = ap (λ u. slice_index labels u) stands.2 in
+          ⊎_elim
+          (λ (before : stands.0 < done). let P : ℕ → Type 0 = λ u. LiesAt l u p in omega (arith, same, spread.scanned stands.0 p before (subst P (sym stands.2) lies) opened))
+          (λ (behind : done ≤ stands.0). ⊎_elim
+          (λ (all : done ≡ length queue). absurd (omega (arith, stands.1)))
+          (λ (some : slice_index labels stop ≢ no_label).
+          let at_stop = label-small l opens root labels queue done stop spread (label-node l opens root labels queue done stop spread within some) some in
+          absurd (omega (arith, same, below, ap (λ u. slice_index labels u) at_stop.2, spread.close stands.0 at_stop.0 (omega arith) stands.1 at_stop.1)))
+          ended)
+          (cases_lt stands.0 done))
+          (eqb_tells (slice_index labels v) no_label);
+      backed = spread.backed;
+    }
