@@ -12,3 +12,7 @@ pub mod Pushed
 pub mod PushedPairs
 pub mod Labelling
 pub mod LabellingTurn
+pub mod OneLeast
+pub mod SomeLeast
+pub mod ShortestPaths
+pub mod Loops
