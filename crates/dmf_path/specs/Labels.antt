@@ -1,12 +1,16 @@
 -- Labels of nodes: how many links a node is from a root, where they are known.
 -- Private: only contracts inside the crate and proofs use this.
-use Rattle.std.specs.Prelude.{ℕ, ◌≡◌, ◌≢◌, ◌+◌, ◌<◌, ◌≤◌, ◌⊎◌, ◌==◌, List, length, slice_index, count_by, Contains}
+use Rattle.std.specs.Prelude.{ℕ, ◌≡◌, ◌≢◌, ◌+◌, ◌<◌, ◌≤◌, ◌⊎◌, ◌==◌, not, Bool, List, length, slice_index, count_by, Contains}
 use Rattle.dmf_path.specs.Node.{IsNode}
 use Rattle.dmf_path.specs.Links.{Links, LiesAt, tail_of}
 
 -- what stands for the label of a node that has none; it is more than any label
 abbrev pub no_label : ℕ
 no_label = 4294967295
+
+-- whether the number is a label
+abbrev pub is_label : ℕ → Bool
+is_label label = not (label == no_label)
 
 -- An open link leads to the node from one whose label is less by one.
 pub record IsBacked (l : Links) (opens labels : List ℕ) (v : ℕ) : Type 0 where

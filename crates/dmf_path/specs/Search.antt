@@ -1,6 +1,6 @@
 -- What a search is to its callers: pairs of links between nodes, and the nodes between which it looks for least paths.
 -- Public: a public contract says no more than this.
-use Rattle.std.specs.Prelude.{ℕ, ◌≡◌, Bool, List, Option, Some, None, slice_index_or}
+use Rattle.std.specs.Prelude.{ℕ, ◌≡◌, ◌-◌, ◌≤◌, Bool, List, Option, Some, None, slice_index_or, slice_get, slice_set, option_map}
 use Rattle.dmf_path.specs.declared.pair.Pair.{Pair}
 use Rattle.dmf_path.specs.Step.{Step}
 use Rattle.dmf_path.specs.Path.{IsLeastPath, room_up_to}
@@ -27,11 +27,27 @@ pub record Augments (limit amount : ℕ) (old new : Searched) : Type 0 where
   pub amount_is : amount ≡ room_up_to limit path
   pub gives : new ≡ with_pairs old (pushed_pairs old.takes_back amount path old.pairs)
 
--- the room of the link against a pair
-abbrev pub against_of : Option Pair → Option ℕ
-against_of None = None
-against_of (Some p) = Some p.against
+-- the pair at index `k`
+abbrev pub pair_number : List (Option Pair) → ℕ → Option Pair
+pair_number pairs k = slice_index_or pairs k None
 
--- the room of the link against the pair at index `k`
+-- the rooms of the links of the pair at index `k`, where there is one
+abbrev pub along_at : List (Option Pair) → ℕ → Option ℕ
+along_at pairs k = option_map (λ p. p.along) (pair_number pairs k)
+
 abbrev pub against_at : List (Option Pair) → ℕ → Option ℕ
-against_at pairs k = against_of (slice_index_or pairs k None)
+against_at pairs k = option_map (λ p. p.against) (pair_number pairs k)
+
+-- There is a pair at index `k`, whose link along has so much room.
+pub record HasAlong (pairs : List (Option Pair)) (k amount : ℕ) : Type 0 where
+  pub pair : Pair
+  pub is : slice_get pairs k ≡ Some (Some pair)
+  pub enough : amount ≤ pair.along
+
+-- a pair with so much less room along
+abbrev pub lowered_pair : ℕ → Pair → Pair
+lowered_pair amount p = record { tail = p.tail; head = p.head; along = p.along - amount; against = p.against }
+
+-- the pairs, with so much less room along that at index `k`
+abbrev pub lowered_along : List (Option Pair) → ℕ → ℕ → List (Option Pair)
+lowered_along pairs k amount = slice_set pairs k (option_map (lowered_pair amount) (pair_number pairs k))

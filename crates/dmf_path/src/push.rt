@@ -40,7 +40,7 @@ pub fn push_along(
 }
 
 /// Pushes an amount along one link.
-fn push_once(
+pub fn push_once(
     table: &LinkTable,
     place: u32,
     amount: u64,

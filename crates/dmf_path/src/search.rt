@@ -1,17 +1,18 @@
 //! The search for least paths, one after the other, from one node to another.
-ghost use Rattle.std.specs.Prelude.{◌≡◌, ◌≢◌, ◌+◌, ◌^◌, ◌≤◌, ◌<◌, true, false, length, slice_index, vec_capacity, IfOk, MatchOption};
+ghost use Rattle.std.specs.Prelude.{◌≡◌, ◌≢◌, ℕ, ◌+◌, ◌-◌, ◌^◌, ◌≤◌, ◌<◌, ◌↔◌, true, false, IsTrue, length, map, slice_index, slice_index_or, vec_capacity, IfOk, MatchOption};
 ghost use Rattle.dmf_path.specs.Node.{IsNode};
-ghost use Rattle.dmf_path.specs.Path.{HasNoPath};
+ghost use Rattle.dmf_path.specs.Path.{HasNoPath, IsReachable};
 ghost use Rattle.dmf_path.specs.Pair.{ArePairs, steps_of};
-ghost use Rattle.dmf_path.specs.Links.{AreLinks, AreRooms, AreFlags, links_of};
+ghost use Rattle.dmf_path.specs.Links.{AreLinks, AreRooms, AreFlags, links_of, open_flag};
+ghost use Rattle.dmf_path.specs.Labels.{is_label};
 ghost use Rattle.dmf_path.specs.Walk.{AreValid, IsWalking, end_of};
-ghost use Rattle.dmf_path.specs.Search.{Augments, against_at};
+ghost use Rattle.dmf_path.specs.Search.{Augments, HasAlong, along_at, against_at, lowered_along, with_pairs};
 ghost use Rattle.dmf_path.specs.Searching.{IsUnlabelled};
 
 use crate::label::{NO_LABEL, label_nodes};
-use crate::links::{LinkTable, NO_PLACE, build};
+use crate::links::{LinkTable, NO_PLACE, build, open_flag};
 use crate::pair::Pairs;
-use crate::push::{keep_open, least_room, push_along};
+use crate::push::{keep_open, least_room, push_along, push_once};
 use crate::walk::walk;
 use std::alloc::{AllocError, Global};
 use std::marker::Model;
@@ -136,6 +137,63 @@ impl Search {
         }
         Some(self.rooms[self.table.partners[place as usize] as usize])
     }
+
+    /// The room of the link along the pair at index `k`, and nothing where there is no pair. Takes no memory.
+    pub fn along(&self, k: usize) -> Option<u64>
+        requires { k < length self.now.pairs }
+        ensures { result ≡ along_at self.now.pairs k }
+    {
+        let place = self.places[k];
+        if place == NO_PLACE {
+            return None;
+        }
+        Some(self.rooms[place as usize])
+    }
+
+    /// Takes an amount off the room of the link along the pair at index `k`. Takes no memory.
+    pub fn lower(&mut self, k: usize, amount: u64)
+        requires { HasAlong self.old.pairs k amount }
+        ensures { self.new ≡ with_pairs self.old (lowered_along self.old.pairs k amount) }
+    {
+        let place = self.places[k];
+        push_once(
+            &self.table,
+            place,
+            amount,
+            false,
+            &mut self.rooms,
+            &mut self.flags,
+        );
+        keep_open(&self.rooms, &mut self.trail);
+    }
+
+    /// Which nodes paths lead to from the start, that of node 1 first. Takes memory for a mark a node, and for a flag a link.
+    pub fn reached(&self, alloc: Global) -> Result<Vec<bool>, AllocError>
+        ensures one_each { IfOk result (λ marks. length marks.items ≡ self.now.nodes) }
+        ensures marks { IfOk result (λ marks. (v : ℕ) → IsNode self.now.nodes v →
+            IsTrue (slice_index_or marks.items (v - 1) false) ↔ IsReachable (steps_of self.now.pairs) self.now.start v) }
+    {
+        let nodes = self.table.nodes as usize;
+        let opens = open_flags(alloc, &self.rooms)?;
+        let mut labels = vec![in alloc; 0u32; nodes + 1]?;
+        let mut queue = Vec::with_capacity(alloc, nodes + 1)?;
+        label_nodes(&self.table, &opens, self.start, 0, &mut labels, &mut queue);
+        labelled(alloc, &labels[1..])
+    }
+}
+
+/// Whether each link has room: 1, or else 0.
+fn open_flags(alloc: Global, rooms: &[u64]) -> Result<Vec<u8>, AllocError>
+    ensures { IfOk result (λ flags. flags.items ≡ map open_flag rooms.now) }
+{
+    rooms.iter().map(|room| open_flag(*room)).collect(alloc)
+}
+
+/// Which of these are labels.
+fn labelled(alloc: Global, labels: &[u32]) -> Result<Vec<bool>, AllocError>
+    ensures { IfOk result (λ marks. marks.items ≡ map is_label labels.now) }
+{
+    labels.iter().map(|label| *label != NO_LABEL).collect(alloc)
 }
 
 /// Finds the least path from the start to the goal: goes on with the walk, and where none is left, labels the nodes anew
