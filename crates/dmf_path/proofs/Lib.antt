@@ -16,3 +16,5 @@ pub mod OneLeast
 pub mod SomeLeast
 pub mod ShortestPaths
 pub mod Loops
+pub mod Walking
+pub mod WalkingTurn
