@@ -1,14 +1,12 @@
 -- Spreading labels from a root, node by node in the order of a queue.
-use Rattle.std.proofs.Common.{ℕ, ◌≡◌, ◌≢◌, ◌+◌, ◌-◌, ◌≤◌, ◌<◌, ◌⊎◌, ⊎_elim, inl, inr, List, [], ◌∷◌, ◌++◌, length, set, replicate, slice_index, get_or, refl, ap, sym, subst, ◌∙◌, arith, true, false, ◌==◌, cond, Contains}
+use Rattle.std.proofs.Common.{ℕ, ◌≡◌, ◌≢◌, ◌+◌, ◌≤◌, ◌<◌, ◌⊎◌, ⊎_elim, inl, inr, List, [], ◌∷◌, length, set, replicate, slice_index, refl, ap, sym, subst, ◌∙◌, arith, true, false, ◌==◌, cond, Contains}
 use Rattle.std.proofs.lemmas.Bool.Decides.{eqb_tells}
 use Rattle.std.proofs.lemmas.Bool.{cases_lt}
-use Rattle.std.proofs.lemmas.List.{get_or-replicate, get_or-set_same, get_or-set_other, length-append, length-set, length-replicate, get_or_append_left, get_or-append_right, get_or_default}
+use Rattle.std.proofs.lemmas.List.{get_or-replicate, get_or-set_same, length-set, length-replicate, get_or_default}
 use Rattle.std.proofs.lemmas.List.Folds.{sum_by-replicate}
-use Rattle.std.proofs.lemmas.List.Elements.{Contains-append_left, Contains-append_right, Contains-get_or}
 use Rattle.dmf_path.specs.Node.{IsNode}
-use Rattle.dmf_path.specs.Links.{Links, LiesAt, AreLinks, tail_of}
-use Rattle.dmf_path.specs.Labels.{no_label, unlabelled_count, IsBacked, AreLabels, IsLedTo, Spreads}
-use Rattle.dmf_path.proofs.LinkPlaces.{lies-within}
+use Rattle.dmf_path.specs.Links.{Links, LiesAt, AreLinks}
+use Rattle.dmf_path.specs.Labels.{no_label, unlabelled_count, IsBacked, AreLabels}
 use Rattle.dmf_path.proofs.Spreading.{unlabelled_count-set, cases-set}
 
 -- At this place of the queue stands a node whose label is at most the place.

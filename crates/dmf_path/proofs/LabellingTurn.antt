@@ -1,15 +1,13 @@
 -- One turn of spreading labels from a root: the node that is next in the queue.
-use Rattle.std.proofs.Common.{ℕ, ◌≡◌, ◌≢◌, ◌+◌, ◌-◌, ◌≤◌, ◌<◌, ◌⊎◌, ⊎_elim, inl, inr, List, [], ◌∷◌, ◌++◌, length, set, replicate, slice_index, get_or, refl, ap, sym, subst, ◌∙◌, arith, true, false, ◌==◌, cond, Contains}
+use Rattle.std.proofs.Common.{ℕ, ◌≡◌, ◌≢◌, ◌+◌, ◌-◌, ◌≤◌, ◌<◌, ◌⊎◌, ⊎_elim, inl, inr, List, ◌++◌, length, slice_index, get_or, refl, ap, sym, subst, ◌∙◌, arith, true, false, ◌==◌, Contains}
 use Rattle.std.proofs.lemmas.Bool.Decides.{eqb_tells}
 use Rattle.std.proofs.lemmas.Bool.{cases_lt}
-use Rattle.std.proofs.lemmas.List.{get_or-replicate, get_or-set_same, get_or-set_other, length-append, length-set, length-replicate, get_or_append_left, get_or-append_right, get_or_default}
-use Rattle.std.proofs.lemmas.List.Folds.{sum_by-replicate}
+use Rattle.std.proofs.lemmas.List.{length-append, get_or_append_left, get_or-append_right, get_or_default}
 use Rattle.std.proofs.lemmas.List.Elements.{Contains-append_left, Contains-append_right, Contains-get_or}
 use Rattle.dmf_path.specs.Node.{IsNode}
 use Rattle.dmf_path.specs.Links.{Links, LiesAt, AreLinks, tail_of}
-use Rattle.dmf_path.specs.Labels.{no_label, unlabelled_count, IsBacked, AreLabels, IsLedTo, Spreads}
+use Rattle.dmf_path.specs.Labels.{no_label, IsBacked, Spreads}
 use Rattle.dmf_path.proofs.LinkPlaces.{lies-within}
-use Rattle.dmf_path.proofs.Spreading.{unlabelled_count-set, cases-set}
 use Rattle.dmf_path.proofs.Labelling.{IsQueued, AreSpread, queue-short, label-small}
 
 -- One turn: the open links of the node that is next in the queue are looked at.

@@ -18,3 +18,4 @@ pub mod ShortestPaths
 pub mod Loops
 pub mod Walking
 pub mod WalkingTurn
+pub mod Labelled

@@ -1,5 +1,5 @@
 -- Where the links of a node lie.
-use Rattle.std.proofs.Common.{ℕ, ◌≡◌, ◌≢◌, ◌+◌, ◌-◌, ◌<◌, ◌≤◌, length, get_or, zero, suc, ap, sym, ◌∙◌, arith}
+use Rattle.std.proofs.Common.{ℕ, ◌≡◌, ◌≢◌, ◌+◌, ◌-◌, ◌<◌, ◌≤◌, length, get_or, zero, suc, ap, subst, sym, ◌∙◌, arith}
 use Rattle.std.proofs.lemmas.List.{get_or_default}
 use Rattle.dmf_path.specs.Node.{IsNode}
 use Rattle.dmf_path.specs.Links.{Links, LiesAt, AreLinks}
@@ -34,3 +34,10 @@ lies-within l v p are node lies = omega (arith, last-within l v are node.to_last
 -- A link is not its own opposite.
 pub partner-other : (l : Links) (p : ℕ) → AreLinks l → p < length l.heads → get_or l.partners p 0 ≢ p
 partner-other l p are within same = (are.each p within).no_loop (ap (λ q. get_or l.heads q 0) same)
+
+-- The opposite of a link lies at the node to which the link leads.
+pub lies-partner : (l : Links) (p : ℕ) → AreLinks l → p < length l.heads → LiesAt l (get_or l.heads p 0) (get_or l.partners p 0)
+lies-partner l p are within =
+    let link = are.each p within in
+    let P : ℕ → Type 0 = λ v. LiesAt l v (get_or l.partners p 0) in
+    subst P (ap (λ q. get_or l.heads q 0) link.turned) (are.each (get_or l.partners p 0) link.partner).lies

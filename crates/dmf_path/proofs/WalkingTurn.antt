@@ -1,11 +1,11 @@
 -- One turn of a walk: the first admissible link of its node is taken, or where there is none, the walk steps back.
-use Rattle.std.proofs.Common.{ℕ, ◌≡◌, ◌≢◌, ◌+◌, ◌-◌, ◌*◌, ◌<◌, ◌≤◌, List, [], ◌∷◌, ◌++◌, length, set, slice_index, get_or, sum_by, refl, ap, sym, subst, ◌∙◌, arith}
+use Rattle.std.proofs.Common.{ℕ, ◌≡◌, ◌≢◌, ◌+◌, ◌-◌, ◌*◌, ◌<◌, ◌≤◌, List, [], ◌∷◌, ◌++◌, length, set, slice_index, get_or, sum_by, ap, sym, subst, ◌∙◌, arith}
 use Rattle.std.proofs.Math.Nat.{mul-le-mul_right}
 use Rattle.std.proofs.lemmas.List.{get_or-set_same, get_or_default, length-set}
 use Rattle.std.proofs.lemmas.List.Sums.{sum_by-set}
 use Rattle.dmf_path.specs.Node.{IsNode}
-use Rattle.dmf_path.specs.Links.{Links, LiesAt, IsLink, AreLinks, tail_of}
-use Rattle.dmf_path.specs.Walk.{IsAdmissible, IsWalk, IsTrail, end_of, IsWalking}
+use Rattle.dmf_path.specs.Links.{Links, IsLink, AreLinks, tail_of}
+use Rattle.dmf_path.specs.Walk.{IsWalk, end_of}
 use Rattle.dmf_path.proofs.LinkPlaces.{lies-within, last-within}
 use Rattle.dmf_path.proofs.Walking.{HasCome, label-trail, IsTrail-pop, end-node, dead-end, walking-set, come-next, come-back}
 
@@ -36,10 +36,7 @@ pub record WalkTurn : Type 0 where
 end-is : (t : WalkTurn) → slice_index t.l.first (t.node + 1) ≡ t.end
 end-is t = get_or_default t.l.first (t.node + 1) 0 t.end (omega (arith, t.come.is_node.to_last, t.are.first_long)) ∙ sym t.end_read
 
--- the current links, once that of the node is at `place`
-pub moved : WalkTurn → List ℕ
-moved t = set t.current t.node t.place
-
+-- The node has a current link.
 node-within : (t : WalkTurn) → t.node < length t.current
 node-within t = omega (arith, t.come.walking.current_is.one_each, t.come.is_node.to_last)
 

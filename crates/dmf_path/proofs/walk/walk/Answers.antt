@@ -1,11 +1,9 @@
 -- Where the walk begins, a turn that goes on, one that steps back, and what the work is each time.
-use Rattle.std.proofs.Common.{◌-◌, ◌≡◌, ◌≢◌, ℕ, true, false, refl, sym, ap, ◌∙◌, arith, [], List, ◌+◌, ◌≤◌, ◌<◌, length, slice_index, vec_capacity, vec_len}
-use Rattle.std.proofs.lemmas.List.{get_or_default, nil_from_length, append-nil}
-use Rattle.dmf_path.specs.Node.{IsNode}
-use Rattle.dmf_path.specs.Links.{AreLinks, links_of}
-use Rattle.dmf_path.specs.Walk.{IsWalk, IsWalking, end_of}
+use Rattle.std.proofs.Common.{◌-◌, ◌≡◌, refl, ap, ◌∙◌, arith, length, slice_index}
+use Rattle.std.proofs.lemmas.List.{nil_from_length, append-nil}
+use Rattle.dmf_path.specs.Links.{links_of}
 use Rattle.dmf_path.proofs.LinkPlaces.{end-within}
-use Rattle.dmf_path.proofs.Walking.{HasCome, end_of-last, come-last, come-none}
+use Rattle.dmf_path.proofs.Walking.{end_of-last, come-last, come-none}
 use Rattle.dmf_path.proofs.WalkingTurn.{WalkTurn, come-moved, found-within, trail-short, come-found, none-found, last-link, come-popped, partner-within, tail-read, tail-within, work-found, work-popped}
 use Rattle.dmf_path.proofs.walk.walk.Goals as goal
 use Rattle.dmf_path.proofs.walk.walk.Goals.{in-Some, in-None}

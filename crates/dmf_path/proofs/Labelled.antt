@@ -1,0 +1,49 @@
+-- What labels found backwards from the goal tell of links with room: no link falls by more than one, and from each node with
+-- a label a walk leads to the goal.
+use Rattle.std.proofs.Common.{ℕ, ◌≡◌, ◌≢◌, ◌<◌, ⊎_elim, List, [], ◌∷◌, length, slice_index, zero, suc, ap, sym, refl, subst, ◌∙◌, arith, true, false, ◌==◌}
+use Rattle.std.proofs.lemmas.Bool.Decides.{eqb_tells}
+use Rattle.dmf_path.specs.Node.{IsNode}
+use Rattle.dmf_path.specs.Links.{Links, LiesAt, AreLinks, AreFlags, open_flag, tail_of}
+use Rattle.dmf_path.specs.Labels.{no_label, AreLabels}
+use Rattle.dmf_path.specs.Walk.{IsWalk, AreValid}
+use Rattle.dmf_path.proofs.LinkPlaces.{lies-within, lies-partner}
+use Rattle.dmf_path.proofs.Flags.{room-of_flag, flag-of_room}
+
+-- No link with room falls by more than one.
+pub valid-labelled : (l : Links) (rooms flags labels : List ℕ) (start goal : ℕ) → AreLinks l → AreFlags l rooms flags → length rooms ≡ length l.heads → AreLabels l flags goal start labels → IsNode l.nodes goal → AreValid l labels rooms (slice_index labels start)
+valid-labelled l rooms flags labels start goal are flagged long labelled at_goal v p node lies room below =
+    let within : p < length l.heads = lies-within l v p are node lies in
+    let link = are.each p within in
+    let partner : ℕ = slice_index l.partners p in
+    let opened : slice_index flags partner ≡ 1 =
+    flagged.1 partner link.partner ∙ ap (λ q. open_flag (slice_index rooms q)) link.turned ∙ flag-of_room (slice_index rooms p) room in
+    let most = labelled.near (slice_index l.heads p) partner link.head (lies-partner l p are within) opened below in
+    omega (arith, most, ap (λ u. slice_index labels u) (are.at_tail v p node lies))
+
+-- From a node whose label is `n` a walk leads to the goal.
+walk-from : (l : Links) (rooms flags labels : List ℕ) (start goal : ℕ) → AreLinks l → AreFlags l rooms flags → AreLabels l flags goal start labels → (n v : ℕ) → slice_index labels v ≡ n → IsNode l.nodes v → slice_index labels v ≢ no_label → (ps : List ℕ) × IsWalk l labels rooms goal v ps
+walk-from l rooms flags labels start goal are flagged labelled zero v is node has =
+    ⊎_elim
+    (λ (here : ((v == goal) ≡ true) × (v ≡ goal)). ([], here.1))
+    (λ (other : ((v == goal) ≡ false) × (v ≢ goal)). absurd (omega (arith, is, (labelled.backed v node other.1 has).label)))
+    (eqb_tells v goal)
+walk-from l rooms flags labels start goal are flagged labelled (suc n) v is node has =
+    ⊎_elim
+    (λ (here : ((v == goal) ≡ true) × (v ≡ goal)). ([], here.1))
+    (λ (other : ((v == goal) ≡ false) × (v ≢ goal)).
+    let back = labelled.backed v node other.1 has in
+    let link = are.each back.place back.within in
+    let p : ℕ = slice_index l.partners back.place in
+    let lies : LiesAt l v p = let P : ℕ → Type 0 = λ u. LiesAt l u p in subst P back.leads (lies-partner l back.place are back.within) in
+    let room : 0 < slice_index rooms p = room-of_flag (slice_index rooms p) (sym (flagged.1 back.place back.within) ∙ back.opened) in
+    let small : slice_index labels v < no_label = ⊎_elim
+    (λ (none : slice_index labels v ≡ no_label). absurd (has none))
+    (λ (below : slice_index labels v < l.nodes). omega (arith, below, are.at_most_nodes))
+    (labelled.small v node) in
+    let on = walk-from l rooms flags labels start goal are flagged labelled n (tail_of l back.place) (omega (arith, is, back.label)) link.tail (λ none. absurd (omega (arith, none, small, back.label))) in
+    (p ∷ on.0, (record { lies = lies; room = room; falls = back.label }, on.1)))
+    (eqb_tells v goal)
+
+pub walk-labelled : (l : Links) (rooms flags labels : List ℕ) (start goal : ℕ) → AreLinks l → AreFlags l rooms flags → AreLabels l flags goal start labels → IsNode l.nodes goal → (v : ℕ) → IsNode l.nodes v → slice_index labels v ≢ no_label → (ps : List ℕ) × IsWalk l labels rooms goal v ps
+walk-labelled l rooms flags labels start goal are flagged labelled at_goal v node has =
+    walk-from l rooms flags labels start goal are flagged labelled (slice_index labels v) v refl node has
