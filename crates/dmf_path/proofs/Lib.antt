@@ -19,3 +19,4 @@ pub mod Loops
 pub mod Walking
 pub mod WalkingTurn
 pub mod Labelled
+pub mod Marks

@@ -1,5 +1,5 @@
 //! The search for least paths, one after the other, from one node to another.
-ghost use Rattle.std.specs.Prelude.{◌≡◌, ◌≢◌, ℕ, ◌+◌, ◌-◌, ◌^◌, ◌≤◌, ◌<◌, ◌↔◌, true, false, IsTrue, length, map, slice_index, slice_index_or, vec_capacity, IfOk, MatchOption};
+ghost use Rattle.std.specs.Prelude.{◌≡◌, ◌≢◌, ℕ, ◌+◌, ◌-◌, ◌^◌, ◌≤◌, ◌<◌, ◌↔◌, true, false, IsTrue, length, drop, map, slice_index, slice_index_or, vec_capacity, IfOk, MatchOption};
 ghost use Rattle.dmf_path.specs.Node.{IsNode};
 ghost use Rattle.dmf_path.specs.Path.{HasNoPath, IsReachable};
 ghost use Rattle.dmf_path.specs.Pair.{ArePairs, steps_of};
@@ -178,7 +178,7 @@ impl Search {
         let mut labels = vec![in alloc; 0u32; nodes + 1]?;
         let mut queue = Vec::with_capacity(alloc, nodes + 1)?;
         label_nodes(&self.table, &opens, self.start, 0, &mut labels, &mut queue);
-        labelled(alloc, &labels[1..])
+        labelled(alloc, &labels)
     }
 }
 
@@ -189,11 +189,15 @@ fn open_flags(alloc: Global, rooms: &[u64]) -> Result<Vec<u8>, AllocError>
     rooms.iter().map(|room| open_flag(*room)).collect(alloc)
 }
 
-/// Which of these are labels.
+/// Which nodes have a label, that of node 1 first.
 fn labelled(alloc: Global, labels: &[u32]) -> Result<Vec<bool>, AllocError>
-    ensures { IfOk result (λ marks. marks.items ≡ map is_label labels.now) }
+    ensures { IfOk result (λ marks. marks.items ≡ map is_label (drop 1 labels.now)) }
 {
-    labels.iter().map(|label| *label != NO_LABEL).collect(alloc)
+    labels
+        .iter()
+        .skip(1)
+        .map(|label| *label != NO_LABEL)
+        .collect(alloc)
 }
 
 /// Finds the least path from the start to the goal: goes on with the walk, and where none is left, labels the nodes anew

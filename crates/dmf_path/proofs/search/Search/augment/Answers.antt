@@ -1,0 +1,3 @@
+use Rattle.std.proofs.Common.{arith}
+use Rattle.dmf_path.proofs.search.Search.augment.Goals as goal
+
