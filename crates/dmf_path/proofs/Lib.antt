@@ -20,3 +20,9 @@ pub mod Walking
 pub mod WalkingTurn
 pub mod Labelled
 pub mod Marks
+pub mod Counting
+pub mod CountingLinks
+pub mod Sums
+pub mod Starts
+pub mod Putting
+pub mod Built

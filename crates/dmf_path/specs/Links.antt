@@ -1,6 +1,6 @@
 -- Links by node: the links of a node lie side by side, in the order of their ranks. A link is known by its place.
 -- Private: only contracts inside the crate and proofs use this.
-use Rattle.std.specs.Prelude.{ℕ, ◌≡◌, ◌≢◌, ◌+◌, ◌*◌, ◌^◌, ◌<◌, ◌≤◌, ◌⊎◌, ◌==◌, nat_lt, if◌then◌else◌, List, [], ◌∷◌, length, map, slice_index, Option, Some, None}
+use Rattle.std.specs.Prelude.{ℕ, ◌≡◌, ◌≢◌, ◌+◌, ◌^◌, ◌<◌, ◌≤◌, ◌⊎◌, ◌==◌, nat_lt, if◌then◌else◌, List, length, map, slice_index, Option, Some, None}
 use Rattle.dmf_path.specs.declared.links.LinkTable.{LinkTable}
 use Rattle.dmf_path.specs.declared.links.Built.{Built}
 use Rattle.dmf_path.specs.declared.pair.Pair.{Pair}
