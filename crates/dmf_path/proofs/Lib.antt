@@ -26,3 +26,4 @@ pub mod Sums
 pub mod Starts
 pub mod Putting
 pub mod Built
+pub mod Searching
