@@ -2,6 +2,7 @@
 -- have room are one.
 use Rattle.std.proofs.Common.{ℕ, ◌≡◌, ◌≢◌, ◌+◌, ◌-◌, ◌<◌, ◌≤◌, ◌⊎◌, inl, inr, Bool, List, [], ◌∷◌, length, get_or, take, zero, suc, ap, sym, ◌∙◌, subst, arith, ⊎_elim, rules}
 use Rattle.std.specs.List.{All}
+use Rattle.std.proofs.lemmas.List.Elements.{All-cons}
 use Rattle.dmf_path.specs.Node.{IsNode}
 use Rattle.dmf_path.specs.Links.{Links, LiesAt, AreLinks, AreRooms, tail_of}
 use Rattle.dmf_path.specs.Walk.{IsAdmissible, IsWalk, AreValid, ArePassed, IsTrail, IsWalking, least_on, pushed_once, pushed, CanPush}
@@ -170,3 +171,11 @@ IsWalking-pushed l takes_back amount labels rooms current trail start goal kept 
       passed = ArePassed-opens l labels rooms (pushed l takes_back amount trail rooms) goal current links opens walking.passed;
       trail_is = IsTrail-open l labels rooms (pushed l takes_back amount trail rooms) current start (take kept trail) (IsTrail-take l labels rooms current start kept trail walking.trail_is) room;
     }
+
+-- The links of a trail are links.
+pub within-falls : (l : Links) (labels : List ℕ) (v : ℕ) (ps : List ℕ) → FallsOn l labels v ps → All (λ p. p < length l.heads) ps
+within-falls l labels v [] falls = λ k d h. absurd (omega (arith, h))
+within-falls l labels v (p ∷ ps) falls = All-cons (λ q. q < length l.heads) p ps falls.0.within (within-falls l labels (get_or l.heads p 0) ps falls.1)
+
+pub within-trail : (l : Links) (labels rooms current : List ℕ) (v : ℕ) (ps : List ℕ) → AreLinks l → IsNode l.nodes v → IsTrail l labels rooms current v ps → All (λ p. p < length l.heads) ps
+within-trail l labels rooms current v ps links node trail = within-falls l labels v ps (FallsOn-trail l labels rooms current v ps links node trail)
