@@ -27,3 +27,4 @@ pub mod Starts
 pub mod Putting
 pub mod Built
 pub mod Searching
+pub mod Lowered

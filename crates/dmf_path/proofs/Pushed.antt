@@ -160,18 +160,6 @@ CanPush-falls l takes_back amount labels rooms v (p ∷ ps) links falls have = (
       (HaveRoom-once l takes_back amount labels rooms v p (get_or l.heads p 0) ps links falls.0 (omega (arith, falls.0.label)) falls.1 have.1),
 )
 
--- After a push along a trail, as much of it as still has room goes on.
-pub IsWalking-pushed : (l : Links) (takes_back : Bool) (amount : ℕ) (labels rooms current trail : List ℕ) (start goal kept : ℕ) → AreLinks l → length rooms ≡ length l.heads → IsNode l.nodes start → IsWalking l labels rooms start goal current trail
-    → All (λ p. 0 < get_or (pushed l takes_back amount trail rooms) p 0) (take kept trail)
-    → IsWalking l labels (pushed l takes_back amount trail rooms) start goal current (take kept trail)
-IsWalking-pushed l takes_back amount labels rooms current trail start goal kept links long node walking room =
-    let opens = opens-pushed l takes_back amount labels rooms start trail links long (FallsOn-trail l labels rooms current start trail links node walking.trail_is) in
-    record {
-      current_is = walking.current_is;
-      passed = ArePassed-opens l labels rooms (pushed l takes_back amount trail rooms) goal current links opens walking.passed;
-      trail_is = IsTrail-open l labels rooms (pushed l takes_back amount trail rooms) current start (take kept trail) (IsTrail-take l labels rooms current start kept trail walking.trail_is) room;
-    }
-
 -- The links of a trail are links.
 pub within-falls : (l : Links) (labels : List ℕ) (v : ℕ) (ps : List ℕ) → FallsOn l labels v ps → All (λ p. p < length l.heads) ps
 within-falls l labels v [] falls = λ k d h. absurd (omega (arith, h))

@@ -139,7 +139,7 @@ has_rank-path_on l places rooms labels k u (p ∷ ps) links are within there fal
     (rw (first.0, later.0) refl, rw (first.1, later.1) refl)
 
 -- a pair with other rooms
-pair-rooms : (tail head : ℕ) (a b c d : ℕ) → a ≡ c → b ≡ d → ◌≡◌ {A = Option Pair} (Some (record { tail = tail; head = head; along = a; against = b })) (Some (record { tail = tail; head = head; along = c; against = d }))
+pub pair-rooms : (tail head : ℕ) (a b c d : ℕ) → a ≡ c → b ≡ d → ◌≡◌ {A = Option Pair} (Some (record { tail = tail; head = head; along = a; against = b })) (Some (record { tail = tail; head = head; along = c; against = d }))
 pair-rooms tail head a b c d along against = λ i. Some (record { tail = tail; head = head; along = along i; against = against i })
 
 -- The pair at each index

@@ -10,7 +10,7 @@ use Rattle.dmf_path.specs.Searching.{IsSearch, IsUnlabelled, searched}
 use Rattle.dmf_path.proofs.Steps.{path_on, room_up_to-path_on}
 use Rattle.dmf_path.proofs.LeastTrail.{least-trail}
 use Rattle.dmf_path.proofs.Reaching.{no_path-unlabelled}
-use Rattle.dmf_path.proofs.Pushed.{HaveRoom-least, CanPush-falls, FallsOn-trail, IsWalking-pushed, AreValid-opens, opens-pushed}
+use Rattle.dmf_path.proofs.Pushed.{HaveRoom-least, CanPush-falls, FallsOn-trail, OpensUpwards, AreValid-opens, ArePassed-opens, IsTrail-open, IsTrail-take, opens-pushed}
 use Rattle.dmf_path.proofs.PushedPairs.{pushed_pairs-pushed}
 
 -- after looking for a path
@@ -43,29 +43,40 @@ can-push l takes_back places rooms flags labels current trail queue_room trail_r
     (FallsOn-trail l labels rooms current start trail is.links is.start_is is.walking.trail_is)
     (HaveRoom-least amount limit rooms trail (omega (arith, least)))
 
+-- after rooms have changed, where at most links that lead upwards gained some, with as much of the trail as still has room
+pub IsSearch-opens : (l : Links) (places rooms flags labels current trail new_rooms new_flags new_trail : List ℕ) (queue_room trail_room new_trail_room start goal : ℕ)
+    → IsSearch l places rooms flags labels current trail queue_room trail_room start goal → OpensUpwards l labels rooms new_rooms → AreRooms l new_rooms → AreFlags l new_rooms new_flags
+    → (kept : ℕ) × (new_trail ≡ take kept trail) → All (λ p. 0 < get_or new_rooms p 0) new_trail → new_trail_room ≡ trail_room
+    → IsSearch l places new_rooms new_flags labels current new_trail queue_room new_trail_room start goal
+IsSearch-opens l places rooms flags labels current trail new_rooms new_flags new_trail queue_room trail_room new_trail_room start goal is opens rooms_are flags_are front has trail_same = record {
+  links = is.links;
+  places_are = is.places_are;
+  rooms_are = rooms_are;
+  flags_are = flags_are;
+  one_label_each = is.one_label_each;
+  start_label = is.start_label;
+  valid = AreValid-opens l labels rooms new_rooms (get_or labels start 0) opens is.valid;
+  walking = record {
+    current_is = is.walking.current_is;
+    passed = ArePassed-opens l labels rooms new_rooms goal current is.links opens is.walking.passed;
+    trail_is = rw front.1 (IsTrail-open l labels rooms new_rooms current start (take front.0 trail) (IsTrail-take l labels rooms current start front.0 trail is.walking.trail_is) (rw front.1 at has));
+  };
+  start_is = is.start_is;
+  goal_is = is.goal_is;
+  apart = is.apart;
+  queue_room_is = is.queue_room_is;
+  trail_room_is = omega (arith, is.trail_room_is, trail_same);
+}
+
 -- after a push along the trail
 pub IsSearch-pushed : (l : Links) (takes_back : Bool) (amount : ℕ) (places rooms flags labels current trail new_rooms new_flags new_trail : List ℕ) (queue_room trail_room new_trail_room start goal : ℕ)
     → IsSearch l places rooms flags labels current trail queue_room trail_room start goal
     → new_rooms ≡ pushed l takes_back amount trail rooms → AreRooms l new_rooms → AreFlags l new_rooms new_flags
     → (kept : ℕ) × (new_trail ≡ take kept trail) → All (λ p. 0 < get_or new_rooms p 0) new_trail → new_trail_room ≡ trail_room
     → IsSearch l places new_rooms new_flags labels current new_trail queue_room new_trail_room start goal
-IsSearch-pushed l takes_back amount places rooms flags labels current trail new_rooms new_flags new_trail queue_room trail_room new_trail_room start goal is made rooms_are flags_are front has trail_same =
-    let opens = opens-pushed l takes_back amount labels rooms start trail is.links is.rooms_are.0 (FallsOn-trail l labels rooms current start trail is.links is.start_is is.walking.trail_is) in
-    record {
-      links = is.links;
-      places_are = is.places_are;
-      rooms_are = rooms_are;
-      flags_are = flags_are;
-      one_label_each = is.one_label_each;
-      start_label = is.start_label;
-      valid = rw made (AreValid-opens l labels rooms (pushed l takes_back amount trail rooms) (get_or labels start 0) opens is.valid);
-      walking = rw (front.1, made) (IsWalking-pushed l takes_back amount labels rooms current trail start goal front.0 is.links is.rooms_are.0 is.start_is is.walking (rw (front.1, made) at has));
-      start_is = is.start_is;
-      goal_is = is.goal_is;
-      apart = is.apart;
-      queue_room_is = is.queue_room_is;
-      trail_room_is = omega (arith, is.trail_room_is, trail_same);
-    }
+IsSearch-pushed l takes_back amount places rooms flags labels current trail new_rooms new_flags new_trail queue_room trail_room new_trail_room start goal is made =
+    IsSearch-opens l places rooms flags labels current trail new_rooms new_flags new_trail queue_room trail_room new_trail_room start goal is
+    (subst (OpensUpwards l labels rooms) (sym made) (opens-pushed l takes_back amount labels rooms start trail is.links is.rooms_are.0 (FallsOn-trail l labels rooms current start trail is.links is.start_is is.walking.trail_is)))
 
 -- A push along the trail that leads to the goal augments.
 pub augments-pushed : (l : Links) (takes_back : Bool) (limit amount : ℕ) (places rooms flags labels current trail new_rooms : List ℕ) (queue_room trail_room start goal : ℕ)
