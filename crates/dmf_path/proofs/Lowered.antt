@@ -1,10 +1,9 @@
 -- Taking an amount off the room of one link.
-use Rattle.std.proofs.Common.{ℕ, ◌≡◌, ◌≢◌, ◌+◌, ◌-◌, ◌<◌, ◌≤◌, false, List, [], ◌∷◌, length, map, get_or, set, zero, suc, refl, ap, sym, ◌∙◌, subst, arith, ⊎_elim, eq-eqb, get_or-set_other, get_or-set_same, inl, inr, ◌⊎◌, Option, Some, None}
+use Rattle.std.proofs.Common.{ℕ, ◌≡◌, ◌≢◌, ◌-◌, ◌<◌, ◌≤◌, false, List, [], ◌∷◌, length, map, get_or, set, zero, suc, refl, ap, sym, ◌∙◌, arith, ⊎_elim, eq-eqb, get_or-set_other, get_or-set_same, inl, inr, Some, None}
 use Rattle.std.specs.Option.{option_map}
 use Rattle.std.proofs.lemmas.Option.{slice_get_within, get_or_from_slice_get, same_Some}
 use Rattle.std.proofs.lemmas.Bool.{cases_eq, ne_eqb}
 use Rattle.std.proofs.lemmas.List.{get_or-map, length-map}
-use Rattle.dmf_path.specs.declared.pair.Pair.{Pair}
 use Rattle.dmf_path.specs.Links.{Links, AreLinks, ArePlaces, IsOf, no_place, tail_of, pair_at, pairs_at}
 use Rattle.dmf_path.specs.Walk.{pushed_once}
 use Rattle.dmf_path.specs.Search.{HasAlong, lowered_pair, lowered_along}

@@ -1,5 +1,5 @@
 -- Which nodes are reached is told by which have a label.
-use Rattle.std.proofs.Common.{ℕ, ◌≡◌, ◌≢◌, ◌+◌, ◌-◌, ◌<◌, ◌==◌, ◌↔◌, not, Bool, true, false, IsTrue, List, length, get_or, map, drop, refl, ap, sym, ◌∙◌, arith, eq-eqb, length-drop}
+use Rattle.std.proofs.Common.{ℕ, ◌≡◌, ◌≢◌, ◌+◌, ◌-◌, ◌<◌, ◌↔◌, Bool, false, IsTrue, List, length, get_or, map, drop, refl, ap, sym, ◌∙◌, arith, eq-eqb, length-drop}
 use Rattle.std.specs.List.{slice_index_or}
 use Rattle.std.proofs.lemmas.Bool.{ne_eqb}
 use Rattle.std.proofs.lemmas.List.{get_or-map, get_or-drop, length-map}

@@ -1,12 +1,13 @@
 -- What a push along a trail keeps: labels stay valid, what was passed stays passed, and the links of the trail that still
 -- have room are one.
-use Rattle.std.proofs.Common.{ℕ, ◌≡◌, ◌≢◌, ◌+◌, ◌-◌, ◌<◌, ◌≤◌, ◌⊎◌, inl, inr, Bool, List, [], ◌∷◌, length, get_or, take, zero, suc, ap, sym, ◌∙◌, subst, arith, ⊎_elim, rules}
+use Rattle.std.proofs.Common.{ℕ, ◌≡◌, ◌≢◌, ◌+◌, ◌<◌, ◌≤◌, ◌⊎◌, inl, inr, Bool, List, [], ◌∷◌, length, get_or, take, zero, suc, ap, sym, ◌∙◌, arith, ⊎_elim}
 use Rattle.std.specs.List.{All}
 use Rattle.std.proofs.lemmas.List.Elements.{All-cons}
 use Rattle.dmf_path.specs.Node.{IsNode}
-use Rattle.dmf_path.specs.Links.{Links, LiesAt, AreLinks, AreRooms, tail_of}
-use Rattle.dmf_path.specs.Walk.{IsAdmissible, IsWalk, AreValid, ArePassed, IsTrail, IsWalking, least_on, pushed_once, pushed, CanPush}
-use Rattle.dmf_path.proofs.Pushing.{IsBeside, own, partner, other, is_beside, once-own, once-other, length-pushed_once}
+use Rattle.dmf_path.specs.Links.{Links, LiesAt, AreLinks, tail_of}
+use Rattle.dmf_path.specs.Walk.{IsAdmissible, IsWalk, AreValid, ArePassed, IsTrail, least_on, pushed_once, pushed, CanPush}
+use Rattle.dmf_path.proofs.LinkPlaces.{lies-within}
+use Rattle.dmf_path.proofs.Pushing.{own, partner, other, is_beside, once-own, once-other, length-pushed_once}
 
 -- The link at place `p` of node `v` falls: it leads to a label less by one.
 pub record Falls (l : Links) (labels : List ℕ) (v p : ℕ) : Type 0 where
@@ -19,28 +20,10 @@ abbrev pub FallsOn : Links → List ℕ → ℕ → List ℕ → Type 0
 FallsOn l labels v [] = Unit {0}
 FallsOn l labels v (p ∷ ps) = Falls l labels v p × FallsOn l labels (get_or l.heads p 0) ps
 
--- The links of later nodes lie behind.
-up_from : (l : Links) (v : ℕ) → AreLinks l → (d : ℕ) → v + d ≤ l.nodes + 1 → get_or l.first v 0 ≤ get_or l.first (v + d) 0
-up_from l v links zero h = omega (arith, ap (λ n. get_or l.first n 0) (let same : v ≡ v + 0 = omega arith in same))
-up_from l v links (suc d) h =
-    let before = up_from l v links d (omega (arith, h)) in
-    let next = links.ascending (v + d) (omega (arith, h)) in
-    let same : v + d + 1 ≡ v + suc d = omega arith in
-    omega (arith, before, next, ap (λ n. get_or l.first n 0) same)
-
--- A place at which a node's links lie is one of them all.
-pub below_all : (l : Links) (v p : ℕ) → AreLinks l → IsNode l.nodes v → LiesAt l v p → p < length l.heads
-below_all l v p links node lies =
-    let up : (d : ℕ) → v + 1 + d ≤ l.nodes + 1 → get_or l.first (v + 1) 0 ≤ get_or l.first (v + 1 + d) 0 = up_from l (v + 1) links in
-    let top = up (l.nodes - v) (omega (arith, node.to_last)) in
-    let same : v + 1 + (l.nodes - v) ≡ l.nodes + 1 = omega (arith, node.to_last) in
-    let last : get_or l.first (v + 1 + (l.nodes - v)) 0 ≡ length l.heads = ap (λ n. get_or l.first n 0) same ∙ links.last in
-    omega (arith, top, last, lies.below)
-
 -- an admissible link falls
 pub Falls-admissible : (l : Links) (labels rooms : List ℕ) (v p : ℕ) → AreLinks l → IsNode l.nodes v → IsAdmissible l labels rooms v p → Falls l labels v p
 Falls-admissible l labels rooms v p links node can = record {
-  within = below_all l v p links node can.lies;
+  within = lies-within l v p links node can.lies;
   tail = links.at_tail v p node can.lies;
   label = can.falls;
 }
@@ -61,7 +44,7 @@ OpensUpwards l labels old new =
 -- A push along a link that falls opens at most its opposite.
 opens-once : (l : Links) (takes_back : Bool) (amount : ℕ) (labels rooms : List ℕ) (u q : ℕ) → AreLinks l → length rooms ≡ length l.heads → Falls l labels u q → OpensUpwards l labels rooms (pushed_once l takes_back amount q rooms)
 opens-once l takes_back amount labels rooms u q links long falls v p node lies room =
-    let within = below_all l v p links node lies in
+    let within = lies-within l v p links node lies in
     elim (is_beside l q p links falls.within within) [
       | own same ↦
           let mine = once-own l takes_back amount q rooms links long falls.within in
@@ -106,7 +89,7 @@ walk-before : (l : Links) (labels old new : List ℕ) (goal v : ℕ) (ps : List 
 walk-before l labels old new goal v [] links node opens walks = walks
 walk-before l labels old new goal v (p ∷ ps) links node opens walks =
     let can = admissible-before l labels old new v p node opens walks.0 in
-    (can, walk-before l labels old new goal (get_or l.heads p 0) ps links (links.each p (below_all l v p links node can.lies)).head opens walks.1)
+    (can, walk-before l labels old new goal (get_or l.heads p 0) ps links (links.each p (lies-within l v p links node can.lies)).head opens walks.1)
 
 -- and what was passed stays passed.
 pub ArePassed-opens : (l : Links) (labels old new : List ℕ) (goal : ℕ) (current : List ℕ) → AreLinks l → OpensUpwards l labels old new → ArePassed l labels old goal current → ArePassed l labels new goal current

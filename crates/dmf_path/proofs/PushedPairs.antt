@@ -1,5 +1,5 @@
 -- Pushing along a trail changes the pairs as pushing along its path does.
-use Rattle.std.proofs.Common.{ℕ, ◌≡◌, ◌≢◌, ◌+◌, ◌-◌, ◌*◌, ◌<◌, ◌==◌, ◌||◌, Bool, true, false, cond, List, [], ◌∷◌, length, map, get_or, zero, suc, refl, ap, sym, ◌∙◌, subst, arith, ⊎_elim, eq-eqb, Option, Some, None}
+use Rattle.std.proofs.Common.{ℕ, ◌≡◌, ◌≢◌, ◌+◌, ◌-◌, ◌*◌, ◌<◌, ◌==◌, Bool, true, false, cond, List, [], ◌∷◌, length, map, get_or, suc, refl, ap, sym, ◌∙◌, subst, arith, ⊎_elim, eq-eqb, Option, Some}
 use Rattle.std.specs.List.{list_any}
 use Rattle.std.proofs.lemmas.Bool.{cases_eq, ne_eqb}
 use Rattle.dmf_path.specs.declared.pair.Pair.{Pair}
@@ -10,9 +10,9 @@ use Rattle.dmf_path.specs.Node.{IsNode}
 use Rattle.dmf_path.specs.Links.{Links, AreLinks, ArePlaces, IsOf, no_place, tail_of, pair_at, pairs_at}
 use Rattle.dmf_path.specs.Walk.{IsTrail, pushed_once, pushed}
 use Rattle.dmf_path.proofs.LinkPlaces.{partner-other}
-use Rattle.dmf_path.proofs.Steps.{rank_of, step_on, path_on}
+use Rattle.dmf_path.proofs.Steps.{rank_of, path_on}
 use Rattle.dmf_path.proofs.Ranks.{rank_of-along, rank_of-against}
-use Rattle.dmf_path.proofs.Pushing.{IsBeside, own, partner, other, is_beside, once-own, once-partner, once-other, length-pushed_once}
+use Rattle.dmf_path.proofs.Pushing.{own, partner, other, is_beside, once-own, once-partner, once-other, length-pushed_once}
 use Rattle.dmf_path.proofs.Pushed.{Falls, FallsOn, FallsOn-trail}
 
 -- whether a place is one of these

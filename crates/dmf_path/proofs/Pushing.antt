@@ -1,17 +1,14 @@
 -- Pushing along links, one after the other: what becomes of the rooms and the flags.
-use Rattle.std.proofs.Common.{ℕ, ◌≡◌, ◌≢◌, ◌+◌, ◌-◌, ◌^◌, ◌<◌, ◌≤◌, ◌⊎◌, Bool, true, false, cond, List, [], ◌∷◌, length, get_or, set, drop, min, refl, ap, sym, ◌∙◌, subst, arith, ⊎_elim, get_or-set_other, get_or-set_same, length-set}
+use Rattle.std.proofs.Common.{ℕ, ◌≡◌, ◌≢◌, ◌+◌, ◌-◌, ◌^◌, ◌<◌, ◌≤◌, Bool, true, false, cond, List, [], ◌∷◌, length, get_or, set, min, ap, sym, ◌∙◌, subst, arith, ⊎_elim, get_or-set_other, get_or-set_same, length-set}
 use Rattle.std.proofs.lemmas.Bool.{cases_eq}
-use Rattle.dmf_path.specs.Links.{Links, AreLinks, IsLink, AreRooms, AreFlags, open_flag}
+use Rattle.dmf_path.specs.Links.{Links, AreLinks, AreRooms, AreFlags, open_flag}
 use Rattle.dmf_path.specs.Walk.{least_on, pushed_once, pushed, CanPush}
+use Rattle.dmf_path.proofs.LinkPlaces.{partner-other}
 
 -- a limit may be lowered before or after
 pub least_on-min : (rooms : List ℕ) (limit x : ℕ) (ps : List ℕ) → least_on rooms (min limit x) ps ≡ min x (least_on rooms limit ps)
 least_on-min rooms limit x [] = omega arith
 least_on-min rooms limit x (p ∷ ps) = let later = least_on-min rooms limit x ps in omega (arith, later)
-
--- a link is not its own opposite
-pub partner-other : (l : Links) (p : ℕ) → AreLinks l → p < length l.heads → get_or l.partners p 0 ≢ p
-partner-other l p links within same = (links.each p within).no_loop (ap (λ q. get_or l.heads q 0) same)
 
 -- a push leaves as many rooms
 pub length-pushed_once : (l : Links) (takes_back : Bool) (amount p : ℕ) (rooms : List ℕ) → length (pushed_once l takes_back amount p rooms) ≡ length rooms

@@ -1,5 +1,5 @@
 -- What a search keeps, as it finds paths and pushes along them.
-use Rattle.std.proofs.Common.{ℕ, ◌≡◌, ◌+◌, ◌<◌, ◌≤◌, Bool, List, length, get_or, take, refl, ap, sym, ◌∙◌, subst, arith}
+use Rattle.std.proofs.Common.{ℕ, ◌≡◌, ◌<◌, ◌≤◌, Bool, List, length, get_or, take, ap, sym, ◌∙◌, subst, arith}
 use Rattle.std.specs.List.{All}
 use Rattle.dmf_path.specs.Path.{HasNoPath}
 use Rattle.dmf_path.specs.Pair.{steps_of}

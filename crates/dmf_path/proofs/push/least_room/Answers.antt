@@ -1,4 +1,4 @@
-use Rattle.std.proofs.Common.{ap, sym, ◌∙◌, arith, min, drop, get_or, ◌+◌, ◌<◌, ◌≡◌, length}
+use Rattle.std.proofs.Common.{ap, sym, ◌∙◌, arith, drop, ◌+◌, ◌<◌, length}
 use Rattle.std.proofs.lemmas.List.{drop_more}
 use Rattle.dmf_path.specs.Walk.{least_on}
 use Rattle.dmf_path.proofs.Pushing.{least_on-min}

@@ -1,7 +1,8 @@
-use Rattle.std.proofs.Common.{◌≡◌, ◌≢◌, ◌-◌, get_or, set, ap, sym, ◌∙◌, arith, get_or-set_other}
+use Rattle.std.proofs.Common.{◌≡◌, ◌≢◌, get_or, set, ap, sym, ◌∙◌, arith, get_or-set_other}
 use Rattle.std.proofs.lemmas.List.{get_or_default}
 use Rattle.dmf_path.specs.Links.{links_of, open_flag}
-use Rattle.dmf_path.proofs.Pushing.{partner-other, AreFlags-back, AreFlags-along}
+use Rattle.dmf_path.proofs.LinkPlaces.{partner-other}
+use Rattle.dmf_path.proofs.Pushing.{AreFlags-back, AreFlags-along}
 use Rattle.dmf_path.proofs.push.push_once.Goals as goal
 
 pub returns-then-takes_back-clause-flags : goal.returns-then-takes_back-clause-flags

@@ -1,4 +1,3 @@
-use Rattle.std.proofs.Common.{arith}
 use Rattle.dmf_path.specs.Links.{links_of}
 use Rattle.dmf_path.proofs.Labelled.{valid-labelled, walk-labelled}
 use Rattle.dmf_path.proofs.search.find.Goals as goal

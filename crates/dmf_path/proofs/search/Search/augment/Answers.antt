@@ -1,9 +1,6 @@
-use Rattle.std.proofs.Common.{ℕ, ◌≡◌, ◌<◌, true, false, List, length, get_or, ap, sym, ◌∙◌, refl, arith}
-use Rattle.std.specs.List.{All}
-use Rattle.std.specs.Vec.{with_items, vec_capacity}
+use Rattle.std.proofs.Common.{◌≡◌, ◌∙◌, refl, arith}
 use Rattle.std.proofs.lemmas.List.{with_items_is}
-use Rattle.dmf_path.specs.Links.{links_of}
-use Rattle.dmf_path.specs.Walk.{end_of, least_on}
+use Rattle.dmf_path.specs.Walk.{least_on}
 use Rattle.dmf_path.proofs.Searching.{IsSearch-found, can-push, IsSearch-pushed, augments-pushed, no_path-search}
 use Rattle.dmf_path.proofs.Pushed.{within-trail}
 use Rattle.dmf_path.proofs.search.Search.augment.Goals as goal

@@ -1,4 +1,4 @@
-use Rattle.std.proofs.Common.{arith, ◌≡◌, map, drop, ◌∙◌, ap}
+use Rattle.std.proofs.Common.{◌≡◌, map, drop, ◌∙◌, ap}
 use Rattle.std.proofs.lemmas.List.{with_items_is}
 use Rattle.std.proofs.lemmas.Result.{IfOk-weaker}
 use Rattle.dmf_path.specs.Links.{open_flag}
