@@ -51,6 +51,20 @@ run() {
     judge "$name" "$status" "$wanted" "$out" "$err"
 }
 
+# Judges a script in Python: the case's name, the script and its arguments. It says on standard output what failed.
+run_script() {
+    local name=$1
+    shift
+    if python3 "$@" >"$work/said" 2>&1; then
+        pass
+    else
+        fail "$name: $(head -c 2000 "$work/said")"
+    fi
+}
+
+# What `dmf solve` writes of examples/a.max.
+solution_a=$'s 5\nf 1 2 3\nf 1 3 2\nf 2 3 1\nf 2 4 2\nf 3 4 3\n'
+
 # The first call builds the program where it is not built.
 if ! ./dmf session examples/a.max </dev/null >"$work/out" 2>"$work/err"; then
     fail "the program is built: $(tail -c 3000 "$work/err")"

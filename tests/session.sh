@@ -29,19 +29,7 @@ help_words() {
     fi
 }
 
-# Judges a script in Python: the case's name, the script and its arguments. It says on standard output what failed.
-run_script() {
-    local name=$1
-    shift
-    if python3 "$@" >"$work/said" 2>&1; then
-        pass
-    else
-        fail "$name: $(head -c 2000 "$work/said")"
-    fi
-}
-
 cut_a=$'c cut 5\nc side 1\n'
-solution_a=$'s 5\nf 1 2 3\nf 1 3 2\nf 2 3 1\nf 2 4 2\nf 3 4 3\n'
 network_a=$'p max 4 5\nn 1 s\nn 4 t\na 1 2 3\na 1 3 2\na 2 3 5\na 2 4 2\na 3 4 3\n'
 
 # Words.
@@ -61,6 +49,9 @@ help_words "help" --help
 help_words "help on solve" solve --help
 help_words "help on session" session --help
 help_words "help on check" check --help
+help_words "the word help" help
+help_words "the word help before a command" help session
+run "the version" 0 $'dmf 0.1.0\n' "" --version </dev/null
 run "a cut behind the problem" 0 "$solution_a$cut_a" "" session examples/a.max --cut <<<solve
 run "words that are not UTF-8" 2 "" $'dmf: a word is not UTF-8\n' session $'\xff' </dev/null
 
@@ -111,6 +102,7 @@ run "a lenient text is written plainly" 0 \
     $'p max 3 5\nn 1 s\nn 3 t\na 1 2 4\na 2 2 9\na 1 2 7\na 2 1 6\na 2 3 9\n' "" \
     session examples/n.max <<<"print problem"
 run "standard input is a folder" 4 "" $'dmf: read failed\n' session examples/a.max <examples
+run_script "the examples of the documents and of the help" tests/examples.py
 run_script "each reply is seen before the next line is sent" tests/live_session.py
 
 # The script finds the program from any folder and through a link, and the program finds the caller's files.
@@ -118,24 +110,6 @@ ln -s "$PWD/dmf" "$work/linked"
 printf '%s' "$network_a" >"$work/here.max"
 (cd "$work" && ./linked session here.max <<<"print problem" >out 2>err)
 judge "through a link from another folder" "$?" 0 "$network_a" ""
-
-# Failing outputs.
-./dmf session examples/a.max <<<"print problem" >/dev/full 2>"$work/err"
-status=$?
-: >"$work/out"
-judge "a full device" "$status" 4 "" $'dmf: write failed\n'
-./dmf <examples/a.max >/dev/full 2>"$work/err"
-status=$?
-: >"$work/out"
-judge "a full device under a solution" "$status" 4 "" $'dmf: write failed\n'
-run_script "a closed pipe" tests/closed_pipe.py
-./dmf wash 2>&- >"$work/out" </dev/null
-status=$?
-: >"$work/err"
-judge "standard error is closed" "$status" 2 "" ""
-./dmf session "$work/full.max" 2>/dev/full >"$work/out" </dev/null
-status=$?
-judge "standard error is full" "$status" 3 "" ""
 
 # Each request for memory refused in turn.
 if command -v gcc >/dev/null; then

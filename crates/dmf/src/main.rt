@@ -5,7 +5,8 @@ mod fault;
 mod words;
 
 use dmf_run::{
-    EngineFault, Mode, Status, WordsFault, read_words, run_check, run_session, run_solve, status_of,
+    EngineFault, MAX_BYTES, Mode, Status, WordsFault, read_words, run_check, run_session,
+    run_solve, status_of,
 };
 use dmf_text::{StdSink, StdSource};
 use fault::Fault;
@@ -27,7 +28,7 @@ fn run(rt: &HostRuntime) -> Result<Status, Fault> {
         Ok(Mode::Solve { cut }) => solve(rt, cut),
         Ok(Mode::Session { cut, problem }) => hold_session(rt, problem.as_str(), cut),
         Ok(Mode::Check { problem }) => check(rt, problem.as_str()),
-        Err(WordsFault::Help(text)) => help(rt, text.as_str()),
+        Err(WordsFault::Help(text) | WordsFault::Version(text)) => print(rt, text.as_str()),
         Err(WordsFault::Usage(text)) => Err(Fault::Usage(text)),
         Err(WordsFault::NoMemory) => Err(Fault::NO_MEMORY),
     }
@@ -46,9 +47,7 @@ fn solve(rt: &HostRuntime, want_cut: bool) -> Result<Status, Fault> {
 /// Holds a session on the problem in the file at the path, with the commands from standard input, and tells the cut of
 /// each solve where it is wanted.
 fn hold_session(rt: &HostRuntime, path: &str, want_cut: bool) -> Result<Status, Fault> {
-    let Ok(file) = File::open(rt, path) else {
-        return Err(Fault::Open);
-    };
+    let file = open_problem(rt, path)?;
     let Ok(writer) = BufWriter::new(rt.alloc(), rt.stdout()) else {
         return Err(Fault::NO_MEMORY);
     };
@@ -60,9 +59,7 @@ fn hold_session(rt: &HostRuntime, path: &str, want_cut: bool) -> Result<Status, 
 
 /// Checks the solution on standard input of the problem in the file at the path.
 fn check(rt: &HostRuntime, path: &str) -> Result<Status, Fault> {
-    let Ok(file) = File::open(rt, path) else {
-        return Err(Fault::Open);
-    };
+    let file = open_problem(rt, path)?;
     let Ok(writer) = BufWriter::new(rt.alloc(), rt.stdout()) else {
         return Err(Fault::NO_MEMORY);
     };
@@ -72,8 +69,25 @@ fn check(rt: &HostRuntime, path: &str) -> Result<Status, Fault> {
     run_check(rt.alloc(), &mut problem, &mut solution, &mut out).map_err(Fault::Run)
 }
 
-/// Writes the help that was asked for.
-fn help(rt: &HostRuntime, text: &str) -> Result<Status, Fault> {
+/// Opens the problem's file. One whose size is past the limit is not read at all.
+///
+/// Where standard input was closed when the program began, the system gives its descriptor to the next file that is opened,
+/// and the problem would be read as the commands too. So the problem is read by a copy of the first descriptor, which is
+/// none of the standard streams', and the first one is closed.
+fn open_problem(rt: &HostRuntime, path: &str) -> Result<File, Fault> {
+    let Ok(file) = File::open(rt, path).and_then(|file| file.try_clone()) else {
+        return Err(Fault::Open);
+    };
+    match file.metadata() {
+        Ok(told) if told.is_file() && told.len() > MAX_BYTES => {
+            Err(Fault::Run(EngineFault::TooMuchInput))
+        }
+        _ => Ok(file),
+    }
+}
+
+/// Writes the text that was asked for.
+fn print(rt: &HostRuntime, text: &str) -> Result<Status, Fault> {
     match print!(rt; "{text}") {
         Ok(()) => Ok(Status::Well),
         Err(_) => Err(Fault::Run(EngineFault::Write)),

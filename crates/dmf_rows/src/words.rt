@@ -75,7 +75,7 @@ fn words_are_refused_with_a_text(rt: HostRuntime) -> Result<(), Fail> {
             "solve --cut=yes",
             "unexpected value 'yes' for '--cut' found",
         ),
-        ("--version", "unexpected argument '--version' found"),
+        ("solve --version", "unexpected argument '--version' found"),
     ] {
         let Err(WordsFault::Usage(text)) = read(alloc, line)? else {
             return Err(Fail::from(line));
@@ -86,10 +86,37 @@ fn words_are_refused_with_a_text(rt: HostRuntime) -> Result<(), Fail> {
     Ok(())
 }
 
+// How the program is used, by which words that it does not take are answered.
+const USAGE: &str = "Usage: dmf [solve [--cut]] <FILE
+       dmf session [--cut] PROBLEM
+       dmf check PROBLEM <SOLUTION
+";
+
+#[test]
+fn refused_words_are_told_the_right_form(rt: HostRuntime) -> Result<(), Fail> {
+    let alloc = rt.alloc();
+    // What the words are, and how they could be right.
+    for (line, form) in [
+        ("--cut", USAGE),
+        ("net.max", USAGE),
+        ("solve net.max", "Usage: dmf solve [--cut] <FILE\n"),
+        ("session", "Usage: dmf session [--cut] PROBLEM\n"),
+        ("check", "Usage: dmf check PROBLEM <SOLUTION\n"),
+    ] {
+        let Err(WordsFault::Usage(text)) = read(alloc, line)? else {
+            return Err(Fail::from(line));
+        };
+        assert!(rt; text.as_str().contains(form), "{line}: {text}");
+    }
+    Ok(())
+}
+
 const HELP: &str =
     "Solve maximum-flow problems in the DIMACS format, and hold what-if sessions on them
 
-Usage: dmf [COMMAND]
+Usage: dmf [solve [--cut]] <FILE
+       dmf session [--cut] PROBLEM
+       dmf check PROBLEM <SOLUTION
 
 Commands:
   solve    Solve the problem on standard input (without a command, dmf does so too)
@@ -98,43 +125,76 @@ Commands:
   help     Print this message or the help of the given subcommand(s)
 
 Options:
-  -h, --help  Print help
+  -h, --help     Print help
+  -V, --version  Print version
+
+Example:
+  dmf solve --cut <network.max
 
 Status:
   0  all is well
   1  a command was refused, or the checked flow is not the greatest
   2  the words are none that dmf takes
   3  the problem or the solution has a fault
-  4  a read or a write failed, PROBLEM cannot be opened, or a limit of size was passed
+  4  a read or a write failed, PROBLEM cannot be opened, or a limit of size
+     was passed
   5  a request for memory was refused
+
+Each command's --help has an example of its replies. man dmf has the formats.
 ";
 
 #[test]
 fn help_is_told(rt: HostRuntime) -> Result<(), Fail> {
     let alloc = rt.alloc();
+    let solve = "Usage: dmf solve [--cut] <FILE\n";
+    let session = "Usage: dmf session [--cut] PROBLEM\n";
+    let check = "Usage: dmf check PROBLEM <SOLUTION\n";
     // What the words are, and what the text has.
     for (line, part) in [
         ("--help", HELP),
         ("-h", HELP),
         ("help", HELP),
-        ("solve --help", "Usage: dmf solve [OPTIONS]\n"),
+        ("solve --help", solve),
         (
             "solve --help",
             "--cut   Write the smallest minimum cut after the solution\n",
         ),
-        ("session --help", "Usage: dmf session [OPTIONS] <PROBLEM>\n"),
+        (
+            "solve --help",
+            "\n  $ dmf solve --cut <network.max\n  s 5\n",
+        ),
+        ("session --help", session),
         (
             "session --help",
             "--cut   Write the smallest minimum cut after each solution\n",
         ),
-        ("session --help", "  undo [K], redo [K]  "),
-        ("check --help", "Usage: dmf check <PROBLEM>\n"),
-        ("help check", "Usage: dmf check <PROBLEM>\n"),
+        ("session --help", "\n  undo [K]    "),
+        ("session --help", "  c undo value VALUE\n"),
+        ("session --help", "closed\nones keep their numbers.\n"),
+        ("session --help", "at a terminal by Ctrl-D.\n"),
+        ("session --help", "| dmf session network.max\n"),
+        ("check --help", check),
+        ("check --help", "| dmf check network.max\n  c greatest 5\n"),
+        ("help solve", solve),
+        ("help session", session),
+        ("help check", check),
     ] {
         let Err(WordsFault::Help(text)) = read(alloc, line)? else {
             return Err(Fail::from(line));
         };
         assert!(rt; text.as_str().contains(part), "{line}: {text}");
+    }
+    Ok(())
+}
+
+#[test]
+fn the_version_is_told(rt: HostRuntime) -> Result<(), Fail> {
+    let alloc = rt.alloc();
+    for line in ["--version", "-V"] {
+        let Err(WordsFault::Version(text)) = read(alloc, line)? else {
+            return Err(Fail::from(line));
+        };
+        assert!(rt; text.as_str() == "dmf 0.1.0\n", "{line}: {text}");
     }
     Ok(())
 }

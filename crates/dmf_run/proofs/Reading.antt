@@ -9,8 +9,8 @@ use Rattle.dmf_run.specs.declared.words.WordsFault.{WordsFault}
 use Rattle.dmf_run.specs.declared.words.WordsFault.TheVariants.{NoMemory}
 use Rattle.dmf_run.specs.Matches.{Asked, asked_of}
 use Rattle.clap.specs.Words.{Row, first_of, one_of}
-use Rattle.dmf_run.specs.Words.{Text, Gives, IsHelp, IsUsage, ReadsWords, solving, holding, checking}
-use Rattle.dmf_run.proofs.Table.{faults_in, asked_in, nothing_taken, nothing_asked, solve_taken, solve_asked, solve_cut_taken, solve_cut_asked, session_taken, session_asked, cut_first_taken, cut_first_asked, cut_last_taken, cut_last_asked, check_taken, check_asked, help_asked, solve_help_asked, session_help_asked, check_help_asked, cut_alone_refused, session_alone_refused, check_alone_refused, solve_path_refused, session_second_refused, check_second_refused, check_cut_refused, unknown_refused}
+use Rattle.dmf_run.specs.Words.{Text, Gives, IsHelp, IsUsage, IsVersion, ReadsWords, solving, holding, checking}
+use Rattle.dmf_run.proofs.Table.{faults_in, asked_in, nothing_taken, nothing_asked, solve_taken, solve_asked, solve_cut_taken, solve_cut_asked, session_taken, session_asked, cut_first_taken, cut_first_asked, cut_last_taken, cut_last_asked, check_taken, check_asked, help_asked, solve_help_asked, session_help_asked, check_help_asked, version_asked, cut_alone_refused, session_alone_refused, check_alone_refused, solve_path_refused, session_second_refused, check_second_refused, check_cut_refused, unknown_refused}
 
 -- a list of no kinds has no first one
 no_kinds : {k : ErrorKind} {ks : Kinds} → [] ≡ k ∷ ks → ⊥
@@ -47,6 +47,7 @@ module _ (words : List Text) (asked : Asked) (result : Result Mode WordsFault)
     solve_help = λ is. absurd (untaken _ is solve_help_asked);
     session_help = λ is. absurd (untaken _ is session_help_asked);
     check_help = λ is. absurd (untaken _ is check_help_asked);
+    version = λ is. absurd (untaken _ is version_asked);
     cut_alone = λ rest is. absurd (untaken _ is (cut_alone_refused rest));
     no_problem = λ is. elim is [
       | inl held ↦ absurd (untaken _ held session_alone_refused)
@@ -65,6 +66,7 @@ module _ (words : List Text) (asked : Asked) (result : Result Mode WordsFault)
 module _ (words : List Text) (kind : ErrorKind) (fault : WordsFault)
     (among : (kind ≡ OutOfMemory) ⊎ IsAmong kind (faults_in words))
     (memory : kind ≡ OutOfMemory → fault ≡ NoMemory) (help : kind ≡ DisplayHelp → IsHelp fault)
+    (version : kind ≡ DisplayVersion → IsVersion fault)
     (usage : kind ≢ DisplayHelp → kind ≢ DisplayVersion → IsUsage fault) where
   -- words without a fault are refused for want of memory alone
   short : (row : List Text) → words ≡ row → faults_in row ≡ [] → fault ≡ NoMemory
@@ -77,6 +79,12 @@ module _ (words : List Text) (kind : ErrorKind) (fault : WordsFault)
   helped row is known = elim among [
     | inl no_memory ↦ subst IsHelp (sym (memory no_memory)) tt
     | inr other ↦ elim (subst (IsAmong kind) (ap faults_in is ∙ known) other) [ inl asked ↦ help asked | inr none ↦ absurd none ]
+  ]
+
+  versioned : (row : List Text) → words ≡ row → faults_in row ≡ DisplayVersion ∷ [] → IsVersion fault
+  versioned row is known = elim among [
+    | inl no_memory ↦ subst IsVersion (sym (memory no_memory)) tt
+    | inr other ↦ elim (subst (IsAmong kind) (ap faults_in is ∙ known) other) [ inl asked ↦ version asked | inr none ↦ absurd none ]
   ]
 
   told : (k : ErrorKind) → k ≢ DisplayHelp → k ≢ DisplayVersion → kind ≡ k → IsUsage fault
@@ -121,6 +129,7 @@ module _ (words : List Text) (kind : ErrorKind) (fault : WordsFault)
     solve_help = λ is. helped _ is solve_help_asked;
     session_help = λ is. helped _ is session_help_asked;
     check_help = λ is. helped _ is check_help_asked;
+    version = λ is. versioned _ is version_asked;
     cut_alone = λ rest is. stray _ is (cut_alone_refused rest);
     no_problem = λ is. elim is [ inl held ↦ missing _ held session_alone_refused | inr checked ↦ missing _ checked check_alone_refused ];
     solve_path = λ path plain is. stray _ is (solve_path_refused path plain);

@@ -7,7 +7,7 @@ use Rattle.clap.specs.Faults.{built_fault, is_simple_and_free}
 use Rattle.clap.specs.Simple.{built, entered, is_simple, names_of}
 use Rattle.clap.specs.Walk.{nothing_held, stop_after}
 use Rattle.clap.specs.Values.{bool_text}
-use Rattle.clap.specs.declared.error.kind.ErrorKind.TheVariants.{DisplayHelp, UnknownArgument, InvalidSubcommand, MissingRequiredArgument}
+use Rattle.clap.specs.declared.error.kind.ErrorKind.TheVariants.{DisplayHelp, DisplayVersion, UnknownArgument, InvalidSubcommand, MissingRequiredArgument}
 use Rattle.clap.proofs.OnLiterals.{clap_on_literals}
 use Rattle.dmf_run.specs.Matches.{Asked, asked_of, command_line}
 use Rattle.dmf_run.specs.Words.{Text, IsPlain, IsNoCommand}
@@ -116,6 +116,12 @@ session_help_asked = refl
 pub check_help_asked : faults_in (codes "check" ∷ codes "--help" ∷ []) ≡ DisplayHelp ∷ []
 unfolding clap_on_literals
 check_help_asked = refl
+
+-- ---- words that ask for the version
+
+pub version_asked : faults_in (codes "--version" ∷ []) ≡ DisplayVersion ∷ []
+unfolding clap_on_literals
+version_asked = refl
 
 -- ---- words that are refused
 

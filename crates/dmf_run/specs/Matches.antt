@@ -1,6 +1,7 @@
 -- The command line that the program takes, as its parser sees it, and what the parser found.
 use Rattle.std.specs.Prelude.{List, Option, Some, codes, true, option_map}
 use Rattle.clap.specs.Words.{App, Row, Rule, Text, first_of, new_app, new_rule, one_of, with_rule, with_subcommand}
+use Rattle.clap.specs.Simple.{on_top}
 use Rattle.clap.specs.declared.builder.action.ArgAction.TheVariants.{SetTrue}
 
 abbrev pub cut_rule : Rule
@@ -18,9 +19,13 @@ session_line = with_rule (with_rule (new_app (codes "session")) cut_rule) proble
 abbrev pub check_line : App
 check_line = with_rule (new_app (codes "check")) problem_rule
 
+-- the program itself, which has a version
+abbrev pub program_line : App
+program_line = on_top (λ line. record line { has_version = true }) (new_app (codes "dmf"))
+
 abbrev pub command_line : App
 command_line =
-    with_subcommand (with_subcommand (with_subcommand (new_app (codes "dmf")) solve_line.top) session_line.top) check_line.top
+    with_subcommand (with_subcommand (with_subcommand program_line solve_line.top) session_line.top) check_line.top
 
 -- the command that was found, with the texts of its flag and of its path, where it has them
 abbrev pub Asked : Type 0

@@ -3,7 +3,7 @@ use Rattle.std.specs.Prelude.{ℕ, ◌≡◌, ◌≢◌, ◌⊎◌, ◌==◌, Bo
 use Rattle.dmf_run.specs.declared.words.Mode.{Mode}
 use Rattle.dmf_run.specs.declared.words.Mode.TheVariants as mode
 use Rattle.dmf_run.specs.declared.words.WordsFault.{WordsFault}
-use Rattle.dmf_run.specs.declared.words.WordsFault.TheVariants.{Help, Usage, NoMemory}
+use Rattle.dmf_run.specs.declared.words.WordsFault.TheVariants.{Help, Version, Usage, NoMemory}
 
 abbrev pub Text : Type 0
 Text = List ℕ
@@ -25,17 +25,29 @@ Gives task = λ result. MatchResult result (λ m. task_of m ≡ task) (λ fault.
 
 abbrev pub IsHelp : WordsFault → Type 0
 IsHelp (Help text) = ⊤
+IsHelp (Version text) = ⊥
 IsHelp (Usage text) = ⊥
 IsHelp NoMemory = ⊤
 
+abbrev pub IsVersion : WordsFault → Type 0
+IsVersion (Help text) = ⊥
+IsVersion (Version text) = ⊤
+IsVersion (Usage text) = ⊥
+IsVersion NoMemory = ⊤
+
 abbrev pub IsUsage : WordsFault → Type 0
 IsUsage (Help text) = ⊥
+IsUsage (Version text) = ⊥
 IsUsage (Usage text) = ⊤
 IsUsage NoMemory = ⊤
 
 -- Reading the words gave a text of help, or memory was refused.
 abbrev pub GivesHelp : Result Mode WordsFault → Type 0
 GivesHelp result = IsErrAnd result IsHelp
+
+-- Reading the words gave a text of the version, or memory was refused.
+abbrev pub GivesVersion : Result Mode WordsFault → Type 0
+GivesVersion result = IsErrAnd result IsVersion
 
 -- The words were refused with a text, or memory was refused.
 abbrev pub GivesUsage : Result Mode WordsFault → Type 0
@@ -69,6 +81,7 @@ pub record ReadsWords (words : List Text) (result : Result Mode WordsFault) : Ty
   pub solve_help : words ≡ codes "solve" ∷ codes "--help" ∷ [] → GivesHelp result
   pub session_help : words ≡ codes "session" ∷ codes "--help" ∷ [] → GivesHelp result
   pub check_help : words ≡ codes "check" ∷ codes "--help" ∷ [] → GivesHelp result
+  pub version : words ≡ codes "--version" ∷ [] → GivesVersion result
   pub cut_alone : (rest : List Text) → words ≡ codes "--cut" ∷ rest → GivesUsage result
   pub no_problem : (words ≡ codes "session" ∷ []) ⊎ (words ≡ codes "check" ∷ []) → GivesUsage result
   pub solve_path : (path : Text) → IsPlain path → words ≡ codes "solve" ∷ path ∷ [] → GivesUsage result

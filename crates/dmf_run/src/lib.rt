@@ -14,6 +14,7 @@ pub use words::{Mode, WordsFault, read_words};
 mod check;
 mod command_line;
 mod fault;
+mod help;
 mod input;
 mod laws;
 mod problem;

@@ -3,9 +3,10 @@ ghost use Rattle.std.specs.Prelude.{◌≡◌, ◌≢◌, IfOk, Bool, Option, So
 ghost use Rattle.clap.specs.Words.{app_of, first_value, found_of, kind_of, rule_of, subcommand_rows_of};
 ghost use Rattle.clap.specs.Values.{bool_text};
 ghost use Rattle.dmf_run.specs.Matches.{asked_of, command_line, cut_rule, problem_rule};
-ghost use Rattle.dmf_run.specs.Words.{Gives, IsHelp, IsUsage, ReadsWords, Text, solving, holding, checking};
+ghost use Rattle.dmf_run.specs.Words.{Gives, IsHelp, IsUsage, IsVersion, ReadsWords, Text, solving, holding, checking};
 ghost use Rattle.dmf_run.specs.declared.words.WordsFault.TheVariants.{NoMemory};
 
+use crate::help;
 use clap::error::ErrorKind;
 use clap::{Arg, ArgAction, ArgMatches, Command, Error};
 use std::alloc::{AllocError, Global};
@@ -26,37 +27,21 @@ pub enum Mode {
 pub enum WordsFault {
     /// They ask for help, and this is its text.
     Help(String),
+    /// They ask for the program's version, and this is its text.
+    Version(String),
     /// They are none that the program takes, and this text says why.
     Usage(String),
     /// A request for memory was refused.
     NoMemory,
 }
 
-/// What stands behind the list of commands in the help of `dmf`.
-const STATUSES: &str = "Status:
-  0  all is well
-  1  a command was refused, or the checked flow is not the greatest
-  2  the words are none that dmf takes
-  3  the problem or the solution has a fault
-  4  a read or a write failed, PROBLEM cannot be opened, or a limit of size was passed
-  5  a request for memory was refused";
-
-/// What stands at the end of the help of `dmf session`.
-const COMMANDS: &str = "Commands, one a line on standard input:
-  cap I U             arc I gets the capacity U
-  add V W U           a new arc from V to W of capacity U
-  close I             arc I is closed
-  solve               the greatest flow is made of the present one
-  undo [K], redo [K]  one change or K changes back, or forward again
-  print WHAT          WHAT is problem, flow or cut";
-
 /// Reads the words of a command line, of which the first is the program's name.
 ///
 /// No words behind it, or `solve`, ask for [`Mode::Solve`]; `session PROBLEM` asks for [`Mode::Session`], and
 /// `check PROBLEM` for [`Mode::Check`]. The flag `--cut` may stand behind `solve` and `session`, and `--help` behind each
-/// command and alone: it is answered by [`WordsFault::Help`]. A PROBLEM that begins with a dash stands behind `--`. All
-/// other words are refused by [`WordsFault::Usage`]; the texts are those of `clap`. [`WordsFault::NoMemory`] may come in
-/// place of any answer.
+/// command and alone: it is answered by [`WordsFault::Help`], and so is `help`, alone or before a command. `--version` alone
+/// is answered by [`WordsFault::Version`]. A PROBLEM that begins with a dash stands behind `--`. All other words are refused
+/// by [`WordsFault::Usage`]; the texts are those of `clap`. [`WordsFault::NoMemory`] may come in place of any answer.
 pub fn read_words(alloc: Global, words: Vec<String>) -> Result<Mode, WordsFault>
     ensures { ReadsWords (drop 1 (map (λ word. word.bytes.items) words.items)) result }
 {
@@ -75,20 +60,27 @@ fn command<'a>(alloc: Global) -> Result<Command<'a>, AllocError>
 {
     let solve = Command::new(alloc, "solve")
         .about("Solve the problem on standard input (without a command, dmf does so too)")
+        .override_usage(help::SOLVE_USAGE)
+        .after_help(help::SOLVE_NOTES)
         .arg(cut(alloc, "Write the smallest minimum cut after the solution"))?;
     let session = Command::new(alloc, "session")
         .about("Carry out the commands on standard input, on the problem in a file")
-        .after_help(COMMANDS)
+        .override_usage(help::SESSION_USAGE)
+        .after_help(help::SESSION_NOTES)
         .arg(cut(alloc, "Write the smallest minimum cut after each solution"))?
         .arg(problem(alloc))?;
     let check = Command::new(alloc, "check")
         .about("Judge the solution on standard input, of the problem in a file")
+        .override_usage(help::CHECK_USAGE)
+        .after_help(help::CHECK_NOTES)
         .arg(problem(alloc))?;
     Command::new(alloc, "dmf")
         .about(
             "Solve maximum-flow problems in the DIMACS format, and hold what-if sessions on them",
         )
-        .after_help(STATUSES)
+        .version(help::VERSION)
+        .override_usage(help::USAGE)
+        .after_help(help::NOTES)
         .subcommand(solve)?
         .subcommand(session)?
         .subcommand(check)
@@ -164,6 +156,7 @@ fn path_of(alloc: Global, matches: &ArgMatches<'_>) -> Result<String, AllocError
 fn fault_of(alloc: Global, error: &Error) -> WordsFault
     ensures memory { kind_of error.now ≡ ErrorKind.OutOfMemory → result ≡ NoMemory }
     ensures help { kind_of error.now ≡ ErrorKind.DisplayHelp → IsHelp result }
+    ensures version { kind_of error.now ≡ ErrorKind.DisplayVersion → IsVersion result }
     ensures usage { kind_of error.now ≢ ErrorKind.DisplayHelp → kind_of error.now ≢ ErrorKind.DisplayVersion
         → IsUsage result }
 {
@@ -173,9 +166,9 @@ fn fault_of(alloc: Global, error: &Error) -> WordsFault
     let Ok(text) = format!(in alloc; "{error}") else {
         return WordsFault::NoMemory;
     };
-    if error.use_stderr() {
-        WordsFault::Usage(text)
-    } else {
-        WordsFault::Help(text)
+    match error.kind() {
+        ErrorKind::DisplayHelp => WordsFault::Help(text),
+        ErrorKind::DisplayVersion => WordsFault::Version(text),
+        _ => WordsFault::Usage(text),
     }
 }

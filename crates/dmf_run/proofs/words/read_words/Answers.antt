@@ -34,4 +34,4 @@ returns c =
     let among = c.in-Err.ensures.kinds (ap is_simple_and_free line ∙ line_is_free) in
     refused_reads (drop 1 all) kind c.fault_of.result
     (subst (λ (kinds : Kinds). (kind ≡ OutOfMemory) ⊎ IsAmong kind kinds) (ap₂ fault_of line words_are) among)
-    c.fault_of.ensures.memory c.fault_of.ensures.help c.fault_of.ensures.usage
+    c.fault_of.ensures.memory c.fault_of.ensures.help c.fault_of.ensures.version c.fault_of.ensures.usage
