@@ -83,9 +83,10 @@ pub fn smallest_side(alloc: Global, state: &State) -> Result<Side, CutFault>
     })
 }
 
-/// The smallest side of the network that an edit makes of the state's, which does not change.
+/// The smallest side of the network that an edit makes of the state's, which does not change. The edit fits the state, as
+/// one that was planned on it does.
 ///
-/// The edit's flow must be greatest; else the answer is as that of [`smallest_side`]. Takes memory for a copy of the
+/// Its flow must be greatest; else the answer is as that of [`smallest_side`]. Takes memory for a copy of the
 /// state too.
 pub fn side_after(alloc: Global, state: &State, edit: &Edit) -> Result<Side, CutFault>
     requires { Fits edit.now state.now }

@@ -45,7 +45,8 @@ pub trait History {
         ensures count { result ≡ future_of (timeline self.now) }
         ensures timeline { IsTimeline (timeline self.now) };
 
-    /// Drops the states past the present one, and appends what the edit makes of it as the present one.
+    /// Drops the states past the present one, and appends what the edit makes of it as the present one. The edit fits the
+    /// present state, as one that was planned on it does, and fewer than [`MAX_CHANGES`] states stand before it.
     ///
     /// Fails only where memory is refused; then nothing has changed.
     fn append(&mut self, edit: Edit) -> Result<(), NoMemory>

@@ -56,7 +56,8 @@ impl<H: History> Session<H> {
         self.history.future()
     }
 
-    /// Carries out a command.
+    /// Carries out a command. A change needs room in the history: fewer than [`MAX_CHANGES`] states before the present one,
+    /// which [`Session::past`] tells.
     ///
     /// A command that is refused changes nothing. Only a change, a step forward over an added arc and a cut take memory.
     /// After a solve the value of the present flow is the greatest of all flows, and the capacity of the smallest minimum

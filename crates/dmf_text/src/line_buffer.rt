@@ -30,7 +30,7 @@ impl LineBuffer {
         }
     }
 
-    /// Adds a text in front.
+    /// Adds a text in front. The line has at most 80 bytes with it.
     pub fn add_text(&mut self, text: &[u8])
         requires { length text.now + length self.old ≤ 80 }
         ensures { self.new ≡ text.now ++ self.old }
@@ -40,7 +40,7 @@ impl LineBuffer {
         self.bytes[self.start..end].copy_from_slice(text);
     }
 
-    /// Adds a number in front.
+    /// Adds a number in front of a line of at most 60 bytes, so that each number has room.
     pub fn add_number(&mut self, number: u64)
         requires { 20 + length self.old ≤ 80 }
         ensures text { self.new ≡ decimal number ++ self.old }
