@@ -56,7 +56,7 @@ impl Model for State {
 }
 
 impl State {
-    /// The state without arcs, of 2 to [`MAX_NODES`] nodes. The source and the sink are two of them. Takes no memory.
+    /// The state without arcs, of 2 to [`crate::MAX_NODES`] nodes. The source and the sink are two of them. Takes no memory.
     pub fn new(alloc: Global, nodes: u32, source: u32, sink: u32) -> Self
         requires at_least_two_nodes { 2 ≤ nodes }
         requires at_most_nodes { nodes ≤ 2 ^ 24 }

@@ -56,7 +56,7 @@ impl<H: History> Session<H> {
         self.history.future()
     }
 
-    /// Carries out a command. A change needs room in the history: fewer than [`MAX_CHANGES`] states before the present one,
+    /// Carries out a command. A change needs room in the history: fewer than [`crate::MAX_CHANGES`] states before the present one,
     /// which [`Session::past`] tells.
     ///
     /// A command that is refused changes nothing. Only a change, a step forward over an added arc and a cut take memory.
