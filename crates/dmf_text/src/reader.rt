@@ -1,7 +1,8 @@
 //! What texts are read from.
-ghost use Rattle.std.specs.Prelude.{◌≡◌, ℕ, ◌≤◌, ◌||◌, List, length, Bool, false, Option, None, IfOk, is_err};
+ghost use Rattle.std.specs.Prelude.{◌≡◌, ℕ, ◌≤◌, ◌||◌, List, length, Bool, false, Option, None, Ok, IfOk, IsErr, MatchResult, is_err};
 ghost use Rattle.std.specs.Io.KnownBytes.{ReadConsumes};
 
+use std::io;
 use std::io::Read;
 use thiserror::Error;
 
@@ -52,12 +53,15 @@ impl<R: Read> Source for StdSource<R> {
     ghost has_failed = { λ s. s.failed };
 
     fn read(&mut self, buffer: &mut [u8]) -> Result<usize, Failed> {
-        match self.reader.read(buffer) {
-            Ok(n) => Ok(n),
-            Err(_) => {
-                self.failed = true;
-                Err(Failed)
-            }
-        }
+        let given = without_reason(self.reader.read(buffer));
+        self.failed |= given.is_err();
+        given
     }
+}
+
+/// What one of std's calls answered, where each of its errors is `Failed`.
+pub(crate) fn without_reason<T>(answer: io::Result<T>) -> Result<T, Failed>
+    ensures { MatchResult answer (λ value. result ≡ Ok value) (λ _. IsErr result) }
+{
+    answer.map_err(|_| Failed)
 }

@@ -54,6 +54,71 @@ impl<'a> Write for SlowWriter<'a> {
     }
 }
 
+// Passes its calls on, and counts them.
+#[derive(Drop)]
+struct Counted<'a, T> {
+    inner: T,
+    calls: &'a mut usize,
+}
+
+impl<'a, T: Read> Read for Counted<'a, T> {
+    fn read(&mut self, buffer: &mut [u8]) -> io::Result<usize> {
+        *self.calls = self.calls.saturating_add(1);
+        self.inner.read(buffer)
+    }
+}
+
+impl<'a, T: Write> Write for Counted<'a, T> {
+    fn write(&mut self, bytes: &[u8]) -> io::Result<usize> {
+        *self.calls = self.calls.saturating_add(1);
+        self.inner.write(bytes)
+    }
+
+    fn flush(&mut self) -> io::Result<()> {
+        self.inner.flush()
+    }
+}
+
+// 5,000 bytes, of which no two neighbours are equal.
+fn long_text(rt: &HostRuntime) -> Result<Vec<u8>, Fail> {
+    let mut text = Vec::new(rt.alloc());
+    for number in 0..5000u16 {
+        text.push((number % 251) as u8)?;
+    }
+    Ok(text)
+}
+
+#[test]
+fn one_read_gives_a_long_text(rt: HostRuntime) -> Result<(), Fail> {
+    let text = long_text(&rt)?;
+    let mut calls = 0;
+    let mut source = StdSource::new(Counted {
+        inner: text.as_slice(),
+        calls: &mut calls,
+    });
+    let mut buffer = [0u8; 5000];
+    assert_eq!(rt; source.read(&mut buffer), Ok(5000));
+    assert_eq!(rt; buffer.as_slice(), text.as_slice());
+    assert_eq!(rt; calls, 1);
+    Ok(())
+}
+
+#[test]
+fn one_put_takes_a_long_text(rt: HostRuntime) -> Result<(), Fail> {
+    let text = long_text(&rt)?;
+    let mut calls = 0;
+    let mut held = Vec::new(rt.alloc());
+    let mut sink = StdSink::new(Counted {
+        inner: &mut held,
+        calls: &mut calls,
+    });
+    assert_eq!(rt; sink.put(&text), Ok(5000));
+    assert_eq!(rt; sink.flush(), Ok(()));
+    assert_eq!(rt; held.as_slice(), text.as_slice());
+    assert_eq!(rt; calls, 1);
+    Ok(())
+}
+
 #[test]
 fn a_source_gives_bytes_and_failures(rt: HostRuntime) -> Result<(), Fail> {
     let mut source = StdSource::new(SlowReader {

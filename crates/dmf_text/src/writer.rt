@@ -1,9 +1,10 @@
 //! What texts are written to.
-ghost use Rattle.std.specs.Prelude.{◌≡◌, ℕ, ◌≤◌, ◌<◌, ◌||◌, List, length, Bool, false, Option, None, IfOk, is_err};
+ghost use Rattle.std.specs.Prelude.{◌≡◌, ◌≢◌, ◌↔◌, ◌⊎◌, ℕ, ◌≤◌, ◌<◌, ◌||◌, List, [], length, Bool, false, Option, None, Ok, IfOk, IsErr, is_err};
 ghost use Rattle.std.specs.Io.KnownBytes.{Keeps, WriteAppends};
 ghost use Rattle.dmf_text.specs.Writing.{Writes};
 
-use super::reader::Failed;
+use super::reader::{Failed, without_reason};
+use std::io;
 use std::io::Write;
 use thiserror::Error;
 
@@ -61,23 +62,26 @@ impl<W: Write> Sink for StdSink<W> {
     ghost has_failed = { λ s. s.failed };
 
     fn put(&mut self, bytes: &[u8]) -> Result<usize, Failed> {
-        match self.writer.write(bytes) {
-            Ok(n) if n > 0 || bytes.is_empty() => Ok(n),
-            _ => {
-                self.failed = true;
-                Err(Failed)
-            }
-        }
+        let taken = taken(self.writer.write(bytes), bytes);
+        self.failed |= taken.is_err();
+        taken
     }
 
     fn flush(&mut self) -> Result<(), Failed> {
-        match self.writer.flush() {
-            Ok(()) => Ok(()),
-            Err(_) => {
-                self.failed = true;
-                Err(Failed)
-            }
-        }
+        let passed_on = without_reason(self.writer.flush());
+        self.failed |= passed_on.is_err();
+        passed_on
+    }
+}
+
+/// What a write of the bytes answered, where a count of 0 for some bytes is `Failed` too.
+fn taken(answer: io::Result<usize>, bytes: &[u8]) -> Result<usize, Failed>
+    ensures fails { IsErr result ↔ (IsErr answer ⊎ ((answer ≡ Ok 0) × (bytes.now ≢ []))) }
+    ensures count { IfOk result (λ n. answer ≡ Ok n) }
+{
+    match answer {
+        Ok(0) if !bytes.is_empty() => Err(Failed),
+        answer => without_reason(answer),
     }
 }
 
