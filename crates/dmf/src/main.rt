@@ -35,6 +35,7 @@ fn run(rt: &HostRuntime) -> Result<Status, Fault> {
 }
 
 /// Solves the problem on standard input, and tells the cut where it is wanted.
+#[inline(never)]
 fn solve(rt: &HostRuntime, want_cut: bool) -> Result<Status, Fault> {
     let Ok(writer) = BufWriter::new(rt.alloc(), rt.stdout()) else {
         return Err(Fault::NO_MEMORY);
@@ -46,6 +47,7 @@ fn solve(rt: &HostRuntime, want_cut: bool) -> Result<Status, Fault> {
 
 /// Holds a session on the problem in the file at the path, with the commands from standard input, and tells the cut of
 /// each solve where it is wanted.
+#[inline(never)]
 fn hold_session(rt: &HostRuntime, path: &str, want_cut: bool) -> Result<Status, Fault> {
     let file = open_problem(rt, path)?;
     let Ok(writer) = BufWriter::new(rt.alloc(), rt.stdout()) else {
@@ -58,6 +60,7 @@ fn hold_session(rt: &HostRuntime, path: &str, want_cut: bool) -> Result<Status, 
 }
 
 /// Checks the solution on standard input of the problem in the file at the path.
+#[inline(never)]
 fn check(rt: &HostRuntime, path: &str) -> Result<Status, Fault> {
     let file = open_problem(rt, path)?;
     let Ok(writer) = BufWriter::new(rt.alloc(), rt.stdout()) else {

@@ -11,3 +11,4 @@ pub mod OneRun
 pub mod OptimalRuns
 pub mod Table
 pub mod Reading
+pub mod CommandLemmas

@@ -17,7 +17,7 @@ pub const MAX_LINE: usize = 4096;
 /// The largest number of bytes of all command lines together.
 pub const MAX_BYTES: u64 = 1_073_741_824;
 
-const PIECE: usize = 4096;
+const PIECE: usize = 2048;
 
 /// What a command line means: nothing, a command, or why it is refused.
 pub type Meaning = Result<Option<Command>, Refusal>;
@@ -124,7 +124,7 @@ impl Model for Input {
 
     ghost view = { λ a. record { bytes = slice_range a.piece a.start a.end; count = a.count } };
 
-    ghost invariant = { λ a. (a.start ≤ a.end) × (a.end ≤ 4096) × (a.count ≤ 1073741824) };
+    ghost invariant = { λ a. (a.start ≤ a.end) × (a.end ≤ 2048) × (a.count ≤ 1073741824) };
 }
 
 impl Input {

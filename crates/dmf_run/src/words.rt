@@ -2,7 +2,8 @@
 ghost use Rattle.std.specs.Prelude.{◌≡◌, ◌≢◌, IfOk, Bool, Option, Some, None, codes, drop, map, false};
 ghost use Rattle.clap.specs.Words.{app_of, first_value, found_of, kind_of, rule_of, subcommand_rows_of};
 ghost use Rattle.clap.specs.Values.{bool_text};
-ghost use Rattle.dmf_run.specs.Matches.{asked_of, command_line, cut_rule, problem_rule};
+ghost use Rattle.clap.specs.declared.builder.command.Command.TheViews.{out-Command as fields_of};
+ghost use Rattle.dmf_run.specs.Matches.{asked_of, check_line, command_line, cut_rule, problem_rule, program_line, session_line, solve_line};
 ghost use Rattle.dmf_run.specs.Words.{Gives, IsHelp, IsUsage, IsVersion, ReadsWords, Text, solving, holding, checking};
 ghost use Rattle.dmf_run.specs.declared.words.WordsFault.TheVariants.{NoMemory};
 
@@ -42,6 +43,7 @@ pub enum WordsFault {
 /// command and alone: it is answered by [`WordsFault::Help`], and so is `help`, alone or before a command. `--version` alone
 /// is answered by [`WordsFault::Version`]. A PROBLEM that begins with a dash stands behind `--`. All other words are refused
 /// by [`WordsFault::Usage`]; the texts are those of `clap`. [`WordsFault::NoMemory`] may come in place of any answer.
+#[inline(never)]
 pub fn read_words(alloc: Global, words: Vec<String>) -> Result<Mode, WordsFault>
     ensures { ReadsWords (drop 1 (map (λ word. word.bytes.items) words.items)) result }
 {
@@ -58,22 +60,17 @@ pub fn read_words(alloc: Global, words: Vec<String>) -> Result<Mode, WordsFault>
 fn command<'a>(alloc: Global) -> Result<Command<'a>, AllocError>
     ensures { IfOk result (λ made. app_of made ≡ command_line) }
 {
-    let solve = Command::new(alloc, "solve")
-        .about("Solve the problem on standard input (without a command, dmf does so too)")
-        .override_usage(help::SOLVE_USAGE)
-        .after_help(help::SOLVE_NOTES)
-        .arg(cut(alloc, "Write the smallest minimum cut after the solution"))?;
-    let session = Command::new(alloc, "session")
-        .about("Carry out the commands on standard input, on the problem in a file")
-        .override_usage(help::SESSION_USAGE)
-        .after_help(help::SESSION_NOTES)
-        .arg(cut(alloc, "Write the smallest minimum cut after each solution"))?
-        .arg(problem(alloc))?;
-    let check = Command::new(alloc, "check")
-        .about("Judge the solution on standard input, of the problem in a file")
-        .override_usage(help::CHECK_USAGE)
-        .after_help(help::CHECK_NOTES)
-        .arg(problem(alloc))?;
+    program(alloc)
+        .subcommand(solve(alloc)?)?
+        .subcommand(session(alloc)?)?
+        .subcommand(check(alloc)?)
+}
+
+/// The program, without its commands.
+#[inline(never)]
+fn program<'a>(alloc: Global) -> Command<'a>
+    ensures { app_of result ≡ program_line }
+{
     Command::new(alloc, "dmf")
         .about(
             "Solve maximum-flow problems in the DIMACS format, and hold what-if sessions on them",
@@ -81,9 +78,46 @@ fn command<'a>(alloc: Global) -> Result<Command<'a>, AllocError>
         .version(help::VERSION)
         .override_usage(help::USAGE)
         .after_help(help::NOTES)
-        .subcommand(solve)?
-        .subcommand(session)?
-        .subcommand(check)
+}
+
+/// The command `solve`.
+#[inline(never)]
+fn solve<'a>(alloc: Global) -> Result<Command<'a>, AllocError>
+    ensures line { IfOk result (λ made. app_of made ≡ solve_line) }
+    ensures local { IfOk result (λ made. (fields_of made).has_globals ≡ false) }
+{
+    Command::new(alloc, "solve")
+        .about("Solve the problem on standard input (without a command, dmf does so too)")
+        .override_usage(help::SOLVE_USAGE)
+        .after_help(help::SOLVE_NOTES)
+        .arg(cut(alloc, "Write the smallest minimum cut after the solution"))
+}
+
+/// The command `session`.
+#[inline(never)]
+fn session<'a>(alloc: Global) -> Result<Command<'a>, AllocError>
+    ensures line { IfOk result (λ made. app_of made ≡ session_line) }
+    ensures local { IfOk result (λ made. (fields_of made).has_globals ≡ false) }
+{
+    Command::new(alloc, "session")
+        .about("Carry out the commands on standard input, on the problem in a file")
+        .override_usage(help::SESSION_USAGE)
+        .after_help(help::SESSION_NOTES)
+        .arg(cut(alloc, "Write the smallest minimum cut after each solution"))?
+        .arg(problem(alloc))
+}
+
+/// The command `check`.
+#[inline(never)]
+fn check<'a>(alloc: Global) -> Result<Command<'a>, AllocError>
+    ensures line { IfOk result (λ made. app_of made ≡ check_line) }
+    ensures local { IfOk result (λ made. (fields_of made).has_globals ≡ false) }
+{
+    Command::new(alloc, "check")
+        .about("Judge the solution on standard input, of the problem in a file")
+        .override_usage(help::CHECK_USAGE)
+        .after_help(help::CHECK_NOTES)
+        .arg(problem(alloc))
 }
 
 /// The flag with which the cut is wanted.

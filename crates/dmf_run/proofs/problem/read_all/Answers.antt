@@ -5,9 +5,9 @@ use Rattle.dmf_run.proofs.problem.read_all.Goals as goal
 
 pub returns-then-len-given : goal.returns-then-len-given
 returns-then-len-given g c =
-    let told = c.in-Ok.ensures in
-    let front = take c.in-Ok.given c.read.new.buffer in
-    let long = length-take-le c.in-Ok.given c.read.new.buffer told.bound in (
+    let told = c.in-Ok-read.ensures in
+    let front = take c.in-Ok-read.given c.read.new.buffer in
+    let long = length-take-le c.in-Ok-read.given c.read.new.buffer told.bound in (
       c.loop.text.items ++ front,
       Consumes-trans _ _ _ c.loop.text.items front c.loop.invariant.consumes told.bytes.0,
       record {
@@ -18,8 +18,8 @@ returns-then-len-given g c =
 
 pub returns-in_default-extend_from_slice : goal.returns-in_default-extend_from_slice
 returns-in_default-extend_from_slice g c =
-    let told = c.in-Ok.ensures in
-    let front = take c.in-Ok.given c.read.new.buffer in (
+    let told = c.in-Ok-read.ensures in
+    let front = take c.in-Ok-read.given c.read.new.buffer in (
       c.loop.text.items ++ front,
       Consumes-trans _ _ _ c.loop.text.items front c.loop.invariant.consumes told.bytes.0,
       told.mark ∙ c.loop.invariant.mark,
