@@ -8,7 +8,7 @@ use Rattle.dmf_net.specs.Greatest.{IsGreatest, IsSurpassed}
 use Rattle.dmf_net.specs.Cut.{MaxFlowMinCut, IsLeastCut, cut_capacity}
 use Rattle.dmf_net.specs.Laws.{SolvedIsGreatest}
 use Rattle.dmf_session.specs.Timeline.{Timeline, IsPresent, appended}
-use Rattle.dmf_session.specs.Optimal.{IsOptimal, HasOptimalPresent}
+use Rattle.dmf_session.specs.Optimal.{IsOptimal, HasOptimalPresent, GreatestIsOptimal}
 use Rattle.dmf_session.specs.Laws.{SolvedIsOptimal}
 use Rattle.dmf_session.proofs.Appending.{appended-present, is-state}
 
@@ -17,7 +17,7 @@ one-capacity : (n : Network) (has other : ℕ → Bool) → IsLeastCut n has →
 one-capacity n has other least also = omega (arith, least.least other also.cut, also.least has least.cut)
 
 -- A state whose flow is greatest is optimal.
-pub greatest-optimal : MaxFlowMinCut → (s : NetworkState) → IsNetwork s.network → IsGreatest s.network s.flows → IsOptimal s
+pub greatest-optimal : MaxFlowMinCut → GreatestIsOptimal
 greatest-optimal law s network greatest =
     let some = law s.network s.flows network greatest in
     record {
@@ -39,8 +39,8 @@ HasOptimalPresent-appended t u s new present appends optimal = record {
 }
 
 -- After a solve that was not refused the present state is optimal.
-pub solved-optimal : SolvedIsGreatest → MaxFlowMinCut → SolvedIsOptimal
+pub solved-optimal : SolvedIsGreatest → GreatestIsOptimal → SolvedIsOptimal
 solved-optimal solved law want_cut t u reply has a =
     let is = is-state t a.0 has a.1 in
     let network : IsNetwork a.2.new.network = subst IsNetwork (sym a.2.becomes.0) is.network in
-    HasOptimalPresent-appended t u a.0 a.2.new a.1 a.2.appends (greatest-optimal law a.2.new network (solved a.0 a.2.new is a.2.becomes))
+    HasOptimalPresent-appended t u a.0 a.2.new a.1 a.2.appends (law a.2.new network (solved a.0 a.2.new is a.2.becomes))

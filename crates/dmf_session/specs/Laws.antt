@@ -1,4 +1,5 @@
 -- Where memory is there each command has an answer, and one alone; and after a solve the present state is optimal.
+-- Public: a public contract says no more than this.
 use Rattle.std.specs.Prelude.{◌≡◌, ◌≢◌, ◌<◌, length, All, Bool, Result, Ok, Err}
 use Rattle.dmf_net.specs.NetworkState.{IsState}
 use Rattle.dmf_session.specs.declared.command.Command.{Command}

@@ -1,7 +1,9 @@
 -- What is so of a state after solving (the max-flow min-cut theorem of Ford and Fulkerson).
+-- Public: a public contract says no more than this.
 use Rattle.std.specs.Prelude.{◌≡◌, pos}
 use Rattle.dmf_net.specs.Flow.{flow_value}
-use Rattle.dmf_net.specs.NetworkState.{NetworkState, IsState}
+use Rattle.dmf_net.specs.Network.{IsNetwork}
+use Rattle.dmf_net.specs.NetworkState.{NetworkState}
 use Rattle.dmf_net.specs.Greatest.{IsGreatest}
 use Rattle.dmf_net.specs.Cut.{HasLeastCutOf}
 use Rattle.dmf_net.specs.Side.{CutSide, IsSmallestSide}
@@ -20,6 +22,6 @@ pub record HasOptimalPresent (t : Timeline) : Type 0 where
   pub present : IsPresent t state
   pub optimal : IsOptimal state
 
--- A state whose flow is greatest is optimal.
+-- A state of a network whose flow is greatest is optimal.
 abbrev pub GreatestIsOptimal : Type 0
-GreatestIsOptimal = (s : NetworkState) → IsState s → IsGreatest s.network s.flows → IsOptimal s
+GreatestIsOptimal = (s : NetworkState) → IsNetwork s.network → IsGreatest s.network s.flows → IsOptimal s

@@ -1,4 +1,5 @@
 -- What a command makes of a timeline, and what it answers.
+-- Public: a public contract says no more than this.
 use Rattle.std.specs.Prelude.{ℕ, ◌≡◌, ◌+◌, ◌<◌, ◌≤◌, length, nat_abs, nat_le, Bool, true, false, Option, Some, None, Result, Ok, Err, MatchOption, MatchBool}
 use Rattle.dmf_net.specs.declared.fault.PlanFault.{PlanFault}
 use Rattle.dmf_net.specs.declared.fault.PlanFault.TheVariants as plan

@@ -1,6 +1,6 @@
 -- What a session keeps: a list of whole states, and the place of the present one.
+-- Public: a public contract says no more than this.
 use Rattle.std.specs.Prelude.{ℕ, ◌≡◌, ◌+◌, ◌-◌, ◌<◌, ◌≤◌, List, [], ◌∷◌, ◌++◌, length, take, slice_get, Some}
-use Rattle.dmf_session.specs.declared.history.TheConstants.{MAX_CHANGES}
 use Rattle.dmf_net.specs.declared.edit.Edit.{Edit}
 use Rattle.dmf_net.specs.NetworkState.{NetworkState}
 use Rattle.dmf_net.specs.Edit.{applied, Fits}
@@ -10,10 +10,10 @@ pub record Timeline : Type 0 where
   pub states : List NetworkState
   pub place : ℕ
 
--- The place is in the list, and the list has at most so many states as changes may be kept, and the first.
+-- The place is in the list, and the list has the first state and at most 1,000,000 more.
 pub record IsTimeline (t : Timeline) : Type 0 where
   pub place : t.place < length t.states
-  pub at_most : length t.states ≤ MAX_CHANGES + 1
+  pub at_most : length t.states ≤ 1000000 + 1
 
 -- `s` is the state at the place.
 abbrev pub IsPresent : Timeline → NetworkState → Type 0

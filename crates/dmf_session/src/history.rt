@@ -23,7 +23,6 @@ pub enum RedoFault {
 /// A list of states and the place of the present one, however they are kept.
 pub trait History {
     ghost use Rattle.std.specs.Prelude.{◌≡◌, ◌<◌, ◌↔◌, Ok, Err, OnOk, OnErr, IsOk};
-    ghost use Rattle.dmf_session.specs.declared.history.TheConstants.{MAX_CHANGES};
     ghost use Rattle.dmf_session.specs.declared.history.RedoFault.TheVariants as redo;
     ghost use Rattle.dmf_session.specs.Timeline.{Timeline, IsTimeline, IsPresent, future_of, back, forward, FitsPresent, Appends, AddsArcs};
 
@@ -51,7 +50,7 @@ pub trait History {
     /// Fails only where memory is refused; then nothing has changed.
     fn append(&mut self, edit: Edit) -> Result<(), NoMemory>
         requires fits { FitsPresent edit (timeline self.old) }
-        requires room { (timeline self.old).place < MAX_CHANGES }
+        requires room { (timeline self.old).place < 1000000 }
         ensures ok { OnOk result (Appends edit (timeline self.old) (timeline self.new)) }
         ensures err { OnErr result (timeline self.new ≡ timeline self.old) };
 

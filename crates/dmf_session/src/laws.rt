@@ -19,7 +19,7 @@ pub fn solved_is_optimal()
     ensures { SolvedIsOptimal }
 {
     solved_is_greatest();
-    max_flow_min_cut();
+    greatest_is_optimal();
 }
 
 /// The law that each command has an answer which tells of no want of memory.

@@ -1,4 +1,4 @@
-use crate::{Command, History, MAX_CHANGES, Refusal, Reply, Session, WholeHistory};
+use crate::{Command, History, Refusal, Reply, Session, WholeHistory};
 use dmf_net::{Arc, NetFault, State};
 use std::alloc::Global;
 use std::process::Abort;
@@ -19,7 +19,7 @@ fn answer<H: History>(
     session: &mut Session<H>,
     command: Command,
 ) -> Result<Reply, Refusal> {
-    assert!(rt; session.past() < MAX_CHANGES);
+    assert!(rt; !session.is_full());
     session.step(alloc, command, false)
 }
 
@@ -239,7 +239,7 @@ fn cuts_are_told_of_greatest_flows(rt: HostRuntime) -> Result<(), Fail> {
             Err(Refusal::NotGreatest)
         )
     );
-    assert!(rt; session.past() < MAX_CHANGES);
+    assert!(rt; !session.is_full());
     let solved = session.step(rt.alloc(), Command::Solve, true);
     assert!(rt; tells_cut(solved, &[1], 5));
     assert!(rt;

@@ -2,4 +2,4 @@ use Rattle.dmf_session.proofs.Optimal.{greatest-optimal}
 use Rattle.dmf_session.proofs.laws.greatest_is_optimal.Goals as goal
 
 pub returns : goal.returns
-returns c s state = greatest-optimal c.max_flow_min_cut.ensures.cut s state.network
+returns c = greatest-optimal c.max_flow_min_cut.ensures.cut
