@@ -1,5 +1,5 @@
 -- How a run of command lines ends.
-use Rattle.std.proofs.Common.{ℕ, ◌≡◌, ◌+◌, ◌-◌, ◌<◌, ◌≤◌, List, [], ◌∷◌, ◌++◌, length, take, Bool, true, false, ◌||◌, Option, Some, None, Result, Ok, Err, inl, inr, refl, sym, ap, ◌∙◌, subst, arith, append_assoc, append-nil}
+use Rattle.std.proofs.Common.{◌^◌, ℕ, ◌≡◌, ◌+◌, ◌-◌, ◌<◌, ◌≤◌, List, [], ◌∷◌, ◌++◌, length, take, Bool, true, false, ◌||◌, Option, Some, None, Result, Ok, Err, inl, inr, refl, sym, ap, ◌∙◌, subst, arith, append_assoc, append-nil}
 use Rattle.std.specs.List.{All}
 use Rattle.std.specs.Io.KnownBytes.{Consumes, Appends, append_known}
 use Rattle.std.proofs.KnownBytes.{Appends-trans}
@@ -13,8 +13,6 @@ use Rattle.dmf_run.specs.declared.fault.Status.{Status}
 use Rattle.dmf_run.specs.declared.fault.EngineFault.{EngineFault}
 use Rattle.dmf_run.specs.declared.fault.EngineFault.TheVariants as fault
 use Rattle.dmf_run.specs.declared.input.Next.TheVariants.{Line, Last}
-use Rattle.dmf_run.specs.declared.input.TheConstants.{MAX_BYTES}
-use Rattle.dmf_run.specs.declared.session.TheConstants.{MAX_LINES}
 use Rattle.dmf_run.specs.Pending.{Pending}
 use Rattle.dmf_run.specs.Line.{HasNoFeed, fed, line_meaning}
 use Rattle.dmf_run.specs.Run.{LineRuns, Runs}
@@ -57,7 +55,7 @@ all-so-far want_cut t lines written is_refused u each runs = record {
 }
 
 -- the end of the input
-pub RunsCommands-end : (want_cut : Bool) (t : Timeline) (before now then : Feed) (held holds : Held) (number : ℕ) (u : Timeline) (is_refused : Bool) (status : Status) → number ≤ MAX_LINES + 1 → status ≡ status_if is_refused
+pub RunsCommands-end : (want_cut : Bool) (t : Timeline) (before now then : Feed) (held holds : Held) (number : ℕ) (u : Timeline) (is_refused : Bool) (status : Status) → number ≤ 1000000 + 1 → status ≡ status_if is_refused
     → Progress want_cut t before now held holds number u is_refused → Takes now then [] → HasEnded now then → RunsCommands want_cut t (streams before held) (streams then holds) (Ok status)
 RunsCommands-end want_cut t before now then held holds number u is_refused status few told p takes ended =
     let bytes = fed p.lines in
@@ -102,14 +100,14 @@ RunsCommands-read want_cut t before now then held holds number u is_refused rest
     )
 
 -- more bytes than may be
-pub RunsCommands-bytes : (want_cut : Bool) (t : Timeline) (before now then : Feed) (held holds : Held) (number : ℕ) (u : Timeline) (is_refused : Bool) (rest : List ℕ) → number ≤ MAX_LINES + 1
+pub RunsCommands-bytes : (want_cut : Bool) (t : Timeline) (before now then : Feed) (held holds : Held) (number : ℕ) (u : Timeline) (is_refused : Bool) (rest : List ℕ) → number ≤ 1000000 + 1
     → Progress want_cut t before now held holds number u is_refused → HasNoFeed rest → Takes now then rest → IsPastLimit now then → RunsCommands want_cut t (streams before held) (streams then holds) (Err fault.TooMuchInput)
 RunsCommands-bytes want_cut t before now then held holds number u is_refused rest few p no_feed takes past =
     let bytes = fed p.lines ++ rest in
     let all = Takes-trans before now then (fed p.lines) rest p.takes takes in
-    let long : length (fed p.lines) + length rest ≡ MAX_BYTES = omega (arith, all.counts, p.fresh.none_taken, past.at_limit, length-append (fed p.lines) rest) in
-    let room : MAX_BYTES - length (fed p.lines) ≡ length rest = omega (arith, long) in
-    let cut : take (MAX_BYTES - length (fed p.lines)) (rest ++ then.pending.bytes) ≡ rest = ap (λ n. take n (rest ++ then.pending.bytes)) room ∙ take_at rest then.pending.bytes (length rest) refl in (
+    let long : length (fed p.lines) + length rest ≡ 2 ^ 30 = omega (arith, all.counts, p.fresh.none_taken, past.at_limit, length-append (fed p.lines) rest) in
+    let room : 2 ^ 30 - length (fed p.lines) ≡ length rest = omega (arith, long) in
+    let cut : take (2 ^ 30 - length (fed p.lines)) (rest ++ then.pending.bytes) ≡ rest = ap (λ n. take n (rest ++ then.pending.bytes)) room ∙ take_at rest then.pending.bytes (length rest) refl in (
       bytes ++ then.pending.bytes,
       p.written,
       given-by before then bytes p.fresh all,
@@ -133,7 +131,7 @@ RunsCommands-bytes want_cut t before now then held holds number u is_refused res
 
 -- more lines than may be
 pub RunsCommands-lines : (want_cut : Bool) (t : Timeline) (before now then : Feed) (held holds : Held) (u : Timeline) (is_refused : Bool) (more : List ℕ)
-    → Progress want_cut t before now held holds (MAX_LINES + 1) u is_refused → 0 < length (more ++ then.pending.bytes) → Takes now then more → then.pending.count ≤ MAX_BYTES → then.has_failed ≡ now.has_failed
+    → Progress want_cut t before now held holds (1000000 + 1) u is_refused → 0 < length (more ++ then.pending.bytes) → Takes now then more → then.pending.count ≤ 2 ^ 30 → then.has_failed ≡ now.has_failed
     → RunsCommands want_cut t (streams before held) (streams then holds) (Err fault.TooMuchInput)
 RunsCommands-lines want_cut t before now then held holds u is_refused more p some takes within mark =
     let bytes = fed p.lines ++ more in
@@ -160,7 +158,7 @@ RunsCommands-lines want_cut t before now then held holds u is_refused more p som
     )
 
 -- asking for a line was refused
-pub RunsCommands-refused : (want_cut : Bool) (t : Timeline) (before now then : Feed) (held holds : Held) (number : ℕ) (u : Timeline) (is_refused : Bool) (told : EngineFault) → number ≤ MAX_LINES + 1
+pub RunsCommands-refused : (want_cut : Bool) (t : Timeline) (before now then : Feed) (held holds : Held) (number : ℕ) (u : Timeline) (is_refused : Bool) (told : EngineFault) → number ≤ 1000000 + 1
     → Progress want_cut t before now held holds number u is_refused → GivesLine now then (Err told) → RunsCommands want_cut t (streams before held) (streams then holds) (Err told)
 RunsCommands-refused want_cut t before now then held holds number u is_refused fault.Read few p gave = RunsCommands-read want_cut t before now then held holds number u is_refused gave.0 p gave.1 gave.2 gave.3
 RunsCommands-refused want_cut t before now then held holds number u is_refused fault.TooMuchInput few p gave = RunsCommands-bytes want_cut t before now then held holds number u is_refused gave.0 few p gave.1 gave.2 gave.3
@@ -171,8 +169,8 @@ RunsCommands-refused want_cut t before now then held holds number u is_refused f
 
 -- asking for the end was refused
 pub RunsCommands-past : (want_cut : Bool) (t : Timeline) (before now then : Feed) (held holds : Held) (u : Timeline) (is_refused : Bool) (told : EngineFault)
-    → Progress want_cut t before now held holds (MAX_LINES + 1) u is_refused → GivesEnd now then (Err told) → RunsCommands want_cut t (streams before held) (streams then holds) (Err told)
-RunsCommands-past want_cut t before now then held holds u is_refused fault.Read p gave = RunsCommands-read want_cut t before now then held holds (MAX_LINES + 1) u is_refused [] p (All-nil (λ (b : ℕ). b ≡ 10 → ⊥)) gave.0 gave.1
+    → Progress want_cut t before now held holds (1000000 + 1) u is_refused → GivesEnd now then (Err told) → RunsCommands want_cut t (streams before held) (streams then holds) (Err told)
+RunsCommands-past want_cut t before now then held holds u is_refused fault.Read p gave = RunsCommands-read want_cut t before now then held holds (1000000 + 1) u is_refused [] p (All-nil (λ (b : ℕ). b ≡ 10 → ⊥)) gave.0 gave.1
 RunsCommands-past want_cut t before now then held holds u is_refused fault.TooMuchInput p gave = RunsCommands-lines want_cut t before now then held holds u is_refused gave.0 p gave.1 gave.2 gave.3 gave.4
 RunsCommands-past want_cut t before now then held holds u is_refused fault.Write p gave = absurd gave
 RunsCommands-past want_cut t before now then held holds u is_refused (fault.Problem f) p gave = absurd gave
@@ -207,7 +205,7 @@ all-with-last want_cut t lines line written text is_refused refused u v each no_
 }
 
 -- a last line was carried out
-pub RunsCommands-last : (want_cut : Bool) (t : Timeline) (before now then : Feed) (held holds next : Held) (number : ℕ) (u : Timeline) (is_refused : Bool) (meaning : Result (Option Command) Refusal) (refused : Bool) (v : Timeline) (status : Status) → number ≤ MAX_LINES → status ≡ status_if (is_refused || refused)
+pub RunsCommands-last : (want_cut : Bool) (t : Timeline) (before now then : Feed) (held holds next : Held) (number : ℕ) (u : Timeline) (is_refused : Bool) (meaning : Result (Option Command) Refusal) (refused : Bool) (v : Timeline) (status : Status) → number ≤ 1000000 → status ≡ status_if (is_refused || refused)
     → Progress want_cut t before now held holds number u is_refused → GivesLine now then (Ok (Last meaning)) → Carried want_cut u meaning number holds next refused v → RunsCommands want_cut t (streams before held) (streams then next) (Ok status)
 RunsCommands-last want_cut t before now then held holds next number u is_refused meaning refused v status few told p gave c =
     let line : List ℕ = gave.0 in

@@ -1,5 +1,6 @@
 -- What checking a solution gave: the problem is read whole, then its solution, and then it is told whether no flow has a
 -- larger value.
+-- Public: a public contract says no more than this.
 use Rattle.std.specs.Prelude.{ℕ, ◌≡◌, ◌⊎◌, List, [], ◌∷◌, Bool, true, false, Result, Ok, Err, IfOk, codes, decimal, nat_abs, if◌then◌else◌}
 use Rattle.std.specs.Io.KnownBytes.{Consumes}
 use Rattle.dmf_net.specs.Flow.{flow_value}

@@ -1,4 +1,5 @@
 -- What a command line means.
+-- Public: a public contract says no more than this.
 use Rattle.std.specs.Prelude.{ℕ, List, [], ◌∷◌, if◌then◌else◌, codes, Option, Some, None, Result, Ok, Err}
 use Rattle.std.specs.Str.{bytes_eq}
 use Rattle.dmf_text.specs.declared.digits.NumberFault.{NumberFault}

@@ -1,7 +1,7 @@
 -- What is taken from a reader of command lines, byte by byte.
-use Rattle.std.specs.Prelude.{ℕ, ◌≡◌, ◌+◌, ◌<◌, ◌≤◌, List, [], ◌∷◌, ◌++◌, length, Bool, true, false, Option, Some, None, Result, Ok, Err}
+-- Private: only contracts inside the crate and proofs use this.
+use Rattle.std.specs.Prelude.{◌^◌, ℕ, ◌≡◌, ◌+◌, ◌<◌, ◌≤◌, List, [], ◌∷◌, ◌++◌, length, Bool, true, false, Option, Some, None, Result, Ok, Err}
 use Rattle.std.specs.Io.KnownBytes.{prepend_known, Consumes, IsAtEnd}
-use Rattle.dmf_run.specs.declared.input.TheConstants.{MAX_BYTES}
 use Rattle.dmf_run.specs.declared.input.Next.{Next}
 use Rattle.dmf_run.specs.declared.input.Next.TheVariants.{Line, Last, End}
 use Rattle.dmf_run.specs.declared.fault.EngineFault.{EngineFault}
@@ -28,7 +28,7 @@ pub record Takes (old new : Feed) (bytes : List ℕ) : Type 0 where
 pub record HasEnded (old new : Feed) : Type 0 where
   pub none_pending : new.pending.bytes ≡ []
   pub at_end : IsAtEnd new.known
-  pub within : new.pending.count ≤ MAX_BYTES
+  pub within : new.pending.count ≤ 2 ^ 30
   pub mark : new.has_failed ≡ old.has_failed
 
 -- A read failed, and no byte is pending.
@@ -38,7 +38,7 @@ pub record HasFailed (new : Feed) : Type 0 where
 
 -- As many bytes were taken as may be, and one more is there.
 pub record IsPastLimit (old new : Feed) : Type 0 where
-  pub at_limit : new.pending.count ≡ MAX_BYTES
+  pub at_limit : new.pending.count ≡ 2 ^ 30
   pub pending : 0 < length new.pending.bytes
   pub mark : new.has_failed ≡ old.has_failed
 
@@ -52,7 +52,7 @@ Fills old new (Err fault) = ⊥
 -- what asking for the next byte does; no answer but these is given
 abbrev pub GivesByte : Feed → Feed → Result (Option ℕ) EngineFault → Type 0
 GivesByte old new (Ok (Some byte)) =
-    Takes old new (byte ∷ []) × (new.has_failed ≡ old.has_failed) × (new.pending.count ≤ MAX_BYTES)
+    Takes old new (byte ∷ []) × (new.has_failed ≡ old.has_failed) × (new.pending.count ≤ 2 ^ 30)
 GivesByte old new (Ok None) = Takes old new [] × HasEnded old new
 GivesByte old new (Err fault.Read) = Takes old new [] × HasFailed new
 GivesByte old new (Err fault.TooMuchInput) = Takes old new [] × IsPastLimit old new
@@ -77,5 +77,5 @@ GivesEnd old new (Ok done) = Takes old new [] × HasEnded old new
 GivesEnd old new (Err fault.Read) = Takes old new [] × HasFailed new
 GivesEnd old new (Err fault.TooMuchInput) =
     (bytes : List ℕ) × (0 < length (bytes ++ new.pending.bytes)) × Takes old new bytes
-    × (new.pending.count ≤ MAX_BYTES) × (new.has_failed ≡ old.has_failed)
+    × (new.pending.count ≤ 2 ^ 30) × (new.has_failed ≡ old.has_failed)
 GivesEnd old new (Err fault) = ⊥

@@ -1,4 +1,5 @@
 -- Each command text has a run, and where memory is there one alone; and its solves are optimal.
+-- Public: a public contract says no more than this.
 use Rattle.std.specs.Prelude.{ℕ, ◌≡◌, List, Bool, Result, Ok, OnOk}
 use Rattle.dmf_net.specs.NetworkState.{NetworkState, IsState}
 use Rattle.dmf_session.specs.declared.command.Command.{Command}

@@ -6,7 +6,9 @@ pub mod Run
 pub mod Laws
 pub mod Input
 pub mod Outcome
+pub mod WrittenLine
 pub mod Session
+pub mod WholeText
 pub mod SolveRun
 pub mod CheckRun
 pub mod Status

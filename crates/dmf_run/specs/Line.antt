@@ -1,11 +1,11 @@
 -- How a command text is cut into lines, and what a line means.
+-- Public: a public contract says no more than this.
 use Rattle.std.specs.Prelude.{ℕ, ◌≡◌, ◌≢◌, List, [], ◌∷◌, ◌++◌, length, nat_lt, if◌then◌else◌, All, Bool, Option, Result, Err}
 use Rattle.std.specs.List.{flat_map}
 use Rattle.std.specs.Str.Lines.{strip_carriage_return}
 use Rattle.dmf_session.specs.declared.command.Command.{Command}
 use Rattle.dmf_session.specs.declared.command.Refusal.{Refusal}
 use Rattle.dmf_session.specs.declared.command.Refusal.TheVariants.{LineTooLong}
-use Rattle.dmf_run.specs.declared.input.TheConstants.{MAX_LINE}
 use Rattle.dmf_run.specs.CommandLine.{command_of}
 
 -- No byte is a line feed.
@@ -26,5 +26,5 @@ pub record IsCut (text : List ℕ) (lines : List (List ℕ)) (rest : List ℕ) :
 -- before the line feed is counted in its length, and is no part of its fields.
 abbrev pub line_meaning : Bool → List ℕ → Result (Option Command) Refusal
 line_meaning ended line =
-    if nat_lt MAX_LINE (length line) then Err LineTooLong
+    if nat_lt 4096 (length line) then Err LineTooLong
     else command_of (if ended then strip_carriage_return line else line)

@@ -1,4 +1,5 @@
 -- The command line that the program takes, as its parser sees it, and what the parser found.
+-- Private: only contracts inside the crate and proofs use this.
 use Rattle.std.specs.Prelude.{List, Option, Some, codes, true, option_map}
 use Rattle.clap.specs.Words.{App, Row, Rule, Text, first_of, new_app, new_rule, one_of, with_rule, with_subcommand}
 use Rattle.clap.specs.Simple.{on_top}

@@ -1,27 +1,15 @@
 -- What a run of command lines gave, by the bytes that it was given and those that it wrote.
-use Rattle.std.specs.Prelude.{ℕ, ◌≡◌, ◌⊎◌, ◌+◌, ◌-◌, ◌<◌, ◌≤◌, List, [], ◌∷◌, ◌++◌, length, take, All, Bool, true, false, ◌||◌, if◌then◌else◌, Option, Result, Ok, Err, IfOk}
+-- Public: a public contract says no more than this.
+use Rattle.std.specs.Prelude.{◌^◌, ℕ, ◌≡◌, ◌⊎◌, ◌+◌, ◌-◌, ◌<◌, ◌≤◌, List, [], ◌∷◌, ◌++◌, length, take, All, Bool, true, false, ◌||◌, if◌then◌else◌, Option, Result, Ok, Err}
 use Rattle.std.specs.Io.KnownBytes.{Consumes, Appends, IsAtEnd}
-use Rattle.dmf_text.specs.declared.writer.WriteFault.{WriteFault}
-use Rattle.dmf_text.specs.Writing.{Writes}
-use Rattle.dmf_session.specs.declared.command.Command.{Command}
-use Rattle.dmf_session.specs.declared.command.Refusal.{Refusal}
 use Rattle.dmf_session.specs.Timeline.{Timeline}
 use Rattle.dmf_run.specs.declared.fault.Status.{Status}
 use Rattle.dmf_run.specs.declared.fault.Status.TheVariants.{Well, SomeRefused}
 use Rattle.dmf_run.specs.declared.fault.EngineFault.{EngineFault}
 use Rattle.dmf_run.specs.declared.fault.EngineFault.TheVariants as fault
-use Rattle.dmf_run.specs.declared.input.TheConstants.{MAX_BYTES}
-use Rattle.dmf_run.specs.declared.session.TheConstants.{MAX_LINES}
 use Rattle.dmf_run.specs.Line.{HasNoFeed, fed, IsCut, line_meaning}
 use Rattle.dmf_session.specs.Step.{Answers}
 use Rattle.dmf_run.specs.Run.{Answering, LineRuns, Runs}
-
--- Carrying out one line, which means this, wrote its text or, where the writer failed, a front of it; on success the
--- answer is whether the line was refused.
-abbrev pub WritesLine : {S : Type 0} → Bool → (S → Option (List ℕ)) → (S → Bool) → S → S → ℕ → Timeline → Result (Option Command) Refusal → Timeline → Result Bool WriteFault → Type 0
-WritesLine want_cut contents has_failed old new number t meaning u result =
-    (text : List ℕ) × (refused : Bool) × LineRuns (Answers want_cut) number t meaning text refused u
-    × Writes contents has_failed old new result text × IfOk result (λ is_refused. is_refused ≡ refused)
 
 -- What a run ends on: what its reader has left and its writer holds, where they are known, and their marks.
 pub record Streams : Type 0 where
@@ -80,10 +68,10 @@ pub record RunsWithin (want_cut : Bool) (t : Timeline) (given text : List ℕ) :
   pub rest : List ℕ
   pub given_is : given ≡ fed lines ++ rest
   pub each : All HasNoFeed lines
-  pub at_most_lines : length lines ≤ MAX_LINES
-  pub at_most_bytes : length (fed lines) ≤ MAX_BYTES
-  pub past : ((length lines ≡ MAX_LINES) × (0 < length rest))
-      ⊎ ((MAX_BYTES < length given) × HasNoFeed (take (MAX_BYTES - length (fed lines)) rest))
+  pub at_most_lines : length lines ≤ 1000000
+  pub at_most_bytes : length (fed lines) ≤ 2 ^ 30
+  pub past : ((length lines ≡ 1000000) × (0 < length rest))
+      ⊎ ((2 ^ 30 < length given) × HasNoFeed (take (2 ^ 30 - length (fed lines)) rest))
   pub refused : Bool
   pub after : Timeline
   pub runs : Runs (Answers want_cut) 1 t lines text refused after
@@ -105,8 +93,8 @@ line_count lines (byte ∷ rest) = length lines + 1
 -- All that was to be read was given, and it is within the limits.
 pub record IsWithin (new : Streams) (given : List ℕ) (count : ℕ) : Type 0 where
   pub at_end : IsAtEnd new.known
-  pub bytes : length given ≤ MAX_BYTES
-  pub lines : count ≤ MAX_LINES
+  pub bytes : length given ≤ 2 ^ 30
+  pub lines : count ≤ 1000000
 
 -- what a run of command lines answers, where these bytes were given and written; no answer but these is given
 abbrev pub Gave : Bool → Timeline → Streams → Streams → List ℕ → List ℕ → Result Status EngineFault → Type 0

@@ -1,6 +1,6 @@
 -- What an input holds between two bytes, and what is kept of a line.
+-- Private: only contracts inside the crate and proofs use this.
 use Rattle.std.specs.Prelude.{ℕ, ◌≡◌, List, length, take, nat_lt, Bool}
-use Rattle.dmf_run.specs.declared.input.TheConstants.{MAX_LINE}
 
 -- the bytes that were read and not yet taken, and how many were taken
 pub record Pending : Type 0 where
@@ -14,5 +14,5 @@ pub record Room : Type 0 where
 
 -- The room has what it keeps of a line with these bytes.
 pub record Holds (room : Room) (line : List ℕ) : Type 0 where
-  pub kept_is : room.kept ≡ take MAX_LINE line
-  pub long_is : room.is_long ≡ nat_lt MAX_LINE (length line)
+  pub kept_is : room.kept ≡ take 4096 line
+  pub long_is : room.is_long ≡ nat_lt 4096 (length line)

@@ -1,4 +1,5 @@
 -- What is told of a refused command.
+-- Public: a public contract says no more than this.
 use Rattle.std.specs.Prelude.{ℕ, List, codes}
 use Rattle.dmf_session.specs.declared.command.Refusal.{Refusal}
 use Rattle.dmf_session.specs.declared.command.Refusal.TheVariants.{UnknownCommand, FieldCount, NotANumber, TooLarge, NoSuchArc, Closed, NoSuchNode, TooManyArcs, SumTooLarge, NothingToUndo, NothingToRedo, NotGreatest, NoMemory, LineTooLong}

@@ -1,4 +1,5 @@
 -- What a run of command lines writes.
+-- Public: a public contract says no more than this.
 use Rattle.std.specs.Prelude.{ℕ, ◌≡◌, ◌+◌, List, [], ◌∷◌, ◌++◌, codes, decimal, Bool, true, false, ◌||◌, Option, Some, None, Result, Ok, Err}
 use Rattle.dmf_net.specs.NetworkState.{NetworkState}
 use Rattle.dmf_net.specs.Side.{CutSide}

@@ -1,5 +1,6 @@
 -- What a session gave: the problem is read, and then the command lines are carried out on it.
-use Rattle.std.specs.Prelude.{ℕ, ◌≡◌, ◌⊎◌, ◌<◌, ◌≤◌, List, length, Bool, true, Option, Result, Ok, Err}
+-- Public: a public contract says no more than this.
+use Rattle.std.specs.Prelude.{◌^◌, ℕ, ◌≡◌, ◌⊎◌, ◌<◌, ◌≤◌, List, length, Bool, true, Option, Result, Ok, Err}
 use Rattle.std.specs.Io.KnownBytes.{Consumes, IsAtEnd}
 use Rattle.dmf_net.specs.NetworkState.{NetworkState}
 use Rattle.dmf_text.specs.Problem.{problem_of}
@@ -7,7 +8,6 @@ use Rattle.dmf_session.specs.Timeline.{start}
 use Rattle.dmf_run.specs.declared.fault.Status.{Status}
 use Rattle.dmf_run.specs.declared.fault.EngineFault.{EngineFault}
 use Rattle.dmf_run.specs.declared.fault.EngineFault.TheVariants as fault
-use Rattle.dmf_run.specs.declared.input.TheConstants.{MAX_BYTES}
 use Rattle.dmf_run.specs.Outcome.{Streams, RunsCommands}
 
 -- a reader: what it has left, where that is known, and its mark
@@ -18,21 +18,13 @@ pub record Reader : Type 0 where
 -- This text was given, it is the whole of what the reader had left, and it is within the limit.
 pub record GaveWhole (old new : Reader) (text : List ℕ) : Type 0 where
   pub at_end : IsAtEnd new.known
-  pub within : length text ≤ MAX_BYTES
+  pub within : length text ≤ 2 ^ 30
   pub mark : new.has_failed ≡ old.has_failed
 
 -- More was given than may be.
 pub record GaveTooMuch (old new : Reader) (text : List ℕ) : Type 0 where
-  pub past : MAX_BYTES < length text
+  pub past : 2 ^ 30 < length text
   pub mark : new.has_failed ≡ old.has_failed
-
--- what reading a whole text gives, of which this much was given; no answer but these is given
-abbrev pub ReadsText : Reader → Reader → List ℕ → Result (List ℕ) EngineFault → Type 0
-ReadsText old new text (Ok whole) = GaveWhole old new text × (whole ≡ text)
-ReadsText old new text (Err fault.Read) = new.has_failed ≡ true
-ReadsText old new text (Err fault.TooMuchInput) = GaveTooMuch old new text
-ReadsText old new text (Err fault.NoMemory) = new.has_failed ≡ old.has_failed
-ReadsText old new text (Err fault) = ⊥
 
 -- what reading a problem gives, of whose text this much was given; no answer but these is given
 abbrev pub ReadsProblem : Reader → Reader → List ℕ → Result NetworkState EngineFault → Type 0

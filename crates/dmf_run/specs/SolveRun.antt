@@ -1,8 +1,9 @@
 -- What solving a problem gave: the problem is read whole, it is solved, and then its solution is written, and a cut after
 -- it where one is wanted.
+-- Public: a public contract says no more than this.
 use Rattle.std.specs.Prelude.{ℕ, ◌≡◌, List, Bool, Option, Result, Ok, Err}
 use Rattle.std.specs.Io.KnownBytes.{Consumes}
-use Rattle.dmf_net.specs.NetworkState.{NetworkState}
+use Rattle.dmf_net.specs.NetworkState.{NetworkState, IsState}
 use Rattle.dmf_net.specs.Change.{Solve, Becomes}
 use Rattle.dmf_net.specs.Side.{CutSide}
 use Rattle.dmf_session.specs.Optimal.{IsOptimal}
@@ -20,14 +21,14 @@ pub record Writer : Type 0 where
   pub contents : Option (List ℕ)
   pub has_failed : Bool
 
--- The text stands for a state. What solving makes of it is optimal; its solution was written, and where one is wanted the
--- smallest cut after it, or a front of that where the writer failed.
+-- The text stands for a state. The solution of what solving makes of it was written, and where one is wanted the smallest cut
+-- after it, or a front of that where the writer failed.
 pub record WritesSolved (want_cut : Bool) (from to : Reader) (old new : Writer) (text : List ℕ) (result : Result Status EngineFault) : Type 0 where
   pub state : NetworkState
+  pub is_state : IsState state
   pub problem : ReadsProblem from to text (Ok state)
   pub solved : NetworkState
   pub becomes : Becomes state Solve solved
-  pub optimal : IsOptimal solved
   pub side : Option CutSide
   pub side_is : IsSideWanted want_cut solved.network side
   pub writes : Writes (λ w. w.contents) (λ w. w.has_failed) old new result (solved_text solved side)
@@ -45,3 +46,9 @@ SolveAnswered want_cut from to old new text (Err told) = ReadsProblem from to te
 abbrev pub RunsSolve : Bool → Reader → Reader → Writer → Writer → Result Status EngineFault → Type 0
 RunsSolve want_cut from to old new result =
     (text : List ℕ) × Consumes from.known to.known text × SolveAnswered want_cut from to old new text result
+
+-- Where a run that solves a problem writes a solution, it is that of an optimal state.
+abbrev pub WrittenIsOptimal : Type 0
+WrittenIsOptimal =
+    (want_cut : Bool) (from to : Reader) (old new : Writer) (text : List ℕ) (result : Result Status EngineFault)
+    → (run : WritesSolved want_cut from to old new text result) → IsOptimal run.solved

@@ -1,4 +1,5 @@
 -- The status of the program, by what a run gave.
+-- Public: a public contract says no more than this.
 use Rattle.std.specs.Prelude.{ℕ, Result, Ok, Err}
 use Rattle.dmf_run.specs.declared.fault.Status.{Status}
 use Rattle.dmf_run.specs.declared.fault.Status.TheVariants.{Well, SomeRefused, NotGreatest}

@@ -1,4 +1,5 @@
 -- The words of the command line: what they ask for.
+-- Public: a public contract says no more than this.
 use Rattle.std.specs.Prelude.{ℕ, ◌≡◌, ◌≢◌, ◌⊎◌, ◌==◌, Bool, true, false, List, [], ◌∷◌, Result, MatchResult, IsErrAnd, codes, ⊤}
 use Rattle.dmf_run.specs.declared.words.Mode.{Mode}
 use Rattle.dmf_run.specs.declared.words.Mode.TheVariants as mode

@@ -117,14 +117,14 @@ pub struct Input {
 }
 
 impl Model for Input {
-    ghost use Rattle.std.specs.Prelude.{slice_range, ◌≤◌};
+    ghost use Rattle.std.specs.Prelude.{slice_range, ◌≤◌, ◌^◌};
     ghost use Rattle.dmf_run.specs.Pending.{Pending};
 
     ghost Value = { Pending };
 
     ghost view = { λ a. record { bytes = slice_range a.piece a.start a.end; count = a.count } };
 
-    ghost invariant = { λ a. (a.start ≤ a.end) × (a.end ≤ 2048) × (a.count ≤ 1073741824) };
+    ghost invariant = { λ a. (a.start ≤ a.end) × (a.end ≤ 2048) × (a.count ≤ 2 ^ 30) };
 }
 
 impl Input {

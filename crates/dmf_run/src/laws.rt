@@ -1,6 +1,8 @@
 ghost use Rattle.dmf_run.specs.Laws.{HasRun, HasOneRun, StepsAreAnswers, SolvesAreOptimal, RunsAreOptimal};
+ghost use Rattle.dmf_run.specs.SolveRun.{WrittenIsOptimal};
 
-use dmf_session::{an_answer, one_answer, solved_is_optimal};
+use dmf_net::solved_is_greatest;
+use dmf_session::{an_answer, greatest_is_optimal, one_answer, solved_is_optimal};
 
 /// The law that from the start of each state each command text, of any bytes, has a run in which no command is refused
 /// memory.
@@ -37,4 +39,13 @@ pub fn solves_are_optimal()
     an_answer();
     one_answer();
     solved_is_optimal();
+}
+
+/// The law that the solution which a solving run writes has the greatest value of all flows, and that this is the capacity of
+/// the smallest minimum cut.
+pub fn written_is_optimal()
+    ensures { WrittenIsOptimal }
+{
+    solved_is_greatest();
+    greatest_is_optimal();
 }

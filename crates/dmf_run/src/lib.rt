@@ -5,7 +5,7 @@ pub use check::run_check;
 pub use command_line::read_command;
 pub use fault::{EngineFault, Status, status_of};
 pub use input::{MAX_BYTES, MAX_LINE};
-pub use laws::{a_run, one_run, solves_are_optimal, steps_are_answers};
+pub use laws::{a_run, one_run, solves_are_optimal, steps_are_answers, written_is_optimal};
 pub use refusal::refusal_text;
 pub use session::{MAX_LINES, run_commands, run_session};
 pub use solve::run_solve;

@@ -1,7 +1,8 @@
 //! The problem of a run, read whole.
 ghost use Rattle.std.specs.Prelude.{◌<◌, List, ℕ, vec_len, Ok, Err, IfOk, MatchResult};
 ghost use Rattle.std.specs.Io.KnownBytes.{Consumes};
-ghost use Rattle.dmf_run.specs.Session.{Reader, ReadsText, ReadsProblem};
+ghost use Rattle.dmf_run.specs.Session.{Reader, ReadsProblem};
+ghost use Rattle.dmf_run.specs.WholeText.{ReadsText};
 
 use crate::fault::EngineFault;
 use crate::input::MAX_BYTES;

@@ -1,8 +1,8 @@
 //! A session from bytes to bytes.
 ghost use Rattle.std.specs.Prelude.{◌≡◌, ◌<◌, Ok, Some, length};
-ghost use Rattle.dmf_session.specs.declared.history.TheConstants.{MAX_CHANGES};
-ghost use Rattle.dmf_run.specs.Outcome.{WritesLine, RunsCommands, status_if};
+ghost use Rattle.dmf_run.specs.Outcome.{RunsCommands, status_if};
 ghost use Rattle.dmf_run.specs.Session.{RunsSession};
+ghost use Rattle.dmf_run.specs.WrittenLine.{WritesLine};
 
 use crate::fault::{EngineFault, Status};
 use crate::input::{Input, Meaning, Next};
@@ -125,7 +125,7 @@ fn answer<H: History, W: Sink>(
     out: &mut W,
     want_cut: bool,
 ) -> Result<bool, WriteFault>
-    requires room { (H.timeline session.old).place < MAX_CHANGES }
+    requires room { (H.timeline session.old).place < 1000000 }
     ensures { WritesLine want_cut W.contents W.has_failed out.old out.new number
         (H.timeline session.old) meaning (H.timeline session.new) result }
 {
@@ -144,7 +144,7 @@ fn answer_command<H: History, W: Sink>(
     out: &mut W,
     want_cut: bool,
 ) -> Result<bool, WriteFault>
-    requires room { (H.timeline session.old).place < MAX_CHANGES }
+    requires room { (H.timeline session.old).place < 1000000 }
     ensures { WritesLine want_cut W.contents W.has_failed out.old out.new number
         (H.timeline session.old) (Ok (Some command)) (H.timeline session.new) result }
 {

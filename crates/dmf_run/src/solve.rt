@@ -1,15 +1,14 @@
 //! A problem is solved, from bytes to bytes.
 ghost use Rattle.std.specs.Prelude.{IfOk};
 ghost use Rattle.dmf_net.specs.Change.{Solve, Becomes};
-ghost use Rattle.dmf_session.specs.Optimal.{IsOptimal};
 ghost use Rattle.dmf_session.specs.Step.{IsSideWanted};
-ghost use Rattle.dmf_run.specs.SolveRun.{RunsSolve};
+ghost use Rattle.dmf_run.specs.SolveRun.{RunsSolve, WrittenIsOptimal};
 
 use crate::fault::{EngineFault, Status};
+use crate::laws::written_is_optimal;
 use crate::problem::read_state;
 use crate::reply::put_solved;
 use dmf_net::{NoMemory, Side, State, plan_solve, smallest_side};
-use dmf_session::greatest_is_optimal;
 use dmf_text::{Sink, Source};
 use std::alloc::Global;
 
@@ -25,13 +24,15 @@ pub fn run_solve<P: Source, W: Sink>(
     out: &mut W,
     want_cut: bool,
 ) -> Result<Status, EngineFault>
-    ensures { RunsSolve want_cut
+    ensures run { RunsSolve want_cut
         (record { known = P.remaining problem.old; has_failed = P.has_failed problem.old })
         (record { known = P.remaining problem.new; has_failed = P.has_failed problem.new })
         (record { contents = W.contents out.old; has_failed = W.has_failed out.old })
         (record { contents = W.contents out.new; has_failed = W.has_failed out.new })
         result }
+    ensures optimal { WrittenIsOptimal }
 {
+    written_is_optimal();
     let state = read_state(alloc, problem)?;
     let Ok(solved) = solve(alloc, state, want_cut) else {
         return Err(EngineFault::NoMemory);
@@ -53,10 +54,8 @@ struct Solved {
 /// wanted. The state is dropped where memory is refused.
 fn solve(alloc: Global, mut state: State, want_cut: bool) -> Result<Solved, NoMemory>
     ensures becomes { IfOk result (λ solved. Becomes state Solve solved.state) }
-    ensures optimal { IfOk result (λ solved. IsOptimal solved.state) }
     ensures side { IfOk result (λ solved. IsSideWanted want_cut solved.state.network solved.side) }
 {
-    greatest_is_optimal();
     let Ok(edit) = plan_solve(alloc, &state) else {
         return Err(NoMemory);
     };

@@ -1,6 +1,5 @@
-use Rattle.std.proofs.Common.{◌≡◌, ◌≤◌, length}
+use Rattle.std.proofs.Common.{◌^◌, ◌≡◌, ◌≤◌, length}
 use Rattle.std.specs.Io.KnownBytes.{Consumes}
-use Rattle.dmf_run.specs.declared.input.TheConstants.{MAX_BYTES}
 use Rattle.dmf_run.proofs.problem.read_all.Given as goal
 
 -- what was given is in the vector, and each turn gave some
@@ -12,5 +11,5 @@ invariant-loop g l =
       consumes : Consumes (known l.fn.source) (known l.source) l.text.items;
       mark : mark l.source ≡ mark l.fn.source;
       some : l.counter ≤ length l.text.items;
-      within : length l.text.items ≤ MAX_BYTES;
+      within : length l.text.items ≤ 2 ^ 30;
     }

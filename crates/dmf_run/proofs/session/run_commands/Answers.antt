@@ -1,7 +1,6 @@
 use Rattle.std.proofs.Common.{◌≡◌, ◌+◌, [], Err, refl, sym, ap, ◌∙◌, subst, arith, false}
 use Rattle.std.proofs.lemmas.Result.{err_from_is_err_and}
 use Rattle.dmf_session.specs.Step.{Answers}
-use Rattle.dmf_run.specs.declared.session.TheConstants.{MAX_LINES}
 use Rattle.dmf_run.specs.Input.{Feed}
 use Rattle.dmf_run.specs.Run.{LineRuns}
 use Rattle.dmf_run.specs.Outcome.{RunsCommands}
@@ -87,7 +86,7 @@ pub returns-in_err-expect_end : goal.returns-in_err-expect_end
 returns-in_err-expect_end g c =
     let failed = err_from_is_err_and c.from_residual-in_err-expect_end.result c.from_residual-in_err-expect_end.ensures.1 in
     let then : Feed = record { pending = c.expect_end.new.self; known = g.C.Source.remaining c.expect_end.new.source; has_failed = g.C.Source.has_failed c.expect_end.new.source } in
-    let last : c.loop-number.number ≡ MAX_LINES + 1 = omega arith in
+    let last : c.loop-number.number ≡ 1000000 + 1 = omega arith in
     let t = g.H.History.timeline c.args.session in
     let before : Feed = record { pending = record { bytes = []; count = 0 }; known = g.C.Source.remaining c.args.commands.now; has_failed = g.C.Source.has_failed c.args.commands.now } in
     let held : Held = record { contents = g.W.Sink.contents c.args.out.now; has_failed = g.W.Sink.has_failed c.args.out.now } in
