@@ -3,8 +3,8 @@ use Rattle.std.proofs.Common.{ℕ, ◌≡◌, ◌≢◌, ◌+◌, ◌-◌, ◌*�
 use Rattle.std.proofs.lemmas.Bool.{ne_eqb, cases_eq}
 use Rattle.std.proofs.lemmas.Grind.{get_or-set_at, same_number_lists}
 use Rattle.dmf_net.specs.declared.arc.Arc.{Arc}
-use Rattle.dmf_net.specs.declared.step.Step.{Step}
-use Rattle.dmf_net.specs.Path.{has_rank}
+use Rattle.dmf_path.specs.Step.{Step}
+use Rattle.dmf_path.specs.Path.{has_rank}
 use Rattle.dmf_net.specs.Residual.{augmented_from}
 use Rattle.dmf_net.proofs.Pushing.{arc_index, pushed_once, pushed, CanPush, along, against, pushed-along, pushed-against, length-pushed_once, length-pushed, Skips, CanPushInTurn}
 
@@ -18,7 +18,7 @@ abbrev pub flow_augmented : ℕ → List Step → ℕ → ℕ → ℕ
 flow_augmented amount path j flow = flow + cond (has_rank path (2 * j)) amount 0 - cond (has_rank path (2 * j + 1)) amount 0
 
 -- each of the augmented flows
-get_or-augmented_from : (j amount : ℕ) (path : List Step) (flows : List ℕ) (k : ℕ) → k < length flows → get_or (augmented_from j amount path flows) k 0 ≡ flow_augmented amount path (j + k) (get_or flows k 0)
+pub get_or-augmented_from : (j amount : ℕ) (path : List Step) (flows : List ℕ) (k : ℕ) → k < length flows → get_or (augmented_from j amount path flows) k 0 ≡ flow_augmented amount path (j + k) (get_or flows k 0)
 get_or-augmented_from j amount path [] k h = absurd (omega (arith, h))
 get_or-augmented_from j amount path (x ∷ flows) zero h = ap (λ i. flow_augmented amount path i x) (sym (add-zero j))
 get_or-augmented_from j amount path (x ∷ flows) (suc k) h =

@@ -4,14 +4,14 @@ use Rattle.std.proofs.lemmas.Bool.{ne_eqb}
 use Rattle.std.proofs.lemmas.Int.{ints}
 use Rattle.std.proofs.lemmas.Slice.Zip.{AllZip-long}
 use Rattle.dmf_net.specs.declared.arc.Arc.{Arc}
-use Rattle.dmf_net.specs.declared.step.Step.{Step}
+use Rattle.dmf_path.specs.Step.{Step}
 use Rattle.dmf_net.specs.Arc.{capacity_sum}
 use Rattle.dmf_net.specs.Network.{Network, IsNetwork}
 use Rattle.dmf_net.specs.Flow.{outflow, inflow, AreWithinCapacities, IsFlow, flow_value}
-use Rattle.dmf_net.specs.Path.{IsPath, IsLeastPath, room_up_to, least_room}
+use Rattle.dmf_path.specs.Path.{IsPath, IsLeastPath, room_up_to, least_room}
 use Rattle.dmf_net.specs.Residual.{residual_steps, augmented}
 use Rattle.dmf_net.proofs.ResidualSteps.{IsResidual, along as residual_along, against as residual_against, residual-contained}
-use Rattle.dmf_net.proofs.ShortestPaths.{IsShortestPath-least}
+use Rattle.dmf_path.proofs.ShortestPaths.{IsShortestPath-least}
 use Rattle.dmf_net.proofs.Pushing.{pushed, CanPush, along, against, CanPushEach, CanPushInTurn, CanPushInTurn-shortest, at_end, balance-pushed, within-pushed}
 use Rattle.dmf_net.proofs.AugmentedPushed.{pushed-augmented}
 use Rattle.dmf_net.proofs.Changing.{flow_at-le}

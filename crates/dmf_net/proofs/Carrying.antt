@@ -7,10 +7,10 @@ use Rattle.std.proofs.lemmas.Int.{ints, by_lt_z}
 use Rattle.std.proofs.lemmas.List.Sums.{sum_by-cons, get_or-le-sum_by}
 use Rattle.std.proofs.lemmas.Slice.Zip.{AllZip-long, get_or-zip, length-zip}
 use Rattle.dmf_net.specs.declared.arc.Arc.{Arc}
-use Rattle.dmf_net.specs.declared.step.Step.{Step}
+use Rattle.dmf_path.specs.Step.{Step}
 use Rattle.dmf_net.specs.Network.{Network, IsNetwork}
 use Rattle.dmf_net.specs.Flow.{IsFlow, flow_value}
-use Rattle.dmf_net.specs.Path.{HasNoPath}
+use Rattle.dmf_path.specs.Path.{HasNoPath}
 use Rattle.dmf_net.specs.Arc.{no_arc}
 use Rattle.dmf_net.proofs.Crossing.{leaving, entering, value-across, value-across_back, none-across, none-across_both}
 use Rattle.dmf_net.proofs.Reached.{IsClosed, ArriveAtNodes, path-not_none}

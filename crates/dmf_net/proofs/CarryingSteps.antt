@@ -5,17 +5,17 @@ use Rattle.std.proofs.lemmas.Bool.{ltb-true, lt-ltb}
 use Rattle.std.proofs.lemmas.Int.{ints}
 use Rattle.std.proofs.lemmas.List.Elements.{All-contains, Contains-get_or, Contains-append_cases, Contains-append_left, Contains-append_right}
 use Rattle.dmf_net.specs.declared.arc.Arc.{Arc}
-use Rattle.dmf_net.specs.declared.step.Step.{Step}
-use Rattle.dmf_net.specs.Node.{IsNode}
+use Rattle.dmf_path.specs.Step.{Step}
+use Rattle.dmf_path.specs.Node.{IsNode}
 use Rattle.dmf_net.specs.Arc.{no_arc}
 use Rattle.dmf_net.specs.Network.{Network, IsNetwork, arc_number, has_arc}
 use Rattle.dmf_net.specs.Flow.{flow_on, IsFlow, flow_value}
-use Rattle.dmf_net.specs.Steps.{IsStep, AreSteps}
+use Rattle.dmf_path.specs.Steps.{IsStep, AreSteps}
 use Rattle.dmf_net.specs.Drain.{carried, carried_from, received, return_link, carrying_steps}
 use Rattle.dmf_net.proofs.ChangedArc.{has_arc-within}
 use Rattle.dmf_net.proofs.ResidualSteps.{LeadsAlong, in-optional, IsBefore, ascending-optional}
 use Rattle.dmf_net.proofs.Carrying.{CarryFlow, path_back-not_none}
-use Rattle.dmf_net.proofs.SomeLeast.{SomePath, SomeLeast, path-or-none, least-path}
+use Rattle.dmf_path.proofs.SomeLeast.{SomePath, SomeLeast, path-or-none, least-path}
 
 -- The step leads along an arc of the list, of which the first is number `j`, and its room is what flows there.
 pub record CarriesAlong (j : ℕ) (arcs : List Arc) (flows : List ℕ) (s : Step) : Type 0 where

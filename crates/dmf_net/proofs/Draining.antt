@@ -3,24 +3,24 @@ use Rattle.std.proofs.Common.{ℕ, ◌≡◌, ◌+◌, ◌<◌, ◌≤◌, zero,
 use Rattle.std.specs.List.{AllZip}
 use Rattle.std.proofs.lemmas.Bool.{cases_lt}
 use Rattle.std.proofs.lemmas.Int.{ints}
-use Rattle.dmf_net.specs.declared.step.Step.{Step}
+use Rattle.dmf_path.specs.Step.{Step}
 use Rattle.dmf_net.specs.Network.{Network, IsNetwork, arc_number, has_arc}
 use Rattle.dmf_net.specs.Flow.{flow_on, IsFlow, flow_value}
 use Rattle.dmf_net.specs.Drain.{carrying_steps, lowered, Lowers, Drains, TakesOff}
-use Rattle.dmf_net.proofs.OneLeast.{one-least}
-use Rattle.dmf_net.proofs.SomeLeast.{SomeLeast}
+use Rattle.dmf_path.proofs.OneLeast.{one-least}
+use Rattle.dmf_path.proofs.SomeLeast.{SomeLeast}
 use Rattle.dmf_net.proofs.CarryingSteps.{AreSteps-carrying, carrying-least}
 use Rattle.dmf_net.proofs.Lowering.{lowered-amount, lowered-no_more, lowered-on, lowered-flow, lowered-value}
 
 -- No number of the second list is more than that of the first at its place.
-abbrev IsNoMore : List ℕ → List ℕ → Type 0
+abbrev pub IsNoMore : List ℕ → List ℕ → Type 0
 IsNoMore xs ys = AllZip (λ x y. y ≤ x) xs ys
 
-no_more-same : (xs : List ℕ) → IsNoMore xs xs
+pub no_more-same : (xs : List ℕ) → IsNoMore xs xs
 no_more-same [] = tt
 no_more-same (x ∷ xs) = (omega arith, no_more-same xs)
 
-no_more-in_turn : (xs ys zs : List ℕ) → IsNoMore xs ys → IsNoMore ys zs → IsNoMore xs zs
+pub no_more-in_turn : (xs ys zs : List ℕ) → IsNoMore xs ys → IsNoMore ys zs → IsNoMore xs zs
 no_more-in_turn [] [] zs first second = second
 no_more-in_turn [] (y ∷ ys) zs first second = absurd first
 no_more-in_turn (x ∷ xs) [] zs first second = absurd first

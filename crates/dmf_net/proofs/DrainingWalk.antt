@@ -1,20 +1,17 @@
 -- Draining path by path, and the moves that it makes.
-use Rattle.std.proofs.Common.{ℕ, ◌≡◌, ◌-◌, ◌<◌, ◌≤◌, true, ◌+◌, List, [], ◌∷◌, length, get_or, refl, ap, sym, ◌∙◌, arith, eq-eqb}
-use Rattle.std.proofs.lemmas.List.{get_or_read}
+use Rattle.std.proofs.Common.{ℕ, ◌≡◌, ◌<◌, ◌≤◌, true, ◌+◌, List, [], ◌∷◌, length, refl, ap, sym, ◌∙◌, eq-eqb}
 use Rattle.std.proofs.lemmas.Slice.Zip.{AllZip-long}
 use Rattle.dmf_net.specs.declared.edit.Move.{Move}
-use Rattle.dmf_net.specs.declared.step.Step.{Step}
+use Rattle.dmf_path.specs.Step.{Step}
 use Rattle.dmf_net.specs.Network.{arc_number, has_arc}
 use Rattle.dmf_net.specs.Flow.{flow_on}
 use Rattle.dmf_net.specs.NetworkState.{NetworkState, IsState, with_flows}
-use Rattle.dmf_net.specs.Path.{IsLeastPath}
+use Rattle.dmf_path.specs.Path.{IsLeastPath}
 use Rattle.dmf_net.specs.Drain.{carrying_steps, lowered, Drains, TakesOff}
-use Rattle.dmf_net.specs.AlongPath.{CanLower}
 use Rattle.dmf_net.specs.Edit.{moved, MovesFit, differences}
-use Rattle.dmf_net.proofs.ChangedArc.{has_arc-within}
 use Rattle.dmf_net.proofs.Draining.{drains-state}
 use Rattle.dmf_net.proofs.Moving.{differences-fit, moved-differences}
-use Rattle.dmf_net.proofs.Lowering.{lowered-amount, lowered-flow, lowered-on, lowered-value}
+use Rattle.dmf_net.proofs.Lowering.{lowered-flow, lowered-value}
 
 -- The flows are those of a state, and what draining makes of them it makes of the flows of `s`.
 pub record AreDrainedSoFar (s : NetworkState) (j limit : ℕ) (flows : List ℕ) : Type 0 where
@@ -24,28 +21,6 @@ pub record AreDrainedSoFar (s : NetworkState) (j limit : ℕ) (flows : List ℕ)
 -- no path yet
 pub drained-none : (s : NetworkState) (j limit : ℕ) → IsState s → AreDrainedSoFar s j limit s.flows
 drained-none s j limit state = record { state = state; onward = λ last drains. drains }
-
--- the arc has a flow
-pub within-flows : (s : NetworkState) (j limit : ℕ) (flows : List ℕ) → has_arc s.network j ≡ true → AreDrainedSoFar s j limit flows → j - 1 < length flows
-within-flows s j limit flows has so_far =
-    let at = has_arc-within s.network j has in
-    let same = AllZip-long _ s.network.arcs flows so_far.state.flow.within in
-    omega (arith, at.1, same)
-
--- what is read there is that flow
-pub flow-read : (s : NetworkState) (j limit : ℕ) (flows : List ℕ) (read : ℕ) → has_arc s.network j ≡ true → AreDrainedSoFar s j limit flows → read ≡ get_or flows (j - 1) read → read ≡ flow_on flows j
-flow-read s j limit flows read has so_far is = get_or_read flows (j - 1) read (within-flows s j limit flows has so_far) is 0
-
--- the next path can be lowered
-pub can_lower : (s : NetworkState) (j limit : ℕ) (flows : List ℕ) (path : List Step) → has_arc s.network j ≡ true → limit < flow_on flows j → IsLeastPath (carrying_steps s.network flows) (arc_number s.network j).head (arc_number s.network j).tail path → AreDrainedSoFar s j limit flows → CanLower flows j limit path
-can_lower s j limit flows path has above least so_far = record {
-  network = s.network;
-  is = so_far.state.network;
-  flow = so_far.state.flow;
-  is_there = has;
-  above = above;
-  least = least;
-}
 
 -- one path more
 pub drained-more : (s : NetworkState) (j limit : ℕ) (flows : List ℕ) (path : List Step) → has_arc s.network j ≡ true → limit < flow_on flows j → IsLeastPath (carrying_steps s.network flows) (arc_number s.network j).head (arc_number s.network j).tail path → AreDrainedSoFar s j limit flows → AreDrainedSoFar s j limit (lowered j limit path flows)
@@ -57,12 +32,6 @@ drained-more s j limit flows path has above least so_far = record {
   };
   onward = λ last drains. so_far.onward last (record { paths = path ∷ drains.paths; lowers = (above, least, drains.lowers); within = drains.within });
 }
-
--- Each path lowers the arc's flow.
-pub lowered-falls : (s : NetworkState) (j limit : ℕ) (flows : List ℕ) (path : List Step) → has_arc s.network j ≡ true → limit < flow_on flows j → IsLeastPath (carrying_steps s.network flows) (arc_number s.network j).head (arc_number s.network j).tail path → AreDrainedSoFar s j limit flows → flow_on (lowered j limit path flows) j < flow_on flows j
-lowered-falls s j limit flows path has above least so_far =
-    let amount = lowered-amount s.network j limit flows path above least in
-    omega (arith, amount.0, amount.1, above, lowered-on s.network j limit flows path has so_far.state.flow)
 
 -- Where no more than the limit flows on the arc, it is drained.
 pub drained-all : (s : NetworkState) (j limit : ℕ) (flows : List ℕ) → flow_on flows j ≤ limit → AreDrainedSoFar s j limit flows → Drains s.network j limit s.flows flows

@@ -9,7 +9,7 @@ use Rattle.dmf_net.specs.Flow.{flow_at, AreWithinCapacities, IsFlow, flow_value}
 use Rattle.dmf_net.specs.NetworkState.{NetworkState, IsState}
 use Rattle.dmf_net.specs.Greatest.{IsGreatest}
 use Rattle.dmf_net.specs.Cut.{HasCutOf, HasGreatestFlow, MaxFlowMinCut}
-use Rattle.dmf_net.specs.Path.{HasNoPath}
+use Rattle.dmf_path.specs.Path.{HasNoPath}
 use Rattle.dmf_net.specs.Residual.{residual_steps}
 use Rattle.dmf_net.specs.Change.{Solve}
 use Rattle.dmf_net.proofs.Summing.{at_node}

@@ -1,15 +1,15 @@
 -- A flow is greatest just where no residual path leads from the source to the sink.
 use Rattle.std.proofs.Common.{ℕ, List, arith, ⊎_elim}
 use Rattle.std.proofs.lemmas.Int.{ints}
-use Rattle.dmf_net.specs.declared.step.Step.{Step}
+use Rattle.dmf_path.specs.Step.{Step}
 use Rattle.dmf_net.specs.Network.{Network, IsNetwork}
 use Rattle.dmf_net.specs.Flow.{IsFlow}
 use Rattle.dmf_net.specs.Greatest.{IsGreatest, IsSurpassed}
-use Rattle.dmf_net.specs.Path.{IsPath, HasNoPath, IsLeastPath}
+use Rattle.dmf_path.specs.Path.{IsPath, HasNoPath, IsLeastPath}
 use Rattle.dmf_net.specs.Residual.{residual_steps, augmented}
 use Rattle.dmf_net.proofs.Augmenting.{room-positive, augmented-flow, augmented-value}
 use Rattle.dmf_net.proofs.ResidualSteps.{AreSteps-residual}
-use Rattle.dmf_net.proofs.SomeLeast.{SomeLeast, least-or-none, least-path}
+use Rattle.dmf_path.proofs.SomeLeast.{SomeLeast, least-or-none, least-path}
 
 -- Where a least path leads from the source to the sink, some flow has a larger value.
 pub surpassed : (n : Network) (flows : List ℕ) (path : List Step) → IsNetwork n → IsFlow n flows → IsLeastPath (residual_steps n.arcs flows) n.source n.sink path → IsSurpassed n flows

@@ -7,31 +7,31 @@ use Rattle.std.proofs.lemmas.Grind.{get_or-set_at, same_number_lists}
 use Rattle.std.proofs.lemmas.Int.{ints}
 use Rattle.std.proofs.lemmas.Slice.Zip.{AllZip-long}
 use Rattle.dmf_net.specs.declared.arc.Arc.{Arc}
-use Rattle.dmf_net.specs.declared.step.Step.{Step}
+use Rattle.dmf_path.specs.Step.{Step}
 use Rattle.dmf_net.specs.Arc.{no_arc}
 use Rattle.dmf_net.specs.Network.{Network, IsNetwork, arc_number, has_arc}
 use Rattle.dmf_net.specs.Flow.{flow_on, flow_at, outflow, inflow, AreWithinCapacities, IsFlow, flow_value}
-use Rattle.dmf_net.specs.Path.{IsPath, IsLeastPath, has_rank, room_up_to}
+use Rattle.dmf_path.specs.Path.{IsPath, IsLeastPath, has_rank, room_up_to}
 use Rattle.dmf_net.specs.Drain.{received, carrying_steps, lowered_from, lowered}
 use Rattle.dmf_net.proofs.ChangedArc.{has_arc-within}
 use Rattle.dmf_net.proofs.Changing.{flow_at-set}
-use Rattle.dmf_net.proofs.ShortestPaths.{Avoids, IsShortestPath, IsShortestPath-least, IsShortestPath-tail, avoids-start}
+use Rattle.dmf_path.proofs.ShortestPaths.{Avoids, IsShortestPath, IsShortestPath-least, IsShortestPath-tail, avoids-start}
 use Rattle.dmf_net.proofs.Pushing.{at_end, more-at}
 use Rattle.dmf_net.proofs.Augmenting.{at_end-other, room_up_to-le}
-use Rattle.dmf_net.proofs.OneLeast.{Ascend, step-by_rank}
+use Rattle.dmf_path.proofs.OneLeast.{Ascend, step-by_rank}
 use Rattle.dmf_net.proofs.CarryingSteps.{IsCarrying, along, returns, carrying-contained, carrying-room, carrying-has, AreSteps-carrying}
 
 -- ---- the flows once they are lowered, one by one
 
-pub length-lowered_from : (i j amount : ℕ) (path : List Step) (flows : List ℕ) → length (lowered_from i j amount path flows) ≡ length flows
+length-lowered_from : (i j amount : ℕ) (path : List Step) (flows : List ℕ) → length (lowered_from i j amount path flows) ≡ length flows
 length-lowered_from i j amount path [] = refl
 length-lowered_from i j amount path (x ∷ flows) = ap suc (length-lowered_from (i + 1) j amount path flows)
 
 -- what a flow is, once arc number `i` is lowered by this amount, on arc number `j` and along a path
-abbrev pub flow_lowered : ℕ → ℕ → List Step → ℕ → ℕ → ℕ
+abbrev flow_lowered : ℕ → ℕ → List Step → ℕ → ℕ → ℕ
 flow_lowered j amount path i flow = flow - cond (i == j || has_rank path (2 * i)) amount 0
 
-pub get_or-lowered_from : (i j amount : ℕ) (path : List Step) (flows : List ℕ) (k : ℕ) → k < length flows → get_or (lowered_from i j amount path flows) k 0 ≡ flow_lowered j amount path (i + k) (get_or flows k 0)
+get_or-lowered_from : (i j amount : ℕ) (path : List Step) (flows : List ℕ) (k : ℕ) → k < length flows → get_or (lowered_from i j amount path flows) k 0 ≡ flow_lowered j amount path (i + k) (get_or flows k 0)
 get_or-lowered_from i j amount path [] k h = absurd (omega (arith, h))
 get_or-lowered_from i j amount path (x ∷ flows) zero h = ap (λ m. flow_lowered j amount path m x) (sym (add-zero i))
 get_or-lowered_from i j amount path (x ∷ flows) (suc k) h =
@@ -39,7 +39,7 @@ get_or-lowered_from i j amount path (x ∷ flows) (suc k) h =
     get_or-lowered_from (i + 1) j amount path flows k (omega (arith, h)) ∙ ap (λ m. flow_lowered j amount path m (get_or flows k 0)) place
 
 -- No flow is more than before.
-pub lowered_from-no_more : (i j amount : ℕ) (path : List Step) (flows : List ℕ) → AllZip (λ x y. y ≤ x) flows (lowered_from i j amount path flows)
+lowered_from-no_more : (i j amount : ℕ) (path : List Step) (flows : List ℕ) → AllZip (λ x y. y ≤ x) flows (lowered_from i j amount path flows)
 lowered_from-no_more i j amount path [] = tt
 lowered_from-no_more i j amount path (x ∷ flows) = (omega arith, lowered_from-no_more (i + 1) j amount path flows)
 
@@ -50,12 +50,12 @@ within-lowered_from i j amount path [] (x ∷ flows) within = absurd within
 within-lowered_from i j amount path (a ∷ arcs) (x ∷ flows) within = (omega (arith, within.0), within-lowered_from (i + 1) j amount path arcs flows within.1)
 
 -- the flow of an arc that is not lowered
-unlowered : (j amount : ℕ) (path : List Step) (flows : List ℕ) (k : ℕ) → k < length flows → 1 + k ≢ j → has_rank path (2 * (1 + k)) ≡ false → get_or (lowered_from 1 j amount path flows) k 0 ≡ get_or flows k 0
+pub unlowered : (j amount : ℕ) (path : List Step) (flows : List ℕ) (k : ℕ) → k < length flows → 1 + k ≢ j → has_rank path (2 * (1 + k)) ≡ false → get_or (lowered_from 1 j amount path flows) k 0 ≡ get_or flows k 0
 unlowered j amount path flows k h apart none =
     rw (get_or-lowered_from 1 j amount path flows k h, ne_eqb (1 + k) j apart, none) (omega arith)
 
 -- without a path arc number `j` alone is lowered
-lowered-none : (j amount : ℕ) (flows : List ℕ) → 1 ≤ j → j - 1 < length flows → lowered_from 1 j amount [] flows ≡ set flows (j - 1) (get_or flows (j - 1) 0 - amount)
+pub lowered-none : (j amount : ℕ) (flows : List ℕ) → 1 ≤ j → j - 1 < length flows → lowered_from 1 j amount [] flows ≡ set flows (j - 1) (get_or flows (j - 1) 0 - amount)
 lowered-none j amount flows first h =
     let long = length-lowered_from 1 j amount [] flows in
     same_number_lists (lowered_from 1 j amount [] flows) (set flows (j - 1) (get_or flows (j - 1) 0 - amount))
@@ -119,7 +119,7 @@ flow_at-less end arcs flows k amount v same h le =
     omega (arith, flow_at-set end arcs flows k (x - amount) v same h, part)
 
 -- the amounts that the return link carries on the path, where the two nodes are one
-abbrev returned : ℕ → Network → List Step → ℕ → ℕ → ℕ
+abbrev pub returned : ℕ → Network → List Step → ℕ → ℕ → ℕ
 returned amount n [] u v = 0
 returned amount n (s ∷ path) u v = cond (s.rank == 2 * length n.arcs + 2) (at_end amount u v) 0 + returned amount n path u v
 
@@ -177,13 +177,13 @@ at_end-le amount u v = part (u == v)
     part false = omega arith
 
 -- A rank that no step of the path has is neither the first step's nor one of the others'.
-pub rank-not_first : (s : Step) (path : List Step) (rank : ℕ) → has_rank (s ∷ path) rank ≡ false → (s.rank ≢ rank) × (has_rank path rank ≡ false)
+rank-not_first : (s : Step) (path : List Step) (rank : ℕ) → has_rank (s ∷ path) rank ≡ false → (s.rank ≢ rank) × (has_rank path rank ≡ false)
 rank-not_first s path rank none = ⊎_elim
     (λ (here : ((s.rank == rank) ≡ true) × (s.rank ≡ rank)). absurd (both_ways true (rw here.0 at none) refl))
     (λ (other : ((s.rank == rank) ≡ false) × (s.rank ≢ rank)). (other.1, rw other.0 at none))
     (eqb_tells s.rank rank)
 
-returned-none : (amount : ℕ) (n : Network) (path : List Step) (u v : ℕ) → has_rank path (2 * length n.arcs + 2) ≡ false → returned amount n path u v ≡ 0
+pub returned-none : (amount : ℕ) (n : Network) (path : List Step) (u v : ℕ) → has_rank path (2 * length n.arcs + 2) ≡ false → returned amount n path u v ≡ 0
 returned-none amount n [] u v none = refl
 returned-none amount n (s ∷ path) u v none =
     let apart = rank-not_first s path (2 * length n.arcs + 2) none in
@@ -279,7 +279,7 @@ lowered-on n j limit flows path has flow =
     rw (get_or-lowered_from 1 j (room_up_to (flow_on flows j - limit) path) path flows (j - 1) (omega (arith, at.1, same)), eq-eqb (1 + (j - 1)) j place) refl
 
 -- What flows out of a node less what flows into it stays the same, but for what the return link carries.
-balance : (n : Network) (j limit : ℕ) (flows : List ℕ) (path : List Step) (v : ℕ) → limit < flow_on flows j → has_arc n j ≡ true → IsNetwork n → IsFlow n flows → IsLeastPath (carrying_steps n flows) (arc_number n j).head (arc_number n j).tail path →
+pub balance : (n : Network) (j limit : ℕ) (flows : List ℕ) (path : List Step) (v : ℕ) → limit < flow_on flows j → has_arc n j ≡ true → IsNetwork n → IsFlow n flows → IsLeastPath (carrying_steps n flows) (arc_number n j).head (arc_number n j).tail path →
     outflow n.arcs (lowered j limit path flows) v + inflow n.arcs flows v + returned (room_up_to (flow_on flows j - limit) path) n path n.source v
     ≡ outflow n.arcs flows v + inflow n.arcs (lowered j limit path flows) v + returned (room_up_to (flow_on flows j - limit) path) n path n.sink v
 balance n j limit flows path v above has network flow least =
@@ -291,7 +291,7 @@ balance n j limit flows path v above has network flow least =
     omega (arith, both)
 
 -- what the return link carries, at each node
-returned-least : (n : Network) (j limit : ℕ) (flows : List ℕ) (path : List Step) (u v : ℕ) → limit < flow_on flows j → has_arc n j ≡ true → IsNetwork n → IsLeastPath (carrying_steps n flows) (arc_number n j).head (arc_number n j).tail path → (returned (room_up_to (flow_on flows j - limit) path) n path u v ≤ at_end (room_up_to (flow_on flows j - limit) path) u v) × (returned (room_up_to (flow_on flows j - limit) path) n path u v ≤ received n flows)
+pub returned-least : (n : Network) (j limit : ℕ) (flows : List ℕ) (path : List Step) (u v : ℕ) → limit < flow_on flows j → has_arc n j ≡ true → IsNetwork n → IsLeastPath (carrying_steps n flows) (arc_number n j).head (arc_number n j).tail path → (returned (room_up_to (flow_on flows j - limit) path) n path u v ≤ at_end (room_up_to (flow_on flows j - limit) path) u v) × (returned (room_up_to (flow_on flows j - limit) path) n path u v ≤ received n flows)
 returned-least n j limit flows path u v above has network least =
     let bound : ℕ = flow_on flows j - limit in
     returned-le n j (room_up_to bound path) bound flows path (arc_number n j).head (arc_number n j).tail u v (omega arith) least.leads

@@ -1,14 +1,14 @@
 -- A change has one outcome: each path that augments is the least one, and paths are taken until none is left; and so with
 -- the paths that lower an arc, until no more than the limit flows on it.
 use Rattle.std.proofs.Common.{ℕ, ◌≡◌, List, [], ◌∷◌, All, sym, ◌∙◌, subst}
-use Rattle.dmf_net.specs.declared.step.Step.{Step}
+use Rattle.dmf_path.specs.Step.{Step}
 use Rattle.dmf_net.specs.Arc.{IsArc}
 use Rattle.dmf_net.specs.Network.{Network}
-use Rattle.dmf_net.specs.Path.{HasNoPath}
+use Rattle.dmf_path.specs.Path.{HasNoPath}
 use Rattle.dmf_net.specs.Residual.{residual_steps, augmented}
 use Rattle.dmf_net.specs.Solve.{Augments}
 use Rattle.dmf_net.specs.Change.{Cap, Add, Close, Solve, HasOneOutcome}
-use Rattle.dmf_net.proofs.OneLeast.{one-least}
+use Rattle.dmf_path.proofs.OneLeast.{one-least}
 use Rattle.dmf_net.proofs.ResidualSteps.{AreSteps-residual}
 use Rattle.dmf_net.proofs.Draining.{one-drained}
 

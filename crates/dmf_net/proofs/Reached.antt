@@ -2,11 +2,11 @@
 use Rattle.std.proofs.Common.{ℕ, ◌≡◌, ◌&&◌, ◌⊎◌, List, [], ◌∷◌, ◌++◌, Bool, true, false, nat_le, refl, ap, sym, ◌∙◌, inl, inr}
 use Rattle.std.specs.List.{Contains}
 use Rattle.std.proofs.lemmas.Bool.{both_ways, and_parts, and_from, le-leb}
-use Rattle.dmf_net.specs.declared.step.Step.{Step}
-use Rattle.dmf_net.specs.Node.{IsNode, is_node}
-use Rattle.dmf_net.specs.Path.{IsPath, HasNoPath}
+use Rattle.dmf_path.specs.Step.{Step}
+use Rattle.dmf_path.specs.Node.{IsNode, is_node}
+use Rattle.dmf_path.specs.Path.{IsPath, HasNoPath}
 use Rattle.dmf_net.proofs.IdleArc.{IsNode-is_node}
-use Rattle.dmf_net.proofs.SomeLeast.{SomePath, path-or-none}
+use Rattle.dmf_path.proofs.SomeLeast.{SomePath, path-or-none}
 
 -- No step leaves the set.
 abbrev pub IsClosed : List Step → (ℕ → Bool) → Type 0

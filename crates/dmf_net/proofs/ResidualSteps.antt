@@ -6,10 +6,10 @@ use Rattle.std.proofs.lemmas.Bool.{ltb-true}
 use Rattle.std.proofs.lemmas.List.Elements.{All-cons, Contains-get_or, Contains-append_cases}
 use Rattle.std.proofs.lemmas.List.Kept.{AllPairs-cons}
 use Rattle.dmf_net.specs.declared.arc.Arc.{Arc}
-use Rattle.dmf_net.specs.declared.step.Step.{Step}
-use Rattle.dmf_net.specs.Node.{IsNode}
+use Rattle.dmf_path.specs.Step.{Step}
+use Rattle.dmf_path.specs.Node.{IsNode}
 use Rattle.dmf_net.specs.Arc.{IsArc}
-use Rattle.dmf_net.specs.Steps.{IsStep, AreSteps}
+use Rattle.dmf_path.specs.Steps.{IsStep, AreSteps}
 use Rattle.dmf_net.specs.Residual.{forward, backward, residual_from, residual_steps}
 use Rattle.dmf_net.specs.Arc.{no_arc}
 

@@ -6,13 +6,12 @@ use Rattle.std.proofs.lemmas.Bool.{both_ways}
 use Rattle.std.proofs.lemmas.List.{get_or_default}
 use Rattle.std.proofs.lemmas.Int.{ints}
 use Rattle.std.proofs.lemmas.List.Kept.{AllPairs-from_increasing}
-use Rattle.dmf_net.specs.Node.{IsNode}
+use Rattle.dmf_path.specs.Node.{IsNode}
 use Rattle.dmf_net.specs.Network.{Network, IsNetwork}
 use Rattle.dmf_net.specs.Flow.{IsFlow, flow_value}
 use Rattle.dmf_net.specs.Cut.{cut_capacity, IsLeastCut, IsInEveryLeastCut}
 use Rattle.dmf_net.specs.Side.{has_node, IsSmallestSide, HasOneSmallestSide}
-use Rattle.dmf_net.specs.Path.{HasNoPath}
-use Rattle.dmf_net.specs.Steps.{IsReachable}
+use Rattle.dmf_path.specs.Path.{HasNoPath, IsReachable}
 use Rattle.dmf_net.specs.Residual.{residual_steps}
 use Rattle.dmf_net.proofs.MaxFlowMinCut.{AreTight, tight-from_capacity, closed-from_tight, AreReached, reached-cut, reached-capacity, reached-least_cut}
 use Rattle.dmf_net.proofs.Reached.{path-stays}

@@ -1,12 +1,12 @@
 -- Augmenting along least paths, one after the other: the flow stays a flow, and its value grows up to a bound.
 use Rattle.std.proofs.Common.{ℕ, ◌+◌, ◌-◌, ◌<◌, List, [], ◌∷◌, ◌++◌, ap, subst, sym, arith}
 use Rattle.std.proofs.lemmas.Int.{ints}
-use Rattle.dmf_net.specs.declared.step.Step.{Step}
+use Rattle.dmf_path.specs.Step.{Step}
 use Rattle.dmf_net.specs.Arc.{capacity_sum}
 use Rattle.dmf_net.specs.Network.{Network}
 use Rattle.dmf_net.specs.Flow.{outflow, inflow}
 use Rattle.dmf_net.specs.NetworkState.{NetworkState, IsState, with_flows}
-use Rattle.dmf_net.specs.Path.{IsLeastPath}
+use Rattle.dmf_path.specs.Path.{IsLeastPath}
 use Rattle.dmf_net.specs.Residual.{residual_steps, augmented}
 use Rattle.dmf_net.specs.Solve.{Augments}
 use Rattle.dmf_net.proofs.Augmenting.{room-positive, augmented-flow, augmented-value, value-le-capacities}

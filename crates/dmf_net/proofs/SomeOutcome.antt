@@ -7,7 +7,7 @@ use Rattle.dmf_net.specs.declared.arc.Arc.{Arc}
 use Rattle.dmf_net.specs.declared.fault.ArcFault.TheVariants.{NoSuchNode, TooManyArcs, SumTooLarge}
 use Rattle.dmf_net.specs.declared.fault.PlanFault.TheVariants as plan
 use Rattle.dmf_net.specs.declared.fault.PlanFault.TheVariants.{Closed, NoSuchArc}
-use Rattle.dmf_net.specs.Node.{is_node}
+use Rattle.dmf_path.specs.Node.{is_node}
 use Rattle.dmf_net.specs.Arc.{IsArc, open_arc, with_cap, closed_arc, capacity_sum}
 use Rattle.dmf_net.specs.Network.{Network, IsNetwork, arc_number, has_arc, with_arc}
 use Rattle.dmf_net.specs.Flow.{IsFlow, flow_value}
@@ -17,7 +17,7 @@ use Rattle.dmf_net.specs.Solve.{Solves}
 use Rattle.dmf_net.specs.Drain.{Drains}
 use Rattle.dmf_net.specs.Change.{Cap, Add, Close, Solve, plan_fault, sum_with, HasOutcome}
 use Rattle.dmf_net.proofs.IdleArc.{IsState-idle, IsNode-is_node}
-use Rattle.dmf_net.proofs.SomeLeast.{SomeLeast, least-or-none}
+use Rattle.dmf_path.proofs.SomeLeast.{SomeLeast, least-or-none}
 use Rattle.dmf_net.proofs.ResidualSteps.{AreSteps-residual}
 use Rattle.dmf_net.proofs.ChangedArc.{IsNetwork-with_arc, IsFlow-with_arc, flow_value-with_arc}
 use Rattle.dmf_net.proofs.Draining.{drains-state, SomeDrained, some-drained}

@@ -2,13 +2,13 @@
 use Rattle.std.proofs.Common.{ℕ, zero, suc, ◌≡◌, ◌+◌, ◌-◌, List, [], ◌∷◌, ◌++◌, length, get_or, Bool, true, false, refl, ap, sym, ◌∙◌, subst, arith, ⊎_elim, inl, inr}
 use Rattle.std.proofs.lemmas.Bool.{both_ways, cases_eq}
 use Rattle.std.proofs.lemmas.List.{get_or_append_left, get_or_push, length_push}
-use Rattle.dmf_net.specs.Node.{IsNode}
+use Rattle.dmf_path.specs.Node.{IsNode}
 use Rattle.dmf_net.specs.Network.{Network, IsNetwork}
 use Rattle.dmf_net.specs.Flow.{IsFlow}
 use Rattle.dmf_net.specs.NetworkState.{IsState}
 use Rattle.dmf_net.specs.Cut.{cut_capacity}
 use Rattle.dmf_net.specs.Side.{CutSide, IsSmallestSide, has_node}
-use Rattle.dmf_net.specs.Path.{HasNoPath}
+use Rattle.dmf_path.specs.Path.{HasNoPath}
 use Rattle.dmf_net.specs.Residual.{residual_steps}
 use Rattle.dmf_net.specs.Change.{Solve}
 use Rattle.dmf_net.specs.Laws.{HasSmallestSide, IsGreatestOrSurpassed, SolvedIsGreatest}
@@ -17,7 +17,7 @@ use Rattle.dmf_net.proofs.Reached.{is_reached, AreReachedFrom-is_reached}
 use Rattle.dmf_net.proofs.MaxFlowMinCut.{AreReached, reached-capacity}
 use Rattle.dmf_net.proofs.SmallestSide.{IsSmallestSide-reached}
 use Rattle.dmf_net.proofs.ResidualSteps.{AreSteps-residual}
-use Rattle.dmf_net.proofs.SomeLeast.{SomeLeast, least-or-none}
+use Rattle.dmf_path.proofs.SomeLeast.{SomeLeast, least-or-none}
 use Rattle.dmf_net.proofs.LargerFlow.{surpassed, no_path-from_greatest}
 use Rattle.dmf_net.proofs.GreatestFlow.{some-greatest_flow, greatest-from_no_path}
 use Rattle.dmf_net.proofs.OneOutcome.{one-outcome}

@@ -9,7 +9,7 @@ use Rattle.dmf_net.specs.declared.fault.NetFault.{NetFault}
 use Rattle.dmf_net.specs.declared.fault.NetFault.TheVariants as net
 use Rattle.dmf_net.specs.declared.fault.PlanFault.{PlanFault}
 use Rattle.dmf_net.specs.declared.fault.PlanFault.TheVariants as plan
-use Rattle.dmf_net.specs.Node.{is_node}
+use Rattle.dmf_path.specs.Node.{is_node}
 use Rattle.dmf_net.specs.Arc.{open_arc, with_cap, closed_arc, capacity_sum}
 use Rattle.dmf_net.specs.Network.{Network, arc_number, has_arc, with_arc}
 use Rattle.dmf_net.specs.NetworkState.{NetworkState, IsState, with_idle_arc}

@@ -5,10 +5,10 @@
 use Rattle.std.specs.Prelude.{ℕ, ◌≡◌, ◌+◌, ◌-◌, ◌*◌, ◌<◌, ◌≤◌, ◌==◌, ◌||◌, if◌then◌else◌, List, [], ◌∷◌, ◌++◌, length, nat_lt, pos, ◌-ℤ◌, ◌≤ℤ◌}
 use Rattle.std.specs.List.{AllZip}
 use Rattle.dmf_net.specs.declared.arc.Arc.{Arc}
-use Rattle.dmf_net.specs.declared.step.Step.{Step}
+use Rattle.dmf_path.specs.Step.{Step}
 use Rattle.dmf_net.specs.Network.{Network, arc_number}
 use Rattle.dmf_net.specs.Flow.{flow_on, outflow, inflow, IsFlow, flow_value}
-use Rattle.dmf_net.specs.Path.{IsLeastPath, has_rank, room_up_to}
+use Rattle.dmf_path.specs.Path.{IsLeastPath, has_rank, room_up_to}
 
 -- the step along arc number `j`, where some flow is on it
 abbrev pub carried : ℕ → Arc → ℕ → List Step

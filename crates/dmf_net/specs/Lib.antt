@@ -1,4 +1,3 @@
-pub mod Node
 pub mod Arc
 pub mod Network
 pub mod Flow
@@ -9,13 +8,10 @@ pub mod FlowSums
 pub mod NetworkState
 pub mod Totals
 pub mod FlowFault
-pub mod Path
-pub mod Steps
-pub mod Distances
 pub mod Residual
 pub mod Solve
 pub mod Drain
-pub mod AlongPath
 pub mod Change
 pub mod Edit
 pub mod Laws
+pub mod Pairs

@@ -3,7 +3,7 @@
 -- Public: a public contract says no more than this.
 use Rattle.std.specs.Prelude.{ℕ, ◌≢◌, ◌-◌, ◌^◌, ◌<◌, ◌≤◌, Bool, ◌&&◌, nat_le, List, length, All, slice_index_or, slice_set}
 use Rattle.dmf_net.specs.declared.arc.Arc.{Arc}
-use Rattle.dmf_net.specs.Node.{IsNode}
+use Rattle.dmf_path.specs.Node.{IsNode}
 use Rattle.dmf_net.specs.Arc.{IsArc, no_arc, capacity_sum}
 
 -- A directed network: the nodes 1 to `nodes`, of which one is the source and one the sink, and a list of arcs.

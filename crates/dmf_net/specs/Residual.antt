@@ -3,8 +3,8 @@
 -- Public: a public contract says no more than this.
 use Rattle.std.specs.Prelude.{ℕ, ◌+◌, ◌-◌, ◌*◌, if◌then◌else◌, List, [], ◌∷◌, ◌++◌, nat_lt}
 use Rattle.dmf_net.specs.declared.arc.Arc.{Arc}
-use Rattle.dmf_net.specs.declared.step.Step.{Step}
-use Rattle.dmf_net.specs.Path.{has_rank, least_room}
+use Rattle.dmf_path.specs.Step.{Step}
+use Rattle.dmf_path.specs.Path.{has_rank, least_room}
 
 -- the step along arc number `j`, where more can flow on it
 abbrev pub forward : ℕ → Arc → ℕ → List Step

@@ -2,9 +2,9 @@
 -- between paths broken by ranks, so that there is one outcome.
 -- Public: a public contract says no more than this.
 use Rattle.std.specs.Prelude.{ℕ, ◌≡◌, List, [], ◌∷◌}
-use Rattle.dmf_net.specs.declared.step.Step.{Step}
+use Rattle.dmf_path.specs.Step.{Step}
 use Rattle.dmf_net.specs.Network.{Network}
-use Rattle.dmf_net.specs.Path.{IsLeastPath, HasNoPath}
+use Rattle.dmf_path.specs.Path.{IsLeastPath, HasNoPath}
 use Rattle.dmf_net.specs.Residual.{residual_steps, augmented}
 
 -- Augmenting along these paths in turn, each the least path of residual steps from the source to the sink, makes `flows`

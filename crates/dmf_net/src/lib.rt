@@ -15,6 +15,7 @@ pub use side_ids::SideIds;
 pub use state::State;
 
 mod arc;
+mod carrying_pairs;
 mod drain;
 mod edit;
 mod fault;
@@ -23,11 +24,10 @@ mod laws;
 mod limits;
 mod moves;
 mod plan;
-mod search;
+mod residual;
 mod side;
 mod side_ids;
 mod solve;
 mod state;
-mod step;
 #[cfg(test)]
 mod tests;

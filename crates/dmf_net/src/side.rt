@@ -1,19 +1,18 @@
 ghost use Rattle.std.specs.Prelude.{◌≡◌, ◌-◌, ◌≤◌, ◌↔◌, ℕ, false, length, pos, IfErr, IfOk, IsTrue, OnOk, ◌^◌};
 ghost use Rattle.std.specs.List.{slice_index_or};
 ghost use Rattle.std.specs.List.Sorted.{IsStrictlyIncreasing};
-ghost use Rattle.dmf_net.specs.Node.{IsNode};
+ghost use Rattle.dmf_path.specs.Node.{IsNode};
 ghost use Rattle.dmf_net.specs.Flow.{flow_value};
 ghost use Rattle.dmf_net.specs.Greatest.{IsGreatest, IsSurpassed};
 ghost use Rattle.dmf_net.specs.Side.{has_node, IsSmallestSide};
-ghost use Rattle.dmf_net.specs.Steps.{IsReachable};
+ghost use Rattle.dmf_path.specs.Path.{IsReachable};
 ghost use Rattle.dmf_net.specs.Residual.{residual_steps};
 ghost use Rattle.dmf_net.specs.Edit.{applied, Fits};
 
 use crate::edit::Edit;
 use crate::fault::CutFault;
-use crate::search::reached;
+use crate::residual::residual_search;
 use crate::side_ids::SideIds;
-use crate::solve::residual;
 use crate::state::State;
 use std::alloc::{AllocError, Global};
 use std::marker::Model;
@@ -64,8 +63,8 @@ impl Side {
 
 /// The smallest side of the state's network: the nodes that every least cut has. The state's flow must be greatest.
 ///
-/// Refused by [`CutFault::NotGreatest`] where some flow has a larger value. Takes memory for the residual steps and for
-/// what the search of them keeps; where it is refused, the answer is [`CutFault::NoMemory`].
+/// Refused by [`CutFault::NotGreatest`] where some flow has a larger value. Takes memory for
+/// two links an arc, and for some numbers a node; where it is refused, the answer is [`CutFault::NoMemory`].
 pub fn smallest_side(alloc: Global, state: &State) -> Result<Side, CutFault>
     ensures side { IfOk result (λ side. IsSmallestSide state.now.network side) }
     ensures value { IfOk result (λ side. pos side.capacity ≡ flow_value state.now.network state.now.flows) }
@@ -106,8 +105,7 @@ fn reached_nodes(alloc: Global, state: &State) -> Result<Vec<bool>, AllocError>
     ensures marks { IfOk result (λ marks. (v : ℕ) → IsNode state.now.network.nodes v →
         IsTrue (slice_index_or marks.items (v - 1) false) ↔ IsReachable (residual_steps state.now.network.arcs state.now.flows) state.now.network.source v) }
 {
-    let steps = residual(alloc, state.arcs(), state.flows())?;
-    reached(alloc, state.nodes(), &steps, state.source())
+    residual_search(alloc, state)?.reached(alloc)
 }
 
 /// The numbers of the nodes that are marked, ascending. The first mark is that of node 1.

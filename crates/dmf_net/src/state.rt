@@ -1,6 +1,6 @@
 ghost use Rattle.std.specs.Prelude.{◌≡◌, ◌≢◌, ℕ, true, false, ◌+◌, ◌-◌, ◌^◌, ◌<◌, ◌≤◌, ◌↔◌, pos, length, slice_get, Some, None, Ok, Err, IsTrue, IfOk, IfErr, OnOk, OnErr, IsOkUnless, MatchOption};
 ghost use Rattle.std.specs.Result.{result_err};
-ghost use Rattle.dmf_net.specs.Node.{IsNode, is_node};
+ghost use Rattle.dmf_path.specs.Node.{IsNode, is_node};
 ghost use Rattle.dmf_net.specs.Arc.{open_arc, capacity_sum, open_count};
 ghost use Rattle.dmf_net.specs.Network.{arc_number, has_arc, with_arc};
 ghost use Rattle.dmf_net.specs.Flow.{flow_value};

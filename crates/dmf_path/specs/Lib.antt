@@ -1,6 +1,7 @@
 pub mod Node
 pub mod Step
 pub mod Path
+pub mod Steps
 pub mod Pair
 pub mod Links
 pub mod Building

@@ -1,18 +1,8 @@
 -- Paths of steps between nodes, and which of them comes first.
 -- Public: a public contract says no more than this.
-use Rattle.std.specs.Prelude.{ℕ, ◌≡◌, ◌<◌, ◌≤◌, ◌⊎◌, ◌==◌, Bool, List, [], ◌∷◌, length, map, min, All, AllPairs, Contains}
+use Rattle.std.specs.Prelude.{ℕ, ◌≡◌, ◌<◌, ◌≤◌, ◌⊎◌, ◌==◌, Bool, List, [], ◌∷◌, length, map, min, Contains}
 use Rattle.std.specs.List.{list_any}
 use Rattle.dmf_path.specs.Step.{Step}
-use Rattle.dmf_path.specs.Node.{IsNode}
-
--- Both ends of the step are nodes.
-abbrev pub IsStep : ℕ → Step → Type 0
-IsStep nodes s = IsNode nodes s.from × IsNode nodes s.to
-
--- The steps are between nodes, and are listed in the order of their ranks, which all differ.
-pub record AreSteps (nodes : ℕ) (steps : List Step) : Type 0 where
-  pub between : All (IsStep nodes) steps
-  pub ascending : AllPairs (λ s t. s.rank < t.rank) steps
 
 -- The steps of the list `path` lead from node `a` to node `b`: each is one of `steps`, the first leaves `a`, each next
 -- one leaves the node at which the one before it arrives, and the last arrives at `b`. The empty list leads from a node to
@@ -28,10 +18,6 @@ HasNoPath steps a b = (path : List Step) → ¬ IsPath steps a b path
 -- Some path leads from `a` to `b`.
 abbrev pub IsReachable : List Step → ℕ → ℕ → Type 0
 IsReachable steps a b = (path : List Step) × IsPath steps a b path
-
--- the step that leads back
-abbrev pub turned_step : Step → Step
-turned_step s = record { from = s.to; to = s.from; rank = s.rank; room = s.room }
 
 -- The one list comes before the other in the lexicographic order. Only lists of one length are compared.
 abbrev pub ComesBefore : List ℕ → List ℕ → Type 0

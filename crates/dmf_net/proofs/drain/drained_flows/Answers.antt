@@ -1,56 +1,70 @@
-use Rattle.std.proofs.Common.{◌≡◌, ◌<◌, sym, ◌∙◌, arith, subst}
-use Rattle.std.specs.Vec.{with_items}
-use Rattle.std.proofs.lemmas.List.{with_items_is}
-use Rattle.dmf_net.specs.Network.{arc_number}
-use Rattle.dmf_net.specs.Flow.{flow_on}
-use Rattle.dmf_net.specs.Path.{IsLeastPath}
-use Rattle.dmf_net.specs.Drain.{carrying_steps, lowered}
-use Rattle.dmf_net.proofs.DrainingWalk.{AreDrainedSoFar, drained-none, drained-more, drained-all, within-flows, flow-read, can_lower, lowered-falls}
+use Rattle.std.proofs.Common.{ℕ, ◌≡◌, ◌<◌, length, get_or, ap, sym, arith, Result, Ok, Err, IfOk, Vec, Global}
+use Rattle.std.specs.Option.{unwrap_or}
+use Rattle.std.proofs.lemmas.Slice.Zip.{AllZip-long}
+use Rattle.dmf_path.specs.Search.{along_at}
+use Rattle.dmf_net.proofs.CarryingPairs.{ArePairs-carrying}
+use Rattle.dmf_net.proofs.ChangedArc.{has_arc-within}
+use Rattle.dmf_net.proofs.DrainingSearch.{DrainsOnce, draining-begun, draining-has_path, draining-once, draining-length, draining-done}
 use Rattle.dmf_net.proofs.drain.drained_flows.Goals as goal
 
-pub loop-alloc-init : goal.loop-alloc-init
-loop-alloc-init c = rw (c.in_ok-flows.ensures.items, c.flows.ensures.value) (drained-none c.args.state.now c.args.j c.args.limit c.flows.ensures.state)
+pub new-requires-clause-pairs : goal.new-requires-clause-pairs
+new-requires-clause-pairs c =
+    let s = c.args.state.now in
+    let state = c.nodes.ensures.state in
+    let long = AllZip-long _ s.network.arcs s.flows state.flow.within in
+    rw c.nodes.ensures.value (ArePairs-carrying s.network s.flows s.flows state.network long state.flow.within)
 
-pub index-requires : goal.index-requires
-index-requires c = omega (arith, within-flows _ _ _ _ c.requires c.loop-alloc.invariant, c.loop-alloc.flows.ok.0)
+pub bounds-flows-i : goal.bounds-flows-i
+bounds-flows-i c =
+    let state = c.flows.ensures.state in
+    let at = has_arc-within c.args.state.now.network c.args.j c.requires in
+    omega (arith, at.1, AllZip-long _ _ _ state.flow.within, ap length c.flows.ensures.value)
 
-pub path_back-requires-clause-state : goal.path_back-requires-clause-state
-path_back-requires-clause-state c = rw c.deref.ensures.value c.loop-alloc.invariant.state
-
-pub path_back-requires-clause-some : goal.path_back-requires-clause-some
-path_back-requires-clause-some c =
-    rw c.deref.ensures.value (omega (arith, flow-read _ _ _ _ _ c.requires c.loop-alloc.invariant c.index.ensures, c.loop-alloc-test.true))
+pub loop-left-init : goal.loop-left-init
+loop-left-init c =
+    draining-begun c.args.state.now c.args.j c.args.limit _ _ c.flows.ensures.state
+    (rw c.flows.ensures.value at c.saturating_sub-left.ensures)
+    (rw (c.nodes.ensures.value, c.arc-arc.ensures.value) at c.in_ok-search.ensures)
 
 pub lower-requires : goal.lower-requires
 lower-requires c =
-    let above : c.args.limit < flow_on c.loop-alloc.flows.items c.args.j = omega (arith, flow-read _ _ _ _ _ c.requires c.loop-alloc.invariant c.index.ensures, c.loop-alloc-test.true) in
-    rw (c.deref_mut.ensures.value, c.deref-in-loop-alloc.ensures.value)
-    (can_lower c.args.state.now _ _ _ _ c.requires above (rw (← c.deref.ensures.value) c.in_ok-path.ensures) c.loop-alloc.invariant)
+    let differ = rw c.arc-arc.ensures.value at c.if-arc.false in
+    (draining-once c.args.state.now c.args.j c.args.limit _ c.in-Some.amount _ _ c.requires (λ e. differ (sym e)) c.loop-left-test.true c.loop-left.invariant c.in-Some.ensures).room
 
--- more than the limit flows on the arc
-above : (c : goal.After-drop-path) → c.args.limit < flow_on c.loop-alloc.flows.items c.args.j
-above c = omega (arith, flow-read _ _ _ _ _ c.requires c.loop-alloc.invariant c.index.ensures, c.loop-alloc-test.true)
+-- what one path more does
+once : (c : goal.After-lower) → DrainsOnce c.args.state.now c.args.j c.args.limit c.loop-left.left c.in-Some.amount c.augment.new.self
+once c =
+    let differ = rw c.arc-arc.ensures.value at c.if-arc.false in
+    draining-once c.args.state.now c.args.j c.args.limit _ c.in-Some.amount _ _ c.requires (λ e. differ (sym e)) c.loop-left-test.true c.loop-left.invariant c.in-Some.ensures
 
--- the path that was found
-least : (c : goal.After-drop-path) → IsLeastPath (carrying_steps c.args.state.now.network c.loop-alloc.flows.items) (arc_number c.args.state.now.network c.args.j).head (arc_number c.args.state.now.network c.args.j).tail c.in_ok-path.path.items
-least c = rw (← c.deref.ensures.value) c.in_ok-path.ensures
+pub overflow_sub-left : goal.overflow_sub-left
+overflow_sub-left c = (once c).within
 
--- the flows after the call of `lower`
-lowered-items : (c : goal.After-drop-path) → (with_items c.loop-alloc.flows c.lower.new.flows).items ≡ lowered c.args.j c.args.limit c.in_ok-path.path.items c.loop-alloc.flows.items
-lowered-items c =
-    with_items_is c.loop-alloc.flows c.lower.new.flows (omega (arith, c.lower.auto.flows, c.deref_mut.ensures.len, c.loop-alloc.flows.ok.0))
-    ∙ rw (← c.deref-in-loop-alloc.ensures.value, ← c.deref_mut.ensures.value) c.lower.ensures
+pub loop-left-smaller : goal.loop-left-smaller
+loop-left-smaller c =
+    let told = once c in
+    omega (arith, told.some, told.within)
 
-pub loop-alloc-smaller : goal.loop-alloc-smaller
-loop-alloc-smaller c =
-    subst (λ flows. flow_on flows c.args.j < flow_on c.loop-alloc.flows.items c.args.j) (sym (lowered-items c))
-    (lowered-falls c.args.state.now _ _ _ _ c.requires (above c) (least c) c.loop-alloc.invariant)
+pub loop-left-preserved : goal.loop-left-preserved
+loop-left-preserved c = rw c.lower.ensures (once c).draining
 
-pub loop-alloc-preserved : goal.loop-alloc-preserved
-loop-alloc-preserved c =
-    subst (AreDrainedSoFar c.args.state.now c.args.j c.args.limit) (sym (lowered-items c))
-    (drained-more c.args.state.now _ _ _ _ c.requires (above c) (least c) c.loop-alloc.invariant)
+-- what flows on the arc comes back
+pub unreachable-requires : goal.unreachable-requires
+unreachable-requires c = draining-has_path c.args.state.now c.args.j c.args.limit _ _ c.requires c.loop-left-test.true c.loop-left.invariant c.in-None.ensures.0
+
+pub flows_left-requires : goal.flows_left-requires
+flows_left-requires c = rw c.flows-2.ensures.value (draining-length c.args.state.now c.args.j c.args.limit _ _ c.loop-left.invariant)
+
+-- two clauses of one answer
+both : {T E : Type 0} (r : Result T E) (P Q R : T → Type 0) → ((x : T) → P x → Q x → R x) → IfOk r P → IfOk r Q → IfOk r R
+both (Ok x) P Q R gives p q = gives x p q
+both (Err e) P Q R gives p q = tt
 
 pub returns : goal.returns
 returns c =
-    drained-all c.args.state.now _ _ _ (omega (arith, flow-read _ _ _ _ _ c.requires c.loop-alloc.invariant c.index.ensures, c.loop-alloc-test.false)) c.loop-alloc.invariant
+    let s = c.args.state.now in
+    both c.flows_left.result _ _ _
+    (λ (left : Vec ℕ Global) (long : length left.items ≡ length s.flows) (each : (k : ℕ) → k < length s.flows → get_or left.items k 0 ≡ unwrap_or (along_at c.loop-left.search.pairs k) (get_or s.flows k 0)).
+    draining-done s c.args.j c.args.limit c.loop-left.left c.loop-left.search left.items c.loop-left-test.false c.loop-left.invariant long each)
+    (rw c.flows-2.ensures.value at c.flows_left.ensures.one_each)
+    (rw c.flows-2.ensures.value at c.flows_left.ensures.each)

@@ -1,9 +1,8 @@
-use Rattle.dmf_net.specs.Flow.{flow_on}
-use Rattle.dmf_net.proofs.DrainingWalk.{AreDrainedSoFar}
+use Rattle.dmf_net.proofs.DrainingSearch.{IsDraining}
 use Rattle.dmf_net.proofs.drain.drained_flows.Given as goal
 
-abbrev pub invariant-loop-alloc : goal.invariant-loop-alloc
-invariant-loop-alloc l = AreDrainedSoFar l.state l.j l.limit l.flows.items
+abbrev pub invariant-loop-left : goal.invariant-loop-left
+invariant-loop-left l = IsDraining l.state l.j l.limit l.left l.search
 
-abbrev pub decreases-loop-alloc : goal.decreases-loop-alloc
-decreases-loop-alloc l = flow_on l.flows.items l.j
+abbrev pub decreases-loop-left : goal.decreases-loop-left
+decreases-loop-left l = l.left

@@ -1,7 +1,8 @@
-use Rattle.dmf_net.proofs.ResidualSteps.{AreSteps-residual}
+use Rattle.std.proofs.lemmas.Result.{IfOk-weaker}
+use Rattle.dmf_net.proofs.ResidualSearch.{marks-residual}
 use Rattle.dmf_net.proofs.side.reached_nodes.Goals as goal
 
-pub reached-requires-clause-steps : goal.reached-requires-clause-steps
-reached-requires-clause-steps c =
-    rw (c.deref.ensures.value, c.in_ok-steps.ensures, c.arcs.ensures.value, c.nodes.ensures.value)
-    (AreSteps-residual c.args.state.now.network.nodes c.args.state.now.network.arcs c.flows.result.now c.arcs.ensures.state.network.arcs).between
+pub returns-clause-marks : goal.returns-clause-marks
+returns-clause-marks c =
+    let search = c.in_ok-residual_search in
+    IfOk-weaker c.reached-2.result _ _ (λ marks. marks-residual c.args.state.now search.field-0 marks.items search.ensures.state search.ensures.search) c.reached-2.ensures.marks

@@ -1,0 +1,97 @@
+-- What a search among the residual pairs of a state's flow says of the state.
+use Rattle.std.proofs.Common.{ℕ, ◌≡◌, ◌≢◌, ◌+◌, ◌-◌, ◌*◌, ◌^◌, ◌<◌, ◌≤◌, ◌==◌, ◌||◌, ◌↔◌, Bool, true, false, cond, List, [], ◌∷◌, ◌++◌, length, get_or, zero, suc, refl, ap, sym, ◌∙◌, subst, arith, ⊎_elim, Option, Some, None, eq-eqb, IsTrue}
+use Rattle.std.specs.List.{Contains, All, AllZip, slice_get}
+use Rattle.std.proofs.lemmas.Bool.{cases_eq, ne_eqb}
+use Rattle.std.proofs.lemmas.Bool.Decides.{nat_tests}
+use Rattle.std.proofs.lemmas.List.Elements.{All-get_or}
+use Rattle.std.proofs.lemmas.Slice.Zip.{AllZip-long}
+use Rattle.std.proofs.lemmas.List.Sums.{get_or-le-sum_by}
+use Rattle.std.proofs.lemmas.Option.{slice_get_within}
+use Rattle.dmf_path.specs.declared.pair.Pair.{Pair}
+use Rattle.dmf_path.specs.Node.{IsNode}
+use Rattle.dmf_path.specs.Path.{IsReachable}
+use Rattle.dmf_path.specs.Pair.{IsPair, ArePairs, steps_of}
+use Rattle.dmf_path.specs.Search.{Searched}
+use Rattle.dmf_path.proofs.Loops.{reachable-without_loops, reachable-within}
+use Rattle.dmf_net.specs.declared.arc.Arc.{Arc}
+use Rattle.dmf_net.specs.Arc.{IsArc, no_arc, capacity_sum}
+use Rattle.dmf_net.specs.Flow.{AreWithinCapacities}
+use Rattle.dmf_net.specs.NetworkState.{NetworkState, IsState}
+use Rattle.dmf_net.specs.Residual.{residual_steps}
+use Rattle.dmf_net.specs.Pairs.{residual_pair, residual_pairs, residual_search}
+use Rattle.dmf_net.proofs.ResidualPairs.{residual-without_loops}
+
+-- there are as many as arcs
+pub length-residual_pairs : (arcs : List Arc) (flows : List ℕ) → AreWithinCapacities arcs flows → length (residual_pairs arcs flows) ≡ length arcs
+length-residual_pairs [] flows within = refl
+length-residual_pairs (arc ∷ arcs) [] within = absurd within
+length-residual_pairs (arc ∷ arcs) (flow ∷ flows) within = ap suc (length-residual_pairs arcs flows within.1)
+
+-- each of the pairs
+pub slice_get-residual_pairs : (arcs : List Arc) (flows : List ℕ) (k : ℕ) → AreWithinCapacities arcs flows → k < length arcs → slice_get (residual_pairs arcs flows) k ≡ Some (residual_pair (get_or arcs k no_arc) (get_or flows k 0))
+slice_get-residual_pairs [] flows k within h = absurd (omega (arith, h))
+slice_get-residual_pairs (arc ∷ arcs) [] k within h = absurd within
+slice_get-residual_pairs (arc ∷ arcs) (flow ∷ flows) zero within h = refl
+slice_get-residual_pairs (arc ∷ arcs) (flow ∷ flows) (suc k) within h = slice_get-residual_pairs arcs flows k within.1 (omega (arith, h))
+
+-- a flow is within its arc's capacity
+pub flow-within : (arcs : List Arc) (flows : List ℕ) (k : ℕ) → AreWithinCapacities arcs flows → get_or flows k 0 ≤ (get_or arcs k no_arc).cap
+flow-within [] [] k within = omega arith
+flow-within [] (flow ∷ flows) k within = absurd within
+flow-within (arc ∷ arcs) [] k within = absurd within
+flow-within (arc ∷ arcs) (flow ∷ flows) zero within = within.0
+flow-within (arc ∷ arcs) (flow ∷ flows) (suc k) within = flow-within arcs flows k within.1
+
+-- The pair of an arc on which no more flows than can is one.
+pair-is : (nodes : ℕ) (arc : Arc) (flow : ℕ) (p : Pair) (loop idle : Bool) → IsArc nodes arc → flow ≤ arc.cap → arc.cap < 2 ^ 64 → (arc.tail == arc.head) ≡ loop → (arc.cap == 0) ≡ idle → residual_pair arc flow ≡ Some p → IsPair nodes p
+pair-is nodes arc flow p true idle is within small e f has = let none = rw e at has in absurd (cc)
+pair-is nodes arc flow p false true is within small e f has = let none = rw (e, f) at has in absurd (cc)
+pair-is nodes arc flow p false false is within small e f has =
+    let made : Pair = record { tail = arc.tail; head = arc.head; along = arc.cap - flow; against = flow } in
+    let same : made ≡ p = let some = rw (e, f) at has in cc in
+    subst (IsPair nodes) same (record { tail = is.tail; head = is.head; no_loop = λ (loop : arc.tail ≡ arc.head). absurd (let tells : (arc.tail == arc.head) ≡ true = eq-eqb arc.tail arc.head loop in cc); fits = omega arith })
+
+-- The residual pairs of a state's flow are pairs.
+pub ArePairs-residual : (s : NetworkState) → IsState s → ArePairs s.network.nodes (residual_pairs s.network.arcs s.flows)
+ArePairs-residual s is = record {
+  each = λ k p has.
+      let arcs = s.network.arcs in
+      let long : k < length (residual_pairs arcs s.flows) = slice_get_within (residual_pairs arcs s.flows) k (Some p) has in
+      let within : k < length arcs = omega (arith, long, length-residual_pairs arcs s.flows is.flow.within) in
+      let arc : Arc = get_or arcs k no_arc in
+      let flow : ℕ = get_or s.flows k 0 in
+      let read = slice_get-residual_pairs arcs s.flows k is.flow.within within in
+      let le = get_or-le-sum_by (λ (a : Arc). a.cap) arcs k no_arc within in
+      pair-is s.network.nodes arc flow p (arc.tail == arc.head) (arc.cap == 0)
+      (All-get_or (IsArc s.network.nodes) arcs k no_arc within is.network.arcs)
+      (flow-within arcs s.flows k is.flow.within)
+      (omega (arith, le, is.network.capacities)) refl refl
+      (let same : residual_pair arc flow ≡ Some p = cc in same);
+  at_most = omega (arith, length-residual_pairs s.network.arcs s.flows is.flow.within, is.network.at_most_arcs);
+}
+
+-- an index of them is one of the arcs and of the flows
+pub index-within : (s : NetworkState) (k : ℕ) → IsState s → k < length (residual_pairs s.network.arcs s.flows) → (k < length s.network.arcs) × (k < length s.flows)
+index-within s k is h =
+    let pairs = length-residual_pairs s.network.arcs s.flows is.flow.within in
+    let long = AllZip-long _ s.network.arcs s.flows is.flow.within in
+    (omega (arith, h, pairs), omega (arith, h, pairs, long))
+
+-- What the search reaches, residual steps reach.
+reached-residual : (s : NetworkState) (search : Searched) (v : ℕ) → IsState s → search ≡ residual_search s.network s.flows → IsReachable (steps_of search.pairs) search.start v ↔ IsReachable (residual_steps s.network.arcs s.flows) s.network.source v
+reached-residual s search v is same =
+    let n = s.network in
+    let fewer = residual-without_loops n.arcs s.flows is.flow.within in
+    rw same (
+      reachable-within (residual_steps n.arcs s.flows) (steps_of (residual_pairs n.arcs s.flows)) n.source v fewer,
+      reachable-without_loops (residual_steps n.arcs s.flows) (steps_of (residual_pairs n.arcs s.flows)) n.source v fewer,
+    )
+
+-- so marks for the one are marks for the other
+pub marks-residual : (s : NetworkState) (search : Searched) (marks : List Bool) → IsState s → search ≡ residual_search s.network s.flows
+    → ((v : ℕ) → IsNode search.nodes v → IsTrue (get_or marks (v - 1) false) ↔ IsReachable (steps_of search.pairs) search.start v)
+    → (v : ℕ) → IsNode s.network.nodes v → IsTrue (get_or marks (v - 1) false) ↔ IsReachable (residual_steps s.network.arcs s.flows) s.network.source v
+marks-residual s search marks is same told v node =
+    let reached = reached-residual s search v is same in
+    let found = told v (rw same node) in
+    (λ mark. reached.0 (found.0 mark), λ path. found.1 (reached.1 path))
