@@ -28,11 +28,11 @@ pub mod Ascending
 pub mod GreatestFlow
 pub mod SomeSide
 pub mod ResidualPairs
+pub mod ResidualSearch
+pub mod RoomLeaving
+pub mod SolvingSearch
 pub mod LoweredReceived
 pub mod CarryingPairs
 pub mod LoweredPairs
 pub mod DrainingSearch
 pub mod DrainedLoop
-pub mod ResidualSearch
-pub mod RoomLeaving
-pub mod SolvingSearch

@@ -1,7 +1,7 @@
 -- The pairs of links that stand for residual steps: their steps are those, but for loops, and pushing along a path of them is
 -- augmenting.
-use Rattle.std.proofs.Common.{ℕ, ◌≡◌, ◌≢◌, ◌+◌, ◌-◌, ◌*◌, ◌<◌, ◌≤◌, ◌==◌, ◌||◌, ◌⊎◌, inl, inr, Bool, true, false, cond, ltb, min, List, [], ◌∷◌, ◌++◌, length, get_or, zero, suc, refl, ap, sym, ◌∙◌, subst, arith, ⊎_elim, eq-eqb, Option, Some, None}
-use Rattle.std.specs.List.{Contains, AllZip}
+use Rattle.std.proofs.Common.{ℕ, ◌≡◌, ◌≢◌, ◌+◌, ◌-◌, ◌*◌, ◌<◌, ◌≤◌, ◌==◌, ◌||◌, ◌⊎◌, Bool, true, false, cond, ltb, List, [], ◌∷◌, ◌++◌, length, get_or, suc, refl, ap, sym, ◌∙◌, subst, arith, ⊎_elim, Option, Some}
+use Rattle.std.specs.List.{Contains}
 use Rattle.std.proofs.lemmas.Bool.{cases_eq, ne_eqb, ltb-true}
 use Rattle.std.proofs.lemmas.Bool.Decides.{nat_tests}
 use Rattle.std.proofs.lemmas.List.Elements.{Contains-append_cases, Contains-append_left, Contains-append_right}
@@ -16,7 +16,7 @@ use Rattle.dmf_net.specs.Residual.{forward, backward, residual_from, residual_st
 use Rattle.dmf_net.specs.Pairs.{residual_pair, residual_pairs}
 use Rattle.dmf_net.specs.Arc.{no_arc}
 use Rattle.dmf_net.proofs.Augmenting.{room_up_to-le}
-use Rattle.dmf_net.proofs.ResidualSteps.{IsResidual, along, against, in-optional, residual-contained}
+use Rattle.dmf_net.proofs.ResidualSteps.{along, against, in-optional, residual-contained}
 
 -- something more can flow where there is room
 ltb-room : (flow cap : ℕ) → ltb 0 (cap - flow) ≡ ltb flow cap

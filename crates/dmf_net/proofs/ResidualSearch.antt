@@ -1,8 +1,6 @@
 -- What a search among the residual pairs of a state's flow says of the state.
-use Rattle.std.proofs.Common.{ℕ, ◌≡◌, ◌≢◌, ◌+◌, ◌-◌, ◌*◌, ◌^◌, ◌<◌, ◌≤◌, ◌==◌, ◌||◌, ◌↔◌, Bool, true, false, cond, List, [], ◌∷◌, ◌++◌, length, get_or, zero, suc, refl, ap, sym, ◌∙◌, subst, arith, ⊎_elim, Option, Some, None, eq-eqb, IsTrue}
-use Rattle.std.specs.List.{Contains, All, AllZip, slice_get}
-use Rattle.std.proofs.lemmas.Bool.{cases_eq, ne_eqb}
-use Rattle.std.proofs.lemmas.Bool.Decides.{nat_tests}
+use Rattle.std.proofs.Common.{ℕ, ◌≡◌, ◌-◌, ◌^◌, ◌<◌, ◌≤◌, ◌==◌, ◌↔◌, Bool, true, false, List, [], ◌∷◌, length, get_or, zero, suc, refl, ap, subst, arith, Some, eq-eqb, IsTrue}
+use Rattle.std.specs.List.{slice_get}
 use Rattle.std.proofs.lemmas.List.Elements.{All-get_or}
 use Rattle.std.proofs.lemmas.Slice.Zip.{AllZip-long}
 use Rattle.std.proofs.lemmas.List.Sums.{get_or-le-sum_by}
@@ -14,7 +12,7 @@ use Rattle.dmf_path.specs.Pair.{IsPair, ArePairs, steps_of}
 use Rattle.dmf_path.specs.Search.{Searched}
 use Rattle.dmf_path.proofs.Loops.{reachable-without_loops, reachable-within}
 use Rattle.dmf_net.specs.declared.arc.Arc.{Arc}
-use Rattle.dmf_net.specs.Arc.{IsArc, no_arc, capacity_sum}
+use Rattle.dmf_net.specs.Arc.{IsArc, no_arc}
 use Rattle.dmf_net.specs.Flow.{AreWithinCapacities}
 use Rattle.dmf_net.specs.NetworkState.{NetworkState, IsState}
 use Rattle.dmf_net.specs.Residual.{residual_steps}

@@ -1,15 +1,13 @@
 -- Augmenting along least paths, one after the other: the flow stays a flow, and its value grows up to a bound.
-use Rattle.std.proofs.Common.{ℕ, ◌+◌, ◌-◌, ◌<◌, List, [], ◌∷◌, ◌++◌, ap, subst, sym, arith}
+use Rattle.std.proofs.Common.{ℕ, List, [], ◌∷◌, ◌++◌, ap, subst, sym, arith}
 use Rattle.std.proofs.lemmas.Int.{ints}
 use Rattle.dmf_path.specs.Step.{Step}
-use Rattle.dmf_net.specs.Arc.{capacity_sum}
 use Rattle.dmf_net.specs.Network.{Network}
-use Rattle.dmf_net.specs.Flow.{outflow, inflow}
 use Rattle.dmf_net.specs.NetworkState.{NetworkState, IsState, with_flows}
 use Rattle.dmf_path.specs.Path.{IsLeastPath}
 use Rattle.dmf_net.specs.Residual.{residual_steps, augmented}
 use Rattle.dmf_net.specs.Solve.{Augments}
-use Rattle.dmf_net.proofs.Augmenting.{room-positive, augmented-flow, augmented-value, value-le-capacities}
+use Rattle.dmf_net.proofs.Augmenting.{augmented-flow, augmented-value}
 
 -- one path more, the last
 pub Augments-push : (n : Network) (flows : List ℕ) (paths : List (List Step)) (last : List ℕ) (path : List Step) → Augments n flows paths last → IsLeastPath (residual_steps n.arcs last) n.source n.sink path → Augments n flows (paths ++ path ∷ []) (augmented path last)
@@ -41,15 +39,3 @@ reached-more s flows path reached least = record {
   paths = reached.paths ++ path ∷ [];
   augments = Augments-push s.network s.flows reached.paths flows path reached.augments least;
 }
-
--- how much the value of the flow is below the capacities together
-abbrev pub value_left : Network → List ℕ → ℕ
-value_left n flows = capacity_sum n.arcs + inflow n.arcs flows n.source - outflow n.arcs flows n.source
-
--- It falls with each path.
-pub value_left-falls : (s : NetworkState) (flows : List ℕ) (path : List Step) → IsState (with_flows s flows) → IsLeastPath (residual_steps s.network.arcs flows) s.network.source s.network.sink path → value_left s.network (augmented path flows) < value_left s.network flows
-value_left-falls s flows path state least =
-    let room = room-positive s.network flows path state.network.two_terminals least in
-    let value = augmented-value s.network flows path state.network state.flow least in
-    let bound = value-le-capacities s.network (augmented path flows) (augmented-flow s.network flows path state.network state.flow least) in
-    omega (arith, ints, room, value, bound)

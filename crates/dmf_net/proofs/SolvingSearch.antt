@@ -1,5 +1,5 @@
 -- Solving by a search among the residual pairs: what the search keeps as it augments, and which flow it tells at the end.
-use Rattle.std.proofs.Common.{ℕ, ◌≡◌, ◌≢◌, ◌+◌, ◌-◌, ◌*◌, ◌^◌, ◌<◌, ◌≤◌, Bool, true, false, ◌==◌, cond, ltb, min, List, [], ◌∷◌, ◌++◌, length, get_or, set, get_or-set_other, below_more, refl, ap, sym, ◌∙◌, subst, arith, ⊎_elim, unwrap_or, Option, Some, None}
+use Rattle.std.proofs.Common.{ℕ, ◌≡◌, ◌≢◌, ◌+◌, ◌-◌, ◌*◌, ◌^◌, ◌<◌, ◌≤◌, Bool, true, false, ◌==◌, cond, ltb, min, List, [], ◌∷◌, length, get_or, set, get_or-set_other, below_more, refl, ap, sym, ◌∙◌, subst, arith, ⊎_elim, unwrap_or, Option, Some, None}
 use Rattle.std.specs.List.{Contains}
 use Rattle.std.specs.Option.{MatchOption, option_map, is_some}
 use Rattle.std.proofs.lemmas.Bool.Decides.{nat_tests}
@@ -20,7 +20,7 @@ use Rattle.dmf_net.specs.Arc.{no_arc}
 use Rattle.dmf_net.specs.Network.{Network, IsNetwork}
 use Rattle.dmf_net.specs.Flow.{AreWithinCapacities, IsFlow}
 use Rattle.dmf_net.specs.NetworkState.{NetworkState, IsState, with_flows}
-use Rattle.dmf_net.specs.Residual.{residual_steps, augmented_from, augmented}
+use Rattle.dmf_net.specs.Residual.{residual_steps, augmented}
 use Rattle.dmf_net.specs.Solve.{Solves}
 use Rattle.dmf_net.specs.Pairs.{residual_pair, residual_pairs, residual_search}
 use Rattle.dmf_net.proofs.AugmentedPushed.{get_or-augmented_from}
@@ -120,15 +120,6 @@ pub record IsSolving (s : NetworkState) (search : Searched) : Type 0 where
   pub reached : IsReached s flows
   pub kept : AreKept s.network.arcs s.flows flows
   pub search_is : search ≡ residual_search s.network flows
-
--- at first
-pub solving-first : (s : NetworkState) (search : Searched) → IsState s → search ≡ residual_search s.network s.flows → IsSolving s search
-solving-first s search is same = record {
-  flows = s.flows;
-  reached = record { state = is; paths = []; augments = refl };
-  kept = λ k h loop. refl;
-  search_is = same;
-}
 
 -- The search augments, and the rooms that leave the source fall.
 pub record IsNext (s : NetworkState) (old new : Searched) : Type 0 where

@@ -19,8 +19,8 @@ use std::alloc::Global;
 /// drained first.
 ///
 /// Refused, in this order, by [`PlanFault::NoSuchArc`], [`PlanFault::Closed`] and [`PlanFault::SumTooLarge`], before any
-/// draining. Takes memory where the arc is drained, for the flows and for the carrying steps; where it is refused, the
-/// answer is [`PlanFault::NoMemory`]. Where no more flows on the arc than `cap`, no other arc is looked at.
+/// draining. Takes memory where the arc is drained, for the flows, two links an arc and some numbers a node; where it is
+/// refused, the answer is [`PlanFault::NoMemory`]. Where no more flows on the arc than `cap`, no other arc is looked at.
 pub fn plan_cap(alloc: Global, state: &State, j: u64, cap: u64) -> Result<Edit, PlanFault>
     ensures refused { MatchOption (change_fault state.now (Cap j cap))
         (IsOkUnless result PlanFault.NoMemory)
@@ -48,7 +48,7 @@ pub fn plan_cap(alloc: Global, state: &State, j: u64, cap: u64) -> Result<Edit, 
 /// Plans closing arc number `j`, without changing the state. Where something flows on the arc, it is drained first.
 ///
 /// Refused, in this order, by [`PlanFault::NoSuchArc`] and [`PlanFault::Closed`], before any draining. Takes memory where
-/// the arc is drained, for the flows and for the carrying steps; where it is refused, the answer is
+/// the arc is drained, for the flows, two links an arc and some numbers a node; where it is refused, the answer is
 /// [`PlanFault::NoMemory`]. Where nothing flows on the arc, no other arc is looked at.
 pub fn plan_close(alloc: Global, state: &State, j: u64) -> Result<Edit, PlanFault>
     ensures refused { MatchOption (change_fault state.now (Close j))
@@ -90,7 +90,7 @@ pub fn plan_add(state: &State, tail: u64, head: u64, cap: u64) -> Result<Edit, P
 ///
 /// No flow of the network has a larger value, and some cut has that value as its capacity.
 ///
-/// Takes memory for the flows and for the residual steps; where it is refused, the answer is
+/// Takes memory for the flows, two links an arc and some numbers a node; where it is refused, the answer is
 /// [`PlanFault::NoMemory`].
 pub fn plan_solve(alloc: Global, state: &State) -> Result<Edit, PlanFault>
     ensures refused { IsOkUnless result PlanFault.NoMemory }

@@ -7,8 +7,8 @@ use crate::state::State;
 use dmf_path::{Pair, Pairs, Search};
 use std::alloc::{AllocError, Global};
 
-/// A search for augmenting paths of the state's flow: from the source to the sink, among the pairs of its arcs. Takes memory
-/// for two links an arc, and for some numbers a node.
+/// A search for augmenting paths of the state's flow, from the source to the sink. Takes memory for two links an arc and
+/// some numbers a node.
 pub fn residual_search(alloc: Global, state: &State) -> Result<Search, AllocError>
     ensures search { IfOk result (λ search. search ≡ residual_search state.now.network state.now.flows) }
     ensures state { IsState state.now }
@@ -23,8 +23,8 @@ pub fn residual_search(alloc: Global, state: &State) -> Result<Search, AllocErro
     )
 }
 
-/// The pairs of links that stand for the residual steps of a state's flow: one for each arc, but for those that come back to
-/// their tails and those on which nothing may flow.
+/// The pairs of links that stand for the residual steps of a state's flow: one for each arc, but for those that come back
+/// to their tails and those on which nothing may flow.
 #[derive(Clone, Copy)]
 struct ResidualPairs<'a> {
     state: &'a State,

@@ -63,8 +63,8 @@ impl Side {
 
 /// The smallest side of the state's network: the nodes that every least cut has. The state's flow must be greatest.
 ///
-/// Refused by [`CutFault::NotGreatest`] where some flow has a larger value. Takes memory for
-/// two links an arc, and for some numbers a node; where it is refused, the answer is [`CutFault::NoMemory`].
+/// Refused by [`CutFault::NotGreatest`] where some flow has a larger value. Takes memory for two links an arc and some
+/// numbers a node; where it is refused, the answer is [`CutFault::NoMemory`].
 pub fn smallest_side(alloc: Global, state: &State) -> Result<Side, CutFault>
     ensures side { IfOk result (λ side. IsSmallestSide state.now.network side) }
     ensures value { IfOk result (λ side. pos side.capacity ≡ flow_value state.now.network state.now.flows) }

@@ -1,4 +1,4 @@
-use Rattle.std.proofs.Common.{length, ◌<◌, ap, ◌∙◌, refl, arith, get_or, unwrap_or}
+use Rattle.std.proofs.Common.{ap, ◌∙◌, refl, arith, get_or, unwrap_or}
 use Rattle.dmf_net.proofs.SolvingSearch.{told-more}
 use Rattle.dmf_net.proofs.solve.read_flows.Goals as goal
 
