@@ -14,9 +14,13 @@ pub use side::{Side, side_after, smallest_side};
 pub use side_ids::SideIds;
 pub use state::State;
 
+#[cfg(test)]
+mod agreement;
 mod arc;
 mod carrying_pairs;
 mod drain;
+#[cfg(test)]
+mod drain_tests;
 mod edit;
 mod fault;
 mod flow_sums;
@@ -25,6 +29,8 @@ mod limits;
 mod moves;
 mod plan;
 mod residual;
+#[cfg(test)]
+mod scanning;
 mod side;
 mod side_ids;
 mod solve;

@@ -1,0 +1,197 @@
+//! Tests of draining.
+use crate::{Arc, Edit, Move, NetFault, PlanFault, State, plan_cap, plan_close};
+use std::alloc::Global;
+use std::test::Fail;
+
+#[test]
+fn a_self_loop_is_drained(rt: HostRuntime) -> Result<(), Fail> {
+    let mut state = State::new(rt.alloc(), 2, 1, 2);
+    state.push_arc(1, 1, 5)?;
+    let mut flowing = state.with_flows(rt.alloc(), vec![in rt.alloc(); 3]?)?;
+    let edit = plan_cap(rt.alloc(), &flowing, 1, 2)?;
+    let moves = vec![in rt.alloc();
+        Move {
+            arc: 1,
+            from: 3,
+            to: 2
+        },
+    ]?;
+    assert_eq!(rt;
+        edit,
+        Edit::Cap {
+            arc: 1,
+            old: 5,
+            new: 2,
+            moves
+        }
+    );
+    flowing.apply(&edit)?;
+    assert_eq!(rt; flowing.arcs()[0].cap, 2);
+    assert_eq!(rt; flowing.flow(1), 2);
+    assert_eq!(rt; flowing.value(), 0);
+    Ok(())
+}
+
+#[test]
+fn a_flow_that_goes_round_is_drained(rt: HostRuntime) -> Result<(), Fail> {
+    let mut state = State::new(rt.alloc(), 4, 1, 2);
+    state.push_arc(3, 4, 5)?;
+    state.push_arc(4, 3, 5)?;
+    let mut flowing = state.with_flows(rt.alloc(), vec![in rt.alloc(); 4, 4]?)?;
+    let edit = plan_cap(rt.alloc(), &flowing, 1, 1)?;
+    let moves = vec![in rt.alloc();
+        Move {
+            arc: 1,
+            from: 4,
+            to: 1
+        },
+        Move {
+            arc: 2,
+            from: 4,
+            to: 1
+        },
+    ]?;
+    assert_eq!(rt;
+        edit,
+        Edit::Cap {
+            arc: 1,
+            old: 5,
+            new: 1,
+            moves
+        }
+    );
+    flowing.apply(&edit)?;
+    assert_eq!(rt; flowing.value(), 0);
+    Ok(())
+}
+
+/// Three nodes, source 1 and sink 2: 3 flow from 1 over 3 to 2, and 1 of them back from 2 to 1.
+fn coming_back(alloc: Global) -> Result<State, Fail> {
+    let mut state = State::new(alloc, 3, 1, 2);
+    state.push_arc(1, 3, 5)?;
+    state.push_arc(3, 2, 5)?;
+    state.push_arc(2, 1, 5)?;
+    Ok(state.with_flows(alloc, vec![in alloc; 3, 3, 1]?)?)
+}
+
+/// From node 2, the head of arc number 2, two paths of two steps lead back to its tail, node 3: over arc number 3
+/// or over the return link, and on along arc number 1. The arc ranks before the link, so its path is lowered first, by
+/// the 1 that flows on it; the path over the link is lowered by the 1 that is then left above the limit. Were the link
+/// the first, both would be taken off by it, and arc number 3 would keep its flow.
+#[test]
+fn the_return_link_ranks_after_the_arcs(rt: HostRuntime) -> Result<(), Fail> {
+    let mut state = coming_back(rt.alloc())?;
+    assert_eq!(rt; state.value(), 2);
+    let edit = plan_cap(rt.alloc(), &state, 2, 1)?;
+    let moves = vec![in rt.alloc();
+        Move {
+            arc: 1,
+            from: 3,
+            to: 1
+        },
+        Move {
+            arc: 2,
+            from: 3,
+            to: 1
+        },
+        Move {
+            arc: 3,
+            from: 1,
+            to: 0
+        },
+    ]?;
+    assert_eq!(rt;
+        edit,
+        Edit::Cap {
+            arc: 2,
+            old: 5,
+            new: 1,
+            moves
+        }
+    );
+    state.apply(&edit)?;
+    assert_eq!(rt; state.value(), 1);
+    Ok(())
+}
+
+#[test]
+fn an_arc_is_closed(rt: HostRuntime) -> Result<(), Fail> {
+    let mut state = coming_back(rt.alloc())?;
+    let edit = plan_close(rt.alloc(), &state, 2)?;
+    let moves = vec![in rt.alloc();
+        Move {
+            arc: 1,
+            from: 3,
+            to: 0
+        },
+        Move {
+            arc: 2,
+            from: 3,
+            to: 0
+        },
+        Move {
+            arc: 3,
+            from: 1,
+            to: 0
+        },
+    ]?;
+    assert_eq!(rt;
+        edit,
+        Edit::Close {
+            arc: 2,
+            old: 5,
+            moves
+        }
+    );
+    state.apply(&edit)?;
+    assert_eq!(rt; state.value(), 0);
+    assert_eq!(rt; state.open_count(), 2);
+    assert_eq!(rt;
+        state.arcs()[1],
+        Arc {
+            tail: 3,
+            head: 2,
+            cap: 0,
+            closed: true
+        }
+    );
+    assert_eq!(rt; plan_close(rt.alloc(), &state, 2), Err(PlanFault::Closed));
+    assert_eq!(rt;
+        plan_cap(rt.alloc(), &state, 2, u64::MAX),
+        Err(PlanFault::Closed)
+    );
+    Ok(())
+}
+
+#[test]
+fn a_capacity_is_raised(rt: HostRuntime) -> Result<(), Fail> {
+    let mut state = coming_back(rt.alloc())?;
+    let room = u64::MAX - 10;
+    assert_eq!(rt;
+        plan_cap(rt.alloc(), &state, 0, 1),
+        Err(PlanFault::NoSuchArc)
+    );
+    assert_eq!(rt;
+        plan_cap(rt.alloc(), &state, 4, 1),
+        Err(PlanFault::NoSuchArc)
+    );
+    assert_eq!(rt;
+        plan_cap(rt.alloc(), &state, 1, room + 1),
+        Err(PlanFault::SumTooLarge)
+    );
+    let edit = plan_cap(rt.alloc(), &state, 1, room)?;
+    assert_eq!(rt;
+        edit,
+        Edit::Cap {
+            arc: 1,
+            old: 5,
+            new: room,
+            moves: Vec::new(rt.alloc())
+        }
+    );
+    state.apply(&edit)?;
+    assert_eq!(rt; state.arcs()[0].cap, room);
+    assert_eq!(rt; state.value(), 2);
+    assert_eq!(rt; state.push_arc(1, 2, 1), Err(NetFault::SumTooLarge));
+    Ok(())
+}
