@@ -42,11 +42,6 @@ MovesFit-earlier last first (m ∷ moves) flows h fit = (omega (arith, fit.0, h)
 pub MovesFit-made : (last : ℕ) (m : Move) (moves : List Move) (flows : List ℕ) → MovesFit last (m ∷ moves) flows → MovesFit m.arc moves (set flows (m.arc - 1) m.to)
 MovesFit-made last m moves flows fit = MovesFit-set m.arc (m.arc - 1) m.to moves flows (omega (arith, fit.0)) fit.2
 
--- no move changes how many flows there are
-pub length-moved : (moves : List Move) (flows : List ℕ) → length (moved moves flows) ≡ length flows
-length-moved [] flows = refl
-length-moved (m ∷ moves) flows = length-moved moves (set flows (m.arc - 1) m.to) ∙ length-set flows (m.arc - 1) m.to
-
 -- moves past an arc leave its flow
 pub moved-other : (last k : ℕ) (moves : List Move) (flows : List ℕ) → k < last → MovesFit last moves flows → get_or (moved moves flows) k 0 ≡ get_or flows k 0
 moved-other last k [] flows h fit = refl
