@@ -3,7 +3,7 @@
 -- Public: a public contract says no more than this.
 use Rattle.std.specs.Prelude.{ℕ, ◌≡◌, List, Bool, Option, Result, Ok, Err}
 use Rattle.std.specs.Io.KnownBytes.{Consumes}
-use Rattle.dmf_net.specs.NetworkState.{NetworkState, IsState}
+use Rattle.dmf_net.specs.NetworkState.{NetworkState}
 use Rattle.dmf_net.specs.Change.{Solve, Becomes}
 use Rattle.dmf_net.specs.Side.{CutSide}
 use Rattle.dmf_session.specs.Optimal.{IsOptimal}
@@ -25,7 +25,6 @@ pub record Writer : Type 0 where
 -- after it, or a front of that where the writer failed.
 pub record WritesSolved (want_cut : Bool) (from to : Reader) (old new : Writer) (text : List ℕ) (result : Result Status EngineFault) : Type 0 where
   pub state : NetworkState
-  pub is_state : IsState state
   pub problem : ReadsProblem from to text (Ok state)
   pub solved : NetworkState
   pub becomes : Becomes state Solve solved
