@@ -14,12 +14,8 @@ use Rattle.dmf_run.specs.declared.fault.Status.TheVariants.{Well}
 use Rattle.dmf_run.specs.declared.fault.EngineFault.{EngineFault}
 use Rattle.dmf_run.specs.declared.fault.EngineFault.TheVariants as fault
 use Rattle.dmf_run.specs.Run.{solved_text}
-use Rattle.dmf_run.specs.Session.{Reader, ReadsProblem}
-
--- a writer: what it holds, where that is known, and its mark
-pub record Writer : Type 0 where
-  pub contents : Option (List ℕ)
-  pub has_failed : Bool
+use Rattle.dmf_run.specs.Streams.{Reader, Writer}
+use Rattle.dmf_run.specs.Session.{ReadsProblem}
 
 -- The text stands for a state. The solution of what solving makes of it was written, and where one is wanted the smallest cut
 -- after it, or a front of that where the writer failed.
