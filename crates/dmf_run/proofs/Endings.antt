@@ -13,14 +13,15 @@ use Rattle.dmf_run.specs.declared.fault.Status.{Status}
 use Rattle.dmf_run.specs.declared.fault.EngineFault.{EngineFault}
 use Rattle.dmf_run.specs.declared.fault.EngineFault.TheVariants as fault
 use Rattle.dmf_run.specs.declared.input.Next.TheVariants.{Line, Last}
+use Rattle.dmf_run.specs.Streams.{Writer}
 use Rattle.dmf_run.specs.Pending.{Pending}
 use Rattle.dmf_run.specs.Line.{HasNoFeed, fed, line_meaning}
 use Rattle.dmf_run.specs.Run.{LineRuns, Runs}
-use Rattle.dmf_run.specs.Input.{Feed, Takes, HasEnded, HasFailed, IsPastLimit, GivesLine, GivesEnd, left}
+use Rattle.dmf_run.specs.Input.{InputState, Takes, HasEnded, HasFailed, IsPastLimit, GivesLine, GivesEnd, left}
 use Rattle.dmf_run.specs.Outcome.{RestRuns, RunsAll, RunsCommands, status_if, line_count}
 use Rattle.dmf_run.proofs.FeedLemmas.{Takes-trans}
 use Rattle.dmf_run.proofs.LineLemmas.{or-false}
-use Rattle.dmf_run.proofs.Progress.{Held, streams, IsFresh, Progress, Carried, Progress-more}
+use Rattle.dmf_run.proofs.Progress.{streams, IsFresh, Progress, Carried, Progress-more}
 
 -- a writer that took a text
 Appends-known : (known : Option (List ℕ)) (text : List ℕ) → Appends known (append_known known text) text
@@ -34,8 +35,8 @@ Consumes-given p q (Some xs) None bytes none c = absurd c
 Consumes-given p q (Some xs) (Some ys) bytes none c =
     sym (ap (λ front. front ++ xs) none) ∙ c ∙ sym (append_assoc bytes q.bytes ys)
 
-given-by : (before now : Feed) (bytes : List ℕ) → IsFresh before → Takes before now bytes → Consumes before.known now.known (bytes ++ now.pending.bytes)
-given-by before now bytes fresh takes = Consumes-given before.pending now.pending before.known now.known bytes fresh.none_pending takes.consumes
+given-by : (before now : InputState) (bytes : List ℕ) → IsFresh before → Takes before now bytes → Consumes before.reader.known now.reader.known (bytes ++ now.pending.bytes)
+given-by before now bytes fresh takes = Consumes-given before.pending now.pending before.reader.known now.reader.known bytes fresh.none_pending takes.consumes
 
 -- the lines so far are all
 abbrev all-so-far : (want_cut : Bool) (t : Timeline) (lines : List (List ℕ)) (written : List ℕ) (is_refused : Bool) (u : Timeline) → All HasNoFeed lines → Runs (Answers want_cut) 1 t lines written is_refused u → RunsAll (Answers want_cut) t (fed lines) written is_refused
@@ -55,7 +56,7 @@ all-so-far want_cut t lines written is_refused u each runs = record {
 }
 
 -- the end of the input
-pub RunsCommands-end : (want_cut : Bool) (t : Timeline) (before now then : Feed) (held holds : Held) (number : ℕ) (u : Timeline) (is_refused : Bool) (status : Status) → number ≤ 1000000 + 1 → status ≡ status_if is_refused
+pub RunsCommands-end : (want_cut : Bool) (t : Timeline) (before now then : InputState) (held holds : Writer) (number : ℕ) (u : Timeline) (is_refused : Bool) (status : Status) → number ≤ 1000000 + 1 → status ≡ status_if is_refused
     → Progress want_cut t before now held holds number u is_refused → Takes now then [] → HasEnded now then → RunsCommands want_cut t (streams before held) (streams then holds) (Ok status)
 RunsCommands-end want_cut t before now then held holds number u is_refused status few told p takes ended =
     let bytes = fed p.lines in
@@ -63,7 +64,7 @@ RunsCommands-end want_cut t before now then held holds number u is_refused statu
     let nothing : bytes ++ then.pending.bytes ≡ bytes = ap (λ x. bytes ++ x) ended.none_pending ∙ append-nil bytes in (
       bytes,
       p.written,
-      subst (λ x. Consumes before.known then.known x) nothing (given-by before then bytes p.fresh all),
+      subst (λ x. Consumes before.reader.known then.reader.known x) nothing (given-by before then bytes p.fresh all),
       p.appends,
       (
         is_refused,
@@ -75,7 +76,7 @@ RunsCommands-end want_cut t before now then held holds number u is_refused statu
     )
 
 -- a failed read
-pub RunsCommands-read : (want_cut : Bool) (t : Timeline) (before now then : Feed) (held holds : Held) (number : ℕ) (u : Timeline) (is_refused : Bool) (rest : List ℕ)
+pub RunsCommands-read : (want_cut : Bool) (t : Timeline) (before now then : InputState) (held holds : Writer) (number : ℕ) (u : Timeline) (is_refused : Bool) (rest : List ℕ)
     → Progress want_cut t before now held holds number u is_refused → HasNoFeed rest → Takes now then rest → HasFailed then → RunsCommands want_cut t (streams before held) (streams then holds) (Err fault.Read)
 RunsCommands-read want_cut t before now then held holds number u is_refused rest p no_feed takes failed =
     let bytes = fed p.lines ++ rest in
@@ -83,7 +84,7 @@ RunsCommands-read want_cut t before now then held holds number u is_refused rest
     let nothing : bytes ++ then.pending.bytes ≡ bytes = ap (λ x. bytes ++ x) failed.none_pending ∙ append-nil bytes in (
       bytes,
       p.written,
-      subst (λ x. Consumes before.known then.known x) nothing (given-by before then bytes p.fresh all),
+      subst (λ x. Consumes before.reader.known then.reader.known x) nothing (given-by before then bytes p.fresh all),
       p.appends,
       (
         record {
@@ -100,7 +101,7 @@ RunsCommands-read want_cut t before now then held holds number u is_refused rest
     )
 
 -- more bytes than may be
-pub RunsCommands-bytes : (want_cut : Bool) (t : Timeline) (before now then : Feed) (held holds : Held) (number : ℕ) (u : Timeline) (is_refused : Bool) (rest : List ℕ) → number ≤ 1000000 + 1
+pub RunsCommands-bytes : (want_cut : Bool) (t : Timeline) (before now then : InputState) (held holds : Writer) (number : ℕ) (u : Timeline) (is_refused : Bool) (rest : List ℕ) → number ≤ 1000000 + 1
     → Progress want_cut t before now held holds number u is_refused → HasNoFeed rest → Takes now then rest → IsPastLimit now then → RunsCommands want_cut t (streams before held) (streams then holds) (Err fault.TooMuchInput)
 RunsCommands-bytes want_cut t before now then held holds number u is_refused rest few p no_feed takes past =
     let bytes = fed p.lines ++ rest in
@@ -130,8 +131,8 @@ RunsCommands-bytes want_cut t before now then held holds number u is_refused res
     )
 
 -- more lines than may be
-pub RunsCommands-lines : (want_cut : Bool) (t : Timeline) (before now then : Feed) (held holds : Held) (u : Timeline) (is_refused : Bool) (more : List ℕ)
-    → Progress want_cut t before now held holds (1000000 + 1) u is_refused → 0 < length (more ++ then.pending.bytes) → Takes now then more → then.pending.count ≤ 2 ^ 30 → then.has_failed ≡ now.has_failed
+pub RunsCommands-lines : (want_cut : Bool) (t : Timeline) (before now then : InputState) (held holds : Writer) (u : Timeline) (is_refused : Bool) (more : List ℕ)
+    → Progress want_cut t before now held holds (1000000 + 1) u is_refused → 0 < length (more ++ then.pending.bytes) → Takes now then more → then.pending.count ≤ 2 ^ 30 → then.reader.has_failed ≡ now.reader.has_failed
     → RunsCommands want_cut t (streams before held) (streams then holds) (Err fault.TooMuchInput)
 RunsCommands-lines want_cut t before now then held holds u is_refused more p some takes within mark =
     let bytes = fed p.lines ++ more in
@@ -158,7 +159,7 @@ RunsCommands-lines want_cut t before now then held holds u is_refused more p som
     )
 
 -- asking for a line was refused
-pub RunsCommands-refused : (want_cut : Bool) (t : Timeline) (before now then : Feed) (held holds : Held) (number : ℕ) (u : Timeline) (is_refused : Bool) (told : EngineFault) → number ≤ 1000000 + 1
+pub RunsCommands-refused : (want_cut : Bool) (t : Timeline) (before now then : InputState) (held holds : Writer) (number : ℕ) (u : Timeline) (is_refused : Bool) (told : EngineFault) → number ≤ 1000000 + 1
     → Progress want_cut t before now held holds number u is_refused → GivesLine now then (Err told) → RunsCommands want_cut t (streams before held) (streams then holds) (Err told)
 RunsCommands-refused want_cut t before now then held holds number u is_refused fault.Read few p gave = RunsCommands-read want_cut t before now then held holds number u is_refused gave.0 p gave.1 gave.2 gave.3
 RunsCommands-refused want_cut t before now then held holds number u is_refused fault.TooMuchInput few p gave = RunsCommands-bytes want_cut t before now then held holds number u is_refused gave.0 few p gave.1 gave.2 gave.3
@@ -168,7 +169,7 @@ RunsCommands-refused want_cut t before now then held holds number u is_refused (
 RunsCommands-refused want_cut t before now then held holds number u is_refused fault.NoMemory few p gave = absurd gave
 
 -- asking for the end was refused
-pub RunsCommands-past : (want_cut : Bool) (t : Timeline) (before now then : Feed) (held holds : Held) (u : Timeline) (is_refused : Bool) (told : EngineFault)
+pub RunsCommands-past : (want_cut : Bool) (t : Timeline) (before now then : InputState) (held holds : Writer) (u : Timeline) (is_refused : Bool) (told : EngineFault)
     → Progress want_cut t before now held holds (1000000 + 1) u is_refused → GivesEnd now then (Err told) → RunsCommands want_cut t (streams before held) (streams then holds) (Err told)
 RunsCommands-past want_cut t before now then held holds u is_refused fault.Read p gave = RunsCommands-read want_cut t before now then held holds (1000000 + 1) u is_refused [] p (All-nil (λ (b : ℕ). b ≡ 10 → ⊥)) gave.0 gave.1
 RunsCommands-past want_cut t before now then held holds u is_refused fault.TooMuchInput p gave = RunsCommands-lines want_cut t before now then held holds u is_refused gave.0 p gave.1 gave.2 gave.3 gave.4
@@ -205,7 +206,7 @@ all-with-last want_cut t lines line written text is_refused refused u v each no_
 }
 
 -- a last line was carried out
-pub RunsCommands-last : (want_cut : Bool) (t : Timeline) (before now then : Feed) (held holds next : Held) (number : ℕ) (u : Timeline) (is_refused : Bool) (meaning : Result (Option Command) Refusal) (refused : Bool) (v : Timeline) (status : Status) → number ≤ 1000000 → status ≡ status_if (is_refused || refused)
+pub RunsCommands-last : (want_cut : Bool) (t : Timeline) (before now then : InputState) (held holds next : Writer) (number : ℕ) (u : Timeline) (is_refused : Bool) (meaning : Result (Option Command) Refusal) (refused : Bool) (v : Timeline) (status : Status) → number ≤ 1000000 → status ≡ status_if (is_refused || refused)
     → Progress want_cut t before now held holds number u is_refused → GivesLine now then (Ok (Last meaning)) → Carried want_cut u meaning number holds next refused v → RunsCommands want_cut t (streams before held) (streams then next) (Ok status)
 RunsCommands-last want_cut t before now then held holds next number u is_refused meaning refused v status few told p gave c =
     let line : List ℕ = gave.0 in
@@ -216,7 +217,7 @@ RunsCommands-last want_cut t before now then held holds next number u is_refused
     let runs = subst (λ n. LineRuns (Answers want_cut) n u (line_meaning false line) c.text refused v) (sym p.counted) (subst (λ m. LineRuns (Answers want_cut) number u m c.text refused v) gave.3 c.runs) in (
       bytes,
       p.written ++ c.text,
-      subst (λ x. Consumes before.known then.known x) nothing (given-by before then bytes p.fresh all),
+      subst (λ x. Consumes before.reader.known then.reader.known x) nothing (given-by before then bytes p.fresh all),
       Appends-trans _ _ _ p.written c.text p.appends c.appends,
       (
         is_refused || refused,
@@ -228,7 +229,7 @@ RunsCommands-last want_cut t before now then held holds next number u is_refused
     )
 
 -- A line of which a front was written, and then a put or the flush failed.
-pub record Broken (want_cut : Bool) (u : Timeline) (meaning : Result (Option Command) Refusal) (number : ℕ) (holds next : Held) (v : Timeline) : Type 0 where
+pub record Broken (want_cut : Bool) (u : Timeline) (meaning : Result (Option Command) Refusal) (number : ℕ) (holds next : Writer) (v : Timeline) : Type 0 where
   pub text : List ℕ
   pub refused : Bool
   pub runs : LineRuns (Answers want_cut) number u meaning text refused v
@@ -239,7 +240,7 @@ pub record Broken (want_cut : Bool) (u : Timeline) (meaning : Result (Option Com
   pub writer : next.has_failed ≡ true
 
 -- a failed write of the reply to a line
-pub RunsCommands-write : (want_cut : Bool) (t : Timeline) (before now then : Feed) (held holds next : Held) (number : ℕ) (u : Timeline) (is_refused : Bool) (meaning : Result (Option Command) Refusal) (v : Timeline)
+pub RunsCommands-write : (want_cut : Bool) (t : Timeline) (before now then : InputState) (held holds next : Writer) (number : ℕ) (u : Timeline) (is_refused : Bool) (meaning : Result (Option Command) Refusal) (v : Timeline)
     → Progress want_cut t before now held holds number u is_refused → GivesLine now then (Ok (Line meaning)) → Broken want_cut u meaning number holds next v → RunsCommands want_cut t (streams before held) (streams then next) (Err fault.Write)
 RunsCommands-write want_cut t before now then held holds next number u is_refused meaning v p gave b =
     let carried : Carried want_cut u meaning number holds (record { contents = append_known holds.contents b.text; has_failed = holds.has_failed }) b.refused v =
@@ -268,7 +269,7 @@ RunsCommands-write want_cut t before now then held holds next number u is_refuse
     )
 
 -- and to a last line
-pub RunsCommands-write_last : (want_cut : Bool) (t : Timeline) (before now then : Feed) (held holds next : Held) (number : ℕ) (u : Timeline) (is_refused : Bool) (meaning : Result (Option Command) Refusal) (v : Timeline)
+pub RunsCommands-write_last : (want_cut : Bool) (t : Timeline) (before now then : InputState) (held holds next : Writer) (number : ℕ) (u : Timeline) (is_refused : Bool) (meaning : Result (Option Command) Refusal) (v : Timeline)
     → Progress want_cut t before now held holds number u is_refused → GivesLine now then (Ok (Last meaning)) → Broken want_cut u meaning number holds next v → RunsCommands want_cut t (streams before held) (streams then next) (Err fault.Write)
 RunsCommands-write_last want_cut t before now then held holds next number u is_refused meaning v p gave b =
     let line : List ℕ = gave.0 in

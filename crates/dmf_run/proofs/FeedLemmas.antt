@@ -4,11 +4,11 @@ use Rattle.std.specs.List.{slice_range}
 use Rattle.std.specs.Io.KnownBytes.{prepend_known, Consumes}
 use Rattle.std.proofs.KnownBytes.{Consumes-trans}
 use Rattle.std.proofs.lemmas.List.{drop_more, length-append, append-nil}
-use Rattle.dmf_run.specs.Input.{Feed, Takes, left}
+use Rattle.dmf_run.specs.Input.{InputState, Takes, left}
 
-pub Takes-trans : (a b c : Feed) (x y : List ℕ) → Takes a b x → Takes b c y → Takes a c (x ++ y)
+pub Takes-trans : (a b c : InputState) (x y : List ℕ) → Takes a b x → Takes b c y → Takes a c (x ++ y)
 Takes-trans a b c x y t u = record {
-  consumes = Consumes-trans (left a.pending a.known) (left b.pending b.known) (left c.pending c.known) x y t.consumes u.consumes;
+  consumes = Consumes-trans (left a.pending a.reader.known) (left b.pending b.reader.known) (left c.pending c.reader.known) x y t.consumes u.consumes;
   counts = omega (arith, t.counts, u.counts, length-append x y);
 }
 
@@ -28,5 +28,5 @@ pub some-length : (xs : List ℕ) → (xs ≡ [] → ⊥) → 0 < length xs
 some-length [] not_empty = absurd (not_empty refl)
 some-length (x ∷ xs) not_empty = omega arith
 
-pub Takes-nil : (a b c : Feed) (x : List ℕ) → Takes a b x → Takes b c [] → Takes a c x
+pub Takes-nil : (a b c : InputState) (x : List ℕ) → Takes a b x → Takes b c [] → Takes a c x
 Takes-nil a b c x t u = subst (λ l. Takes a c l) (append-nil x) (Takes-trans a b c x [] t u)

@@ -1,5 +1,6 @@
 pub mod CommandLine
 pub mod RefusalText
+pub mod Streams
 pub mod Pending
 pub mod Line
 pub mod Run

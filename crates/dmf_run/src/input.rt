@@ -1,9 +1,10 @@
 //! Command lines, taken from a reader that gives its bytes in any pieces.
 ghost use Rattle.std.specs.Prelude.{◌≡◌, ◌≤◌, ◌∷◌, ◌++◌, [], List, ℕ, IsTrue, ◌↔◌};
 ghost use Rattle.std.specs.Str.Lines.{strip_carriage_return};
+ghost use Rattle.dmf_run.specs.Streams.{reader_of};
 ghost use Rattle.dmf_run.specs.Pending.{Holds};
 ghost use Rattle.dmf_run.specs.Line.{line_meaning};
-ghost use Rattle.dmf_run.specs.Input.{Fills, GivesByte, GivesLine, GivesEnd};
+ghost use Rattle.dmf_run.specs.Input.{input_over, Fills, GivesByte, GivesLine, GivesEnd};
 
 use crate::command_line::read_command;
 use crate::fault::EngineFault;
@@ -43,6 +44,7 @@ struct LineRoom {
 
 impl Model for LineRoom {
     ghost use Rattle.std.specs.Prelude.{take, ◌≤◌};
+    ghost use Rattle.dmf_run.specs.Streams.{reader_of};
     ghost use Rattle.dmf_run.specs.Pending.{Room};
 
     ghost Value = { Room };
@@ -118,6 +120,7 @@ pub struct Input {
 
 impl Model for Input {
     ghost use Rattle.std.specs.Prelude.{slice_range, ◌≤◌, ◌^◌};
+    ghost use Rattle.dmf_run.specs.Streams.{reader_of};
     ghost use Rattle.dmf_run.specs.Pending.{Pending};
 
     ghost Value = { Pending };
@@ -143,8 +146,8 @@ impl Input {
     /// Reads the next piece, where no byte is pending. At the end of the input none is pending afterwards.
     fn fill<C: Source>(&mut self, source: &mut C) -> Result<(), EngineFault>
         ensures { Fills
-            (record { pending = self.old; known = C.remaining source.old; has_failed = C.has_failed source.old })
-            (record { pending = self.new; known = C.remaining source.new; has_failed = C.has_failed source.new })
+            (input_over self.old (reader_of C.remaining C.has_failed source.old))
+            (input_over self.new (reader_of C.remaining C.has_failed source.new))
             result }
     {
         if self.start < self.end {
@@ -162,8 +165,8 @@ impl Input {
     /// Takes the next byte, if there is one.
     fn next_byte<C: Source>(&mut self, source: &mut C) -> Result<Option<u8>, EngineFault>
         ensures { GivesByte
-            (record { pending = self.old; known = C.remaining source.old; has_failed = C.has_failed source.old })
-            (record { pending = self.new; known = C.remaining source.new; has_failed = C.has_failed source.new })
+            (input_over self.old (reader_of C.remaining C.has_failed source.old))
+            (input_over self.new (reader_of C.remaining C.has_failed source.new))
             result }
     {
         self.fill(source)?;
@@ -182,8 +185,8 @@ impl Input {
     /// Takes the next line, if there is one. No byte past its line feed is asked for.
     pub fn next_line<C: Source>(&mut self, source: &mut C) -> Result<Next, EngineFault>
         ensures { GivesLine
-            (record { pending = self.old; known = C.remaining source.old; has_failed = C.has_failed source.old })
-            (record { pending = self.new; known = C.remaining source.new; has_failed = C.has_failed source.new })
+            (input_over self.old (reader_of C.remaining C.has_failed source.old))
+            (input_over self.new (reader_of C.remaining C.has_failed source.new))
             result }
     {
         let mut room = LineRoom::new();
@@ -202,8 +205,8 @@ impl Input {
     /// Refuses any further byte.
     pub fn expect_end<C: Source>(&mut self, source: &mut C) -> Result<(), EngineFault>
         ensures { GivesEnd
-            (record { pending = self.old; known = C.remaining source.old; has_failed = C.has_failed source.old })
-            (record { pending = self.new; known = C.remaining source.new; has_failed = C.has_failed source.new })
+            (input_over self.old (reader_of C.remaining C.has_failed source.old))
+            (input_over self.new (reader_of C.remaining C.has_failed source.new))
             result }
     {
         match self.next_byte(source)? {

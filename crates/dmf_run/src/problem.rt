@@ -1,7 +1,8 @@
 //! The problem of a run, read whole.
 ghost use Rattle.std.specs.Prelude.{◌<◌, List, ℕ, vec_len, Ok, Err, IfOk, MatchResult};
 ghost use Rattle.std.specs.Io.KnownBytes.{Consumes};
-ghost use Rattle.dmf_run.specs.Session.{Reader, ReadsProblem};
+ghost use Rattle.dmf_run.specs.Session.{ReadsProblem};
+ghost use Rattle.dmf_run.specs.Streams.{reader_of};
 ghost use Rattle.dmf_run.specs.WholeText.{ReadsText};
 
 use crate::fault::EngineFault;
@@ -15,8 +16,8 @@ const PIECE: usize = 65536;
 /// Reads a whole text, of at most [`MAX_BYTES`] bytes. The room for a read is taken before the first.
 pub fn read_all<P: Source>(alloc: Global, source: &mut P) -> Result<Vec<u8>, EngineFault>
     ensures { (text : List ℕ) × Consumes (P.remaining source.old) (P.remaining source.new) text
-        × (let from : Reader = record { known = P.remaining source.old; has_failed = P.has_failed source.old } in
-        let to : Reader = record { known = P.remaining source.new; has_failed = P.has_failed source.new } in
+        × (let from = reader_of P.remaining P.has_failed source.old in
+        let to = reader_of P.remaining P.has_failed source.new in
         MatchResult result (λ whole. ReadsText from to text (Ok whole.items)) (λ fault. ReadsText from to text (Err fault))) }
 {
     let Ok(mut room) = room(alloc) else {
@@ -51,8 +52,7 @@ fn room(alloc: Global) -> Result<Vec<u8>, AllocError>
 /// Reads a problem text, and judges it.
 pub fn read_state<P: Source>(alloc: Global, source: &mut P) -> Result<State, EngineFault>
     ensures { (text : List ℕ) × Consumes (P.remaining source.old) (P.remaining source.new) text
-        × ReadsProblem (record { known = P.remaining source.old; has_failed = P.has_failed source.old })
-        (record { known = P.remaining source.new; has_failed = P.has_failed source.new })
+        × ReadsProblem (reader_of P.remaining P.has_failed source.old) (reader_of P.remaining P.has_failed source.new)
         text result }
 {
     let text = read_all(alloc, source)?;

@@ -1,5 +1,6 @@
 //! A session from bytes to bytes.
 ghost use Rattle.std.specs.Prelude.{◌≡◌, ◌<◌, Ok, Some, length};
+ghost use Rattle.dmf_run.specs.Streams.{reader_of, writer_of, streams_of};
 ghost use Rattle.dmf_run.specs.Outcome.{RunsCommands, status_if};
 ghost use Rattle.dmf_run.specs.Session.{RunsSession};
 ghost use Rattle.dmf_run.specs.WrittenLine.{WritesLine};
@@ -32,18 +33,8 @@ pub fn run_commands<H: History + Drop, C: Source, W: Sink>(
     requires at_first { (H.timeline session).place ≡ 0 }
     requires one_state { length (H.timeline session).states ≡ 1 }
     ensures { RunsCommands want_cut (H.timeline session)
-        (record {
-          known = C.remaining commands.old;
-          reader_failed = C.has_failed commands.old;
-          contents = W.contents out.old;
-          writer_failed = W.has_failed out.old;
-        })
-        (record {
-          known = C.remaining commands.new;
-          reader_failed = C.has_failed commands.new;
-          contents = W.contents out.new;
-          writer_failed = W.has_failed out.new;
-        })
+        (streams_of (reader_of C.remaining C.has_failed commands.old) (writer_of W.contents W.has_failed out.old))
+        (streams_of (reader_of C.remaining C.has_failed commands.new) (writer_of W.contents W.has_failed out.new))
         result }
 {
     let mut session = session;
@@ -83,20 +74,9 @@ pub fn run_session<P: Source, C: Source, W: Sink>(
     want_cut: bool,
 ) -> Result<Status, EngineFault>
     ensures { RunsSession want_cut
-        (record { known = P.remaining problem.old; has_failed = P.has_failed problem.old })
-        (record { known = P.remaining problem.new; has_failed = P.has_failed problem.new })
-        (record {
-          known = C.remaining commands.old;
-          reader_failed = C.has_failed commands.old;
-          contents = W.contents out.old;
-          writer_failed = W.has_failed out.old;
-        })
-        (record {
-          known = C.remaining commands.new;
-          reader_failed = C.has_failed commands.new;
-          contents = W.contents out.new;
-          writer_failed = W.has_failed out.new;
-        })
+        (reader_of P.remaining P.has_failed problem.old) (reader_of P.remaining P.has_failed problem.new)
+        (streams_of (reader_of C.remaining C.has_failed commands.old) (writer_of W.contents W.has_failed out.old))
+        (streams_of (reader_of C.remaining C.has_failed commands.new) (writer_of W.contents W.has_failed out.new))
         result }
 {
     let state = read_state(alloc, problem)?;

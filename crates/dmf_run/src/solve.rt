@@ -2,6 +2,7 @@
 ghost use Rattle.std.specs.Prelude.{IfOk};
 ghost use Rattle.dmf_net.specs.Change.{Solve, Becomes};
 ghost use Rattle.dmf_session.specs.Step.{IsSideWanted};
+ghost use Rattle.dmf_run.specs.Streams.{reader_of, writer_of};
 ghost use Rattle.dmf_run.specs.SolveRun.{RunsSolve, WrittenIsOptimal};
 
 use crate::fault::{EngineFault, Status};
@@ -25,10 +26,8 @@ pub fn run_solve<P: Source, W: Sink>(
     want_cut: bool,
 ) -> Result<Status, EngineFault>
     ensures run { RunsSolve want_cut
-        (record { known = P.remaining problem.old; has_failed = P.has_failed problem.old })
-        (record { known = P.remaining problem.new; has_failed = P.has_failed problem.new })
-        (record { contents = W.contents out.old; has_failed = W.has_failed out.old })
-        (record { contents = W.contents out.new; has_failed = W.has_failed out.new })
+        (reader_of P.remaining P.has_failed problem.old) (reader_of P.remaining P.has_failed problem.new)
+        (writer_of W.contents W.has_failed out.old) (writer_of W.contents W.has_failed out.new)
         result }
     ensures optimal { WrittenIsOptimal }
 {

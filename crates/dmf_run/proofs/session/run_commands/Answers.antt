@@ -1,31 +1,31 @@
 use Rattle.std.proofs.Common.{◌≡◌, ◌+◌, [], Err, refl, sym, ap, ◌∙◌, subst, arith, false}
 use Rattle.std.proofs.lemmas.Result.{err_from_is_err_and}
 use Rattle.dmf_session.specs.Step.{Answers}
-use Rattle.dmf_run.specs.Input.{Feed}
+use Rattle.dmf_run.specs.Streams.{reader_of, writer_of}
+use Rattle.dmf_run.specs.Input.{input_over}
 use Rattle.dmf_run.specs.Run.{LineRuns}
 use Rattle.dmf_run.specs.Outcome.{RunsCommands}
-use Rattle.dmf_run.proofs.Progress.{Held, Carried, Progress, Progress-none, Progress-more, streams}
+use Rattle.dmf_run.proofs.Progress.{Carried, Progress, Progress-none, Progress-more, streams}
 use Rattle.dmf_run.proofs.Endings.{Broken, RunsCommands-end, RunsCommands-refused, RunsCommands-past, RunsCommands-last, RunsCommands-write, RunsCommands-write_last}
 use Rattle.dmf_run.proofs.session.run_commands.Goals as goal
 
 pub loop-number-init : goal.loop-number-init
 loop-number-init g c =
-    let known = g.C.Source.remaining c.args.commands.now in
-    let read_failed = g.C.Source.has_failed c.args.commands.now in
-    let feed : Feed = record { pending = record { bytes = []; count = 0 }; known = known; has_failed = read_failed } in
-    let held : Held = record { contents = g.W.Sink.contents c.args.out.now; has_failed = g.W.Sink.has_failed c.args.out.now } in
+    let reader = reader_of g.C.Source.remaining g.C.Source.has_failed c.args.commands.now in
+    let input = input_over (record { bytes = []; count = 0 }) reader in
+    let held = writer_of g.W.Sink.contents g.W.Sink.has_failed c.args.out.now in
     let t = g.H.History.timeline c.args.session in
-    subst (λ pending. Progress c.args.want_cut t feed (record { pending = pending; known = known; has_failed = read_failed }) held held 1 t false) (sym c.new-input.ensures)
-    (Progress-none c.args.want_cut t feed held (record { none_pending = refl; none_taken = refl }) c.requires.at_first c.requires.one_state)
+    subst (λ pending. Progress c.args.want_cut t input (input_over pending reader) held held 1 t false) (sym c.new-input.ensures)
+    (Progress-none c.args.want_cut t input held (record { none_pending = refl; none_taken = refl }) c.requires.at_first c.requires.one_state)
 
 pub returns-in_err-meaning : goal.returns-in_err-meaning
 returns-in_err-meaning g c =
     let failed = err_from_is_err_and c.from_residual.result c.from_residual.ensures.1 in
-    let then : Feed = record { pending = c.next_line.new.self; known = g.C.Source.remaining c.next_line.new.source; has_failed = g.C.Source.has_failed c.next_line.new.source } in
+    let then = input_over c.next_line.new.self (reader_of g.C.Source.remaining g.C.Source.has_failed c.next_line.new.source) in
     let t = g.H.History.timeline c.args.session in
-    let before : Feed = record { pending = record { bytes = []; count = 0 }; known = g.C.Source.remaining c.args.commands.now; has_failed = g.C.Source.has_failed c.args.commands.now } in
-    let held : Held = record { contents = g.W.Sink.contents c.args.out.now; has_failed = g.W.Sink.has_failed c.args.out.now } in
-    let holds : Held = record { contents = g.W.Sink.contents c.loop-number.out; has_failed = g.W.Sink.has_failed c.loop-number.out } in
+    let before = input_over (record { bytes = []; count = 0 }) (reader_of g.C.Source.remaining g.C.Source.has_failed c.args.commands.now) in
+    let held = writer_of g.W.Sink.contents g.W.Sink.has_failed c.args.out.now in
+    let holds = writer_of g.W.Sink.contents g.W.Sink.has_failed c.loop-number.out in
     subst (λ result. RunsCommands c.args.want_cut t (streams before held) (streams then holds) result) (sym (failed.1 ∙ ap Err failed.2))
     (RunsCommands-refused c.args.want_cut t before _ then held holds c.loop-number.number _ _ c.in_err-meaning.field-0.0 (omega arith) c.loop-number.invariant c.in_err-meaning.ensures)
 
@@ -33,9 +33,9 @@ pub returns-in_default : goal.returns-in_default
 returns-in_default g c =
     let gave = rw c.in-Line.is at c.in_ok-meaning.ensures in
     let told = c.in_default.ensures in
-    let then : Feed = record { pending = c.next_line.new.self; known = g.C.Source.remaining c.next_line.new.source; has_failed = g.C.Source.has_failed c.next_line.new.source } in
-    let holds : Held = record { contents = g.W.Sink.contents c.loop-number.out; has_failed = g.W.Sink.has_failed c.loop-number.out } in
-    let next : Held = record { contents = g.W.Sink.contents c.answer.new.out; has_failed = g.W.Sink.has_failed c.answer.new.out } in
+    let then = input_over c.next_line.new.self (reader_of g.C.Source.remaining g.C.Source.has_failed c.next_line.new.source) in
+    let holds = writer_of g.W.Sink.contents g.W.Sink.has_failed c.loop-number.out in
+    let next = writer_of g.W.Sink.contents g.W.Sink.has_failed c.answer.new.out in
     let broken : Broken c.args.want_cut (g.H.History.timeline c.loop-number.session) c.in-Line.meaning c.loop-number.number holds next (g.H.History.timeline c.answer.new.session) =
     record { text = told.0; refused = told.1; runs = told.2; front = told.3.0; rest = told.3.1; text_is = told.3.2; appends = told.3.3; writer = told.3.4 } in
     RunsCommands-write c.args.want_cut _ _ _ then _ holds next c.loop-number.number _ _ c.in-Line.meaning _ c.loop-number.invariant gave broken
@@ -44,9 +44,9 @@ pub returns-in_default-answer : goal.returns-in_default-answer
 returns-in_default-answer g c =
     let gave = rw c.in-Last.is at c.in_ok-meaning.ensures in
     let told = c.in_default-answer.ensures in
-    let then : Feed = record { pending = c.next_line.new.self; known = g.C.Source.remaining c.next_line.new.source; has_failed = g.C.Source.has_failed c.next_line.new.source } in
-    let holds : Held = record { contents = g.W.Sink.contents c.loop-number.out; has_failed = g.W.Sink.has_failed c.loop-number.out } in
-    let next : Held = record { contents = g.W.Sink.contents c.answer-in-Last.new.out; has_failed = g.W.Sink.has_failed c.answer-in-Last.new.out } in
+    let then = input_over c.next_line.new.self (reader_of g.C.Source.remaining g.C.Source.has_failed c.next_line.new.source) in
+    let holds = writer_of g.W.Sink.contents g.W.Sink.has_failed c.loop-number.out in
+    let next = writer_of g.W.Sink.contents g.W.Sink.has_failed c.answer-in-Last.new.out in
     let broken : Broken c.args.want_cut (g.H.History.timeline c.loop-number.session) c.in-Last.meaning c.loop-number.number holds next (g.H.History.timeline c.answer-in-Last.new.session) =
     record { text = told.0; refused = told.1; runs = told.2; front = told.3.0; rest = told.3.1; text_is = told.3.2; appends = told.3.3; writer = told.3.4 } in
     RunsCommands-write_last c.args.want_cut _ _ _ then _ holds next c.loop-number.number _ _ c.in-Last.meaning _ c.loop-number.invariant gave broken
@@ -55,9 +55,9 @@ pub returns-in-Last : goal.returns-in-Last
 returns-in-Last g c =
     let gave = rw c.in-Last.is at c.in_ok-meaning.ensures in
     let told = c.in-Ok-answer.ensures in
-    let then : Feed = record { pending = c.next_line.new.self; known = g.C.Source.remaining c.next_line.new.source; has_failed = g.C.Source.has_failed c.next_line.new.source } in
-    let holds : Held = record { contents = g.W.Sink.contents c.loop-number.out; has_failed = g.W.Sink.has_failed c.loop-number.out } in
-    let next : Held = record { contents = g.W.Sink.contents c.answer-in-Last.new.out; has_failed = g.W.Sink.has_failed c.answer-in-Last.new.out } in
+    let then = input_over c.next_line.new.self (reader_of g.C.Source.remaining g.C.Source.has_failed c.next_line.new.source) in
+    let holds = writer_of g.W.Sink.contents g.W.Sink.has_failed c.loop-number.out in
+    let next = writer_of g.W.Sink.contents g.W.Sink.has_failed c.answer-in-Last.new.out in
     let u = g.H.History.timeline c.loop-number.session in
     let v = g.H.History.timeline c.answer-in-Last.new.session in
     let carried : Carried c.args.want_cut u c.in-Last.meaning c.loop-number.number holds next c.in-Ok-answer.refused v =
@@ -73,9 +73,9 @@ pub loop-number-preserved : goal.loop-number-preserved
 loop-number-preserved g c =
     let gave = rw c.in-Line.is at c.in_ok-meaning.ensures in
     let told = c.in-Ok.ensures in
-    let then : Feed = record { pending = c.next_line.new.self; known = g.C.Source.remaining c.next_line.new.source; has_failed = g.C.Source.has_failed c.next_line.new.source } in
-    let holds : Held = record { contents = g.W.Sink.contents c.loop-number.out; has_failed = g.W.Sink.has_failed c.loop-number.out } in
-    let next : Held = record { contents = g.W.Sink.contents c.answer.new.out; has_failed = g.W.Sink.has_failed c.answer.new.out } in
+    let then = input_over c.next_line.new.self (reader_of g.C.Source.remaining g.C.Source.has_failed c.next_line.new.source) in
+    let holds = writer_of g.W.Sink.contents g.W.Sink.has_failed c.loop-number.out in
+    let next = writer_of g.W.Sink.contents g.W.Sink.has_failed c.answer.new.out in
     let u = g.H.History.timeline c.loop-number.session in
     let v = g.H.History.timeline c.answer.new.session in
     let carried : Carried c.args.want_cut u c.in-Line.meaning c.loop-number.number holds next c.in-Ok.refused v =
@@ -85,13 +85,13 @@ loop-number-preserved g c =
 pub returns-in_err-expect_end : goal.returns-in_err-expect_end
 returns-in_err-expect_end g c =
     let failed = err_from_is_err_and c.from_residual-in_err-expect_end.result c.from_residual-in_err-expect_end.ensures.1 in
-    let then : Feed = record { pending = c.expect_end.new.self; known = g.C.Source.remaining c.expect_end.new.source; has_failed = g.C.Source.has_failed c.expect_end.new.source } in
+    let then = input_over c.expect_end.new.self (reader_of g.C.Source.remaining g.C.Source.has_failed c.expect_end.new.source) in
     let last : c.loop-number.number ≡ 1000000 + 1 = omega arith in
     let t = g.H.History.timeline c.args.session in
-    let before : Feed = record { pending = record { bytes = []; count = 0 }; known = g.C.Source.remaining c.args.commands.now; has_failed = g.C.Source.has_failed c.args.commands.now } in
-    let held : Held = record { contents = g.W.Sink.contents c.args.out.now; has_failed = g.W.Sink.has_failed c.args.out.now } in
-    let holds : Held = record { contents = g.W.Sink.contents c.loop-number.out; has_failed = g.W.Sink.has_failed c.loop-number.out } in
-    let now : Feed = record { pending = c.loop-number.input; known = g.C.Source.remaining c.loop-number.commands; has_failed = g.C.Source.has_failed c.loop-number.commands } in
+    let before = input_over (record { bytes = []; count = 0 }) (reader_of g.C.Source.remaining g.C.Source.has_failed c.args.commands.now) in
+    let held = writer_of g.W.Sink.contents g.W.Sink.has_failed c.args.out.now in
+    let holds = writer_of g.W.Sink.contents g.W.Sink.has_failed c.loop-number.out in
+    let now = input_over c.loop-number.input (reader_of g.C.Source.remaining g.C.Source.has_failed c.loop-number.commands) in
     let u = g.H.History.timeline c.loop-number.session in
     let p = subst (λ n. Progress c.args.want_cut t before now held holds n u c.loop-number.is_refused) last c.loop-number.invariant in
     subst (λ result. RunsCommands c.args.want_cut t (streams before held) (streams then holds) result) (sym (failed.1 ∙ ap Err failed.2))
