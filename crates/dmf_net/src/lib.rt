@@ -31,6 +31,8 @@ mod plan;
 mod residual;
 mod revert;
 #[cfg(test)]
+mod revert_tests;
+#[cfg(test)]
 mod scanning;
 mod side;
 mod side_ids;
