@@ -15,3 +15,5 @@ pub mod Change
 pub mod Edit
 pub mod Laws
 pub mod Pairs
+pub mod Moves
+pub mod Planning
