@@ -1,9 +1,41 @@
+//! What command lines mean.
 ghost use Rattle.std.specs.Prelude.{◌≡◌};
+ghost use Rattle.std.specs.Str.Lines.{strip_carriage_return};
 ghost use Rattle.dmf_text.specs.Number.{number_of};
-ghost use Rattle.dmf_run.specs.CommandLine.{command_of, capping, addition, closing, solving, steps, printing, with_number};
+ghost use Rattle.dmf_run.specs.CommandText.{command_of, capping, addition, closing, solving, steps, printing, with_number};
+ghost use Rattle.dmf_run.specs.KeptLine.{Means};
 
+use crate::kept_line::KeptLine;
 use dmf_session::{Command, Refusal};
 use dmf_text::{Fields, NumberFault, number};
+
+/// What a command line means: nothing, a command, or why it is refused.
+pub type Meaning = Result<Option<Command>, Refusal>;
+
+/// What a line means that was taken, which a line feed ended or the end of the input.
+pub fn meaning_of(line: &KeptLine, ended: bool) -> Meaning
+    ensures { Means line.now ended result }
+{
+    if line.is_long() {
+        return Err(Refusal::LineTooLong);
+    }
+    let text = line.bytes();
+    read_command(if ended {
+        without_carriage_return(text)
+    } else {
+        text
+    })
+}
+
+/// The line without the one carriage return at its end, if it has one.
+fn without_carriage_return(line: &[u8]) -> &[u8]
+    ensures { result.now ≡ strip_carriage_return line.now }
+{
+    if line.last() == Some(&b'\r') {
+        return &line[..line.len() - 1];
+    }
+    line
+}
 
 /// Reads a command line, given without its end. A blank line and a comment, whose first field is `c`, mean nothing.
 ///
@@ -41,7 +73,7 @@ pub fn read_command(line: &[u8]) -> Result<Option<Command>, Refusal>
 }
 
 /// The fields behind `cap`.
-#[tactic(auto, unfolding(crate::specs::CommandLine::capping))]
+#[tactic(auto, unfolding(crate::specs::CommandText::capping))]
 fn read_capping(mut fields: Fields<'_>) -> Result<Command, Refusal>
     ensures { result ≡ capping fields.entry }
 {
@@ -55,7 +87,7 @@ fn read_capping(mut fields: Fields<'_>) -> Result<Command, Refusal>
 }
 
 /// The fields behind `add`.
-#[tactic(auto, unfolding(crate::specs::CommandLine::addition))]
+#[tactic(auto, unfolding(crate::specs::CommandText::addition))]
 fn read_addition(mut fields: Fields<'_>) -> Result<Command, Refusal>
     ensures { result ≡ addition fields.entry }
 {
@@ -70,7 +102,7 @@ fn read_addition(mut fields: Fields<'_>) -> Result<Command, Refusal>
 }
 
 /// The field behind `close`.
-#[tactic(auto, unfolding(crate::specs::CommandLine::closing))]
+#[tactic(auto, unfolding(crate::specs::CommandText::closing))]
 fn read_closing(mut fields: Fields<'_>) -> Result<Command, Refusal>
     ensures { result ≡ closing fields.entry }
 {
@@ -83,7 +115,7 @@ fn read_closing(mut fields: Fields<'_>) -> Result<Command, Refusal>
 }
 
 /// The fields behind `solve`: there are none.
-#[tactic(auto, unfolding(crate::specs::CommandLine::solving))]
+#[tactic(auto, unfolding(crate::specs::CommandText::solving))]
 fn read_solving(mut fields: Fields<'_>) -> Result<Command, Refusal>
     ensures { result ≡ solving fields.entry }
 {
@@ -94,7 +126,7 @@ fn read_solving(mut fields: Fields<'_>) -> Result<Command, Refusal>
 }
 
 /// The fields behind `undo` and `redo`.
-#[tactic(auto, unfolding(crate::specs::CommandLine::steps))]
+#[tactic(auto, unfolding(crate::specs::CommandText::steps))]
 fn read_steps(mut fields: Fields<'_>) -> Result<u64, Refusal>
     ensures { result ≡ steps fields.entry }
 {
@@ -106,7 +138,7 @@ fn read_steps(mut fields: Fields<'_>) -> Result<u64, Refusal>
 }
 
 /// The field behind `print`.
-#[tactic(auto, unfolding(crate::specs::CommandLine::printing))]
+#[tactic(auto, unfolding(crate::specs::CommandText::printing))]
 fn read_printing(mut fields: Fields<'_>) -> Result<Command, Refusal>
     ensures { result ≡ printing fields.entry }
 {

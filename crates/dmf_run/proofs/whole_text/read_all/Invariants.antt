@@ -1,6 +1,6 @@
 use Rattle.std.proofs.Common.{◌^◌, ◌≡◌, ◌≤◌, length}
 use Rattle.std.specs.Io.KnownBytes.{Consumes}
-use Rattle.dmf_run.proofs.problem.read_all.Given as goal
+use Rattle.dmf_run.proofs.whole_text.read_all.Given as goal
 
 -- what was given is in the vector, and each turn gave some
 abbrev pub invariant-loop : goal.invariant-loop

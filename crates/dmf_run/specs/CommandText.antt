@@ -54,23 +54,23 @@ printing (what ∷ []) =
     else Err UnknownCommand
 printing fields = Err FieldCount
 
--- a command made of what its fields say
-abbrev pub made_of : {X : Type 0} → (X → Command) → Result X Refusal → Result (Option Command) Refusal
-made_of make (Ok x) = Ok (Some (make x))
-made_of make (Err refusal) = Err refusal
+-- a command, by what its fields say
+abbrev pub command_by : {X : Type 0} → (X → Command) → Result X Refusal → Result (Option Command) Refusal
+command_by command (Ok x) = Ok (Some (command x))
+command_by command (Err refusal) = Err refusal
 
 -- A line without fields is blank, and one whose first field is `c` is a comment: they mean nothing.
 abbrev pub meaning_of : List (List ℕ) → Result (Option Command) Refusal
 meaning_of [] = Ok None
 meaning_of (word ∷ behind) =
     if bytes_eq word (codes "c") then Ok None
-    else if bytes_eq word (codes "cap") then made_of (λ command. command) (capping behind)
-    else if bytes_eq word (codes "add") then made_of (λ command. command) (addition behind)
-    else if bytes_eq word (codes "close") then made_of (λ command. command) (closing behind)
-    else if bytes_eq word (codes "solve") then made_of (λ command. command) (solving behind)
-    else if bytes_eq word (codes "undo") then made_of Undo (steps behind)
-    else if bytes_eq word (codes "redo") then made_of Redo (steps behind)
-    else if bytes_eq word (codes "print") then made_of (λ command. command) (printing behind)
+    else if bytes_eq word (codes "cap") then command_by (λ command. command) (capping behind)
+    else if bytes_eq word (codes "add") then command_by (λ command. command) (addition behind)
+    else if bytes_eq word (codes "close") then command_by (λ command. command) (closing behind)
+    else if bytes_eq word (codes "solve") then command_by (λ command. command) (solving behind)
+    else if bytes_eq word (codes "undo") then command_by Undo (steps behind)
+    else if bytes_eq word (codes "redo") then command_by Redo (steps behind)
+    else if bytes_eq word (codes "print") then command_by (λ command. command) (printing behind)
     else Err UnknownCommand
 
 -- what a line without its end means: nothing, a command, or why it is refused
