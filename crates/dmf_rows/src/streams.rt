@@ -1,9 +1,11 @@
 //! Readers and writers that are slow, or fail.
-use dmf_run::{EngineFault, Status, run_check, run_session, run_solve};
-use dmf_text::{StdSink, StdSource};
+use dmf_run::{EngineFault, Status, run_check, run_commands, run_session, run_solve};
+use dmf_session::{Session, WholeHistory};
+use dmf_text::{StdSink, StdSource, read_problem};
 use std::alloc::Global;
 use std::io;
 use std::io::{ErrorKind, Read, Write};
+use std::test::Fail;
 
 /// How a run ended.
 pub type Outcome = Result<Status, EngineFault>;
@@ -11,6 +13,23 @@ pub type Outcome = Result<Status, EngineFault>;
 /// Holds a session over memory, and adds what it writes to `written`.
 pub fn hold(alloc: Global, problem: &[u8], commands: &[u8], written: &mut Vec<u8>) -> Outcome {
     hold_over(alloc, problem, commands, written)
+}
+
+/// Holds a session over a history of whole states. The problem's text has no fault.
+pub fn hold_whole(
+    alloc: Global,
+    problem: &[u8],
+    commands: &[u8],
+    written: &mut Vec<u8>,
+) -> Result<Status, Fail> {
+    let history = WholeHistory::new(alloc, read_problem(alloc, problem)?)?;
+    Ok(run_commands(
+        alloc,
+        Session::new(history),
+        &mut StdSource::new(commands),
+        &mut StdSink::new(written),
+        false,
+    )?)
 }
 
 /// Holds a session over any readers and writer.

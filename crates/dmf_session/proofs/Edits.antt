@@ -70,12 +70,12 @@ put-fit edits k new s h fit fits j edit is =
     let up_to : j ≤ k = omega (arith, below, length-put edits k new h) in
     let same : take j put ≡ take j edits = take-put edits k j new h up_to in
     let earlier : j < k → Fits edit (after (take j put) s) = λ lt.
-        let here : get_or edits j edit ≡ edit =
-        sym (get_or-take k edits j edit lt) ∙ sym (get_or_append_left (take k edits) (new ∷ []) edit j (omega (arith, long, lt))) ∙ read in
-        rw same (fit j edit (slice_get-get_or edits j edit (omega (arith, lt, h)) ∙ ap (λ e. Some e) here)) in
+    let here : get_or edits j edit ≡ edit =
+    sym (get_or-take k edits j edit lt) ∙ sym (get_or_append_left (take k edits) (new ∷ []) edit j (omega (arith, long, lt))) ∙ read in
+    rw same (fit j edit (slice_get-get_or edits j edit (omega (arith, lt, h)) ∙ ap (λ e. Some e) here)) in
     let last : j ≡ k → Fits edit (after (take j put) s) = λ e.
-        let here : new ≡ edit = sym (get_or_push (take k edits) new edit j (omega (arith, long, e))) ∙ read in
-        rw same (subst (λ n. Fits edit (after (take n edits) s)) (sym e) (subst (λ f. Fits f (after (take k edits) s)) here fits)) in
+    let here : new ≡ edit = sym (get_or_push (take k edits) new edit j (omega (arith, long, e))) ∙ read in
+    rw same (subst (λ n. Fits edit (after (take n edits) s)) (sym e) (subst (λ f. Fits f (after (take k edits) s)) here fits)) in
     ⊎_elim earlier (λ ge. last (omega (arith, ge, up_to))) (cases_lt j k)
 
 -- An addition makes a state with more arcs.
@@ -108,9 +108,9 @@ module _ (present : NetworkState) (edits : List Edit) (place : ℕ) (are : AreEd
   IsState-after zero h = are.state
   IsState-after (suc k) h = ⊎_elim
       (λ found.
-          let one_more : k + 1 ≡ suc k = omega arith in
-          subst (λ n. IsState (after (take n edits) are.first)) one_more
-          (subst IsState (sym (after-next edits are.first k found.0 found.2)) (are.fit k found.0 found.2).applied))
+      let one_more : k + 1 ≡ suc k = omega arith in
+      subst (λ n. IsState (after (take n edits) are.first)) one_more
+      (subst IsState (sym (after-next edits are.first k found.0 found.2)) (are.fit k found.0 found.2).applied))
       (λ past. absurd (omega (arith, past.0, h)))
       (slice_get_cases edits k).1
 
@@ -179,9 +179,9 @@ module _ (present : NetworkState) (edits : List Edit) (place : ℕ) (are : AreEd
           after = applied edit present;
           before_is = is-present;
           after_is =
-          subst (λ t. slice_get t.states (place + 1) ≡ Some (applied edit present)) (sym from-first)
-          (states_from-at edits are.first (place + 1) (omega (arith, slice_get_within edits place edit is))
-          ∙ ap (λ s. Some s) (after-next edits are.first place edit is ∙ ap (applied edit) are.present_is));
+              subst (λ t. slice_get t.states (place + 1) ≡ Some (applied edit present)) (sym from-first)
+              (states_from-at edits are.first (place + 1) (omega (arith, slice_get_within edits place edit is))
+              ∙ ap (λ s. Some s) (after-next edits are.first place edit is ∙ ap (applied edit) are.present_is));
           more = more-arcs edit present adds;
         }
 
@@ -209,8 +209,8 @@ module _ (present : NetworkState) (edits : List Edit) (place : ℕ) (are : AreEd
       first_is = same-first-put law ∙ are.first_is;
       fit = put-fit edits place edit are.first are.within are.fit (subst (Fits edit) (sym are.present_is) fits-present);
       present_is =
-      ap (λ es. after es are.first) (take_all (place + 1) put (omega (arith, length-put edits place edit are.within)))
-      ∙ after-push (take place edits) edit are.first ∙ ap (applied edit) are.present_is;
+          ap (λ es. after es are.first) (take_all (place + 1) put (omega (arith, length-put edits place edit are.within)))
+          ∙ after-push (take place edits) edit are.first ∙ ap (applied edit) are.present_is;
     }
 
     pub put-appends : GivesBack → Appends edit (timeline_of present edits place) (timeline_of (applied edit present) put (place + 1))
