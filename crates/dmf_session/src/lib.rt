@@ -10,6 +10,8 @@ pub use whole::WholeHistory;
 
 mod command;
 mod delta;
+#[cfg(test)]
+mod delta_tests;
 mod history;
 mod laws;
 mod session;
