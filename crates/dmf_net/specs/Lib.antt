@@ -13,5 +13,9 @@ pub mod Solve
 pub mod Drain
 pub mod Change
 pub mod Edit
+pub mod Revert
+pub mod Direction
 pub mod Laws
 pub mod Pairs
+pub mod Moves
+pub mod Planning

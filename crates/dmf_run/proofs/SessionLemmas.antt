@@ -3,10 +3,10 @@ use Rattle.std.proofs.Common.{ℕ, List, Bool, Ok, Err, Result, inr}
 use Rattle.dmf_run.specs.declared.fault.Status.{Status}
 use Rattle.dmf_run.specs.declared.fault.EngineFault.{EngineFault}
 use Rattle.dmf_run.specs.declared.fault.EngineFault.TheVariants as fault
-use Rattle.dmf_run.specs.Outcome.{Streams}
-use Rattle.dmf_run.specs.Session.{Reader, RunsOn, Answered}
+use Rattle.dmf_run.specs.Streams.{Reader, Streams}
+use Rattle.dmf_run.specs.Session.{RunsOn, SessionAnswered}
 
-pub answered-by_run : (want_cut : Bool) (from to : Reader) (old new : Streams) (text : List ℕ) (result : Result Status EngineFault) → RunsOn want_cut from to old new text result → Answered want_cut from to old new text result
+pub answered-by_run : (want_cut : Bool) (from to : Reader) (old new : Streams) (text : List ℕ) (result : Result Status EngineFault) → RunsOn want_cut from to old new text result → SessionAnswered want_cut from to old new text result
 answered-by_run want_cut from to old new text (Ok status) r = r
 answered-by_run want_cut from to old new text (Err fault.Read) r = inr r
 answered-by_run want_cut from to old new text (Err fault.Write) r = r

@@ -13,8 +13,8 @@ use Rattle.dmf_run.specs.declared.fault.Status.{Status}
 use Rattle.dmf_run.specs.declared.fault.Status.TheVariants.{Well, NotGreatest}
 use Rattle.dmf_run.specs.declared.fault.EngineFault.{EngineFault}
 use Rattle.dmf_run.specs.declared.fault.EngineFault.TheVariants as fault
-use Rattle.dmf_run.specs.Session.{Reader, GaveWhole, GaveTooMuch, ReadsProblem}
-use Rattle.dmf_run.specs.SolveRun.{Writer}
+use Rattle.dmf_run.specs.Streams.{Reader, Writer}
+use Rattle.dmf_run.specs.Session.{GaveWhole, GaveTooMuch, ReadsProblem}
 
 -- ---- what is told of a flow
 

@@ -7,16 +7,10 @@ use Rattle.dmf_run.specs.declared.fault.Status.{Status}
 use Rattle.dmf_run.specs.declared.fault.Status.TheVariants.{Well, SomeRefused}
 use Rattle.dmf_run.specs.declared.fault.EngineFault.{EngineFault}
 use Rattle.dmf_run.specs.declared.fault.EngineFault.TheVariants as fault
-use Rattle.dmf_run.specs.Line.{HasNoFeed, fed, IsCut, line_meaning}
+use Rattle.dmf_run.specs.Streams.{Streams}
+use Rattle.dmf_run.specs.Line.{HasNoLineFeed, with_line_feeds, IsSplit, line_meaning}
 use Rattle.dmf_session.specs.Step.{Answers}
 use Rattle.dmf_run.specs.Run.{Answering, LineRuns, Runs}
-
--- What a run ends on: what its reader has left and its writer holds, where they are known, and their marks.
-pub record Streams : Type 0 where
-  pub known : Option (List ℕ)
-  pub reader_failed : Bool
-  pub contents : Option (List ℕ)
-  pub writer_failed : Bool
 
 -- a last line, which no line feed ended, if there is one
 abbrev pub RestRuns : Answering → ℕ → Timeline → List ℕ → List ℕ → Bool → Type 0
@@ -28,7 +22,7 @@ RestRuns Gives number t (byte ∷ rest) text refused =
 pub record RunsAll (Gives : Answering) (t : Timeline) (given text : List ℕ) (refused : Bool) : Type 0 where
   pub lines : List (List ℕ)
   pub rest : List ℕ
-  pub cut : IsCut given lines rest
+  pub split : IsSplit given lines rest
   pub between : Timeline
   pub first : List ℕ
   pub here : Bool
@@ -40,10 +34,10 @@ pub record RunsAll (Gives : Answering) (t : Timeline) (given text : List ℕ) (r
   pub refused_is : refused ≡ (here || later)
 
 -- Just the lines that a line feed ended were carried out, of the text that was given, and this was written.
-pub record RunsFed (want_cut : Bool) (t : Timeline) (given text : List ℕ) : Type 0 where
+pub record RunsEndedLines (want_cut : Bool) (t : Timeline) (given text : List ℕ) : Type 0 where
   pub lines : List (List ℕ)
   pub rest : List ℕ
-  pub cut : IsCut given lines rest
+  pub split : IsSplit given lines rest
   pub refused : Bool
   pub after : Timeline
   pub runs : Runs (Answers want_cut) 1 t lines text refused after
@@ -66,12 +60,12 @@ pub record RunsFront (want_cut : Bool) (t : Timeline) (known : Option (List ℕ)
 pub record RunsWithin (want_cut : Bool) (t : Timeline) (given text : List ℕ) : Type 0 where
   pub lines : List (List ℕ)
   pub rest : List ℕ
-  pub given_is : given ≡ fed lines ++ rest
-  pub each : All HasNoFeed lines
+  pub given_is : given ≡ with_line_feeds lines ++ rest
+  pub each : All HasNoLineFeed lines
   pub at_most_lines : length lines ≤ 1000000
-  pub at_most_bytes : length (fed lines) ≤ 2 ^ 30
+  pub at_most_bytes : length (with_line_feeds lines) ≤ 2 ^ 30
   pub past : ((length lines ≡ 1000000) × (0 < length rest))
-      ⊎ ((2 ^ 30 < length given) × HasNoFeed (take (2 ^ 30 - length (fed lines)) rest))
+      ⊎ ((2 ^ 30 < length given) × HasNoLineFeed (take (2 ^ 30 - length (with_line_feeds lines)) rest))
   pub refused : Bool
   pub after : Timeline
   pub runs : Runs (Answers want_cut) 1 t lines text refused after
@@ -82,8 +76,8 @@ status_if refused = if refused then SomeRefused else Well
 
 -- Neither stream failed.
 pub record NoneFailed (old new : Streams) : Type 0 where
-  pub reader : new.reader_failed ≡ old.reader_failed
-  pub writer : new.writer_failed ≡ old.writer_failed
+  pub reader : new.reader.has_failed ≡ old.reader.has_failed
+  pub writer : new.writer.has_failed ≡ old.writer.has_failed
 
 -- how many lines these are, with a rest that no line feed ended
 abbrev pub line_count : List (List ℕ) → List ℕ → ℕ
@@ -92,7 +86,7 @@ line_count lines (byte ∷ rest) = length lines + 1
 
 -- All that was to be read was given, and it is within the limits.
 pub record IsWithin (new : Streams) (given : List ℕ) (count : ℕ) : Type 0 where
-  pub at_end : IsAtEnd new.known
+  pub at_end : IsAtEnd new.reader.known
   pub bytes : length given ≤ 2 ^ 30
   pub lines : count ≤ 1000000
 
@@ -102,9 +96,9 @@ Gave want_cut t old new given written (Ok status) =
     (refused : Bool) × (all : RunsAll (Answers want_cut) t given written refused) × (status ≡ status_if refused)
     × IsWithin new given (line_count all.lines all.rest) × NoneFailed old new
 Gave want_cut t old new given written (Err fault.Read) =
-    RunsFed want_cut t given written × (new.reader_failed ≡ true) × (new.writer_failed ≡ old.writer_failed)
+    RunsEndedLines want_cut t given written × (new.reader.has_failed ≡ true) × (new.writer.has_failed ≡ old.writer.has_failed)
 Gave want_cut t old new given written (Err fault.Write) =
-    RunsFront want_cut t new.known given written × (new.writer_failed ≡ true) × (new.reader_failed ≡ old.reader_failed)
+    RunsFront want_cut t new.reader.known given written × (new.writer.has_failed ≡ true) × (new.reader.has_failed ≡ old.reader.has_failed)
 Gave want_cut t old new given written (Err fault.TooMuchInput) = RunsWithin want_cut t given written × NoneFailed old new
 Gave want_cut t old new given written (Err fault) = ⊥
 
@@ -112,5 +106,5 @@ Gave want_cut t old new given written (Err fault) = ⊥
 -- `solve`.
 abbrev pub RunsCommands : Bool → Timeline → Streams → Streams → Result Status EngineFault → Type 0
 RunsCommands want_cut t old new result =
-    (given : List ℕ) × (written : List ℕ) × Consumes old.known new.known given × Appends old.contents new.contents written
+    (given : List ℕ) × (written : List ℕ) × Consumes old.reader.known new.reader.known given × Appends old.writer.contents new.writer.contents written
     × Gave want_cut t old new given written result

@@ -1,6 +1,6 @@
 -- What a session gave: the problem is read, and then the command lines are carried out on it.
 -- Public: a public contract says no more than this.
-use Rattle.std.specs.Prelude.{◌^◌, ℕ, ◌≡◌, ◌⊎◌, ◌<◌, ◌≤◌, List, length, Bool, true, Option, Result, Ok, Err}
+use Rattle.std.specs.Prelude.{◌^◌, ℕ, ◌≡◌, ◌⊎◌, ◌<◌, ◌≤◌, List, length, Bool, true, Result, Ok, Err}
 use Rattle.std.specs.Io.KnownBytes.{Consumes, IsAtEnd}
 use Rattle.dmf_net.specs.NetworkState.{NetworkState}
 use Rattle.dmf_text.specs.Problem.{problem_of}
@@ -8,12 +8,8 @@ use Rattle.dmf_session.specs.Timeline.{start}
 use Rattle.dmf_run.specs.declared.fault.Status.{Status}
 use Rattle.dmf_run.specs.declared.fault.EngineFault.{EngineFault}
 use Rattle.dmf_run.specs.declared.fault.EngineFault.TheVariants as fault
-use Rattle.dmf_run.specs.Outcome.{Streams, RunsCommands}
-
--- a reader: what it has left, where that is known, and its mark
-pub record Reader : Type 0 where
-  pub known : Option (List ℕ)
-  pub has_failed : Bool
+use Rattle.dmf_run.specs.Streams.{Reader, Streams}
+use Rattle.dmf_run.specs.Outcome.{RunsCommands}
 
 -- This text was given, it is the whole of what the reader had left, and it is within the limit.
 pub record GaveWhole (old new : Reader) (text : List ℕ) : Type 0 where
@@ -47,15 +43,15 @@ pub record RunsOn (want_cut : Bool) (from to : Reader) (old new : Streams) (text
 
 -- What a session answers that was given this much of the problem's text. What it answers without having run a line it
 -- answers with nothing written and no command byte taken.
-abbrev pub Answered : Bool → Reader → Reader → Streams → Streams → List ℕ → Result Status EngineFault → Type 0
-Answered want_cut from to old new text (Ok status) = RunsOn want_cut from to old new text (Ok status)
-Answered want_cut from to old new text (Err fault.Write) = RunsOn want_cut from to old new text (Err fault.Write)
-Answered want_cut from to old new text (Err fault.NoMemory) = Untouched old new × (to.has_failed ≡ from.has_failed)
-Answered want_cut from to old new text (Err told) =
+abbrev pub SessionAnswered : Bool → Reader → Reader → Streams → Streams → List ℕ → Result Status EngineFault → Type 0
+SessionAnswered want_cut from to old new text (Ok status) = RunsOn want_cut from to old new text (Ok status)
+SessionAnswered want_cut from to old new text (Err fault.Write) = RunsOn want_cut from to old new text (Err fault.Write)
+SessionAnswered want_cut from to old new text (Err fault.NoMemory) = Untouched old new × (to.has_failed ≡ from.has_failed)
+SessionAnswered want_cut from to old new text (Err told) =
     (ReadsProblem from to text (Err told) × Untouched old new) ⊎ RunsOn want_cut from to old new text (Err told)
 
 -- A session, from the bytes that its two readers gave to those that its writer took. `want_cut` says whether a cut is
 -- wanted after each solution that answers `solve`.
 abbrev pub RunsSession : Bool → Reader → Reader → Streams → Streams → Result Status EngineFault → Type 0
 RunsSession want_cut from to old new result =
-    (text : List ℕ) × Consumes from.known to.known text × Answered want_cut from to old new text result
+    (text : List ℕ) × Consumes from.known to.known text × SessionAnswered want_cut from to old new text result

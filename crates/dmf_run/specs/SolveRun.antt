@@ -3,7 +3,7 @@
 -- Public: a public contract says no more than this.
 use Rattle.std.specs.Prelude.{ℕ, ◌≡◌, List, Bool, Option, Result, Ok, Err}
 use Rattle.std.specs.Io.KnownBytes.{Consumes}
-use Rattle.dmf_net.specs.NetworkState.{NetworkState, IsState}
+use Rattle.dmf_net.specs.NetworkState.{NetworkState}
 use Rattle.dmf_net.specs.Change.{Solve, Becomes}
 use Rattle.dmf_net.specs.Side.{CutSide}
 use Rattle.dmf_session.specs.Optimal.{IsOptimal}
@@ -14,18 +14,13 @@ use Rattle.dmf_run.specs.declared.fault.Status.TheVariants.{Well}
 use Rattle.dmf_run.specs.declared.fault.EngineFault.{EngineFault}
 use Rattle.dmf_run.specs.declared.fault.EngineFault.TheVariants as fault
 use Rattle.dmf_run.specs.Run.{solved_text}
-use Rattle.dmf_run.specs.Session.{Reader, ReadsProblem}
-
--- a writer: what it holds, where that is known, and its mark
-pub record Writer : Type 0 where
-  pub contents : Option (List ℕ)
-  pub has_failed : Bool
+use Rattle.dmf_run.specs.Streams.{Reader, Writer}
+use Rattle.dmf_run.specs.Session.{ReadsProblem}
 
 -- The text stands for a state. The solution of what solving makes of it was written, and where one is wanted the smallest cut
 -- after it, or a front of that where the writer failed.
 pub record WritesSolved (want_cut : Bool) (from to : Reader) (old new : Writer) (text : List ℕ) (result : Result Status EngineFault) : Type 0 where
   pub state : NetworkState
-  pub is_state : IsState state
   pub problem : ReadsProblem from to text (Ok state)
   pub solved : NetworkState
   pub becomes : Becomes state Solve solved

@@ -3,7 +3,8 @@
 use Rattle.std.specs.Prelude.{ℕ, ◌≡◌, List, true, Result, Ok, Err}
 use Rattle.dmf_run.specs.declared.fault.EngineFault.{EngineFault}
 use Rattle.dmf_run.specs.declared.fault.EngineFault.TheVariants as fault
-use Rattle.dmf_run.specs.Session.{Reader, GaveWhole, GaveTooMuch}
+use Rattle.dmf_run.specs.Streams.{Reader}
+use Rattle.dmf_run.specs.Session.{GaveWhole, GaveTooMuch}
 
 -- what reading a whole text gives, of which this much was given; no answer but these is given
 abbrev pub ReadsText : Reader → Reader → List ℕ → Result (List ℕ) EngineFault → Type 0

@@ -2,11 +2,13 @@
 ghost use Rattle.std.specs.Prelude.{◌≡◌, ◌≤◌, ℕ, List, length, codes, if◌then◌else◌, IfOk};
 ghost use Rattle.std.specs.Io.KnownBytes.{Consumes};
 ghost use Rattle.dmf_text.specs.Writing.{Writes};
+ghost use Rattle.dmf_run.specs.Streams.{reader_of, writer_of};
 ghost use Rattle.dmf_run.specs.CheckRun.{IsVerdict, verdict_line, verdict_text, verdict_status, ReadsSolution, RunsCheck};
 
 use crate::fault::{EngineFault, Status};
-use crate::problem::{read_all, read_state};
+use crate::problem::read_state;
 use crate::reply::put_line;
+use crate::whole_text::read_all;
 use dmf_net::{CutFault, NoMemory, State, smallest_side};
 use dmf_text::{LineBuffer, Sink, SolutionFaultKind, Source, WriteFault, read_solution};
 use std::alloc::Global;
@@ -25,22 +27,15 @@ pub fn run_check<P: Source, C: Source, W: Sink>(
     out: &mut W,
 ) -> Result<Status, EngineFault>
     ensures { RunsCheck
-        (record { known = P.remaining problem.old; has_failed = P.has_failed problem.old })
-        (record { known = P.remaining problem.new; has_failed = P.has_failed problem.new })
-        (record { known = C.remaining solution.old; has_failed = C.has_failed solution.old })
-        (record { known = C.remaining solution.new; has_failed = C.has_failed solution.new })
-        (record { contents = W.contents out.old; has_failed = W.has_failed out.old })
-        (record { contents = W.contents out.new; has_failed = W.has_failed out.new })
+        (reader_of P.remaining P.has_failed problem.old) (reader_of P.remaining P.has_failed problem.new)
+        (reader_of C.remaining C.has_failed solution.old) (reader_of C.remaining C.has_failed solution.new)
+        (writer_of W.contents W.has_failed out.old) (writer_of W.contents W.has_failed out.new)
         result }
 {
     let state = read_state(alloc, problem)?;
     let solved = read_solved(alloc, &state, solution)?;
-    let Ok(greatest) = is_greatest(alloc, &solved) else {
-        return Err(EngineFault::NoMemory);
-    };
-    let Ok(()) = put_verdict(&solved, greatest, out) else {
-        return Err(EngineFault::Write);
-    };
+    let greatest = is_greatest(alloc, &solved)?;
+    put_verdict(&solved, greatest, out)?;
     Ok(status_of_verdict(greatest))
 }
 
@@ -52,8 +47,7 @@ fn read_solved<C: Source>(
 ) -> Result<State, EngineFault>
     ensures { (text : List ℕ) × Consumes (C.remaining source.old) (C.remaining source.new) text
         × ReadsSolution state.now
-        (record { known = C.remaining source.old; has_failed = C.has_failed source.old })
-        (record { known = C.remaining source.new; has_failed = C.has_failed source.new })
+        (reader_of C.remaining C.has_failed source.old) (reader_of C.remaining C.has_failed source.new)
         text result }
 {
     let text = read_all(alloc, source)?;

@@ -3,6 +3,7 @@ ghost use Rattle.dmf_run.specs.SolveRun.{WrittenIsOptimal};
 
 use dmf_net::solved_is_greatest;
 use dmf_session::{an_answer, greatest_is_optimal, one_answer, solved_is_optimal};
+use dmf_text::accepted_is_state;
 
 /// The law that from the start of each state each command text, of any bytes, has a run in which no command is refused
 /// memory.
@@ -46,6 +47,7 @@ pub fn solves_are_optimal()
 pub fn written_is_optimal()
     ensures { WrittenIsOptimal }
 {
+    accepted_is_state();
     solved_is_greatest();
     greatest_is_optimal();
 }

@@ -1,3 +1,4 @@
+pub mod AcceptedState
 pub mod FieldLemmas
 pub mod JudgingLemmas
 pub mod LineLemmas

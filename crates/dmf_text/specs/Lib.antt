@@ -4,6 +4,7 @@ pub mod Number
 pub mod Writing
 pub mod Judging
 pub mod Problem
+pub mod Laws
 pub mod Solution
 pub mod Written
 pub mod Terminal

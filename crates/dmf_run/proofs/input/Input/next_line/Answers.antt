@@ -1,19 +1,21 @@
 use Rattle.std.proofs.Common.{◌≡◌, ◌<◌, ◌∷◌, [], ◌++◌, length, subst, sym, ◌∙◌, ℕ}
 use Rattle.std.proofs.lemmas.Bool.{false≢true}
 use Rattle.std.proofs.lemmas.List.Elements.{All-push}
-use Rattle.dmf_run.specs.Input.{Takes}
-use Rattle.dmf_run.proofs.FeedLemmas.{Takes-trans, Takes-nil, some-length}
+use Rattle.dmf_run.specs.Streams.{reader_of}
+use Rattle.dmf_run.specs.Input.{input_over, Takes}
+use Rattle.dmf_run.proofs.TakingLemmas.{Takes-trans, Takes-nil, some-length}
 use Rattle.dmf_run.proofs.input.Input.next_line.Goals as goal
 
 pub returns-then-byte-eq10 : goal.returns-then-byte-eq10
 returns-then-byte-eq10 g c =
+    let reader = reader_of g.C.Source.remaining g.C.Source.has_failed in
     let so_far = c.loop-byte.invariant in
     let gave = rw c.in-Some.is at c.in_ok-byte.ensures in
     let all = Takes-trans _ _ _ so_far.0 (c.in-Some.byte ∷ []) so_far.3 gave.0 in (
       so_far.0,
       so_far.1,
-      subst (λ b. Takes (record { pending = c.args.self.now; known = g.C.Source.remaining c.args.source.now; has_failed = g.C.Source.has_failed c.args.source.now }) (record { pending = c.next_byte.new.self; known = g.C.Source.remaining c.next_byte.new.source; has_failed = g.C.Source.has_failed c.next_byte.new.source }) (so_far.0 ++ b ∷ [])) c.if-byte-eq10.true all,
-      c.meaning.ensures so_far.0 so_far.2,
+      subst (λ b. Takes (input_over c.args.self.now (reader c.args.source.now)) (input_over c.next_byte.new.self (reader c.next_byte.new.source)) (so_far.0 ++ b ∷ [])) c.if-byte-eq10.true all,
+      so_far.2,
       gave.1 ∙ so_far.4,
     )
 
@@ -37,7 +39,7 @@ returns g c =
       so_far.0,
       so_far.1,
       Takes-nil _ _ _ so_far.0 so_far.3 gave.0,
-      c.meaning-2.ensures so_far.0 so_far.2,
+      so_far.2,
       some,
       record { none_pending = gave.1.none_pending; at_end = gave.1.at_end; within = gave.1.within; mark = gave.1.mark ∙ so_far.4 },
     )
