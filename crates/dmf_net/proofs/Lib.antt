@@ -33,6 +33,7 @@ pub mod ResidualSearch
 pub mod SmallestSide
 pub mod RoomLeaving
 pub mod FlowsRead
+pub mod FlowFaults
 pub mod SolvingSearch
 pub mod LoweredReceived
 pub mod CarryingPairs
