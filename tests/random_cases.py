@@ -86,35 +86,64 @@ def line(*fields):
 def capacities(random):
     """A way in which capacities are chosen."""
     kind = random.randrange(12)
-    if kind == 0:
+    if kind < 3:
         return lambda: 1
-    if kind == 1:
-        return lambda: random.randrange(3)
-    if kind == 2:
-        return lambda: random.choice([0, 1, 2**31, 2**32, 2**60, 2**62, 2**63, LARGEST // 7, LARGEST])
     if kind == 3:
+        return lambda: random.randrange(3)
+    if kind == 4:
+        return lambda: random.choice([0, 1, 2**31, 2**32, 2**60, 2**62, 2**63, LARGEST // 7, LARGEST])
+    if kind == 5:
         return lambda: random.randrange(LARGEST // 100)
     return lambda: random.randrange(1, 12)
 
 
+def near_ends(nodes, random):
+    """The ends of arcs of which most lead to one of the next places, so that paths are long."""
+    reach, fewest, most = random.choice([1, 2, 3]), random.choice([0, 1, 1]), random.choice([1, 2, 4, 6, 8])
+    for tail in range(nodes):
+        for _ in range(random.randint(fewest, most)):
+            head = random.randrange(nodes) if random.random() < 0.2 else tail + random.randint(1, reach)
+            yield tail, min(head, nodes - 1)
+
+
+def level_ends(nodes, random):
+    """The ends of arcs that lead from level to level."""
+    width, degree = random.choice([2, 3, 4, 6]), random.choice([1, 2, 2])
+    for place in range(1, nodes - 1):
+        if place <= width:
+            yield 0, place
+        following = range((place - 1) // width * width + 1 + width, nodes - 1)[:width]
+        for head in random.sample(following, min(degree, len(following))) or [nodes - 1]:
+            yield place, head
+
+
+def chain_ends(nodes, random):
+    """The ends of arcs that make chains, with short cuts from chain to chain. A shortest path takes short cuts, and the greatest
+    flow often leaves them empty again."""
+    count = random.randint(2, 4)
+    chains = [[0, *range(1 + first, nodes - 1, count), nodes - 1] for first in range(count)]
+    for chain in chains:
+        yield from zip(chain, chain[1:])
+    for _ in range(random.randint(1, 2 * count)):
+        chain, other = random.sample(chains, 2)
+        place = random.randrange(len(chain) - 1)
+        yield chain[place], random.choice(other[place + 1 :] or other[-1:])
+
+
 def network(random, most_nodes=60):
     """A network without flow. A few have a sum of capacities past 64 bits."""
-    nodes = min(most_nodes, random.choice([2, 3, 4, 5, 6, 6, 8, 8, 12, 20, 60]))
-    # Most arcs lead to one of the next places, so that paths are long; the node at a place has any number.
-    names = random.sample(range(1, nodes + 1), nodes)
-    reach = random.choice([1, 2, 3])
-    fewest, most = random.choice([0, 1, 1]), random.choice([1, 2, 3, 4, 6])
-    chosen = capacities(random)
-    arcs = []
-    for place in [place for place in range(nodes) for _ in range(random.randint(fewest, most))]:
-        head = random.randrange(nodes) if random.random() < 0.2 else min(place + random.randint(1, reach), nodes - 1)
-        arcs.append(Arc(names[place], names[head], chosen()))
-        if random.random() < 0.1:
-            arcs.append(random.choice(arcs)._replace(cap=chosen()))
+    nodes = min(most_nodes, random.choice([2, 3, 4, 5, 6, 6, 8, 10, 14, 14, 20, 26, 60]))
+    ends = list(random.choice([near_ends, level_ends, chain_ends, chain_ends])(nodes, random))
+    for share, other in (0.05, 1), (random.choice([0, 0, 0.2, 1]), -1):
+        # Parallel arcs and opposite ones.
+        ends += [pair[::other] for pair in ends if random.random() < share]
     if random.random() < 0.7:
-        random.shuffle(arcs)
-    source, sink = (names[0], names[-1]) if random.random() < 0.8 else random.sample(names, 2)
-    return State(nodes, source, sink, tuple(arcs), (0,) * len(arcs))
+        random.shuffle(ends)
+    names = random.sample(range(1, nodes + 1), nodes)
+    chosen = capacities(random)
+    arcs = tuple(Arc(names[tail], names[head], chosen()) for tail, head in ends)
+    source, sink = (names[0], names[-1]) if random.random() < 0.9 else random.sample(names, 2)
+    return State(nodes, source, sink, arcs, (0,) * len(arcs))
 
 
 def problem_lines(state, random):
@@ -178,14 +207,15 @@ def command_lines(state, random):
     """A script of commands. Most of them can be carried out."""
     count = random.choice([3, 8, 20, 60, 200])
     odd_share = random.choice([0, 0.02, 0.3])
-    words = random.choices([*FIELDS, b"print"], [4, 2, 2, 3, 2, 2, 2, random.randrange(9)], k=random.randint(1, count))
+    words = random.choices([*FIELDS, b"print"], [5, 3, 1, 4, 2, 2, 2, random.randrange(9)], k=random.randint(1, count))
     arc_count = len(state.arcs)
     lines = []
     for word in words:
         if random.random() < odd_share:
             lines.append(random.choice(ODD_COMMANDS))
             continue
-        arc, amount = random.randint(0 if odd_share else 1, arc_count + 1), random.choice([0, 0, 1, 2, 3, 5, 9, 2**63])
+        arc = random.randint(0 if odd_share else 1, arc_count + 1)
+        amount = random.choice([0, 1, 1, 1, 2, 2, 3, 5, 9, 9, 20, 2**63])
         ends = [random.randint(0 if odd_share else 1, state.nodes + bool(odd_share)) for _ in range(2)]
         steps = [random.choice([0, 1, 1, 2, 2, 3, 9])] * random.randrange(2)
         numbers = {b"cap": [arc, amount], b"add": [*ends, amount], b"close": [arc], b"undo": steps, b"redo": steps}
@@ -199,7 +229,7 @@ def with_fault(lines, random):
     """The lines with one thing changed. What is made need not be at fault."""
     lines = [list(fields) for fields in lines] or [[]]
     # The first three lines of a problem are at fault in most ways.
-    place = random.randrange(min(len(lines), 3) if random.random() < 0.5 else len(lines))
+    place = random.randrange(random.choice([1, 3, len(lines), len(lines)])) % len(lines)
     fields = lines[place]
     kind = random.randrange(11)
     if kind == 0:

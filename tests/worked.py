@@ -213,6 +213,14 @@ SESSIONS = [
         + CROSSED,
     ),
     held(
+        "flow that goes round a cycle is drained, and no value is lost",
+        "p max 4 4 / n 1 s / n 4 t / a 3 2 1 / a 1 2 1 / a 2 3 1 / a 3 4 1",
+        "solve / add 1 3 1 / add 2 4 1 / solve / close 3 / print flow",
+        "s 1 / f 3 2 0 / f 1 2 1 / f 2 3 1 / f 3 4 1 / c add 5 value 1 / c add 6 value 1 / "
+        "s 2 / f 3 2 1 / f 1 2 1 / f 2 3 1 / f 3 4 1 / f 1 3 1 / f 2 4 1 / c close value 2 / "
+        "s 2 / f 3 2 0 / f 1 2 1 / f 3 4 1 / f 1 3 1 / f 2 4 1",
+    ),
+    held(
         "a capacity past 64 bits in all",
         CROSSED,
         "close 2 / cap 2 1 / cap 1 18446744073709551605 / cap 1 18446744073709551606",
