@@ -229,15 +229,3 @@ module _ (present : NetworkState) (edits : List Edit) (place : ℕ) (are : AreEd
           present = is-present;
           gives = λ i. record { states = gives i; place = place + 1 };
         }
-
--- a history of one state
-pub no-edits : (s : NetworkState) → IsState s → AreEdits s [] 0
-no-edits s state = record {
-  at_most = omega arith;
-  within = omega arith;
-  first = s;
-  state = state;
-  first_is = refl;
-  fit = λ k edit is. absurd (omega (arith, slice_get_within [] k edit is));
-  present_is = refl;
-}
