@@ -27,12 +27,14 @@ pub mod MaxFlowMinCut
 pub mod LargerFlow
 pub mod Ascending
 pub mod GreatestFlow
+pub mod GreatestSearch
 pub mod SomeSide
 pub mod ResidualPairs
 pub mod ResidualSearch
 pub mod SmallestSide
 pub mod RoomLeaving
 pub mod FlowsRead
+pub mod FlowFaults
 pub mod SolvingSearch
 pub mod LoweredReceived
 pub mod CarryingPairs
