@@ -2,13 +2,13 @@
 use Rattle.std.proofs.Common.{ℕ, ◌≡◌, ◌≢◌, ◌+◌, ◌-◌, ◌^◌, ◌<◌, ◌≤◌, Bool, true, false, cond, List, [], ◌∷◌, length, get_or, set, min, ap, sym, ◌∙◌, subst, arith, ⊎_elim, get_or-set_other, get_or-set_same, length-set}
 use Rattle.std.proofs.lemmas.Bool.{cases_eq}
 use Rattle.dmf_path.specs.Links.{Links, AreLinks, AreRooms, AreFlags, open_flag}
-use Rattle.dmf_path.specs.Walk.{least_on, pushed_once, pushed, CanPush}
+use Rattle.dmf_path.specs.Walk.{bottleneck_on, pushed_once, pushed, CanPush}
 use Rattle.dmf_path.proofs.LinkPlaces.{partner-other}
 
 -- a limit may be lowered before or after
-pub least_on-min : (rooms : List ℕ) (limit x : ℕ) (ps : List ℕ) → least_on rooms (min limit x) ps ≡ min x (least_on rooms limit ps)
-least_on-min rooms limit x [] = omega arith
-least_on-min rooms limit x (p ∷ ps) = let later = least_on-min rooms limit x ps in omega (arith, later)
+pub bottleneck_on-min : (rooms : List ℕ) (limit x : ℕ) (ps : List ℕ) → bottleneck_on rooms (min limit x) ps ≡ min x (bottleneck_on rooms limit ps)
+bottleneck_on-min rooms limit x [] = omega arith
+bottleneck_on-min rooms limit x (p ∷ ps) = let later = bottleneck_on-min rooms limit x ps in omega (arith, later)
 
 -- a push leaves as many rooms
 pub length-pushed_once : (l : Links) (takes_back : Bool) (amount p : ℕ) (rooms : List ℕ) → length (pushed_once l takes_back amount p rooms) ≡ length rooms

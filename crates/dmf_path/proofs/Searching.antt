@@ -4,7 +4,7 @@ use Rattle.std.specs.List.{All}
 use Rattle.dmf_path.specs.Path.{HasNoPath}
 use Rattle.dmf_path.specs.Pair.{steps_of}
 use Rattle.dmf_path.specs.Links.{Links, AreRooms, AreFlags, pairs_at}
-use Rattle.dmf_path.specs.Walk.{AreValid, IsWalking, end_of, least_on, pushed, CanPush}
+use Rattle.dmf_path.specs.Walk.{AreValid, IsWalking, end_of, bottleneck_on, pushed, CanPush}
 use Rattle.dmf_path.specs.Search.{Augments}
 use Rattle.dmf_path.specs.Searching.{IsSearch, IsUnlabelled, searched}
 use Rattle.dmf_path.proofs.Steps.{path_on, room_up_to-path_on}
@@ -37,7 +37,7 @@ IsSearch-found l places rooms flags labels current trail new_labels new_current 
 
 -- what can be pushed along the trail
 pub can-push : (l : Links) (takes_back : Bool) (places rooms flags labels current trail : List ℕ) (queue_room trail_room start goal limit amount : ℕ)
-    → IsSearch l places rooms flags labels current trail queue_room trail_room start goal → amount ≡ least_on rooms limit trail → CanPush l takes_back amount trail rooms
+    → IsSearch l places rooms flags labels current trail queue_room trail_room start goal → amount ≡ bottleneck_on rooms limit trail → CanPush l takes_back amount trail rooms
 can-push l takes_back places rooms flags labels current trail queue_room trail_room start goal limit amount is least =
     CanPush-falls l takes_back amount labels rooms start trail is.links
     (FallsOn-trail l labels rooms current start trail is.links is.start_is is.walking.trail_is)
@@ -80,7 +80,7 @@ IsSearch-pushed l takes_back amount places rooms flags labels current trail new_
 
 -- A push along the trail that leads to the goal augments.
 pub augments-pushed : (l : Links) (takes_back : Bool) (limit amount : ℕ) (places rooms flags labels current trail new_rooms : List ℕ) (queue_room trail_room start goal : ℕ)
-    → IsSearch l places rooms flags labels current trail queue_room trail_room start goal → end_of l start trail ≡ goal → amount ≡ least_on rooms limit trail
+    → IsSearch l places rooms flags labels current trail queue_room trail_room start goal → end_of l start trail ≡ goal → amount ≡ bottleneck_on rooms limit trail
     → new_rooms ≡ pushed l takes_back amount trail rooms
     → Augments limit amount (searched l places rooms start goal takes_back) (searched l places new_rooms start goal takes_back)
 augments-pushed l takes_back limit amount places rooms flags labels current trail new_rooms queue_room trail_room start goal is end least made = record {

@@ -1,14 +1,14 @@
 //! Pushing along a trail.
 ghost use Rattle.std.specs.Prelude.{◌≡◌, ℕ, Bool, ◌+◌, ◌≤◌, ◌<◌, length, take, All, slice_index, slice_set, vec_capacity};
 ghost use Rattle.dmf_path.specs.Links.{AreLinks, AreRooms, AreFlags, links_of, open_flag};
-ghost use Rattle.dmf_path.specs.Walk.{least_on, pushed_once, pushed, CanPush};
+ghost use Rattle.dmf_path.specs.Walk.{bottleneck_on, pushed_once, pushed, CanPush};
 
 use crate::links::{LinkTable, open_flag};
 
-/// The least of the limit and the rooms of these links.
-pub fn least_room(rooms: &[u64], trail: &[u32], limit: u64) -> u64
+/// The least of the limit and the rooms of these links: the bottleneck.
+pub fn bottleneck(rooms: &[u64], trail: &[u32], limit: u64) -> u64
     requires { All (λ p. p < length rooms.now) trail.now }
-    ensures { result ≡ least_on rooms.now limit trail.now }
+    ensures { result ≡ bottleneck_on rooms.now limit trail.now }
 {
     let mut least = limit;
     for &place in trail {
