@@ -85,7 +85,7 @@ pub augments-pushed : (l : Links) (takes_back : Bool) (limit amount : ℕ) (plac
     → Augments limit amount (searched l places rooms start goal takes_back) (searched l places new_rooms start goal takes_back)
 augments-pushed l takes_back limit amount places rooms flags labels current trail new_rooms queue_room trail_room start goal is end least made = record {
   path = path_on l places rooms trail;
-  least = least-trail l places rooms labels current trail start goal is.links is.places_are is.rooms_are.0 is.start_is is.valid is.walking end;
+  least = least-trail l places rooms labels current trail start goal is.links is.places_are is.start_is is.valid is.walking end;
   amount_is = least ∙ sym (room_up_to-path_on l places rooms trail limit);
   gives = ap (λ pairs. record { nodes = l.nodes; pairs = pairs; start = start; goal = goal; takes_back = takes_back })
       (ap (pairs_at l places) made ∙ pushed_pairs-pushed l takes_back places rooms labels current trail start amount is.links is.places_are is.rooms_are.0 is.start_is is.walking.trail_is);
@@ -95,4 +95,4 @@ augments-pushed l takes_back limit amount places rooms flags labels current trai
 pub no_path-search : (l : Links) (places rooms flags labels current trail : List ℕ) (queue_room trail_room start goal : ℕ)
     → IsSearch l places rooms flags labels current trail queue_room trail_room start goal → IsUnlabelled l flags start goal → HasNoPath (steps_of (pairs_at l places rooms)) start goal
 no_path-search l places rooms flags labels current trail queue_room trail_room start goal is none =
-    no_path-unlabelled l places rooms flags none.labels start goal is.links is.places_are is.rooms_are.0 is.flags_are none.are is.start_is is.goal_is none.none
+    no_path-unlabelled l places rooms flags none.labels start goal is.links is.places_are is.flags_are none.are is.start_is none.none

@@ -1,6 +1,6 @@
 //! Pushing along a trail.
-ghost use Rattle.std.specs.Prelude.{◌≡◌, ℕ, Bool, ◌+◌, ◌≤◌, ◌<◌, length, take, All, slice_index, vec_capacity};
-ghost use Rattle.dmf_path.specs.Links.{AreLinks, AreRooms, AreFlags, links_of};
+ghost use Rattle.std.specs.Prelude.{◌≡◌, ℕ, Bool, ◌+◌, ◌≤◌, ◌<◌, length, take, All, slice_index, slice_set, vec_capacity};
+ghost use Rattle.dmf_path.specs.Links.{AreLinks, AreRooms, AreFlags, links_of, open_flag};
 ghost use Rattle.dmf_path.specs.Walk.{least_on, pushed_once, pushed, CanPush};
 
 use crate::links::{LinkTable, open_flag};
@@ -59,11 +59,25 @@ pub fn push_once(
 {
     let place = place as usize;
     let partner = table.partners[place] as usize;
-    rooms[place] -= amount;
-    flags[partner] = open_flag(rooms[place]);
+    let room = rooms[place];
+    rooms[place] = room - amount;
+    renew_flag(flags, partner, room, room - amount);
     if takes_back {
-        rooms[partner] += amount;
-        flags[place] = open_flag(rooms[partner]);
+        let room = rooms[partner];
+        rooms[partner] = room + amount;
+        renew_flag(flags, place, room, room + amount);
+    }
+}
+
+/// Makes a flag tell of a room what it told of the room before. It is written only where it changes: mostly it does not,
+/// and then the place of the flag is not looked at.
+fn renew_flag(flags: &mut [u8], place: usize, before: u64, after: u64)
+    requires within { place < length flags.old }
+    requires told { slice_index flags.old place ≡ open_flag before }
+    ensures { flags.new ≡ slice_set flags.old place (open_flag after) }
+{
+    if (before > 0) != (after > 0) {
+        flags[place] = open_flag(after);
     }
 }
 
