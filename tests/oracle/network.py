@@ -1,4 +1,4 @@
-"""Networks with a flow on them: their paths, solving, draining and the smallest side of a least cut."""
+"""Networks with a flow on them: their paths, solving, draining and the smallest side of a minimum cut."""
 
 from dataclasses import dataclass, replace
 from typing import NamedTuple
@@ -135,7 +135,7 @@ def is_greatest(state):
 
 
 def smallest_side(state):
-    """The nodes that every least cut has, ascending, and its capacity. The flow is greatest: then they are those reached."""
+    """The nodes that every minimum cut has, ascending, and its capacity. The flow is greatest: then they are those reached."""
     side = reached(state)
     capacity = sum(arc.cap for arc in state.arcs if arc.tail in side and arc.head not in side)
     return sorted(side), capacity

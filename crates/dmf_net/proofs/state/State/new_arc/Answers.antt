@@ -3,7 +3,7 @@ use Rattle.dmf_path.specs.Node.{is_node}
 use Rattle.dmf_net.specs.Arc.{IsArc, open_arc}
 use Rattle.dmf_net.specs.NetworkState.{IsState, with_idle_arc}
 use Rattle.dmf_net.proofs.IdleArc.{IsState-idle, IsNode-is_node}
-use Rattle.dmf_net.proofs.state.State.admit.Goals as goal
+use Rattle.dmf_net.proofs.state.State.new_arc.Goals as goal
 
 pub returns-clause-fits : goal.returns-clause-fits
 returns-clause-fits c =
