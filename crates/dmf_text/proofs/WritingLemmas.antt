@@ -1,5 +1,5 @@
 -- What several puts, one after the other, do.
-use Rattle.std.proofs.Common.{◌≡◌, ℕ, ◌-◌, List, ◌++◌, length, take, drop, Option, Bool, Result, Ok, Err, true, sym, ap, ◌∙◌, append_assoc, take-append-drop}
+use Rattle.std.proofs.Common.{◌≡◌, ℕ, ◌-◌, List, ◌++◌, length, take, drop, Option, Bool, Result, Ok, Err, true, sym, ap, subst, ◌∙◌, append_assoc, take-append-drop}
 use Rattle.std.proofs.KnownBytes.{Appends-trans}
 use Rattle.std.specs.Io.KnownBytes.{Appends}
 use Rattle.dmf_text.specs.Writing.{Writes}
@@ -25,6 +25,18 @@ module _ {S : Type 0} (contents : S → Option (List ℕ)) (has_failed : S → B
       → Writes contents has_failed b c outcome t → Writes contents has_failed a c outcome (s ++ t)
   writes-more a b c (Ok v) s t held mark then = (Appends-trans _ _ _ s t held then.0, then.1 ∙ mark)
   writes-more a b c (Err e) s t held mark then = cut-more a b c s t held then
+
+  -- Of a text the first part was to be put, and the rest after it. The first part failed.
+  pub first-failed : {V E : Type 0} (a b : S) (outcome : Result V E) (e : E) (text first rest : List ℕ) → outcome ≡ Err e → text ≡ first ++ rest
+      → Cut a b first → Writes contents has_failed a b outcome text
+  first-failed a b outcome e text first rest is split cut =
+      subst (λ o. Writes contents has_failed a b o text) (sym is) (subst (λ t. Cut a b t) (sym split) (cut-front a b first rest cut))
+
+  -- Or it was put, and this became of the rest.
+  pub first-put : {V E : Type 0} (a b c : S) (outcome : Result V E) (text first rest : List ℕ) → text ≡ first ++ rest
+      → Appends (contents a) (contents b) first × (has_failed b ≡ has_failed a) → Writes contents has_failed b c outcome rest → Writes contents has_failed a c outcome text
+  first-put a b c outcome text first rest split put more =
+      subst (λ t. Writes contents has_failed a c outcome t) (sym split) (writes-more a b c outcome first rest put.0 put.1 more)
 
 -- of a text a front was written, and now the next n bytes were
 pub front-more : (text written rest : List ℕ) (n : ℕ) → text ≡ written ++ rest → text ≡ (written ++ take n rest) ++ take (length rest - n) (drop n rest)
