@@ -4,7 +4,8 @@ pub mod OverCapacity
 pub mod Balance
 pub mod Changing
 pub mod Moving
-pub mod OneBefore
+pub mod TakenBack
+pub mod Reverting
 pub mod ResidualSteps
 pub mod Pushing
 pub mod AugmentedPushed

@@ -58,18 +58,11 @@ moved-first last m moves flows fit =
     ∙ get_or-set_same flows (m.arc - 1) m.to 0 within
 
 -- a read that was overwritten
-unset : (flows : List ℕ) (m : Move) → slice_get flows (m.arc - 1) ≡ Some m.from → set (set flows (m.arc - 1) m.to) (m.arc - 1) m.from ≡ flows
+pub unset : (flows : List ℕ) (m : Move) → slice_get flows (m.arc - 1) ≡ Some m.from → set (set flows (m.arc - 1) m.to) (m.arc - 1) m.from ≡ flows
 unset flows m read =
     set-set flows (m.arc - 1) m.to m.from
     ∙ ap (λ x. set flows (m.arc - 1) x) (sym (get_or_from_slice_get flows (m.arc - 1) m.from 0 read))
     ∙ set-get_or flows (m.arc - 1) 0
-
--- the same moves that make the same flows of two were made on the same
-pub moved-back : (last : ℕ) (moves : List Move) (xs ys : List ℕ) → MovesFit last moves xs → MovesFit last moves ys → moved moves xs ≡ moved moves ys → xs ≡ ys
-moved-back last [] xs ys fit_xs fit_ys same = same
-moved-back last (m ∷ moves) xs ys fit_xs fit_ys same =
-    let after = moved-back m.arc moves (set xs (m.arc - 1) m.to) (set ys (m.arc - 1) m.to) (MovesFit-made last m moves xs fit_xs) (MovesFit-made last m moves ys fit_ys) same in
-    sym (unset xs m fit_xs.1) ∙ ap (λ zs. set zs (m.arc - 1) m.from) after ∙ unset ys m fit_ys.1
 
 -- The first `i` moves are made, and the sums at the node are those of the flows since.
 pub record AreMoved (arcs : List Arc) (moves : List Move) (last_flows : List ℕ) (v i : ℕ) (flows : List ℕ) (sums : NodeFlow) : Type 0 where

@@ -13,5 +13,7 @@ pub mod Solve
 pub mod Drain
 pub mod Change
 pub mod Edit
+pub mod Revert
+pub mod Direction
 pub mod Laws
 pub mod Pairs

@@ -2,12 +2,18 @@ ghost use Rattle.dmf_net.specs.Change.{HasOneOutcome, HasOutcome};
 ghost use Rattle.dmf_net.specs.Cut.{HasGreatestFlow, MaxFlowMinCut};
 ghost use Rattle.dmf_net.specs.Edit.{HasOneBefore};
 ghost use Rattle.dmf_net.specs.Laws.{HasSmallestSide, IsGreatestOrSurpassed, SolvedIsGreatest};
+ghost use Rattle.dmf_net.specs.Revert.{GivesBack};
 ghost use Rattle.dmf_net.specs.Side.{HasOneSmallestSide};
 
 /// The law that an edit can be undone in one way alone: two states that it fits, and of which it makes the same
 /// state, are the same.
 pub fn one_state_before()
     ensures { HasOneBefore }
+{}
+
+/// The law that reverting after applying gives back the state, flows included.
+pub fn reverting_gives_back()
+    ensures { GivesBack }
 {}
 
 /// The law that a change has one outcome: any two states that it makes of one state are the same.

@@ -6,7 +6,7 @@ pub use edit::{Edit, Move};
 pub use fault::{ArcFault, CutFault, FlowFault, NetFault, NoMemory, PlanFault};
 pub use laws::{
     a_smallest_side, an_outcome, greatest_or_surpassed, max_flow_min_cut, one_outcome,
-    one_smallest_side, one_state_before, solved_is_greatest,
+    one_smallest_side, one_state_before, reverting_gives_back, solved_is_greatest,
 };
 pub use limits::{MAX_ARCS, MAX_NODES};
 pub use plan::{plan_add, plan_cap, plan_close, plan_solve};
@@ -29,6 +29,7 @@ mod limits;
 mod moves;
 mod plan;
 mod residual;
+mod revert;
 #[cfg(test)]
 mod scanning;
 mod side;

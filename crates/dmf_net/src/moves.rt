@@ -3,6 +3,7 @@ ghost use Rattle.dmf_net.specs.Arc.{capacity_sum};
 ghost use Rattle.dmf_net.specs.Flow.{AreWithinCapacities};
 ghost use Rattle.dmf_net.specs.FlowSums.{IsNodeFlow};
 ghost use Rattle.dmf_net.specs.Edit.{MovesFit, moved, differences};
+ghost use Rattle.dmf_net.specs.Direction.{step_along, along};
 
 use crate::arc::Arc;
 use crate::edit::Move;
@@ -26,28 +27,54 @@ pub fn list_moves(alloc: Global, before: &[u64], after: &[u64]) -> Result<Vec<Mo
     Ok(moves)
 }
 
-/// Gives each arc that the moves name the flow that they give it, and the node the sums of the flows that it then has.
+/// Whether moves are made or taken back.
+#[derive(Clone, Copy)]
+pub enum Direction {
+    Forward,
+    Back,
+}
+
+impl Direction {
+    /// The move, or the one that takes it back.
+    fn step(self, m: &Move) -> Move
+        ensures { result ≡ step_along self m.now }
+    {
+        match self {
+            Direction::Forward => *m,
+            Direction::Back => Move {
+                arc: m.arc,
+                from: m.to,
+                to: m.from,
+            },
+        }
+    }
+}
+
+/// Gives each arc that the moves name the flow that they give it, or that it had before them, and the node the sums of the
+/// flows that it then has.
 pub fn make_moves(
     arcs: &[Arc],
     flows: &mut [u64],
     moves: &[Move],
+    direction: Direction,
     node: u32,
     at_node: &mut NodeFlow,
 )
     requires capacities { capacity_sum arcs.now < 2 ^ 64 }
     requires within { AreWithinCapacities arcs.now flows.old }
-    requires fit { MovesFit 0 moves.now flows.old }
-    requires within_after { AreWithinCapacities arcs.now (moved moves.now flows.old) }
+    requires fit { MovesFit 0 (along direction moves.now) flows.old }
+    requires within_after { AreWithinCapacities arcs.now (moved (along direction moves.now) flows.old) }
     requires at_node { IsNodeFlow arcs.now flows.old node at_node.old }
-    ensures flows { flows.new ≡ moved moves.now flows.old }
+    ensures flows { flows.new ≡ moved (along direction moves.now) flows.old }
     ensures at_node { IsNodeFlow arcs.now flows.new node at_node.new }
 {
     for m in moves {
-        let i = m.arc as usize - 1;
+        let step = direction.step(m);
+        let i = step.arc as usize - 1;
         let arc = arcs[i];
-        at_node.leaving = replaced(at_node.leaving, arc.tail == node, m);
-        at_node.entering = replaced(at_node.entering, arc.head == node, m);
-        flows[i] = m.to;
+        at_node.leaving = replaced(at_node.leaving, arc.tail == node, &step);
+        at_node.entering = replaced(at_node.entering, arc.head == node, &step);
+        flows[i] = step.to;
     }
 }
 

@@ -8,14 +8,16 @@ ghost use Rattle.dmf_net.specs.FlowSums.{IsNodeFlow};
 ghost use Rattle.dmf_net.specs.FlowFault.{FlowFaultHolds};
 ghost use Rattle.dmf_net.specs.NetworkState.{IsState, without_arcs, with_flows, with_idle_arc};
 ghost use Rattle.dmf_net.specs.Change.{arc_fault, arc_refusal, net_fault};
+ghost use Rattle.dmf_net.specs.Direction.{along, HasIdleLast};
 ghost use Rattle.dmf_net.specs.Edit.{moved, applied, AddsArc, IsOpenWith, MovesFit, Fits};
+ghost use Rattle.dmf_net.specs.Revert.{without_last};
 
 use crate::arc::Arc;
 use crate::edit::{Edit, Move};
 use crate::fault::{ArcFault, FlowFault, NetFault, NoMemory, PlanFault};
 use crate::flow_sums::{NodeFlow, first_over_capacity, flow_sums};
 use crate::limits::MAX_ARCS;
-use crate::moves::make_moves;
+use crate::moves::{Direction, make_moves};
 use std::alloc::{AllocError, Global};
 use std::marker::Model;
 
@@ -232,7 +234,7 @@ impl State {
                 ..
             } => {
                 let arc = self.arc(j).with_cap(new);
-                self.change_arc(j, arc, moves);
+                self.change_arc(j, arc, moves, Direction::Forward);
                 Ok(())
             }
             Edit::Close {
@@ -241,12 +243,12 @@ impl State {
                 ..
             } => {
                 let arc = self.arc(j).close();
-                self.change_arc(j, arc, moves);
+                self.change_arc(j, arc, moves, Direction::Forward);
                 Ok(())
             }
             Edit::Add { tail, head, cap } => self.append(Arc::open(tail, head, cap)),
             Edit::Solve { ref moves } => {
-                self.make(moves);
+                self.make(moves, Direction::Forward);
                 Ok(())
             }
         }
@@ -284,23 +286,22 @@ impl State {
         u64::MAX - (self.capacities - old)
     }
 
-    /// Puts an arc with the same ends in the place of arc number `j`, and gives each arc that the moves name the flow that
-    /// they give it.
-    fn change_arc(&mut self, j: u32, arc: Arc, moves: &[Move])
+    /// Puts an arc with the same ends in the place of arc number `j`, and makes the moves or takes them back.
+    pub(crate) fn change_arc(&mut self, j: u32, arc: Arc, moves: &[Move], direction: Direction)
         requires is_there { has_arc self.old.network j ≡ true }
         requires tail { arc.tail ≡ (arc_number self.old.network j).tail }
         requires head { arc.head ≡ (arc_number self.old.network j).head }
-        requires fit { MovesFit 0 moves.now self.old.flows }
-        requires state { IsState (record { network = with_arc self.old.network j arc; flows = moved moves.now self.old.flows }) }
-        ensures { self.new ≡ record { network = with_arc self.old.network j arc; flows = moved moves.now self.old.flows } }
+        requires fit { MovesFit 0 (along direction moves.now) self.old.flows }
+        requires state { IsState (record { network = with_arc self.old.network j arc; flows = moved (along direction moves.now) self.old.flows }) }
+        ensures { self.new ≡ record { network = with_arc self.old.network j arc; flows = moved (along direction moves.now) self.old.flows } }
     {
         // In between, the flow before or the flow after is within the larger of the two capacities.
         if arc.cap < self.arc(j).cap {
-            self.make(moves);
+            self.make(moves, direction);
             self.set_arc(j, arc);
         } else {
             self.set_arc(j, arc);
-            self.make(moves);
+            self.make(moves, direction);
         }
     }
 
@@ -318,16 +319,17 @@ impl State {
         self.arcs[j as usize - 1] = arc;
     }
 
-    /// Gives each arc that the moves name the flow that they give it.
-    fn make(&mut self, moves: &[Move])
-        requires fit { MovesFit 0 moves.now self.old.flows }
-        requires state { IsState (with_flows self.old (moved moves.now self.old.flows)) }
-        ensures { self.new ≡ with_flows self.old (moved moves.now self.old.flows) }
+    /// Makes the moves, or takes them back.
+    pub(crate) fn make(&mut self, moves: &[Move], direction: Direction)
+        requires fit { MovesFit 0 (along direction moves.now) self.old.flows }
+        requires state { IsState (with_flows self.old (moved (along direction moves.now) self.old.flows)) }
+        ensures { self.new ≡ with_flows self.old (moved (along direction moves.now) self.old.flows) }
     {
         make_moves(
             &self.arcs,
             &mut self.flows,
             moves,
+            direction,
             self.source,
             &mut self.at_source,
         );
@@ -371,5 +373,17 @@ impl State {
         self.arcs.push_reserved(arc);
         self.flows.push_reserved(0);
         Ok(())
+    }
+
+    /// Drops the last arc, which is open and without flow. Both vectors keep their room.
+    pub(crate) fn drop_last(&mut self)
+        requires { HasIdleLast self.old }
+        ensures { self.new ≡ without_last self.old }
+    {
+        let last = self.arcs.len() - 1;
+        self.capacities -= self.arcs[last].cap;
+        self.open_arcs -= 1;
+        self.arcs.truncate(last);
+        self.flows.truncate(last);
     }
 }

@@ -10,6 +10,8 @@ mod cutting;
 #[cfg(test)]
 mod draining;
 #[cfg(test)]
+mod examples;
+#[cfg(test)]
 mod failures;
 #[cfg(test)]
 mod limits;

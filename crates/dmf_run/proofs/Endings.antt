@@ -15,11 +15,12 @@ use Rattle.dmf_run.specs.declared.fault.EngineFault.TheVariants as fault
 use Rattle.dmf_run.specs.declared.input.Next.TheVariants.{Line, Last}
 use Rattle.dmf_run.specs.Streams.{Writer}
 use Rattle.dmf_run.specs.Pending.{Pending}
-use Rattle.dmf_run.specs.Line.{HasNoFeed, fed, line_meaning}
+use Rattle.dmf_run.specs.KeptLine.{Kept, Means}
+use Rattle.dmf_run.specs.Line.{HasNoLineFeed, with_line_feeds, line_meaning}
 use Rattle.dmf_run.specs.Run.{LineRuns, Runs}
 use Rattle.dmf_run.specs.Input.{InputState, Takes, HasEnded, HasFailed, IsPastLimit, GivesLine, GivesEnd, left}
 use Rattle.dmf_run.specs.Outcome.{RestRuns, RunsAll, RunsCommands, status_if, line_count}
-use Rattle.dmf_run.proofs.FeedLemmas.{Takes-trans}
+use Rattle.dmf_run.proofs.TakingLemmas.{Takes-trans}
 use Rattle.dmf_run.proofs.LineLemmas.{or-false}
 use Rattle.dmf_run.proofs.Progress.{streams, IsFresh, Progress, Carried, Progress-more}
 
@@ -39,11 +40,11 @@ given-by : (before now : InputState) (bytes : List ℕ) → IsFresh before → T
 given-by before now bytes fresh takes = Consumes-given before.pending now.pending before.reader.known now.reader.known bytes fresh.none_pending takes.consumes
 
 -- the lines so far are all
-abbrev all-so-far : (want_cut : Bool) (t : Timeline) (lines : List (List ℕ)) (written : List ℕ) (is_refused : Bool) (u : Timeline) → All HasNoFeed lines → Runs (Answers want_cut) 1 t lines written is_refused u → RunsAll (Answers want_cut) t (fed lines) written is_refused
+abbrev all-so-far : (want_cut : Bool) (t : Timeline) (lines : List (List ℕ)) (written : List ℕ) (is_refused : Bool) (u : Timeline) → All HasNoLineFeed lines → Runs (Answers want_cut) 1 t lines written is_refused u → RunsAll (Answers want_cut) t (with_line_feeds lines) written is_refused
 all-so-far want_cut t lines written is_refused u each runs = record {
   lines = lines;
   rest = [];
-  cut = record { whole = sym (append-nil (fed lines)); each = each; last = All-nil (λ (b : ℕ). b ≡ 10 → ⊥) };
+  split = record { whole = sym (append-nil (with_line_feeds lines)); each = each; last = All-nil (λ (b : ℕ). b ≡ 10 → ⊥) };
   between = u;
   first = written;
   here = is_refused;
@@ -59,7 +60,7 @@ all-so-far want_cut t lines written is_refused u each runs = record {
 pub RunsCommands-end : (want_cut : Bool) (t : Timeline) (before now then : InputState) (held holds : Writer) (number : ℕ) (u : Timeline) (is_refused : Bool) (status : Status) → number ≤ 1000000 + 1 → status ≡ status_if is_refused
     → Progress want_cut t before now held holds number u is_refused → Takes now then [] → HasEnded now then → RunsCommands want_cut t (streams before held) (streams then holds) (Ok status)
 RunsCommands-end want_cut t before now then held holds number u is_refused status few told p takes ended =
-    let bytes = fed p.lines in
+    let bytes = with_line_feeds p.lines in
     let all = subst (λ x. Takes before then x) (append-nil bytes) (Takes-trans before now then bytes [] p.takes takes) in
     let nothing : bytes ++ then.pending.bytes ≡ bytes = ap (λ x. bytes ++ x) ended.none_pending ∙ append-nil bytes in (
       bytes,
@@ -77,10 +78,10 @@ RunsCommands-end want_cut t before now then held holds number u is_refused statu
 
 -- a failed read
 pub RunsCommands-read : (want_cut : Bool) (t : Timeline) (before now then : InputState) (held holds : Writer) (number : ℕ) (u : Timeline) (is_refused : Bool) (rest : List ℕ)
-    → Progress want_cut t before now held holds number u is_refused → HasNoFeed rest → Takes now then rest → HasFailed then → RunsCommands want_cut t (streams before held) (streams then holds) (Err fault.Read)
-RunsCommands-read want_cut t before now then held holds number u is_refused rest p no_feed takes failed =
-    let bytes = fed p.lines ++ rest in
-    let all = Takes-trans before now then (fed p.lines) rest p.takes takes in
+    → Progress want_cut t before now held holds number u is_refused → HasNoLineFeed rest → Takes now then rest → HasFailed then → RunsCommands want_cut t (streams before held) (streams then holds) (Err fault.Read)
+RunsCommands-read want_cut t before now then held holds number u is_refused rest p no_line_feed takes failed =
+    let bytes = with_line_feeds p.lines ++ rest in
+    let all = Takes-trans before now then (with_line_feeds p.lines) rest p.takes takes in
     let nothing : bytes ++ then.pending.bytes ≡ bytes = ap (λ x. bytes ++ x) failed.none_pending ∙ append-nil bytes in (
       bytes,
       p.written,
@@ -90,7 +91,7 @@ RunsCommands-read want_cut t before now then held holds number u is_refused rest
         record {
           lines = p.lines;
           rest = rest;
-          cut = record { whole = refl; each = p.each; last = no_feed };
+          split = record { whole = refl; each = p.each; last = no_line_feed };
           refused = is_refused;
           after = u;
           runs = p.runs;
@@ -102,13 +103,13 @@ RunsCommands-read want_cut t before now then held holds number u is_refused rest
 
 -- more bytes than may be
 pub RunsCommands-bytes : (want_cut : Bool) (t : Timeline) (before now then : InputState) (held holds : Writer) (number : ℕ) (u : Timeline) (is_refused : Bool) (rest : List ℕ) → number ≤ 1000000 + 1
-    → Progress want_cut t before now held holds number u is_refused → HasNoFeed rest → Takes now then rest → IsPastLimit now then → RunsCommands want_cut t (streams before held) (streams then holds) (Err fault.TooMuchInput)
-RunsCommands-bytes want_cut t before now then held holds number u is_refused rest few p no_feed takes past =
-    let bytes = fed p.lines ++ rest in
-    let all = Takes-trans before now then (fed p.lines) rest p.takes takes in
-    let long : length (fed p.lines) + length rest ≡ 2 ^ 30 = omega (arith, all.counts, p.fresh.none_taken, past.at_limit, length-append (fed p.lines) rest) in
-    let room : 2 ^ 30 - length (fed p.lines) ≡ length rest = omega (arith, long) in
-    let cut : take (2 ^ 30 - length (fed p.lines)) (rest ++ then.pending.bytes) ≡ rest = ap (λ n. take n (rest ++ then.pending.bytes)) room ∙ take_at rest then.pending.bytes (length rest) refl in (
+    → Progress want_cut t before now held holds number u is_refused → HasNoLineFeed rest → Takes now then rest → IsPastLimit now then → RunsCommands want_cut t (streams before held) (streams then holds) (Err fault.TooMuchInput)
+RunsCommands-bytes want_cut t before now then held holds number u is_refused rest few p no_line_feed takes past =
+    let bytes = with_line_feeds p.lines ++ rest in
+    let all = Takes-trans before now then (with_line_feeds p.lines) rest p.takes takes in
+    let long : length (with_line_feeds p.lines) + length rest ≡ 2 ^ 30 = omega (arith, all.counts, p.fresh.none_taken, past.at_limit, length-append (with_line_feeds p.lines) rest) in
+    let rest_within : 2 ^ 30 - length (with_line_feeds p.lines) ≡ length rest = omega (arith, long) in
+    let within : take (2 ^ 30 - length (with_line_feeds p.lines)) (rest ++ then.pending.bytes) ≡ rest = ap (λ n. take n (rest ++ then.pending.bytes)) rest_within ∙ take_at rest then.pending.bytes (length rest) refl in (
       bytes ++ then.pending.bytes,
       p.written,
       given-by before then bytes p.fresh all,
@@ -117,11 +118,11 @@ RunsCommands-bytes want_cut t before now then held holds number u is_refused res
         record {
           lines = p.lines;
           rest = rest ++ then.pending.bytes;
-          given_is = append_assoc (fed p.lines) rest then.pending.bytes;
+          given_is = append_assoc (with_line_feeds p.lines) rest then.pending.bytes;
           each = p.each;
           at_most_lines = omega (arith, p.counted);
           at_most_bytes = omega (arith, long);
-          past = inr (omega (arith, long, past.pending, length-append bytes then.pending.bytes, length-append (fed p.lines) rest), subst HasNoFeed (sym cut) no_feed);
+          past = inr (omega (arith, long, past.pending, length-append bytes then.pending.bytes, length-append (with_line_feeds p.lines) rest), subst HasNoLineFeed (sym within) no_line_feed);
           refused = is_refused;
           after = u;
           runs = p.runs;
@@ -135,8 +136,8 @@ pub RunsCommands-lines : (want_cut : Bool) (t : Timeline) (before now then : Inp
     → Progress want_cut t before now held holds (1000000 + 1) u is_refused → 0 < length (more ++ then.pending.bytes) → Takes now then more → then.pending.count ≤ 2 ^ 30 → then.reader.has_failed ≡ now.reader.has_failed
     → RunsCommands want_cut t (streams before held) (streams then holds) (Err fault.TooMuchInput)
 RunsCommands-lines want_cut t before now then held holds u is_refused more p some takes within mark =
-    let bytes = fed p.lines ++ more in
-    let all = Takes-trans before now then (fed p.lines) more p.takes takes in (
+    let bytes = with_line_feeds p.lines ++ more in
+    let all = Takes-trans before now then (with_line_feeds p.lines) more p.takes takes in (
       bytes ++ then.pending.bytes,
       p.written,
       given-by before then bytes p.fresh all,
@@ -145,10 +146,10 @@ RunsCommands-lines want_cut t before now then held holds u is_refused more p som
         record {
           lines = p.lines;
           rest = more ++ then.pending.bytes;
-          given_is = append_assoc (fed p.lines) more then.pending.bytes;
+          given_is = append_assoc (with_line_feeds p.lines) more then.pending.bytes;
           each = p.each;
           at_most_lines = omega (arith, p.counted);
-          at_most_bytes = omega (arith, all.counts, p.fresh.none_taken, within, length-append (fed p.lines) more);
+          at_most_bytes = omega (arith, all.counts, p.fresh.none_taken, within, length-append (with_line_feeds p.lines) more);
           past = inl (omega (arith, p.counted), some);
           refused = is_refused;
           after = u;
@@ -159,14 +160,14 @@ RunsCommands-lines want_cut t before now then held holds u is_refused more p som
     )
 
 -- asking for a line was refused
-pub RunsCommands-refused : (want_cut : Bool) (t : Timeline) (before now then : InputState) (held holds : Writer) (number : ℕ) (u : Timeline) (is_refused : Bool) (told : EngineFault) → number ≤ 1000000 + 1
-    → Progress want_cut t before now held holds number u is_refused → GivesLine now then (Err told) → RunsCommands want_cut t (streams before held) (streams then holds) (Err told)
-RunsCommands-refused want_cut t before now then held holds number u is_refused fault.Read few p gave = RunsCommands-read want_cut t before now then held holds number u is_refused gave.0 p gave.1 gave.2 gave.3
-RunsCommands-refused want_cut t before now then held holds number u is_refused fault.TooMuchInput few p gave = RunsCommands-bytes want_cut t before now then held holds number u is_refused gave.0 few p gave.1 gave.2 gave.3
-RunsCommands-refused want_cut t before now then held holds number u is_refused fault.Write few p gave = absurd gave
-RunsCommands-refused want_cut t before now then held holds number u is_refused (fault.Problem f) few p gave = absurd gave
-RunsCommands-refused want_cut t before now then held holds number u is_refused (fault.Solution f) few p gave = absurd gave
-RunsCommands-refused want_cut t before now then held holds number u is_refused fault.NoMemory few p gave = absurd gave
+pub RunsCommands-refused : (want_cut : Bool) (t : Timeline) (before now then : InputState) (held holds : Writer) (number : ℕ) (u : Timeline) (is_refused : Bool) (told : EngineFault) (kept : Kept) → number ≤ 1000000 + 1
+    → Progress want_cut t before now held holds number u is_refused → GivesLine now then kept (Err told) → RunsCommands want_cut t (streams before held) (streams then holds) (Err told)
+RunsCommands-refused want_cut t before now then held holds number u is_refused fault.Read kept few p gave = RunsCommands-read want_cut t before now then held holds number u is_refused gave.0 p gave.1 gave.2 gave.3
+RunsCommands-refused want_cut t before now then held holds number u is_refused fault.TooMuchInput kept few p gave = RunsCommands-bytes want_cut t before now then held holds number u is_refused gave.0 few p gave.1 gave.2 gave.3
+RunsCommands-refused want_cut t before now then held holds number u is_refused fault.Write kept few p gave = absurd gave
+RunsCommands-refused want_cut t before now then held holds number u is_refused (fault.Problem f) kept few p gave = absurd gave
+RunsCommands-refused want_cut t before now then held holds number u is_refused (fault.Solution f) kept few p gave = absurd gave
+RunsCommands-refused want_cut t before now then held holds number u is_refused fault.NoMemory kept few p gave = absurd gave
 
 -- asking for the end was refused
 pub RunsCommands-past : (want_cut : Bool) (t : Timeline) (before now then : InputState) (held holds : Writer) (u : Timeline) (is_refused : Bool) (told : EngineFault)
@@ -188,12 +189,12 @@ count-le lines [] = omega arith
 count-le lines (byte ∷ rest) = omega arith
 
 -- the lines so far, and a last line
-abbrev all-with-last : (want_cut : Bool) (t : Timeline) (lines : List (List ℕ)) (line : List ℕ) (written text : List ℕ) (is_refused refused : Bool) (u v : Timeline) → All HasNoFeed lines → HasNoFeed line → 0 < length line
-    → Runs (Answers want_cut) 1 t lines written is_refused u → LineRuns (Answers want_cut) (length lines + 1) u (line_meaning false line) text refused v → RunsAll (Answers want_cut) t (fed lines ++ line) (written ++ text) (is_refused || refused)
-all-with-last want_cut t lines line written text is_refused refused u v each no_feed some runs then = record {
+abbrev all-with-last : (want_cut : Bool) (t : Timeline) (lines : List (List ℕ)) (line : List ℕ) (written text : List ℕ) (is_refused refused : Bool) (u v : Timeline) → All HasNoLineFeed lines → HasNoLineFeed line → 0 < length line
+    → Runs (Answers want_cut) 1 t lines written is_refused u → LineRuns (Answers want_cut) (length lines + 1) u (line_meaning false line) text refused v → RunsAll (Answers want_cut) t (with_line_feeds lines ++ line) (written ++ text) (is_refused || refused)
+all-with-last want_cut t lines line written text is_refused refused u v each no_line_feed some runs then = record {
   lines = lines;
   rest = line;
-  cut = record { whole = refl; each = each; last = no_feed };
+  split = record { whole = refl; each = each; last = no_line_feed };
   between = u;
   first = written;
   here = is_refused;
@@ -206,15 +207,15 @@ all-with-last want_cut t lines line written text is_refused refused u v each no_
 }
 
 -- a last line was carried out
-pub RunsCommands-last : (want_cut : Bool) (t : Timeline) (before now then : InputState) (held holds next : Writer) (number : ℕ) (u : Timeline) (is_refused : Bool) (meaning : Result (Option Command) Refusal) (refused : Bool) (v : Timeline) (status : Status) → number ≤ 1000000 → status ≡ status_if (is_refused || refused)
-    → Progress want_cut t before now held holds number u is_refused → GivesLine now then (Ok (Last meaning)) → Carried want_cut u meaning number holds next refused v → RunsCommands want_cut t (streams before held) (streams then next) (Ok status)
-RunsCommands-last want_cut t before now then held holds next number u is_refused meaning refused v status few told p gave c =
+pub RunsCommands-last : (want_cut : Bool) (t : Timeline) (before now then : InputState) (held holds next : Writer) (number : ℕ) (u : Timeline) (is_refused : Bool) (meaning : Result (Option Command) Refusal) (kept : Kept) (refused : Bool) (v : Timeline) (status : Status) → number ≤ 1000000 → status ≡ status_if (is_refused || refused)
+    → Progress want_cut t before now held holds number u is_refused → GivesLine now then kept (Ok Last) → Means kept false meaning → Carried want_cut u meaning number holds next refused v → RunsCommands want_cut t (streams before held) (streams then next) (Ok status)
+RunsCommands-last want_cut t before now then held holds next number u is_refused meaning kept refused v status few told p gave means c =
     let line : List ℕ = gave.0 in
     let ended = gave.5 in
-    let bytes = fed p.lines ++ line in
-    let all = Takes-trans before now then (fed p.lines) line p.takes gave.2 in
+    let bytes = with_line_feeds p.lines ++ line in
+    let all = Takes-trans before now then (with_line_feeds p.lines) line p.takes gave.2 in
     let nothing : bytes ++ then.pending.bytes ≡ bytes = ap (λ x. bytes ++ x) ended.none_pending ∙ append-nil bytes in
-    let runs = subst (λ n. LineRuns (Answers want_cut) n u (line_meaning false line) c.text refused v) (sym p.counted) (subst (λ m. LineRuns (Answers want_cut) number u m c.text refused v) gave.3 c.runs) in (
+    let runs = subst (λ n. LineRuns (Answers want_cut) n u (line_meaning false line) c.text refused v) (sym p.counted) (subst (λ m. LineRuns (Answers want_cut) number u m c.text refused v) (means gave.0 gave.3) c.runs) in (
       bytes,
       p.written ++ c.text,
       subst (λ x. Consumes before.reader.known then.reader.known x) nothing (given-by before then bytes p.fresh all),
@@ -240,13 +241,13 @@ pub record Broken (want_cut : Bool) (u : Timeline) (meaning : Result (Option Com
   pub writer : next.has_failed ≡ true
 
 -- a failed write of the reply to a line
-pub RunsCommands-write : (want_cut : Bool) (t : Timeline) (before now then : InputState) (held holds next : Writer) (number : ℕ) (u : Timeline) (is_refused : Bool) (meaning : Result (Option Command) Refusal) (v : Timeline)
-    → Progress want_cut t before now held holds number u is_refused → GivesLine now then (Ok (Line meaning)) → Broken want_cut u meaning number holds next v → RunsCommands want_cut t (streams before held) (streams then next) (Err fault.Write)
-RunsCommands-write want_cut t before now then held holds next number u is_refused meaning v p gave b =
+pub RunsCommands-write : (want_cut : Bool) (t : Timeline) (before now then : InputState) (held holds next : Writer) (number : ℕ) (u : Timeline) (is_refused : Bool) (meaning : Result (Option Command) Refusal) (kept : Kept) (v : Timeline)
+    → Progress want_cut t before now held holds number u is_refused → GivesLine now then kept (Ok Line) → Means kept true meaning → Broken want_cut u meaning number holds next v → RunsCommands want_cut t (streams before held) (streams then next) (Err fault.Write)
+RunsCommands-write want_cut t before now then held holds next number u is_refused meaning kept v p gave means b =
     let carried : Carried want_cut u meaning number holds (record { contents = append_known holds.contents b.text; has_failed = holds.has_failed }) b.refused v =
     record { text = b.text; runs = b.runs; appends = Appends-known holds.contents b.text; writer = refl } in
-    let more = Progress-more want_cut t before now then held holds _ number u is_refused meaning b.refused v p gave carried in
-    let bytes = fed (p.lines ++ gave.0 ∷ []) in (
+    let more = Progress-more want_cut t before now then held holds _ number u is_refused meaning kept b.refused v p gave means carried in
+    let bytes = with_line_feeds (p.lines ++ gave.0 ∷ []) in (
       bytes ++ then.pending.bytes,
       p.written ++ b.front,
       given-by before then bytes p.fresh more.takes,
@@ -269,13 +270,13 @@ RunsCommands-write want_cut t before now then held holds next number u is_refuse
     )
 
 -- and to a last line
-pub RunsCommands-write_last : (want_cut : Bool) (t : Timeline) (before now then : InputState) (held holds next : Writer) (number : ℕ) (u : Timeline) (is_refused : Bool) (meaning : Result (Option Command) Refusal) (v : Timeline)
-    → Progress want_cut t before now held holds number u is_refused → GivesLine now then (Ok (Last meaning)) → Broken want_cut u meaning number holds next v → RunsCommands want_cut t (streams before held) (streams then next) (Err fault.Write)
-RunsCommands-write_last want_cut t before now then held holds next number u is_refused meaning v p gave b =
+pub RunsCommands-write_last : (want_cut : Bool) (t : Timeline) (before now then : InputState) (held holds next : Writer) (number : ℕ) (u : Timeline) (is_refused : Bool) (meaning : Result (Option Command) Refusal) (kept : Kept) (v : Timeline)
+    → Progress want_cut t before now held holds number u is_refused → GivesLine now then kept (Ok Last) → Means kept false meaning → Broken want_cut u meaning number holds next v → RunsCommands want_cut t (streams before held) (streams then next) (Err fault.Write)
+RunsCommands-write_last want_cut t before now then held holds next number u is_refused meaning kept v p gave means b =
     let line : List ℕ = gave.0 in
-    let bytes = fed p.lines ++ line in
-    let all = Takes-trans before now then (fed p.lines) line p.takes gave.2 in
-    let runs = subst (λ n. LineRuns (Answers want_cut) n u (line_meaning false line) b.text b.refused v) (sym p.counted) (subst (λ m. LineRuns (Answers want_cut) number u m b.text b.refused v) gave.3 b.runs) in (
+    let bytes = with_line_feeds p.lines ++ line in
+    let all = Takes-trans before now then (with_line_feeds p.lines) line p.takes gave.2 in
+    let runs = subst (λ n. LineRuns (Answers want_cut) n u (line_meaning false line) b.text b.refused v) (sym p.counted) (subst (λ m. LineRuns (Answers want_cut) number u m b.text b.refused v) (means gave.0 gave.3) b.runs) in (
       bytes ++ then.pending.bytes,
       p.written ++ b.front,
       given-by before then bytes p.fresh all,

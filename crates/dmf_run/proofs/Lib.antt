@@ -1,11 +1,11 @@
-pub mod RoomLemmas
-pub mod FeedLemmas
+pub mod KeptLineLemmas
+pub mod TakingLemmas
 pub mod ReplyLemmas
 pub mod LineLemmas
 pub mod Progress
 pub mod Endings
 pub mod SessionLemmas
-pub mod Cutting
+pub mod Splitting
 pub mod Running
 pub mod OneRun
 pub mod OptimalRuns

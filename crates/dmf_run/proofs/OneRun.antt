@@ -11,7 +11,7 @@ use Rattle.dmf_run.specs.Line.{line_meaning}
 use Rattle.dmf_run.specs.Run.{reply_text, Shows, LineRuns, Runs}
 use Rattle.dmf_run.specs.Outcome.{RestRuns, RunsAll}
 use Rattle.dmf_run.specs.Laws.{HasOneRun}
-use Rattle.dmf_run.proofs.Cutting.{one-cut}
+use Rattle.dmf_run.proofs.Splitting.{one-split}
 use Rattle.dmf_run.proofs.Running.{HasStates-start, Steps-keeps, LineRuns-keeps, Runs-keeps}
 
 -- Two texts that were written are the same, and so is whether a line was refused.
@@ -80,12 +80,12 @@ one-rest one want_cut number t (byte ∷ rest) text other refused also has a b =
 one-text : HasAnswer → HasOneAnswer → (want_cut : Bool) (t : Timeline) (given text other : List ℕ) (refused also : Bool) → HasStates t
     → RunsAll (Steps want_cut) t given text refused → RunsAll (Steps want_cut) t given other also → SameText text other refused also
 one-text some one want_cut t given text other refused also has a b =
-    let cuts = one-cut given a.lines b.lines a.rest b.rest a.cut b.cut in
-    let runs = subst (λ lines. Runs (Steps want_cut) 1 t lines b.first b.here b.between) (sym cuts.0) b.runs in
+    let splits = one-split given a.lines b.lines a.rest b.rest a.split b.split in
+    let runs = subst (λ lines. Runs (Steps want_cut) 1 t lines b.first b.here b.between) (sym splits.0) b.runs in
     let first = one-lines some one want_cut 1 t a.lines a.first b.first a.here b.here a.between b.between has a.runs runs in
     let kept = Runs-keeps (Steps want_cut) (Steps-keeps some one want_cut) 1 t a.lines a.first a.here a.between has a.runs in
-    let of_lines = subst (λ lines. RestRuns (Steps want_cut) (length lines + 1) b.between b.rest b.last b.later) (sym cuts.0) b.rest_runs in
-    let of_rest = subst (λ rest. RestRuns (Steps want_cut) (length a.lines + 1) b.between rest b.last b.later) (sym cuts.1) of_lines in
+    let of_lines = subst (λ lines. RestRuns (Steps want_cut) (length lines + 1) b.between b.rest b.last b.later) (sym splits.0) b.rest_runs in
+    let of_rest = subst (λ rest. RestRuns (Steps want_cut) (length a.lines + 1) b.between rest b.last b.later) (sym splits.1) of_lines in
     let from = subst (λ w. RestRuns (Steps want_cut) (length a.lines + 1) w a.rest b.last b.later) (sym first.after) of_rest in
     let last = one-rest one want_cut (length a.lines + 1) a.between a.rest a.last b.last a.later b.later kept a.rest_runs from in
     same-both a.first a.last text b.first b.last other a.here a.later refused b.here b.later also first.written last a.text_is a.refused_is b.text_is b.refused_is

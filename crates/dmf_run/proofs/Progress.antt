@@ -12,10 +12,11 @@ use Rattle.dmf_session.specs.Step.{Answers}
 use Rattle.dmf_session.specs.Timeline.{Timeline}
 use Rattle.dmf_run.specs.declared.input.Next.TheVariants.{Line}
 use Rattle.dmf_run.specs.Streams.{Writer, Streams}
-use Rattle.dmf_run.specs.Line.{HasNoFeed, fed, line_meaning}
+use Rattle.dmf_run.specs.KeptLine.{Kept, Means}
+use Rattle.dmf_run.specs.Line.{HasNoLineFeed, with_line_feeds, line_meaning}
 use Rattle.dmf_run.specs.Run.{LineRuns, Runs}
 use Rattle.dmf_run.specs.Input.{InputState, Takes, GivesLine, left}
-use Rattle.dmf_run.proofs.FeedLemmas.{Takes-trans}
+use Rattle.dmf_run.proofs.TakingLemmas.{Takes-trans}
 use Rattle.dmf_run.proofs.LineLemmas.{LineRuns-grows, Runs-push}
 
 -- the reader of an input, and a writer
@@ -31,9 +32,9 @@ pub record IsFresh (input : InputState) : Type 0 where
 pub record Progress (want_cut : Bool) (t : Timeline) (before now : InputState) (held holds : Writer) (number : ℕ) (u : Timeline) (is_refused : Bool) : Type 0 where
   pub fresh : IsFresh before
   pub lines : List (List ℕ)
-  pub each : All HasNoFeed lines
+  pub each : All HasNoLineFeed lines
   pub counted : length lines + 1 ≡ number
-  pub takes : Takes before now (fed lines)
+  pub takes : Takes before now (with_line_feeds lines)
   pub reader : now.reader.has_failed ≡ before.reader.has_failed
   pub written : List ℕ
   pub appends : Appends held.contents holds.contents written
@@ -46,7 +47,7 @@ pub Progress-none : (want_cut : Bool) (t : Timeline) (input : InputState) (held 
 Progress-none want_cut t input held fresh first one = record {
   fresh = fresh;
   lines = [];
-  each = All-nil HasNoFeed;
+  each = All-nil HasNoLineFeed;
   counted = omega arith;
   takes = record { consumes = Consumes-nil (left input.pending input.reader.known); counts = omega arith };
   reader = refl;
@@ -58,8 +59,8 @@ Progress-none want_cut t input held fresh first one = record {
   at_most = omega arith;
 }
 
-pub fed-push : (lines : List (List ℕ)) (line : List ℕ) → fed (lines ++ line ∷ []) ≡ fed lines ++ (line ++ 10 ∷ [])
-fed-push lines line = flat_map-append (λ l. l ++ 10 ∷ []) lines (line ∷ []) ∙ ap (λ x. fed lines ++ x) (append-nil (line ++ 10 ∷ []))
+pub with_line_feeds-push : (lines : List (List ℕ)) (line : List ℕ) → with_line_feeds (lines ++ line ∷ []) ≡ with_line_feeds lines ++ (line ++ 10 ∷ [])
+with_line_feeds-push lines line = flat_map-append (λ l. l ++ 10 ∷ []) lines (line ∷ []) ∙ ap (λ x. with_line_feeds lines ++ x) (append-nil (line ++ 10 ∷ []))
 
 -- A line that was carried out.
 pub record Carried (want_cut : Bool) (u : Timeline) (meaning : Result (Option Command) Refusal) (number : ℕ) (holds next : Writer) (refused : Bool) (v : Timeline) : Type 0 where
@@ -68,20 +69,20 @@ pub record Carried (want_cut : Bool) (u : Timeline) (meaning : Result (Option Co
   pub appends : Appends holds.contents next.contents text
   pub writer : next.has_failed ≡ holds.has_failed
 
-abbrev pub Progress-more : (want_cut : Bool) (t : Timeline) (before now then : InputState) (held holds next : Writer) (number : ℕ) (u : Timeline) (is_refused : Bool) (meaning : Result (Option Command) Refusal) (refused : Bool) (v : Timeline)
-    → Progress want_cut t before now held holds number u is_refused → GivesLine now then (Ok (Line meaning)) → Carried want_cut u meaning number holds next refused v
+abbrev pub Progress-more : (want_cut : Bool) (t : Timeline) (before now then : InputState) (held holds next : Writer) (number : ℕ) (u : Timeline) (is_refused : Bool) (meaning : Result (Option Command) Refusal) (kept : Kept) (refused : Bool) (v : Timeline)
+    → Progress want_cut t before now held holds number u is_refused → GivesLine now then kept (Ok Line) → Means kept true meaning → Carried want_cut u meaning number holds next refused v
     → Progress want_cut t before then held next (number + 1) v (is_refused || refused)
-Progress-more want_cut t before now then held holds next number u is_refused meaning refused v p gave c =
+Progress-more want_cut t before now then held holds next number u is_refused meaning kept refused v p gave means c =
     let line : List ℕ = gave.0 in
     let place : 1 + length p.lines ≡ number = omega (arith, p.counted) in
-    let runs = subst (λ m. LineRuns (Answers want_cut) number u m c.text refused v) gave.3 c.runs in
+    let runs = subst (λ m. LineRuns (Answers want_cut) number u m c.text refused v) (means gave.0 gave.3) c.runs in
     let grows = LineRuns-grows want_cut number u meaning c.text refused v p.place c.runs in
     record {
       fresh = p.fresh;
       lines = p.lines ++ line ∷ [];
-      each = All-push HasNoFeed p.lines line p.each gave.1;
+      each = All-push HasNoLineFeed p.lines line p.each gave.1;
       counted = omega (arith, length_push p.lines line, p.counted);
-      takes = subst (λ bytes. Takes before then bytes) (sym (fed-push p.lines line)) (Takes-trans before now then (fed p.lines) (line ++ 10 ∷ []) p.takes gave.2);
+      takes = subst (λ bytes. Takes before then bytes) (sym (with_line_feeds-push p.lines line)) (Takes-trans before now then (with_line_feeds p.lines) (line ++ 10 ∷ []) p.takes gave.2);
       reader = gave.4 ∙ p.reader;
       written = p.written ++ c.text;
       appends = Appends-trans _ _ _ p.written c.text p.appends c.appends;

@@ -14,7 +14,7 @@ use Rattle.dmf_run.specs.Line.{line_meaning}
 use Rattle.dmf_run.specs.Run.{Answering, reply_text, refused_text, Shows, LineRuns, Runs}
 use Rattle.dmf_run.specs.Outcome.{RestRuns, RunsAll}
 use Rattle.dmf_run.specs.Laws.{HasRun, StepsAreAnswers}
-use Rattle.dmf_run.proofs.Cutting.{some-cut}
+use Rattle.dmf_run.proofs.Splitting.{some-split}
 
 -- The start of a state has states.
 pub HasStates-start : (s : NetworkState) → IsState s → HasStates (start s)
@@ -112,7 +112,7 @@ some-rest answer want_cut number t (byte ∷ rest) has =
 -- Each command text has a run from the start of each state.
 pub has-run : HasAnswer → HasRun
 has-run answer want_cut s given state =
-    let some = some-cut given in
+    let some = some-split given in
     let first = some-lines answer want_cut 1 (start s) some.lines (HasStates-start s state) in
     let last = some-rest answer want_cut (length some.lines + 1) first.after some.rest first.has_states in
     record {
@@ -121,7 +121,7 @@ has-run answer want_cut s given state =
       runs = record {
         lines = some.lines;
         rest = some.rest;
-        cut = some.cut;
+        split = some.split;
         between = first.after;
         first = first.text;
         here = first.refused;
@@ -189,7 +189,7 @@ RunsAll-implied Gives Tells keeps implies t given text refused has all =
     record {
       lines = all.lines;
       rest = all.rest;
-      cut = all.cut;
+      split = all.split;
       between = all.between;
       first = all.first;
       here = all.here;

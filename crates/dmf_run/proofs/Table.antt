@@ -9,23 +9,23 @@ use Rattle.clap.specs.Walk.{nothing_held, stop_after}
 use Rattle.clap.specs.Values.{bool_text}
 use Rattle.clap.specs.declared.error.kind.ErrorKind.TheVariants.{DisplayHelp, DisplayVersion, UnknownArgument, InvalidSubcommand, MissingRequiredArgument}
 use Rattle.clap.proofs.OnLiterals.{clap_on_literals}
-use Rattle.dmf_run.specs.Matches.{Asked, asked_of, command_line}
+use Rattle.dmf_run.specs.Matches.{Asked, asked_of, arguments}
 use Rattle.dmf_run.specs.Words.{Text, IsPlain, IsNoCommand}
 
 -- the kinds of fault that the parser may find in the words behind the program's name
 abbrev pub faults_in : List Text → Kinds
-faults_in words = built_fault (built command_line) nothing_held words
+faults_in words = built_fault (built arguments) nothing_held words
 
 -- what it finds in them
 abbrev pub asked_in : List Text → Asked
-asked_in words = asked_of (entered (built command_line)
-    (stop_after (built command_line).top.rules (names_of (built command_line)) words))
+asked_in words = asked_of (entered (built arguments)
+    (stop_after (built arguments).top.rules (names_of (built arguments)) words))
 
-pub line_is_simple : is_simple command_line ≡ true
+pub line_is_simple : is_simple arguments ≡ true
 unfolding clap_on_literals
 line_is_simple = refl
 
-pub line_is_free : is_simple_and_free command_line ≡ true
+pub line_is_free : is_simple_and_free arguments ≡ true
 unfolding clap_on_literals
 line_is_free = refl
 

@@ -1,6 +1,6 @@
 -- What is taken from a reader of command lines, byte by byte.
 -- Private: only contracts inside the crate and proofs use this.
-use Rattle.std.specs.Prelude.{◌^◌, ℕ, ◌≡◌, ◌+◌, ◌<◌, ◌≤◌, List, [], ◌∷◌, ◌++◌, length, true, false, Option, Some, None, Result, Ok, Err}
+use Rattle.std.specs.Prelude.{◌^◌, ℕ, ◌≡◌, ◌+◌, ◌<◌, ◌≤◌, List, [], ◌∷◌, ◌++◌, length, true, Option, Some, None, Result, Ok, Err}
 use Rattle.std.specs.Io.KnownBytes.{prepend_known, Consumes, IsAtEnd}
 use Rattle.dmf_run.specs.declared.input.Next.{Next}
 use Rattle.dmf_run.specs.declared.input.Next.TheVariants.{Line, Last, End}
@@ -8,7 +8,8 @@ use Rattle.dmf_run.specs.declared.fault.EngineFault.{EngineFault}
 use Rattle.dmf_run.specs.declared.fault.EngineFault.TheVariants as fault
 use Rattle.dmf_run.specs.Streams.{Reader}
 use Rattle.dmf_run.specs.Pending.{Pending}
-use Rattle.dmf_run.specs.Line.{HasNoFeed, line_meaning}
+use Rattle.dmf_run.specs.Line.{HasNoLineFeed}
+use Rattle.dmf_run.specs.KeptLine.{Kept, IsKept}
 
 -- the bytes that are left: those pending, and then those that the reader has left, where they are known
 abbrev pub left : Pending → Option (List ℕ) → Option (List ℕ)
@@ -62,18 +63,21 @@ GivesByte old new (Err fault.Read) = Takes old new [] × HasFailed new
 GivesByte old new (Err fault.TooMuchInput) = Takes old new [] × IsPastLimit old new
 GivesByte old new (Err fault) = ⊥
 
--- what asking for the next line does: a line that a line feed ended, a last line that the end of input ended, or the end
-abbrev pub GivesLine : InputState → InputState → Result Next EngineFault → Type 0
-GivesLine old new (Ok (Line meaning)) =
-    (line : List ℕ) × HasNoFeed line × Takes old new (line ++ 10 ∷ []) × (meaning ≡ line_meaning true line)
+-- what asking for the next line does, of which this is kept: a line that a line feed ended, a last line that the end of
+-- input ended, or the end
+abbrev pub GivesLine : InputState → InputState → Kept → Result Next EngineFault → Type 0
+GivesLine old new kept (Ok Line) =
+    (line : List ℕ) × HasNoLineFeed line × Takes old new (line ++ 10 ∷ []) × IsKept kept line
     × (new.reader.has_failed ≡ old.reader.has_failed)
-GivesLine old new (Ok (Last meaning)) =
-    (line : List ℕ) × HasNoFeed line × Takes old new line × (meaning ≡ line_meaning false line) × (0 < length line)
+GivesLine old new kept (Ok Last) =
+    (line : List ℕ) × HasNoLineFeed line × Takes old new line × IsKept kept line × (0 < length line)
     × HasEnded old new
-GivesLine old new (Ok End) = Takes old new [] × HasEnded old new
-GivesLine old new (Err fault.Read) = (rest : List ℕ) × HasNoFeed rest × Takes old new rest × HasFailed new
-GivesLine old new (Err fault.TooMuchInput) = (rest : List ℕ) × HasNoFeed rest × Takes old new rest × IsPastLimit old new
-GivesLine old new (Err fault) = ⊥
+GivesLine old new kept (Ok End) = Takes old new [] × HasEnded old new
+GivesLine old new kept (Err fault.Read) =
+    (rest : List ℕ) × HasNoLineFeed rest × Takes old new rest × HasFailed new
+GivesLine old new kept (Err fault.TooMuchInput) =
+    (rest : List ℕ) × HasNoLineFeed rest × Takes old new rest × IsPastLimit old new
+GivesLine old new kept (Err fault) = ⊥
 
 -- what asking for the end does: nothing is left, or there is a byte more
 abbrev pub GivesEnd : InputState → InputState → Result (Unit {0}) EngineFault → Type 0

@@ -1,8 +1,9 @@
-pub mod CommandLine
+pub mod CommandText
 pub mod RefusalText
 pub mod Streams
 pub mod Pending
 pub mod Line
+pub mod KeptLine
 pub mod Run
 pub mod Laws
 pub mod Input

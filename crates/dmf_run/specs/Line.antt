@@ -1,4 +1,4 @@
--- How a command text is cut into lines, and what a line means.
+-- How a command text is split into lines, and what a line means.
 -- Public: a public contract says no more than this.
 use Rattle.std.specs.Prelude.{ℕ, ◌≡◌, ◌≢◌, List, [], ◌∷◌, ◌++◌, length, nat_lt, if◌then◌else◌, All, Bool, Option, Result, Err}
 use Rattle.std.specs.List.{flat_map}
@@ -6,21 +6,21 @@ use Rattle.std.specs.Str.Lines.{strip_carriage_return}
 use Rattle.dmf_session.specs.declared.command.Command.{Command}
 use Rattle.dmf_session.specs.declared.command.Refusal.{Refusal}
 use Rattle.dmf_session.specs.declared.command.Refusal.TheVariants.{LineTooLong}
-use Rattle.dmf_run.specs.CommandLine.{command_of}
+use Rattle.dmf_run.specs.CommandText.{command_of}
 
 -- No byte is a line feed.
-abbrev pub HasNoFeed : List ℕ → Type 0
-HasNoFeed bytes = All (λ b. b ≢ 10) bytes
+abbrev pub HasNoLineFeed : List ℕ → Type 0
+HasNoLineFeed bytes = All (λ b. b ≢ 10) bytes
 
 -- the bytes of lines of which each is ended by a line feed
-abbrev pub fed : List (List ℕ) → List ℕ
-fed lines = flat_map (λ line. line ++ 10 ∷ []) lines
+abbrev pub with_line_feeds : List (List ℕ) → List ℕ
+with_line_feeds lines = flat_map (λ line. line ++ 10 ∷ []) lines
 
 -- The text is these lines, each ended by a line feed, and a rest without one.
-pub record IsCut (text : List ℕ) (lines : List (List ℕ)) (rest : List ℕ) : Type 0 where
-  pub whole : text ≡ fed lines ++ rest
-  pub each : All HasNoFeed lines
-  pub last : HasNoFeed rest
+pub record IsSplit (text : List ℕ) (lines : List (List ℕ)) (rest : List ℕ) : Type 0 where
+  pub whole : text ≡ with_line_feeds lines ++ rest
+  pub each : All HasNoLineFeed lines
+  pub last : HasNoLineFeed rest
 
 -- What a line means, of which these are the bytes before the line feed, if one ended it. A carriage return directly
 -- before the line feed is counted in its length, and is no part of its fields.

@@ -24,8 +24,8 @@ check_line = with_rule (new_app (codes "check")) problem_rule
 abbrev pub program_line : App
 program_line = on_top (λ line. record line { has_version = true }) (new_app (codes "dmf"))
 
-abbrev pub command_line : App
-command_line =
+abbrev pub arguments : App
+arguments =
     with_subcommand (with_subcommand (with_subcommand program_line solve_line.top) session_line.top) check_line.top
 
 -- the command that was found, with the texts of its flag and of its path, where it has them

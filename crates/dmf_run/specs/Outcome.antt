@@ -8,7 +8,7 @@ use Rattle.dmf_run.specs.declared.fault.Status.TheVariants.{Well, SomeRefused}
 use Rattle.dmf_run.specs.declared.fault.EngineFault.{EngineFault}
 use Rattle.dmf_run.specs.declared.fault.EngineFault.TheVariants as fault
 use Rattle.dmf_run.specs.Streams.{Streams}
-use Rattle.dmf_run.specs.Line.{HasNoFeed, fed, IsCut, line_meaning}
+use Rattle.dmf_run.specs.Line.{HasNoLineFeed, with_line_feeds, IsSplit, line_meaning}
 use Rattle.dmf_session.specs.Step.{Answers}
 use Rattle.dmf_run.specs.Run.{Answering, LineRuns, Runs}
 
@@ -22,7 +22,7 @@ RestRuns Gives number t (byte ∷ rest) text refused =
 pub record RunsAll (Gives : Answering) (t : Timeline) (given text : List ℕ) (refused : Bool) : Type 0 where
   pub lines : List (List ℕ)
   pub rest : List ℕ
-  pub cut : IsCut given lines rest
+  pub split : IsSplit given lines rest
   pub between : Timeline
   pub first : List ℕ
   pub here : Bool
@@ -34,10 +34,10 @@ pub record RunsAll (Gives : Answering) (t : Timeline) (given text : List ℕ) (r
   pub refused_is : refused ≡ (here || later)
 
 -- Just the lines that a line feed ended were carried out, of the text that was given, and this was written.
-pub record RunsFed (want_cut : Bool) (t : Timeline) (given text : List ℕ) : Type 0 where
+pub record RunsEndedLines (want_cut : Bool) (t : Timeline) (given text : List ℕ) : Type 0 where
   pub lines : List (List ℕ)
   pub rest : List ℕ
-  pub cut : IsCut given lines rest
+  pub split : IsSplit given lines rest
   pub refused : Bool
   pub after : Timeline
   pub runs : Runs (Answers want_cut) 1 t lines text refused after
@@ -60,12 +60,12 @@ pub record RunsFront (want_cut : Bool) (t : Timeline) (known : Option (List ℕ)
 pub record RunsWithin (want_cut : Bool) (t : Timeline) (given text : List ℕ) : Type 0 where
   pub lines : List (List ℕ)
   pub rest : List ℕ
-  pub given_is : given ≡ fed lines ++ rest
-  pub each : All HasNoFeed lines
+  pub given_is : given ≡ with_line_feeds lines ++ rest
+  pub each : All HasNoLineFeed lines
   pub at_most_lines : length lines ≤ 1000000
-  pub at_most_bytes : length (fed lines) ≤ 2 ^ 30
+  pub at_most_bytes : length (with_line_feeds lines) ≤ 2 ^ 30
   pub past : ((length lines ≡ 1000000) × (0 < length rest))
-      ⊎ ((2 ^ 30 < length given) × HasNoFeed (take (2 ^ 30 - length (fed lines)) rest))
+      ⊎ ((2 ^ 30 < length given) × HasNoLineFeed (take (2 ^ 30 - length (with_line_feeds lines)) rest))
   pub refused : Bool
   pub after : Timeline
   pub runs : Runs (Answers want_cut) 1 t lines text refused after
@@ -96,7 +96,7 @@ Gave want_cut t old new given written (Ok status) =
     (refused : Bool) × (all : RunsAll (Answers want_cut) t given written refused) × (status ≡ status_if refused)
     × IsWithin new given (line_count all.lines all.rest) × NoneFailed old new
 Gave want_cut t old new given written (Err fault.Read) =
-    RunsFed want_cut t given written × (new.reader.has_failed ≡ true) × (new.writer.has_failed ≡ old.writer.has_failed)
+    RunsEndedLines want_cut t given written × (new.reader.has_failed ≡ true) × (new.writer.has_failed ≡ old.writer.has_failed)
 Gave want_cut t old new given written (Err fault.Write) =
     RunsFront want_cut t new.reader.known given written × (new.writer.has_failed ≡ true) × (new.reader.has_failed ≡ old.reader.has_failed)
 Gave want_cut t old new given written (Err fault.TooMuchInput) = RunsWithin want_cut t given written × NoneFailed old new

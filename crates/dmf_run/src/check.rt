@@ -6,8 +6,9 @@ ghost use Rattle.dmf_run.specs.Streams.{reader_of, writer_of};
 ghost use Rattle.dmf_run.specs.CheckRun.{IsVerdict, verdict_line, verdict_text, verdict_status, ReadsSolution, RunsCheck};
 
 use crate::fault::{EngineFault, Status};
-use crate::problem::{read_all, read_state};
+use crate::problem::read_state;
 use crate::reply::put_line;
+use crate::whole_text::read_all;
 use dmf_net::{CutFault, NoMemory, State, smallest_side};
 use dmf_text::{LineBuffer, Sink, SolutionFaultKind, Source, WriteFault, read_solution};
 use std::alloc::Global;
@@ -33,12 +34,8 @@ pub fn run_check<P: Source, C: Source, W: Sink>(
 {
     let state = read_state(alloc, problem)?;
     let solved = read_solved(alloc, &state, solution)?;
-    let Ok(greatest) = is_greatest(alloc, &solved) else {
-        return Err(EngineFault::NoMemory);
-    };
-    let Ok(()) = put_verdict(&solved, greatest, out) else {
-        return Err(EngineFault::Write);
-    };
+    let greatest = is_greatest(alloc, &solved)?;
+    put_verdict(&solved, greatest, out)?;
     Ok(status_of_verdict(greatest))
 }
 

@@ -1,7 +1,9 @@
 ghost use Rattle.std.specs.Prelude.{◌≡◌};
 ghost use Rattle.dmf_run.specs.Status.{status_of};
 
-use dmf_text::{ProblemFault, SolutionFault};
+use dmf_net::NoMemory;
+use dmf_text::{ProblemFault, SolutionFault, WriteFault};
+use std::alloc::AllocError;
 use thiserror::Error;
 
 /// How a run ended that was not stopped.
@@ -36,6 +38,39 @@ pub enum EngineFault {
     /// A text or a list of commands is larger than is read.
     #[error("too much input")]
     TooMuchInput,
+}
+
+impl From<WriteFault> for EngineFault {
+    ghost use Rattle.std.specs.Prelude.{◌≡◌};
+    ghost use Rattle.dmf_run.specs.declared.fault.EngineFault.TheVariants as engine;
+
+    ghost from_gives = { λ _ fault. fault ≡ engine.Write };
+
+    fn from(_fault: WriteFault) -> EngineFault {
+        EngineFault::Write
+    }
+}
+
+impl From<NoMemory> for EngineFault {
+    ghost use Rattle.std.specs.Prelude.{◌≡◌};
+    ghost use Rattle.dmf_run.specs.declared.fault.EngineFault.TheVariants as engine;
+
+    ghost from_gives = { λ _ fault. fault ≡ engine.NoMemory };
+
+    fn from(_fault: NoMemory) -> EngineFault {
+        EngineFault::NoMemory
+    }
+}
+
+impl From<AllocError> for EngineFault {
+    ghost use Rattle.std.specs.Prelude.{◌≡◌};
+    ghost use Rattle.dmf_run.specs.declared.fault.EngineFault.TheVariants as engine;
+
+    ghost from_gives = { λ _ fault. fault ≡ engine.NoMemory };
+
+    fn from(_fault: AllocError) -> EngineFault {
+        EngineFault::NoMemory
+    }
 }
 
 /// The status with which the program ends after a run: 0 where all is well, 1 where a command was refused or a

@@ -2,9 +2,10 @@
 #![tactic(auto)]
 
 pub use check::run_check;
-pub use command_line::read_command;
+pub use command_text::read_command;
 pub use fault::{EngineFault, Status, status_of};
-pub use input::{MAX_BYTES, MAX_LINE};
+pub use input::MAX_BYTES;
+pub use kept_line::MAX_LINE;
 pub use laws::{a_run, one_run, solves_are_optimal, steps_are_answers, written_is_optimal};
 pub use refusal::refusal_text;
 pub use session::{MAX_LINES, run_commands, run_session};
@@ -12,14 +13,16 @@ pub use solve::run_solve;
 pub use words::{Mode, WordsFault, read_words};
 
 mod check;
-mod command_line;
+mod command_text;
 mod fault;
 mod help;
 mod input;
+mod kept_line;
 mod laws;
 mod problem;
 mod refusal;
 mod reply;
 mod session;
 mod solve;
+mod whole_text;
 mod words;

@@ -3,64 +3,76 @@ ghost use Rattle.std.specs.Prelude.{◌≡◌, ◌≤◌, ◌++◌, [], length, 
 ghost use Rattle.dmf_text.specs.Writing.{Writes};
 ghost use Rattle.dmf_text.specs.Written.{problem_text, solution_text, cut_text};
 ghost use Rattle.dmf_run.specs.Run as run;
+ghost use Rattle.dmf_run.specs.WrittenLine.{is_refusal};
 
 use crate::refusal::refusal_text;
 use dmf_net::{Side, State};
 use dmf_session::{Command, Refusal, Reply};
 use dmf_text::{LineBuffer, Sink, WriteFault, put_all, write_cut, write_problem, write_solution};
 
-/// Tells that a line was refused, and answers true.
-pub fn refuse<W: Sink>(number: u32, refusal: &Refusal, out: &mut W) -> Result<bool, WriteFault>
+/// How a line was answered.
+#[derive(Clone, Copy, Debug, PartialEq, Eq)]
+pub enum Answer {
+    /// It was carried out.
+    Accepted,
+    /// It was refused.
+    Refused,
+}
+
+impl Answer {
+    /// Whether the line was refused.
+    pub fn is_refusal(self) -> bool
+        ensures { result ≡ is_refusal self }
+    {
+        match self {
+            Answer::Accepted => false,
+            Answer::Refused => true,
+        }
+    }
+}
+
+/// Tells that a line was refused.
+pub fn refuse<W: Sink>(number: u32, refusal: &Refusal, out: &mut W) -> Result<Answer, WriteFault>
     ensures text { Writes W.contents W.has_failed out.old out.new result (run.refused_text number refusal.now) }
-    ensures refused { IfOk result (λ is_refused. is_refused ≡ true) }
+    ensures refused { IfOk result (λ answer. is_refusal answer ≡ true) }
 {
     put_line(&refused_line(number, refusal), out)?;
-    Ok(true)
+    Ok(Answer::Refused)
 }
 
 /// Writes a line, and flushes it.
 pub fn put_line<W: Sink>(line: &LineBuffer, out: &mut W) -> Result<(), WriteFault>
     ensures { Writes W.contents W.has_failed out.old out.new result line.now }
 {
-    let Ok(()) = put_all(out, line.as_bytes()) else {
-        return Err(WriteFault);
-    };
+    put_all(out, line.as_bytes())?;
     flush(out)
 }
 
 fn put_problem<W: Sink>(state: &State, out: &mut W) -> Result<(), WriteFault>
     ensures { Writes W.contents W.has_failed out.old out.new result (problem_text state.now.network) }
 {
-    let Ok(()) = write_problem(state, out) else {
-        return Err(WriteFault);
-    };
+    write_problem(state, out)?;
     flush(out)
 }
 
 fn put_solution<W: Sink>(state: &State, out: &mut W) -> Result<(), WriteFault>
     ensures { Writes W.contents W.has_failed out.old out.new result (solution_text state.now) }
 {
-    let Ok(()) = write_solution(state, out) else {
-        return Err(WriteFault);
-    };
+    write_solution(state, out)?;
     flush(out)
 }
 
 fn put_cut<W: Sink>(side: &Side, out: &mut W) -> Result<(), WriteFault>
     ensures { Writes W.contents W.has_failed out.old out.new result (cut_text side.now) }
 {
-    let Ok(()) = write_cut(side, out) else {
-        return Err(WriteFault);
-    };
+    write_cut(side, out)?;
     flush(out)
 }
 
 fn put_solution_and_cut<W: Sink>(state: &State, side: &Side, out: &mut W) -> Result<(), WriteFault>
     ensures { Writes W.contents W.has_failed out.old out.new result (solution_text state.now ++ cut_text side.now) }
 {
-    let Ok(()) = write_solution(state, out) else {
-        return Err(WriteFault);
-    };
+    write_solution(state, out)?;
     put_cut(side, out)
 }
 

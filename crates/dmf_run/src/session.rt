@@ -5,10 +5,12 @@ ghost use Rattle.dmf_run.specs.Outcome.{RunsCommands, status_if};
 ghost use Rattle.dmf_run.specs.Session.{RunsSession};
 ghost use Rattle.dmf_run.specs.WrittenLine.{WritesLine};
 
+use crate::command_text::{Meaning, meaning_of};
 use crate::fault::{EngineFault, Status};
-use crate::input::{Input, Meaning, Next};
+use crate::input::{Input, Next};
+use crate::kept_line::KeptLine;
 use crate::problem::read_state;
-use crate::reply::{refuse, show};
+use crate::reply::{Answer, refuse, show};
 use dmf_session::{Command, History, Session, WholeHistory};
 use dmf_text::{Sink, Source, WriteFault};
 use std::alloc::Global;
@@ -39,20 +41,19 @@ pub fn run_commands<H: History + Drop, C: Source, W: Sink>(
 {
     let mut session = session;
     let mut input = Input::new();
+    let mut line = KeptLine::new();
     let mut is_refused = false;
     for number in 1..MAX_LINES + 1 {
-        match input.next_line(commands)? {
-            Next::Line(meaning) => {
-                let Ok(refused) = answer(alloc, &mut session, number, meaning, out, want_cut) else {
-                    return Err(EngineFault::Write);
-                };
-                is_refused |= refused;
+        match input.next_line(commands, &mut line)? {
+            Next::Line => {
+                let meaning = meaning_of(&line, true);
+                let answer = answer(alloc, &mut session, number, meaning, out, want_cut)?;
+                is_refused |= answer.is_refusal();
             }
-            Next::Last(meaning) => {
-                let Ok(refused) = answer(alloc, &mut session, number, meaning, out, want_cut) else {
-                    return Err(EngineFault::Write);
-                };
-                is_refused |= refused;
+            Next::Last => {
+                let meaning = meaning_of(&line, false);
+                let answer = answer(alloc, &mut session, number, meaning, out, want_cut)?;
+                is_refused |= answer.is_refusal();
                 return Ok(status(is_refused));
             }
             Next::End => return Ok(status(is_refused)),
@@ -80,9 +81,7 @@ pub fn run_session<P: Source, C: Source, W: Sink>(
         result }
 {
     let state = read_state(alloc, problem)?;
-    let Ok(history) = WholeHistory::new(alloc, state) else {
-        return Err(EngineFault::NoMemory);
-    };
+    let history = WholeHistory::new(alloc, state)?;
     run_commands(alloc, Session::new(history), commands, out, want_cut)
 }
 
@@ -96,7 +95,7 @@ fn status(is_refused: bool) -> Status
     }
 }
 
-/// Carries out a line, and writes and flushes its reply, if it has one. Whether it was refused.
+/// Carries out a line, and writes and flushes its reply, if it has one.
 fn answer<H: History, W: Sink>(
     alloc: Global,
     session: &mut Session<H>,
@@ -104,13 +103,13 @@ fn answer<H: History, W: Sink>(
     meaning: Meaning,
     out: &mut W,
     want_cut: bool,
-) -> Result<bool, WriteFault>
-    requires room { (H.timeline session.old).place < 1000000 }
+) -> Result<Answer, WriteFault>
+    requires not_full { (H.timeline session.old).place < 1000000 }
     ensures { WritesLine want_cut W.contents W.has_failed out.old out.new number
         (H.timeline session.old) meaning (H.timeline session.new) result }
 {
     match meaning {
-        Ok(None) => Ok(false),
+        Ok(None) => Ok(Answer::Accepted),
         Ok(Some(command)) => answer_command(alloc, session, number, command, out, want_cut),
         Err(refusal) => refuse(number, &refusal, out),
     }
@@ -123,15 +122,15 @@ fn answer_command<H: History, W: Sink>(
     command: Command,
     out: &mut W,
     want_cut: bool,
-) -> Result<bool, WriteFault>
-    requires room { (H.timeline session.old).place < 1000000 }
+) -> Result<Answer, WriteFault>
+    requires not_full { (H.timeline session.old).place < 1000000 }
     ensures { WritesLine want_cut W.contents W.has_failed out.old out.new number
         (H.timeline session.old) (Ok (Some command)) (H.timeline session.new) result }
 {
     match session.step(alloc, command, want_cut) {
         Ok(reply) => {
             show(command, &reply, session.present(), out)?;
-            Ok(false)
+            Ok(Answer::Accepted)
         }
         Err(refusal) => refuse(number, &refusal, out),
     }

@@ -3,7 +3,7 @@ ghost use Rattle.std.specs.Prelude.{◌≡◌, ◌≢◌, IfOk, Bool, Option, So
 ghost use Rattle.clap.specs.Words.{app_of, first_value, found_of, kind_of, rule_of, subcommand_rows_of};
 ghost use Rattle.clap.specs.Values.{bool_text};
 ghost use Rattle.clap.specs.declared.builder.command.Command.TheViews.{out-Command as fields_of};
-ghost use Rattle.dmf_run.specs.Matches.{asked_of, check_line, command_line, cut_rule, problem_rule, program_line, session_line, solve_line};
+ghost use Rattle.dmf_run.specs.Matches.{asked_of, check_line, arguments, cut_rule, problem_rule, program_line, session_line, solve_line};
 ghost use Rattle.dmf_run.specs.Words.{Gives, IsHelp, IsUsage, IsVersion, ReadsWords, Text, solving, holding, checking};
 ghost use Rattle.dmf_run.specs.declared.words.WordsFault.TheVariants.{NoMemory};
 
@@ -58,7 +58,7 @@ pub fn read_words(alloc: Global, words: Vec<String>) -> Result<Mode, WordsFault>
 
 /// The command line that the program takes.
 fn command<'a>(alloc: Global) -> Result<Command<'a>, AllocError>
-    ensures { IfOk result (λ made. app_of made ≡ command_line) }
+    ensures { IfOk result (λ made. app_of made ≡ arguments) }
 {
     program(alloc)
         .subcommand(solve(alloc)?)?

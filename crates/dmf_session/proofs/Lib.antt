@@ -1,4 +1,3 @@
-pub mod Moving
 pub mod Appending
 pub mod Optimal
 pub mod Answering

@@ -1,5 +1,5 @@
-use Rattle.dmf_net.proofs.OneBefore.{before}
+use Rattle.dmf_net.proofs.Reverting.{one-before}
 use Rattle.dmf_net.proofs.laws.one_state_before.Goals as goal
 
 pub returns : goal.returns
-returns c = before
+returns c = one-before

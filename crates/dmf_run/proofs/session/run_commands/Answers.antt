@@ -18,8 +18,8 @@ loop-number-init g c =
     subst (λ pending. Progress c.args.want_cut t input (input_over pending reader) held held 1 t false) (sym c.new-input.ensures)
     (Progress-none c.args.want_cut t input held (record { none_pending = refl; none_taken = refl }) c.requires.at_first c.requires.one_state)
 
-pub returns-in_err-meaning : goal.returns-in_err-meaning
-returns-in_err-meaning g c =
+pub returns-in_err-next_line : goal.returns-in_err-next_line
+returns-in_err-next_line g c =
     let failed = err_from_is_err_and c.from_residual.result c.from_residual.ensures.1 in
     let then = input_over c.next_line.new.self (reader_of g.C.Source.remaining g.C.Source.has_failed c.next_line.new.source) in
     let t = g.H.History.timeline c.args.session in
@@ -27,60 +27,70 @@ returns-in_err-meaning g c =
     let held = writer_of g.W.Sink.contents g.W.Sink.has_failed c.args.out.now in
     let holds = writer_of g.W.Sink.contents g.W.Sink.has_failed c.loop-number.out in
     subst (λ result. RunsCommands c.args.want_cut t (streams before held) (streams then holds) result) (sym (failed.1 ∙ ap Err failed.2))
-    (RunsCommands-refused c.args.want_cut t before _ then held holds c.loop-number.number _ _ c.in_err-meaning.field-0.0 (omega arith) c.loop-number.invariant c.in_err-meaning.ensures)
+    (RunsCommands-refused c.args.want_cut t before _ then held holds c.loop-number.number _ _ c.in_err-next_line.field-0.0 c.next_line.new.line (omega arith) c.loop-number.invariant c.in_err-next_line.ensures)
 
-pub returns-in_default : goal.returns-in_default
-returns-in_default g c =
-    let gave = rw c.in-Line.is at c.in_ok-meaning.ensures in
-    let told = c.in_default.ensures in
+pub returns-in_err-answer-in-Line : goal.returns-in_err-answer-in-Line
+returns-in_err-answer-in-Line g c =
+    let failed = err_from_is_err_and c.from_residual-in_err-answer-in-Line.result c.from_residual-in_err-answer-in-Line.ensures.1 in
+    let gave = rw c.in-Line.is at c.in_ok-next_line.ensures in
+    let told = c.in_err-answer-in-Line.ensures in
+    let before = input_over (record { bytes = []; count = 0 }) (reader_of g.C.Source.remaining g.C.Source.has_failed c.args.commands.now) in
     let then = input_over c.next_line.new.self (reader_of g.C.Source.remaining g.C.Source.has_failed c.next_line.new.source) in
+    let held = writer_of g.W.Sink.contents g.W.Sink.has_failed c.args.out.now in
     let holds = writer_of g.W.Sink.contents g.W.Sink.has_failed c.loop-number.out in
     let next = writer_of g.W.Sink.contents g.W.Sink.has_failed c.answer.new.out in
-    let broken : Broken c.args.want_cut (g.H.History.timeline c.loop-number.session) c.in-Line.meaning c.loop-number.number holds next (g.H.History.timeline c.answer.new.session) =
+    let meaning = c.meaning_of-meaning.result in
+    let broken : Broken c.args.want_cut (g.H.History.timeline c.loop-number.session) meaning c.loop-number.number holds next (g.H.History.timeline c.answer.new.session) =
     record { text = told.0; refused = told.1; runs = told.2; front = told.3.0; rest = told.3.1; text_is = told.3.2; appends = told.3.3; writer = told.3.4 } in
-    RunsCommands-write c.args.want_cut _ _ _ then _ holds next c.loop-number.number _ _ c.in-Line.meaning _ c.loop-number.invariant gave broken
+    subst (λ result. RunsCommands c.args.want_cut (g.H.History.timeline c.args.session) (streams before held) (streams then next) result) (sym (failed.1 ∙ ap Err failed.2))
+    (RunsCommands-write c.args.want_cut _ _ _ then _ holds next c.loop-number.number _ _ meaning _ _ c.loop-number.invariant gave c.meaning_of-meaning.ensures broken)
 
-pub returns-in_default-answer : goal.returns-in_default-answer
-returns-in_default-answer g c =
-    let gave = rw c.in-Last.is at c.in_ok-meaning.ensures in
-    let told = c.in_default-answer.ensures in
+pub returns-in_err-answer-in-Last : goal.returns-in_err-answer-in-Last
+returns-in_err-answer-in-Last g c =
+    let failed = err_from_is_err_and c.from_residual-in_err-answer-in-Last.result c.from_residual-in_err-answer-in-Last.ensures.1 in
+    let gave = rw c.in-Last.is at c.in_ok-next_line.ensures in
+    let told = c.in_err-answer-in-Last.ensures in
+    let before = input_over (record { bytes = []; count = 0 }) (reader_of g.C.Source.remaining g.C.Source.has_failed c.args.commands.now) in
     let then = input_over c.next_line.new.self (reader_of g.C.Source.remaining g.C.Source.has_failed c.next_line.new.source) in
+    let held = writer_of g.W.Sink.contents g.W.Sink.has_failed c.args.out.now in
     let holds = writer_of g.W.Sink.contents g.W.Sink.has_failed c.loop-number.out in
     let next = writer_of g.W.Sink.contents g.W.Sink.has_failed c.answer-in-Last.new.out in
-    let broken : Broken c.args.want_cut (g.H.History.timeline c.loop-number.session) c.in-Last.meaning c.loop-number.number holds next (g.H.History.timeline c.answer-in-Last.new.session) =
+    let meaning = c.meaning_of-meaning-in-Last.result in
+    let broken : Broken c.args.want_cut (g.H.History.timeline c.loop-number.session) meaning c.loop-number.number holds next (g.H.History.timeline c.answer-in-Last.new.session) =
     record { text = told.0; refused = told.1; runs = told.2; front = told.3.0; rest = told.3.1; text_is = told.3.2; appends = told.3.3; writer = told.3.4 } in
-    RunsCommands-write_last c.args.want_cut _ _ _ then _ holds next c.loop-number.number _ _ c.in-Last.meaning _ c.loop-number.invariant gave broken
+    subst (λ result. RunsCommands c.args.want_cut (g.H.History.timeline c.args.session) (streams before held) (streams then next) result) (sym (failed.1 ∙ ap Err failed.2))
+    (RunsCommands-write_last c.args.want_cut _ _ _ then _ holds next c.loop-number.number _ _ meaning _ _ c.loop-number.invariant gave c.meaning_of-meaning-in-Last.ensures broken)
 
 pub returns-in-Last : goal.returns-in-Last
 returns-in-Last g c =
-    let gave = rw c.in-Last.is at c.in_ok-meaning.ensures in
-    let told = c.in-Ok-answer.ensures in
+    let gave = rw c.in-Last.is at c.in_ok-next_line.ensures in
+    let told = c.in_ok-answer-in-Last.ensures in
     let then = input_over c.next_line.new.self (reader_of g.C.Source.remaining g.C.Source.has_failed c.next_line.new.source) in
     let holds = writer_of g.W.Sink.contents g.W.Sink.has_failed c.loop-number.out in
     let next = writer_of g.W.Sink.contents g.W.Sink.has_failed c.answer-in-Last.new.out in
     let u = g.H.History.timeline c.loop-number.session in
     let v = g.H.History.timeline c.answer-in-Last.new.session in
-    let carried : Carried c.args.want_cut u c.in-Last.meaning c.loop-number.number holds next c.in-Ok-answer.refused v =
-    record { text = told.0; runs = subst (λ r. LineRuns (Answers c.args.want_cut) c.loop-number.number u c.in-Last.meaning told.0 r v) (sym told.4) told.2; appends = told.3.0; writer = told.3.1 } in
-    RunsCommands-last c.args.want_cut _ _ _ then _ holds next c.loop-number.number u c.loop-number.is_refused c.in-Last.meaning c.in-Ok-answer.refused v c.status.result (omega arith) c.status.ensures c.loop-number.invariant gave carried
+    let carried : Carried c.args.want_cut u c.meaning_of-meaning-in-Last.result c.loop-number.number holds next c.is_refusal-is_refused-in-Last.result v =
+    record { text = told.0; runs = subst (λ r. LineRuns (Answers c.args.want_cut) c.loop-number.number u c.meaning_of-meaning-in-Last.result told.0 r v) (sym (c.is_refusal-is_refused-in-Last.ensures ∙ told.4)) told.2; appends = told.3.0; writer = told.3.1 } in
+    RunsCommands-last c.args.want_cut _ _ _ then _ holds next c.loop-number.number u c.loop-number.is_refused c.meaning_of-meaning-in-Last.result c.next_line.new.line c.is_refusal-is_refused-in-Last.result v c.status.result (omega arith) c.status.ensures c.loop-number.invariant gave c.meaning_of-meaning-in-Last.ensures carried
 
 pub returns-in-End : goal.returns-in-End
 returns-in-End g c =
-    let gave = rw c.in-End.is at c.in_ok-meaning.ensures in
+    let gave = rw c.in-End.is at c.in_ok-next_line.ensures in
     RunsCommands-end c.args.want_cut _ _ _ _ _ _ c.loop-number.number _ _ c.status-in-End.result (omega arith) c.status-in-End.ensures c.loop-number.invariant gave.0 gave.1
 
 pub loop-number-preserved : goal.loop-number-preserved
 loop-number-preserved g c =
-    let gave = rw c.in-Line.is at c.in_ok-meaning.ensures in
-    let told = c.in-Ok.ensures in
+    let gave = rw c.in-Line.is at c.in_ok-next_line.ensures in
+    let told = c.in_ok-answer-in-Line.ensures in
     let then = input_over c.next_line.new.self (reader_of g.C.Source.remaining g.C.Source.has_failed c.next_line.new.source) in
     let holds = writer_of g.W.Sink.contents g.W.Sink.has_failed c.loop-number.out in
     let next = writer_of g.W.Sink.contents g.W.Sink.has_failed c.answer.new.out in
     let u = g.H.History.timeline c.loop-number.session in
     let v = g.H.History.timeline c.answer.new.session in
-    let carried : Carried c.args.want_cut u c.in-Line.meaning c.loop-number.number holds next c.in-Ok.refused v =
-    record { text = told.0; runs = subst (λ r. LineRuns (Answers c.args.want_cut) c.loop-number.number u c.in-Line.meaning told.0 r v) (sym told.4) told.2; appends = told.3.0; writer = told.3.1 } in
-    Progress-more c.args.want_cut _ _ _ then _ holds next c.loop-number.number u c.loop-number.is_refused c.in-Line.meaning c.in-Ok.refused v c.loop-number.invariant gave carried
+    let carried : Carried c.args.want_cut u c.meaning_of-meaning.result c.loop-number.number holds next c.is_refusal-is_refused.result v =
+    record { text = told.0; runs = subst (λ r. LineRuns (Answers c.args.want_cut) c.loop-number.number u c.meaning_of-meaning.result told.0 r v) (sym (c.is_refusal-is_refused.ensures ∙ told.4)) told.2; appends = told.3.0; writer = told.3.1 } in
+    Progress-more c.args.want_cut _ _ _ then _ holds next c.loop-number.number u c.loop-number.is_refused c.meaning_of-meaning.result c.next_line.new.line c.is_refusal-is_refused.result v c.loop-number.invariant gave c.meaning_of-meaning.ensures carried
 
 pub returns-in_err-expect_end : goal.returns-in_err-expect_end
 returns-in_err-expect_end g c =

@@ -2,7 +2,7 @@ use Rattle.std.proofs.Common.{ap, ap₂, sym, subst, map, drop, ◌≡◌, ◌�
 use Rattle.clap.specs.Words.{app_of, kind_of, fault_of, is_simple, is_simple_and_free, subcommand_of, subcommand_rows_of}
 use Rattle.clap.specs.Kinds.{Kinds, IsAmong}
 use Rattle.clap.specs.declared.error.kind.ErrorKind.TheVariants.{OutOfMemory}
-use Rattle.dmf_run.specs.Matches.{asked_of, command_line}
+use Rattle.dmf_run.specs.Matches.{asked_of, arguments}
 use Rattle.dmf_run.specs.Words.{Text}
 use Rattle.dmf_run.proofs.Table.{faults_in, asked_in, line_is_simple, line_is_free}
 use Rattle.dmf_run.proofs.Reading.{taken_reads, refused_reads}
@@ -12,7 +12,7 @@ use Rattle.dmf_run.proofs.words.read_words.Goals as goal
 pub returns-in-Ok-try_get_matches_from : goal.returns-in-Ok-try_get_matches_from
 returns-in-Ok-try_get_matches_from c =
     let all : List Text = map (λ word. word.bytes.items) c.args.words.items in
-    let line : app_of c.in-Ok.command ≡ command_line = c.in-Ok.ensures in
+    let line : app_of c.in-Ok.command ≡ arguments = c.in-Ok.ensures in
     let words_are : map (λ word. word.bytes.items) c.as_slice.result.now ≡ all =
     ap (map (λ word. word.bytes.items)) c.as_slice.ensures.value in
     let clean = c.in-Ok-try_get_matches_from.ensures.kinds (ap is_simple_and_free line ∙ line_is_free) in
@@ -27,7 +27,7 @@ returns-in-Ok-try_get_matches_from c =
 pub returns : goal.returns
 returns c =
     let all : List Text = map (λ word. word.bytes.items) c.args.words.items in
-    let line : app_of c.in-Ok.command ≡ command_line = c.in-Ok.ensures in
+    let line : app_of c.in-Ok.command ≡ arguments = c.in-Ok.ensures in
     let words_are : map (λ word. word.bytes.items) c.as_slice.result.now ≡ all =
     ap (map (λ word. word.bytes.items)) c.as_slice.ensures.value in
     let kind = kind_of c.in-Err.error in

@@ -1,6 +1,7 @@
 use Rattle.std.proofs.Common.{◌-◌, ap, arith}
 use Rattle.dmf_net.specs.declared.arc.Arc.{Arc}
 use Rattle.dmf_net.specs.NetworkState.{with_flows}
+use Rattle.dmf_net.specs.Direction.{along}
 use Rattle.dmf_net.specs.Edit.{moved}
 use Rattle.dmf_net.proofs.Changing.{within-at}
 use Rattle.dmf_net.proofs.ChangedState.{IsState-with_arc, IsState-with_arc_back}
@@ -9,7 +10,7 @@ use Rattle.dmf_net.proofs.state.State.change_arc.Goals as goal
 pub make-requires-clause-state : goal.make-requires-clause-state
 make-requires-clause-state c =
     let cap = ap (λ (a : Arc). a.cap) c.arc.ensures.value in
-    IsState-with_arc_back (with_flows c.args.self.now (moved c.args.moves.now c.args.self.now.flows)) c.args.j c.args.arc c.arc.ensures.state.network c.requires.state c.requires.is_there c.requires.tail c.requires.head (omega (arith, cap, c.if-arc.true))
+    IsState-with_arc_back (with_flows c.args.self.now (moved (along c.args.direction c.args.moves.now) c.args.self.now.flows)) c.args.j c.args.arc c.arc.ensures.state.network c.requires.state c.requires.is_there c.requires.tail c.requires.head (omega (arith, cap, c.if-arc.true))
 
 pub set_arc-requires-else-arc-clause-state : goal.set_arc-requires-else-arc-clause-state
 set_arc-requires-else-arc-clause-state c =

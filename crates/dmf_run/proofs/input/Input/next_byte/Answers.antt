@@ -4,7 +4,7 @@ use Rattle.std.specs.Io.KnownBytes.{prepend_known, Consumes}
 use Rattle.dmf_run.specs.contracts.input.Input.{the_view}
 use Rattle.dmf_run.specs.Streams.{reader_of}
 use Rattle.dmf_run.specs.Input.{input_over, Takes}
-use Rattle.dmf_run.proofs.FeedLemmas.{Takes-trans, Consumes-pending, pending-more}
+use Rattle.dmf_run.proofs.TakingLemmas.{Takes-trans, Consumes-pending, pending-more}
 use Rattle.dmf_run.proofs.input.Input.next_byte.Goals as goal
 
 pub returns : goal.returns

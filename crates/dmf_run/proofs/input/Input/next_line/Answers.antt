@@ -3,7 +3,7 @@ use Rattle.std.proofs.lemmas.Bool.{false≢true}
 use Rattle.std.proofs.lemmas.List.Elements.{All-push}
 use Rattle.dmf_run.specs.Streams.{reader_of}
 use Rattle.dmf_run.specs.Input.{input_over, Takes}
-use Rattle.dmf_run.proofs.FeedLemmas.{Takes-trans, Takes-nil, some-length}
+use Rattle.dmf_run.proofs.TakingLemmas.{Takes-trans, Takes-nil, some-length}
 use Rattle.dmf_run.proofs.input.Input.next_line.Goals as goal
 
 pub returns-then-byte-eq10 : goal.returns-then-byte-eq10
@@ -15,7 +15,7 @@ returns-then-byte-eq10 g c =
       so_far.0,
       so_far.1,
       subst (λ b. Takes (input_over c.args.self.now (reader c.args.source.now)) (input_over c.next_byte.new.self (reader c.next_byte.new.source)) (so_far.0 ++ b ∷ [])) c.if-byte-eq10.true all,
-      c.meaning.ensures so_far.0 so_far.2,
+      so_far.2,
       gave.1 ∙ so_far.4,
     )
 
@@ -39,7 +39,7 @@ returns g c =
       so_far.0,
       so_far.1,
       Takes-nil _ _ _ so_far.0 so_far.3 gave.0,
-      c.meaning-2.ensures so_far.0 so_far.2,
+      so_far.2,
       some,
       record { none_pending = gave.1.none_pending; at_end = gave.1.at_end; within = gave.1.within; mark = gave.1.mark ∙ so_far.4 },
     )

@@ -1,16 +1,16 @@
 use Rattle.std.proofs.Common.{◌≡◌, ◌-◌, ℕ, List}
-use Rattle.dmf_run.specs.Line.{HasNoFeed}
-use Rattle.dmf_run.specs.Pending.{Holds}
+use Rattle.dmf_run.specs.Line.{HasNoLineFeed}
+use Rattle.dmf_run.specs.KeptLine.{IsKept}
 use Rattle.dmf_run.specs.Streams.{reader_of}
 use Rattle.dmf_run.specs.Input.{input_over, Takes}
 use Rattle.dmf_run.proofs.input.Input.next_line.Given as goal
 
--- the bytes taken so far are no line feed, and the room has what it keeps of them
+-- the bytes taken so far are no line feed, and the line has what is kept of them
 abbrev pub invariant-loop-byte : goal.invariant-loop-byte
 invariant-loop-byte g l =
     let mark = g.C.Source.has_failed in
     let reader = reader_of g.C.Source.remaining mark in
-    (line : List ℕ) × HasNoFeed line × Holds l.room line
+    (line : List ℕ) × HasNoLineFeed line × IsKept l.line line
     × Takes (input_over l.fn.self (reader l.fn.source)) (input_over l.self (reader l.source)) line
     × (mark l.source ≡ mark l.fn.source)
 

@@ -1,0 +1,32 @@
+use Rattle.std.proofs.Common.{sym, ap, ◌∙◌, subst, ⊎_elim}
+use Rattle.dmf_net.specs.NetworkState.{IsState}
+use Rattle.dmf_net.specs.Edit.{moves_of}
+use Rattle.dmf_net.specs.Revert.{Stands, reverted}
+use Rattle.dmf_net.proofs.Reverting.{fit-back, IsState-reverted}
+use Rattle.dmf_net.proofs.state.State.revert.Goals.{in-Cap, in-Cap-2}
+use Rattle.dmf_net.proofs.state.State.revert.Goals as goal
+
+pub make-requires-clause-fit : goal.make-requires-clause-fit
+make-requires-clause-fit c = fit-back _ _ _ c.requires (ap moves_of c.in-Solve.is ∙ sym c.deref.ensures.value)
+
+pub make-requires-clause-state : goal.make-requires-clause-state
+make-requires-clause-state c =
+    rw c.deref.ensures.value (IsState-reverted _ _ (subst (λ e. Stands e c.args.self.now) c.in-Solve.is c.requires))
+
+pub change_arc-requires-clause-fit : goal.change_arc-requires-clause-fit
+change_arc-requires-clause-fit c =
+    rw c.deref-in-Cap.ensures.value
+    (elim c.in-Cap-1.branch [
+      | in-Cap w ↦ rw w.moves-is (fit-back _ _ _ c.requires (⊎_elim (λ is. ap moves_of is.1) (λ is. ap moves_of is) w.in-Cap.is))
+      | in-Cap-2 w ↦ rw w.moves-is (fit-back _ _ _ c.requires (⊎_elim (λ is. ap moves_of is.1) (λ is. ap moves_of is) w.in-Cap.is))
+    ])
+
+pub change_arc-requires-clause-state : goal.change_arc-requires-clause-state
+change_arc-requires-clause-state c =
+    let t = c.args.self.now in
+    let state = IsState-reverted c.args.edit.now t c.requires in
+    rw (c.deref-in-Cap.ensures.value, c.open-arc.ensures, c.arc-arc.ensures.value)
+    (elim c.in-Cap-1.branch [
+      | in-Cap w ↦ rw (w.j-is, w.old-is, w.moves-is) (subst IsState (⊎_elim (λ is. ap (λ e. reverted e t) is.1) (λ is. ap (λ e. reverted e t) is) w.in-Cap.is) state)
+      | in-Cap-2 w ↦ rw (w.j-is, w.old-is, w.moves-is) (subst IsState (⊎_elim (λ is. ap (λ e. reverted e t) is.1) (λ is. ap (λ e. reverted e t) is) w.in-Cap.is) state)
+    ])

@@ -1,0 +1,27 @@
+-- Moves that are made or taken back, and a last arc that can be dropped.
+-- Private: only contracts inside the crate and proofs use this.
+use Rattle.std.specs.Prelude.{◌≡◌, List, map, false}
+use Rattle.dmf_net.specs.declared.arc.Arc.{Arc}
+use Rattle.dmf_net.specs.declared.edit.Move.{Move}
+use Rattle.dmf_net.specs.declared.moves.Direction.{Direction}
+use Rattle.dmf_net.specs.declared.moves.Direction.TheVariants.{Forward, Back}
+use Rattle.dmf_net.specs.NetworkState.{NetworkState, IsState, with_idle_arc}
+use Rattle.dmf_net.specs.Revert.{opposite}
+
+-- the move, or the one that takes it back
+abbrev pub step_along : Direction → Move → Move
+step_along Forward m = m
+step_along Back m = opposite m
+
+-- the moves, or those that take them back
+abbrev pub along : Direction → List Move → List Move
+along Forward moves = moves
+along Back moves = map opposite moves
+
+-- The last arc is open, nothing flows on it, and without it this is a state.
+pub record HasIdleLast (t : NetworkState) : Type 0 where
+  pub before : NetworkState
+  pub state : IsState before
+  pub arc : Arc
+  pub is_open : arc.closed ≡ false
+  pub gives : with_idle_arc before arc ≡ t

@@ -1,0 +1,5 @@
+//! The examples of the libraries' README files, each word for word.
+mod net;
+mod run;
+mod session;
+mod text;

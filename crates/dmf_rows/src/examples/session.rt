@@ -1,0 +1,27 @@
+//! A change is tried out, and taken back.
+use dmf_net::State;
+use dmf_session::{Command, Reply, Session, WholeHistory};
+use std::test::Fail;
+
+#[test]
+fn a_change_is_taken_back(rt: HostRuntime) -> Result<(), Fail> {
+    let alloc = rt.alloc();
+    let mut state = State::new(alloc, 2, 1, 2);
+    state.push_arc(1, 2, 7)?;
+    let mut session = Session::new(WholeHistory::new(alloc, state)?);
+    for command in [Command::Solve, Command::Cap { arc: 1, cap: 3 }] {
+        // A session has room for 1,000,000 changes.
+        assert!(rt; !session.is_full());
+        session.step(alloc, command, false)?;
+    }
+    assert_eq!(rt; session.present().value(), 3);
+    assert_eq!(rt; (session.past(), session.future()), (2, 0));
+    // Undo gives back exactly the state that was there, its flow included.
+    let Ok(Reply::Value(value)) = session.step(alloc, Command::Undo(1), false) else {
+        assert!(rt; false);
+        return Ok(());
+    };
+    assert_eq!(rt; value, 7);
+    assert_eq!(rt; session.present().flow(1), 7);
+    Ok(())
+}

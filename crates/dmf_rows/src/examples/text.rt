@@ -1,0 +1,23 @@
+//! A problem text is read, and what stands for its network is written again.
+use dmf_text::{ProblemFaultKind, StdSink, read_problem, write_problem};
+use std::test::Fail;
+
+#[test]
+fn a_problem_is_read_and_written(rt: HostRuntime) -> Result<(), Fail> {
+    let text = b"c one arc\np  max 2 1\nn 2 t\nn 1 s\na 1 2 007";
+    let state = read_problem(rt.alloc(), text)?;
+    assert_eq!(rt; state.arcs().len(), 1);
+    let mut written = Vec::new(rt.alloc());
+    write_problem(&state, &mut StdSink::new(&mut written))?;
+    assert!(rt; written.as_slice() == b"p max 2 1\nn 1 s\nn 2 t\na 1 2 7\n".as_slice());
+    // A text that is at fault is refused by its first fault, with the line's number.
+    let Err(fault) = read_problem(rt.alloc(), b"p max 2 1\nn 1 s\nn 2 t\na 1 3 7\n") else {
+        assert!(rt; false);
+        return Ok(());
+    };
+    assert_eq!(rt;
+        (fault.line, fault.kind),
+        (4, ProblemFaultKind::NodeOutOfRange)
+    );
+    Ok(())
+}

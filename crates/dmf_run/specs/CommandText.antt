@@ -1,0 +1,78 @@
+-- What a command line means.
+-- Public: a public contract says no more than this.
+use Rattle.std.specs.Prelude.{ℕ, List, [], ◌∷◌, if◌then◌else◌, codes, Option, Some, None, Result, Ok, Err}
+use Rattle.std.specs.Str.{bytes_eq}
+use Rattle.dmf_text.specs.declared.digits.NumberFault.{NumberFault}
+use Rattle.dmf_text.specs.declared.digits.NumberFault.TheVariants as digits
+use Rattle.dmf_text.specs.Fields.{fields}
+use Rattle.dmf_text.specs.Number.{number_of}
+use Rattle.dmf_session.specs.declared.command.Command.{Command}
+use Rattle.dmf_session.specs.declared.command.Command.TheVariants.{Cap, Add, Close, Solve, Undo, Redo, PrintProblem, PrintFlow, PrintCut}
+use Rattle.dmf_session.specs.declared.command.Refusal.{Refusal}
+use Rattle.dmf_session.specs.declared.command.Refusal.TheVariants.{UnknownCommand, FieldCount, NotANumber, TooLarge}
+
+-- what follows from the number that a field spells, or why it spells none
+abbrev pub with_number : {X : Type 0} → Result ℕ NumberFault → (ℕ → Result X Refusal) → Result X Refusal
+with_number (Ok n) next = next n
+with_number (Err digits.NotANumber) next = Err NotANumber
+with_number (Err digits.TooLarge) next = Err TooLarge
+
+-- `I U`, the fields behind `cap`
+unfoldable pub capping : List (List ℕ) → Result Command Refusal
+capping (arc ∷ cap ∷ []) = with_number (number_of arc) (λ arc. with_number (number_of cap) (λ cap. Ok (Cap arc cap)))
+capping fields = Err FieldCount
+
+-- `V W U`, the fields behind `add`
+unfoldable pub addition : List (List ℕ) → Result Command Refusal
+addition (tail ∷ head ∷ cap ∷ []) =
+    with_number (number_of tail) (λ tail.
+    with_number (number_of head) (λ head. with_number (number_of cap) (λ cap. Ok (Add tail head cap))))
+addition fields = Err FieldCount
+
+-- `I`, the field behind `close`
+unfoldable pub closing : List (List ℕ) → Result Command Refusal
+closing (arc ∷ []) = with_number (number_of arc) (λ arc. Ok (Close arc))
+closing fields = Err FieldCount
+
+-- nothing, which is what stands behind `solve`
+unfoldable pub solving : List (List ℕ) → Result Command Refusal
+solving [] = Ok Solve
+solving fields = Err FieldCount
+
+-- nothing or `K`, the fields behind `undo` and `redo`
+unfoldable pub steps : List (List ℕ) → Result ℕ Refusal
+steps [] = Ok 1
+steps (count ∷ []) = with_number (number_of count) (λ n. Ok n)
+steps (count ∷ field ∷ fields) = Err FieldCount
+
+-- what to print, the field behind `print`
+unfoldable pub printing : List (List ℕ) → Result Command Refusal
+printing (what ∷ []) =
+    if bytes_eq what (codes "problem") then Ok PrintProblem
+    else if bytes_eq what (codes "flow") then Ok PrintFlow
+    else if bytes_eq what (codes "cut") then Ok PrintCut
+    else Err UnknownCommand
+printing fields = Err FieldCount
+
+-- a command, by what its fields say
+abbrev pub command_by : {X : Type 0} → (X → Command) → Result X Refusal → Result (Option Command) Refusal
+command_by command (Ok x) = Ok (Some (command x))
+command_by command (Err refusal) = Err refusal
+
+-- A line without fields is blank, and one whose first field is `c` is a comment: they mean nothing.
+abbrev pub meaning_of : List (List ℕ) → Result (Option Command) Refusal
+meaning_of [] = Ok None
+meaning_of (word ∷ behind) =
+    if bytes_eq word (codes "c") then Ok None
+    else if bytes_eq word (codes "cap") then command_by (λ command. command) (capping behind)
+    else if bytes_eq word (codes "add") then command_by (λ command. command) (addition behind)
+    else if bytes_eq word (codes "close") then command_by (λ command. command) (closing behind)
+    else if bytes_eq word (codes "solve") then command_by (λ command. command) (solving behind)
+    else if bytes_eq word (codes "undo") then command_by Undo (steps behind)
+    else if bytes_eq word (codes "redo") then command_by Redo (steps behind)
+    else if bytes_eq word (codes "print") then command_by (λ command. command) (printing behind)
+    else Err UnknownCommand
+
+-- what a line without its end means: nothing, a command, or why it is refused
+abbrev pub command_of : List ℕ → Result (Option Command) Refusal
+command_of line = meaning_of (fields line)
