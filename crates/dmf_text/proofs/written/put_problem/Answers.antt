@@ -1,6 +1,5 @@
 use Rattle.std.proofs.Common.{◌≡◌, [], ◌∷◌, ◌++◌, codes, decimal, ap, ◌∙◌, sym, subst}
 use Rattle.std.proofs.lemmas.Result.{err_from_is_err_and}
-use Rattle.dmf_net.specs.Arc.{open_count}
 use Rattle.dmf_text.specs.Writing.{Writes}
 use Rattle.dmf_text.specs.Written.{written_line, arcs_text, problem_text}
 use Rattle.dmf_text.proofs.WrittenLemmas.{problem_text-lines}
