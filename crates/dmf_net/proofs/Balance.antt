@@ -8,8 +8,7 @@ use Rattle.dmf_net.specs.Network.{Network, IsNetwork}
 use Rattle.dmf_net.specs.Flow.{flow_at, IsFlow, IsInnerNode, IsConservedAt, flow_value}
 use Rattle.dmf_net.specs.NetworkState.{NetworkState, IsState, with_flows}
 use Rattle.dmf_net.specs.Totals.{KeepsTotals}
-use Rattle.dmf_net.specs.FlowFault.{IsLeast, IsUnbalanced}
-use Rattle.dmf_net.specs.FlowSums.{IsNodeFlow, AreFlowSums, IsInnerUpTo, AreSameAt, DifferAt}
+use Rattle.dmf_net.specs.FlowSums.{IsNodeFlow, AreFlowSums, IsLeast, IsUnbalanced, IsInnerUpTo, AreSameAt, DifferAt}
 
 -- The sums at the tails and those at the heads.
 pub record AreBothSums (n : Network) (flows leaving entering : List ℕ) : Type 0 where

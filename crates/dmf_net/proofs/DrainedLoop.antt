@@ -1,7 +1,5 @@
 -- Draining an arc that comes back to its tail: what is above the limit is taken off at once.
-use Rattle.std.proofs.Common.{ℕ, ◌≡◌, ◌-◌, ◌<◌, ◌≤◌, List, [], ◌∷◌, length, set, min, true, ap, sym, ◌∙◌, arith, ⊎_elim, get_or-set_same}
-use Rattle.std.proofs.lemmas.Bool.{cases_lt}
-use Rattle.std.proofs.lemmas.List.{set-get_or}
+use Rattle.std.proofs.Common.{ℕ, ◌≡◌, ◌-◌, ◌<◌, List, [], ◌∷◌, length, set, true, ap, sym, ◌∙◌, arith, get_or-set_same}
 use Rattle.std.proofs.lemmas.Slice.Zip.{AllZip-long}
 use Rattle.dmf_path.specs.Step.{Step}
 use Rattle.dmf_path.specs.Path.{ComesBefore, ranks, IsLeastPath}
@@ -24,28 +22,17 @@ IsLeastPath-none steps a b same = record {
   first = λ other leads long before. none-before other long before;
 }
 
-pub drained-loop : (n : Network) (j limit : ℕ) (flows last : List ℕ) → has_arc n j ≡ true → IsFlow n flows → (arc_number n j).tail ≡ (arc_number n j).head → last ≡ set flows (j - 1) (min (flow_on flows j) limit) → Drains n j limit flows last
-drained-loop n j limit flows last has flow loop is =
+pub drained-loop : (n : Network) (j limit : ℕ) (flows : List ℕ) → has_arc n j ≡ true → IsFlow n flows → (arc_number n j).tail ≡ (arc_number n j).head → limit < flow_on flows j → Drains n j limit flows (set flows (j - 1) limit)
+drained-loop n j limit flows has flow loop above =
     let at = has_arc-within n j has in
     let within : j - 1 < length flows = omega (arith, at.1, AllZip-long _ n.arcs flows flow.within) in
-    let on : flow_on last j ≡ min (flow_on flows j) limit = ap (λ xs. flow_on xs j) is ∙ get_or-set_same flows (j - 1) (min (flow_on flows j) limit) 0 within in
-    ⊎_elim
-    (λ (above : limit < flow_on flows j).
-    let less : flow_on flows j - (flow_on flows j - limit) ≡ min (flow_on flows j) limit = omega (arith, above) in
+    let less : flow_on flows j - (flow_on flows j - limit) ≡ limit = omega (arith, above) in
     record {
       paths = [] ∷ [];
       lowers = (
         above,
         IsLeastPath-none (carrying_steps n flows) (arc_number n j).head (arc_number n j).tail (sym loop),
-        lowered-none j (flow_on flows j - limit) flows at.0 within ∙ ap (set flows (j - 1)) less ∙ sym is,
+        lowered-none j (flow_on flows j - limit) flows at.0 within ∙ ap (set flows (j - 1)) less,
       );
-      within = omega (arith, on);
-    })
-    (λ (below : flow_on flows j ≤ limit).
-    let same : min (flow_on flows j) limit ≡ flow_on flows j = omega (arith, below) in
-    record {
-      paths = [];
-      lowers = sym (is ∙ ap (set flows (j - 1)) same ∙ set-get_or flows (j - 1) 0);
-      within = omega (arith, on);
-    })
-    (cases_lt limit (flow_on flows j))
+      within = omega (arith, get_or-set_same flows (j - 1) limit 0 within);
+    }

@@ -1,17 +1,15 @@
 -- Draining an arc by a search over the pairs of links that stand for carrying steps, and reading the flows off it.
-use Rattle.std.proofs.Common.{ℕ, ◌≡◌, ◌≢◌, ◌+◌, ◌-◌, ◌*◌, ◌<◌, ◌≤◌, Bool, true, false, cond, List, [], ◌∷◌, ◌++◌, length, get_or, zero, suc, refl, ap, sym, ◌∙◌, subst, arith, ⊎_elim, add-zero, Option, Some, None}
-use Rattle.std.specs.List.{slice_get}
+use Rattle.std.proofs.Common.{ℕ, ◌≡◌, ◌≢◌, ◌+◌, ◌-◌, ◌*◌, ◌<◌, ◌≤◌, Bool, true, false, cond, List, [], ◌∷◌, ◌++◌, length, get_or, zero, suc, refl, ap, sym, ◌∙◌, subst, arith, ⊎_elim, add-zero, Option, Some}
+use Rattle.std.specs.List.{slice_get, AllZip}
 use Rattle.std.specs.Option.{option_map, unwrap_or}
 use Rattle.std.proofs.lemmas.Bool.{ne_eqb, cases_Bool}
-use Rattle.std.proofs.lemmas.Grind.{same_number_lists}
 use Rattle.std.proofs.lemmas.List.Elements.{AllZip-get_or}
-use Rattle.std.proofs.lemmas.Option.{get_or_from_slice_get}
 use Rattle.std.proofs.lemmas.Slice.Zip.{AllZip-long}
 use Rattle.dmf_path.specs.declared.pair.Pair.{Pair}
 use Rattle.dmf_path.specs.Step.{Step}
 use Rattle.dmf_path.specs.Path.{IsPath, HasNoPath, IsLeastPath, has_rank, room_up_to}
 use Rattle.dmf_path.specs.Pair.{steps_of, pushed_pair, pushed_from, pushed_pairs}
-use Rattle.dmf_path.specs.Search.{Searched, with_pairs, Augments, along_at, HasAlong, lowered_along}
+use Rattle.dmf_path.specs.Search.{Searched, with_pairs, Augments, HasAlong, lowered_along}
 use Rattle.dmf_path.proofs.Loops.{least-without_loops, no_path-without_loops}
 use Rattle.dmf_path.proofs.ShortestPaths.{IsShortestPath, IsShortestPath-least, IsShortestPath-tail}
 use Rattle.dmf_net.specs.declared.arc.Arc.{Arc}
@@ -20,8 +18,9 @@ use Rattle.dmf_net.specs.Network.{Network, arc_number, has_arc}
 use Rattle.dmf_net.specs.Flow.{flow_on, IsFlow}
 use Rattle.dmf_net.specs.Drain.{carrying_steps, lowered, Drains}
 use Rattle.dmf_net.specs.NetworkState.{NetworkState, IsState}
-use Rattle.dmf_net.specs.Pairs.{carrying_pair, carrying_from, return_pair, carrying_pairs}
-use Rattle.dmf_net.proofs.CarryingPairs.{AreNoMore, is_idle, idle-why, pair-of_arc, length-carrying_pairs, carrying-without_loops}
+use Rattle.dmf_net.specs.Pairs.{carrying_pair, carrying_from, return_pair, carrying_pairs, flows_read}
+use Rattle.dmf_net.specs.declared.moves.FlowLink.TheVariants.{Along}
+use Rattle.dmf_net.proofs.CarryingPairs.{AreNoMore, is_idle, idle-why, length-carrying_pairs, carrying-without_loops}
 use Rattle.dmf_net.proofs.CarryingSteps.{IsCarrying, along, returns, carrying-contained, carrying-path}
 use Rattle.dmf_net.proofs.ChangedArc.{has_arc-within}
 use Rattle.dmf_net.proofs.Draining.{no_more-same}
@@ -84,14 +83,16 @@ flow-left arc first flow true e less kept =
     let same : first ≡ flow = ⊎_elim (λ (loop : arc.tail ≡ arc.head). sym (kept loop)) (λ (none : first ≡ 0). omega (arith, none, less)) (idle-why arc first e) in
     rw e same
 
--- What is read off the pairs is the flows.
-flows-read : (n : Network) (firsts flows : List ℕ) (k : ℕ) → AreNoMore n firsts flows → KeepLoops n firsts flows → k < length n.arcs → unwrap_or (along_at (carrying_pairs n firsts flows) k) (get_or firsts k 0) ≡ get_or flows k 0
-flows-read n firsts flows k less kept within =
-    let same = AllZip-long _ firsts flows less.no_more in
-    let arc : Arc = get_or n.arcs k no_arc in
-    let no_more : get_or flows k 0 ≤ get_or firsts k 0 = AllZip-get_or (λ x y. y ≤ x) firsts flows k 0 0 less.no_more (omega (arith, within, less.one_each)) in
-    ap (λ o. unwrap_or (option_map (λ (p : Pair). p.along) o) (get_or firsts k 0)) (get_or_from_slice_get (carrying_pairs n firsts flows) k _ None (pair-of_arc n firsts flows k within less.one_each (same ∙ less.one_each)))
-    ∙ flow-left arc (get_or firsts k 0) (get_or flows k 0) (is_idle arc (get_or firsts k 0)) refl no_more (kept k within)
+-- The flows are read off the pairs of the arcs.
+read-flows : (arcs : List Arc) (firsts flows : List ℕ) (rest : List (Option Pair)) → length firsts ≡ length arcs → AllZip (λ x y. y ≤ x) firsts flows → ((k : ℕ) → k < length arcs → (get_or arcs k no_arc).tail ≡ (get_or arcs k no_arc).head → get_or flows k 0 ≡ get_or firsts k 0) → flows_read Along firsts (carrying_from arcs firsts flows ++ rest) ≡ flows
+read-flows arcs [] [] rest long less kept = refl
+read-flows arcs [] (flow ∷ flows) rest long less kept = absurd less
+read-flows arcs (first ∷ firsts) [] rest long less kept = absurd less
+read-flows [] (first ∷ firsts) (flow ∷ flows) rest long less kept = absurd (omega (arith, long))
+read-flows (arc ∷ arcs) (first ∷ firsts) (flow ∷ flows) rest long less kept =
+    let here = flow-left arc first flow (is_idle arc first) refl less.0 (λ loop. kept 0 (omega arith) loop) in
+    let later = read-flows arcs firsts flows rest (omega (arith, long)) less.1 (λ k h loop. kept (suc k) (omega (arith, h)) loop) in
+    λ i. here i ∷ later i
 
 -- the pair of an arc, once it is pushed
 abbrev pushed_link : ℕ → ℕ → List Step → Arc → ℕ → Pair
@@ -218,13 +219,11 @@ draining-length s j limit left search draining =
     omega (arith, all, first, ap (λ (x : Searched). length x.pairs) draining.search_is)
 
 -- Where nothing is left, the arc is drained, and what is read off the search is what draining leaves.
-pub draining-done : (s : NetworkState) (j limit left : ℕ) (search : Searched) (last : List ℕ) → left ≤ 0 → IsDraining s j limit left search → length last ≡ length s.flows → ((k : ℕ) → k < length s.flows → get_or last k 0 ≡ unwrap_or (along_at search.pairs k) (get_or s.flows k 0)) → Drains s.network j limit s.flows last
-draining-done s j limit left search last done draining long each =
+pub draining-done : (s : NetworkState) (j limit left : ℕ) (search : Searched) → left ≤ 0 → IsDraining s j limit left search → Drains s.network j limit s.flows (flows_read Along s.flows search.pairs)
+draining-done s j limit left search done draining =
+    let n : Network = s.network in
     let flows : List ℕ = draining.flows in
-    let same = AllZip-long _ s.flows flows draining.no_more.no_more in
-    let read : last ≡ flows = same_number_lists last flows (long ∙ sym same)
-    (λ k within.
-    each k (omega (arith, within, long))
-    ∙ ap (λ (x : Searched). unwrap_or (along_at x.pairs k) (get_or s.flows k 0)) draining.search_is
-    ∙ flows-read s.network s.flows flows k draining.no_more draining.loops (omega (arith, within, long, draining.no_more.one_each))) in
-    subst (Drains s.network j limit s.flows) (sym read) (drained-all s j limit flows (omega (arith, done, draining.left_is)) draining.so_far)
+    let read : flows_read Along s.flows search.pairs ≡ flows =
+    ap (λ (x : Searched). flows_read Along s.flows x.pairs) draining.search_is
+    ∙ read-flows n.arcs s.flows flows (return_pair n s.flows flows ∷ []) draining.no_more.one_each draining.no_more.no_more draining.loops in
+    subst (Drains n j limit s.flows) (sym read) (drained-all s j limit flows (omega (arith, done, draining.left_is)) draining.so_far)

@@ -1,5 +1,6 @@
 -- Draining path by path, and the moves that it makes.
-use Rattle.std.proofs.Common.{ℕ, ◌≡◌, ◌<◌, ◌≤◌, true, ◌+◌, List, [], ◌∷◌, length, refl, ap, sym, ◌∙◌, eq-eqb}
+use Rattle.std.proofs.Common.{ℕ, ◌≡◌, ◌≢◌, ◌<◌, ◌≤◌, true, ◌+◌, ◌-◌, zero, suc, List, [], ◌∷◌, length, get_or, set, refl, ap, sym, ◌∙◌, arith, eq-eqb}
+use Rattle.std.proofs.lemmas.Bool.{ne_eqb}
 use Rattle.std.proofs.lemmas.Slice.Zip.{AllZip-long}
 use Rattle.dmf_net.specs.declared.edit.Move.{Move}
 use Rattle.dmf_path.specs.Step.{Step}
@@ -7,8 +8,11 @@ use Rattle.dmf_net.specs.Network.{arc_number, has_arc}
 use Rattle.dmf_net.specs.Flow.{flow_on}
 use Rattle.dmf_net.specs.NetworkState.{NetworkState, IsState, with_flows}
 use Rattle.dmf_path.specs.Path.{IsLeastPath}
-use Rattle.dmf_net.specs.Drain.{carrying_steps, lowered, Drains, TakesOff}
-use Rattle.dmf_net.specs.Edit.{moved, MovesFit, differences}
+use Rattle.dmf_net.specs.Drain.{carrying_steps, lowered, Drains}
+use Rattle.dmf_net.specs.Edit.{moved, differences}
+use Rattle.dmf_net.specs.Moves.{AreDrainingMoves}
+use Rattle.dmf_net.proofs.ChangedArc.{has_arc-within}
+use Rattle.dmf_net.proofs.DrainedLoop.{drained-loop}
 use Rattle.dmf_net.proofs.Draining.{drains-state}
 use Rattle.dmf_net.proofs.Moving.{differences-fit, moved-differences}
 use Rattle.dmf_net.proofs.Lowering.{lowered-flow, lowered-value}
@@ -36,14 +40,6 @@ drained-more s j limit flows path has above least so_far = record {
 -- Where no more than the limit flows on the arc, it is drained.
 pub drained-all : (s : NetworkState) (j limit : ℕ) (flows : List ℕ) → flow_on flows j ≤ limit → AreDrainedSoFar s j limit flows → Drains s.network j limit s.flows flows
 drained-all s j limit flows within so_far = so_far.onward flows (record { paths = []; lowers = refl; within = within })
-
--- What is said of the moves that drain arc number `j`.
-pub record AreDrainingMoves (s : NetworkState) (j limit : ℕ) (moves : List Move) : Type 0 where
-  pub fit : MovesFit 0 moves s.flows
-  pub differ : moves ≡ differences 1 s.flows (moved moves s.flows)
-  pub drains : Drains s.network j limit s.flows (moved moves s.flows)
-  pub state : IsState (with_flows s (moved moves s.flows))
-  pub takes_off : TakesOff s.network j limit s.flows (moved moves s.flows)
 
 -- the flows that draining leaves are one for each arc
 pub length-drained : (s : NetworkState) (j limit : ℕ) (last : List ℕ) → IsState s → has_arc s.network j ≡ true → Drains s.network j limit s.flows last → length last ≡ length s.flows
@@ -73,3 +69,23 @@ differences-none j (x ∷ flows) = rw (eq-eqb x x refl) (differences-none (j + 1
 pub draining-none : (s : NetworkState) (j limit : ℕ) → IsState s → has_arc s.network j ≡ true → flow_on s.flows j ≤ limit → AreDrainingMoves s j limit []
 draining-none s j limit state has within =
     draining-moves s j limit s.flows [] state has (drained-all s j limit s.flows within (drained-none s j limit state)) (sym (differences-none 1 s.flows))
+
+-- Where the flow of one arc differs, there is one move.
+differences-set : (i k arc y : ℕ) (flows : List ℕ) → arc ≡ i + k → k < length flows → get_or flows k 0 ≢ y → differences i flows (set flows k y) ≡ record { arc = arc; from = get_or flows k 0; to = y } ∷ []
+differences-set i k arc y [] is within differ = absurd (omega (arith, within))
+differences-set i zero arc y (x ∷ flows) is within differ =
+    let here : i ≡ arc = omega (arith, is) in
+    rw (ne_eqb x y differ, differences-none (i + 1) flows) (ap (λ n. record { arc = n; from = x; to = y } ∷ []) here)
+differences-set i (suc k) arc y (x ∷ flows) is within differ =
+    rw (eq-eqb x x refl) (differences-set (i + 1) k arc y flows (omega (arith, is)) (omega (arith, within)) differ)
+
+-- It holds of the move of an arc that comes back to its tail.
+pub draining-loop : (s : NetworkState) (j flow limit : ℕ) (moves : List Move) → IsState s → has_arc s.network j ≡ true → (arc_number s.network j).tail ≡ (arc_number s.network j).head → flow ≡ flow_on s.flows j → limit < flow → moves ≡ record { arc = j; from = flow; to = limit } ∷ [] → AreDrainingMoves s j limit moves
+draining-loop s j flow limit moves state has loop on above is =
+    let at = has_arc-within s.network j has in
+    let within : j - 1 < length s.flows = omega (arith, at.1, AllZip-long _ s.network.arcs s.flows state.flow.within) in
+    let place : j ≡ 1 + (j - 1) = omega (arith, at.0) in
+    let differ : get_or s.flows (j - 1) 0 ≢ limit = λ e. omega (arith, e, on, above) in
+    draining-moves s j limit (set s.flows (j - 1) limit) moves state has
+    (drained-loop s.network j limit s.flows has state.flow loop (omega (arith, on, above)))
+    (is ∙ ap (λ x. record { arc = j; from = x; to = limit } ∷ []) on ∙ sym (differences-set 1 (j - 1) j limit s.flows place within differ))

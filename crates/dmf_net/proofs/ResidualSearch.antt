@@ -1,12 +1,11 @@
 -- What a search among the residual pairs of a state's flow says of the state.
-use Rattle.std.proofs.Common.{ℕ, ◌≡◌, ◌-◌, ◌^◌, ◌<◌, ◌≤◌, ◌==◌, ◌↔◌, Bool, true, false, List, [], ◌∷◌, length, get_or, zero, suc, refl, ap, subst, arith, Some, eq-eqb, IsTrue}
+use Rattle.std.proofs.Common.{ℕ, ◌≡◌, ◌-◌, ◌^◌, ◌<◌, ◌≤◌, ◌==◌, ◌↔◌, Bool, true, false, List, [], ◌∷◌, length, get_or, zero, suc, refl, ap, subst, arith, Some, eq-eqb}
 use Rattle.std.specs.List.{slice_get}
 use Rattle.std.proofs.lemmas.List.Elements.{All-get_or}
 use Rattle.std.proofs.lemmas.Slice.Zip.{AllZip-long}
 use Rattle.std.proofs.lemmas.List.Sums.{get_or-le-sum_by}
 use Rattle.std.proofs.lemmas.Option.{slice_get_within}
 use Rattle.dmf_path.specs.declared.pair.Pair.{Pair}
-use Rattle.dmf_path.specs.Node.{IsNode}
 use Rattle.dmf_path.specs.Path.{IsReachable}
 use Rattle.dmf_path.specs.Pair.{IsPair, ArePairs, steps_of}
 use Rattle.dmf_path.specs.Search.{Searched}
@@ -14,6 +13,7 @@ use Rattle.dmf_path.proofs.Loops.{reachable-without_loops, reachable-within}
 use Rattle.dmf_net.specs.declared.arc.Arc.{Arc}
 use Rattle.dmf_net.specs.Arc.{IsArc, no_arc}
 use Rattle.dmf_net.specs.Flow.{AreWithinCapacities}
+use Rattle.dmf_net.specs.Network.{Network}
 use Rattle.dmf_net.specs.NetworkState.{NetworkState, IsState}
 use Rattle.dmf_net.specs.Residual.{residual_steps}
 use Rattle.dmf_net.specs.Pairs.{residual_pair, residual_pairs, residual_search}
@@ -76,20 +76,10 @@ index-within s k is h =
     (omega (arith, h, pairs), omega (arith, h, pairs, long))
 
 -- What the search reaches, residual steps reach.
-reached-residual : (s : NetworkState) (search : Searched) (v : ℕ) → IsState s → search ≡ residual_search s.network s.flows → IsReachable (steps_of search.pairs) search.start v ↔ IsReachable (residual_steps s.network.arcs s.flows) s.network.source v
-reached-residual s search v is same =
-    let n = s.network in
-    let fewer = residual-without_loops n.arcs s.flows is.flow.within in
+pub reached-residual : (n : Network) (flows : List ℕ) (search : Searched) (v : ℕ) → AreWithinCapacities n.arcs flows → search ≡ residual_search n flows → IsReachable (steps_of search.pairs) search.start v ↔ IsReachable (residual_steps n.arcs flows) n.source v
+reached-residual n flows search v within same =
+    let fewer = residual-without_loops n.arcs flows within in
     rw same (
-      reachable-within (residual_steps n.arcs s.flows) (steps_of (residual_pairs n.arcs s.flows)) n.source v fewer,
-      reachable-without_loops (residual_steps n.arcs s.flows) (steps_of (residual_pairs n.arcs s.flows)) n.source v fewer,
+      reachable-within (residual_steps n.arcs flows) (steps_of (residual_pairs n.arcs flows)) n.source v fewer,
+      reachable-without_loops (residual_steps n.arcs flows) (steps_of (residual_pairs n.arcs flows)) n.source v fewer,
     )
-
--- so marks for the one are marks for the other
-pub marks-residual : (s : NetworkState) (search : Searched) (marks : List Bool) → IsState s → search ≡ residual_search s.network s.flows
-    → ((v : ℕ) → IsNode search.nodes v → IsTrue (get_or marks (v - 1) false) ↔ IsReachable (steps_of search.pairs) search.start v)
-    → (v : ℕ) → IsNode s.network.nodes v → IsTrue (get_or marks (v - 1) false) ↔ IsReachable (residual_steps s.network.arcs s.flows) s.network.source v
-marks-residual s search marks is same told v node =
-    let reached = reached-residual s search v is same in
-    let found = told v (rw same node) in
-    (λ mark. reached.0 (found.0 mark), λ path. found.1 (reached.1 path))

@@ -1,17 +1,18 @@
 -- The nodes that residual paths of a greatest flow lead to from the source are those that every least cut has.
-use Rattle.std.proofs.Common.{ℕ, ◌≡◌, ◌-◌, ◌↔◌, List, length, get_or, Bool, true, false, ap, sym, ◌∙◌, subst, arith, pos}
-use Rattle.std.specs.Bool.{IsTrue}
+use Rattle.std.proofs.Common.{ℕ, ◌≡◌, List, Bool, true, false, ap, sym, ◌∙◌, subst, arith, pos}
 use Rattle.std.specs.List.Sorted.{IsStrictlyIncreasing}
 use Rattle.std.proofs.lemmas.Bool.{both_ways}
-use Rattle.std.proofs.lemmas.List.{get_or_default}
 use Rattle.std.proofs.lemmas.Int.{ints}
 use Rattle.std.proofs.lemmas.List.Kept.{AllPairs-from_increasing}
 use Rattle.dmf_path.specs.Node.{IsNode}
 use Rattle.dmf_net.specs.Network.{Network, IsNetwork}
 use Rattle.dmf_net.specs.Flow.{IsFlow, flow_value}
 use Rattle.dmf_net.specs.Cut.{cut_capacity, IsLeastCut, IsInEveryLeastCut}
-use Rattle.dmf_net.specs.Side.{has_node, IsSmallestSide, HasOneSmallestSide}
-use Rattle.dmf_path.specs.Path.{HasNoPath, IsReachable}
+use Rattle.dmf_net.specs.Side.{CutSide, has_node, IsSmallestSide, HasOneSmallestSide}
+use Rattle.dmf_path.specs.Search.{Searched}
+use Rattle.dmf_net.specs.Pairs.{residual_search, IsReachedSide}
+use Rattle.dmf_net.proofs.ResidualSearch.{reached-residual}
+use Rattle.dmf_path.specs.Path.{HasNoPath}
 use Rattle.dmf_net.specs.Residual.{residual_steps}
 use Rattle.dmf_net.proofs.MaxFlowMinCut.{AreTight, tight-from_capacity, closed-from_tight, AreReached, reached-cut, reached-capacity, reached-least_cut}
 use Rattle.dmf_net.proofs.Reached.{path-stays}
@@ -35,30 +36,6 @@ reached-in_every n flows has v network flow none r inside other least =
 pub reached-from_every : (n : Network) (flows : List ℕ) (has : ℕ → Bool) (v : ℕ) → IsNetwork n → IsFlow n flows → HasNoPath (residual_steps n.arcs flows) n.source n.sink → AreReached n flows has → IsInEveryLeastCut n v → has v ≡ true
 reached-from_every n flows has v network flow none r every = every has (reached-least_cut n flows has network flow none r)
 
--- what was read at the sink's place
-pub mark-read : (marks : List Bool) (nodes sink at : ℕ) (read : Bool) → length marks ≡ nodes → IsNode nodes sink → at ≡ sink → read ≡ get_or marks (at - 1) read → get_or marks (sink - 1) false ≡ read
-mark-read marks nodes sink at read long node same is =
-    get_or_default marks (sink - 1) false read (omega (arith, long, node.from_one, node.to_last)) ∙ ap (λ v. get_or marks (v - 1) read) (sym same) ∙ sym is
-
--- Each mark tells whether a path leads to its node.
-abbrev pub AreMarks : Network → List ℕ → List Bool → Type 0
-AreMarks n flows marks = (v : ℕ) → IsNode n.nodes v → IsTrue (get_or marks (v - 1) false) ↔ IsReachable (residual_steps n.arcs flows) n.source v
-
--- Where the sink has no mark no path leads to it.
-pub no_path-from_mark : (n : Network) (flows : List ℕ) (marks : List Bool) → IsNetwork n → AreMarks n flows marks → get_or marks (n.sink - 1) false ≡ false → HasNoPath (residual_steps n.arcs flows) n.source n.sink
-no_path-from_mark n flows marks network marked unmarked path leads =
-    both_ways (get_or marks (n.sink - 1) false) unmarked ((marked n.sink network.sink).1 (path, leads))
-
--- The list of the marked nodes has just the nodes that are reached.
-pub reached-from_marks : (n : Network) (flows : List ℕ) (marks : List Bool) (ids : List ℕ) → length marks ≡ n.nodes → AreMarks n flows marks → ((v : ℕ) → IsTrue (has_node ids v) ↔ (IsNode (length marks) v × IsTrue (get_or marks (v - 1) false))) → AreReached n flows (has_node ids)
-reached-from_marks n flows marks ids long marked listed = record {
-  of_nodes = λ v inside. subst (λ last. IsNode last v) long ((listed v).0 inside).0;
-  reached = λ v inside.
-      let is = (listed v).0 inside in
-      (marked v (subst (λ last. IsNode last v) long is.0)).0 is.1;
-  every = λ v node path leads. (listed v).1 (subst (λ last. IsNode last v) (sym long) node, (marked v node).1 (path, leads));
-}
-
 -- The ascending list of the nodes that are reached is the smallest side, and the value of the flow its capacity.
 pub IsSmallestSide-reached : (n : Network) (flows ids : List ℕ) (capacity : ℕ) → IsNetwork n → IsFlow n flows → HasNoPath (residual_steps n.arcs flows) n.source n.sink → AreReached n flows (has_node ids) → IsStrictlyIncreasing ids → pos capacity ≡ flow_value n flows → IsSmallestSide n (record { ids = ids; capacity = capacity })
 IsSmallestSide-reached n flows ids capacity network flow none r increasing value = record {
@@ -70,6 +47,25 @@ IsSmallestSide-reached n flows ids capacity network flow none r increasing value
   least = reached-least_cut n flows (has_node ids) network flow none r;
   capacity_is = omega (arith, ints, value, reached-capacity n flows (has_node ids) network flow none r);
 }
+
+-- The side of the nodes that a search for augmenting paths reaches has those that residual paths reach.
+pub reached-by_search : (n : Network) (flows : List ℕ) (search : Searched) (capacity : ℕ) (side : CutSide) → IsFlow n flows → search ≡ residual_search n flows → IsReachedSide search capacity side → AreReached n flows (has_node side.ids)
+reached-by_search n flows search capacity side flow same is =
+    let nodes : search.nodes ≡ n.nodes = ap (λ (o : Searched). o.nodes) same in
+    record {
+      of_nodes = λ v inside. subst (λ last. IsNode last v) nodes ((is.nodes v).0 inside).0;
+      reached = λ v inside. (reached-residual n flows search v flow.within same).0 ((is.nodes v).0 inside).1;
+      every = λ v node path leads. (is.nodes v).1 (subst (λ last. IsNode last v) (sym nodes) node, (reached-residual n flows search v flow.within same).1 (path, leads));
+    }
+
+-- Where it has not the sink, no path leads there.
+pub no_path-by_search : (n : Network) (flows : List ℕ) (has : ℕ → Bool) → IsNetwork n → AreReached n flows has → has n.sink ≡ false → HasNoPath (residual_steps n.arcs flows) n.source n.sink
+no_path-by_search n flows has network r out path leads = both_ways (has n.sink) out (r.every n.sink network.sink path leads)
+
+-- It is the smallest side then.
+pub IsSmallestSide-by_search : (n : Network) (flows : List ℕ) (search : Searched) (capacity : ℕ) (side : CutSide) → IsNetwork n → IsFlow n flows → HasNoPath (residual_steps n.arcs flows) n.source n.sink → search ≡ residual_search n flows → pos capacity ≡ flow_value n flows → IsReachedSide search capacity side → IsSmallestSide n side
+IsSmallestSide-by_search n flows search capacity side network flow none same value is =
+    IsSmallestSide-reached n flows side.ids side.capacity network flow none (reached-by_search n flows search capacity side flow same is) is.ascending (ap pos is.capacity_is ∙ value)
 
 -- A network has one smallest side.
 pub one-smallest_side : HasOneSmallestSide

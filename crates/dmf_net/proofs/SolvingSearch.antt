@@ -1,31 +1,31 @@
 -- Solving by a search among the residual pairs: what the search keeps as it augments, and which flow it tells at the end.
-use Rattle.std.proofs.Common.{ℕ, ◌≡◌, ◌≢◌, ◌+◌, ◌-◌, ◌*◌, ◌^◌, ◌<◌, ◌≤◌, Bool, true, false, ◌==◌, cond, ltb, min, List, [], ◌∷◌, length, get_or, set, get_or-set_other, below_more, refl, ap, sym, ◌∙◌, subst, arith, ⊎_elim, unwrap_or, Option, Some, None}
+use Rattle.std.proofs.Common.{ℕ, ◌≡◌, ◌≢◌, ◌+◌, ◌-◌, ◌*◌, ◌^◌, ◌<◌, ◌≤◌, Bool, true, false, ◌==◌, cond, ltb, min, List, [], ◌∷◌, length, get_or, refl, ap, sym, ◌∙◌, subst, arith, pos, suc, ⊎_elim, Option}
 use Rattle.std.specs.List.{Contains}
-use Rattle.std.specs.Option.{MatchOption, option_map, is_some}
 use Rattle.std.proofs.lemmas.Bool.Decides.{nat_tests}
-use Rattle.std.proofs.lemmas.Grind.{get_or-set_at, same_number_lists}
+use Rattle.std.proofs.lemmas.Int.{ints}
 use Rattle.std.proofs.lemmas.List.Elements.{Contains-append_cases}
 use Rattle.std.proofs.lemmas.List.Sums.{get_or-le-sum_by}
 use Rattle.std.proofs.lemmas.Map.Views.{exact_unsigned_eq}
-use Rattle.std.proofs.lemmas.Option.{get_or_from_slice_get}
 use Rattle.std.proofs.lemmas.Slice.Zip.{AllZip-long}
 use Rattle.dmf_path.specs.declared.pair.Pair.{Pair}
 use Rattle.dmf_path.specs.Step.{Step}
 use Rattle.dmf_path.specs.Path.{has_rank, IsPath, HasNoPath, least_room, room_up_to}
 use Rattle.dmf_path.specs.Pair.{pair_steps, steps_from, steps_of, pushed_pairs}
-use Rattle.dmf_path.specs.Search.{Searched, Augments, against_at}
+use Rattle.dmf_path.specs.Search.{Searched, Augments}
 use Rattle.dmf_path.proofs.Loops.{least-without_loops, no_path-without_loops}
 use Rattle.dmf_net.specs.declared.arc.Arc.{Arc}
 use Rattle.dmf_net.specs.Arc.{no_arc}
 use Rattle.dmf_net.specs.Network.{Network, IsNetwork}
-use Rattle.dmf_net.specs.Flow.{AreWithinCapacities, IsFlow}
+use Rattle.dmf_net.specs.Flow.{AreWithinCapacities, IsFlow, flow_value}
 use Rattle.dmf_net.specs.NetworkState.{NetworkState, IsState, with_flows}
 use Rattle.dmf_net.specs.Residual.{residual_steps, augmented}
 use Rattle.dmf_net.specs.Solve.{Solves}
-use Rattle.dmf_net.specs.Pairs.{residual_pair, residual_pairs, residual_search}
+use Rattle.dmf_net.specs.Pairs.{residual_pair, residual_pairs, residual_search, flow_read, flows_read, reached_flows, IsSolved}
+use Rattle.dmf_net.specs.declared.moves.FlowLink.TheVariants.{Against}
+use Rattle.dmf_net.proofs.Augmenting.{augmented-value, value-le-capacities}
 use Rattle.dmf_net.proofs.AugmentedPushed.{get_or-augmented_from}
 use Rattle.dmf_net.proofs.ResidualPairs.{is_skipped, residual-without_loops, step-of_least, residual_pairs-augmented}
-use Rattle.dmf_net.proofs.ResidualSearch.{length-residual_pairs, slice_get-residual_pairs, flow-within}
+use Rattle.dmf_net.proofs.ResidualSearch.{length-residual_pairs, flow-within}
 use Rattle.dmf_net.proofs.ResidualSteps.{IsResidual, along, against, in-optional, residual-contained}
 use Rattle.dmf_net.proofs.RoomLeaving.{room_leaving, room_leaving-falls}
 use Rattle.dmf_net.proofs.Solving.{IsReached, reached-more}
@@ -114,21 +114,23 @@ room_up_to-least n flows limit (s ∷ path) all is flow leads =
     let least : min s.room limit ≡ s.room = omega arith in
     room_up_to-min s.room limit path ∙ ap (λ m. room_up_to m path) least
 
--- The search is that of some flows that augmenting along least paths reaches.
-pub record IsSolving (s : NetworkState) (search : Searched) : Type 0 where
+-- The search is that of some flows that augmenting along least paths reaches, and the value is theirs.
+pub record IsSolving (s : NetworkState) (search : Searched) (value : ℕ) : Type 0 where
   pub flows : List ℕ
   pub reached : IsReached s flows
   pub kept : AreKept s.network.arcs s.flows flows
   pub search_is : search ≡ residual_search s.network flows
+  pub value_is : pos value ≡ flow_value s.network flows
 
--- The search augments, and the rooms that leave the source fall.
-pub record IsNext (s : NetworkState) (old new : Searched) : Type 0 where
-  pub solving : IsSolving s new
+-- The search augments, the value grows by the amount, and the rooms that leave the source fall.
+pub record IsNext (s : NetworkState) (old new : Searched) (value : ℕ) : Type 0 where
+  pub solving : IsSolving s new value
+  pub small : value < 2 ^ 64
   pub falls : room_leaving new.pairs s.network.source < room_leaving old.pairs s.network.source
 
 -- one path more
-solving-more : (s : NetworkState) (limit amount : ℕ) (old new : Searched) → limit + 1 ≡ 2 ^ 64 → IsSolving s old → Augments limit amount old new → IsNext s old new
-solving-more s limit amount old new all is augments =
+pub solving-more : (s : NetworkState) (limit amount value : ℕ) (old new : Searched) → limit + 1 ≡ 2 ^ 64 → IsSolving s old value → Augments limit amount old new → IsNext s old new (value + amount)
+solving-more s limit amount value old new all is augments =
     let n = s.network in
     let state = is.reached.state in
     let push = subst (λ o. Augments limit amount o new) is.search_is augments in
@@ -141,94 +143,58 @@ solving-more s limit amount old new all is augments =
     in
     let next = push.gives ∙ ap (λ (made : List (Option Pair)). record { nodes = n.nodes; pairs = made; start = n.source; goal = n.sink; takes_back = true }) pairs in
     let reached = reached-more s is.flows path is.reached least in
+    let grown = augmented-value n is.flows path state.network state.flow least in
+    let value_is : pos (value + amount) ≡ flow_value n (augmented path is.flows) = omega (arith, ints, grown, is.value_is, same) in
+    let most = value-le-capacities n (augmented path is.flows) reached.state.flow in
     record {
       solving = record {
         flows = augmented path is.flows;
         reached = reached;
         kept = kept-augmented n.arcs s.flows is.flows n.source n.sink path state.flow.within push.least.leads is.kept;
         search_is = next;
+        value_is = value_is;
       };
+      small = omega (arith, ints, value_is, most, state.network.capacities);
       falls = rw (next, is.search_is) (room_leaving-falls s is.flows path state reached.state least);
     }
 
--- What a call of the search answers: where it found a path, it augments,
-pub solving-on : (s : NetworkState) (limit : ℕ) (found : Option ℕ) (old new : Searched) → limit + 1 ≡ 2 ^ 64 → IsSolving s old → is_some found ≡ true
-    → MatchOption found (HasNoPath (steps_of old.pairs) old.start old.goal × (new ≡ old)) (λ amount. Augments limit amount old new) → IsNext s old new
-solving-on s limit None old new all is some told = absurd (cc)
-solving-on s limit (Some amount) old new all is some told = solving-more s limit amount old new all is told
+-- The flow that is read off an arc: the room against its pair, and where it has none, what flowed at first.
+read-flow : (arc : Arc) (first flow : ℕ) (loop idle : Bool) → (arc.tail == arc.head) ≡ loop → (arc.cap == 0) ≡ idle → first ≤ arc.cap → flow ≤ arc.cap → (arc.tail ≡ arc.head → flow ≡ first) → flow_read Against first (residual_pair arc flow) ≡ flow
+read-flow arc first flow true idle e f below within kept = rw e (sym (kept (exact_unsigned_eq arc.tail arc.head e)))
+read-flow arc first flow false true e f below within kept = rw (e, f) (let none : arc.cap ≡ 0 = exact_unsigned_eq arc.cap 0 f in omega arith)
+read-flow arc first flow false false e f below within kept = rw (e, f) refl
 
--- and where it found none, no residual path is left.
-pub record IsSolved (s : NetworkState) (search : Searched) : Type 0 where
-  pub solving : IsSolving s search
-  pub no_path : HasNoPath (residual_steps s.network.arcs solving.flows) s.network.source s.network.sink
+-- So the flows are read off the pairs.
+read-flows : (arcs : List Arc) (firsts flows : List ℕ) → AreWithinCapacities arcs firsts → AreWithinCapacities arcs flows → AreKept arcs firsts flows → flows_read Against firsts (residual_pairs arcs flows) ≡ flows
+read-flows [] [] [] below within kept = refl
+read-flows [] [] (flow ∷ flows) below within kept = absurd within
+read-flows [] (first ∷ firsts) flows below within kept = absurd below
+read-flows (arc ∷ arcs) [] flows below within kept = absurd below
+read-flows (arc ∷ arcs) (first ∷ firsts) [] below within kept = absurd within
+read-flows (arc ∷ arcs) (first ∷ firsts) (flow ∷ flows) below within kept =
+    let here = read-flow arc first flow (arc.tail == arc.head) (arc.cap == 0) refl refl below.0 within.0 (λ loop. kept 0 (omega arith) loop) in
+    let later = read-flows arcs firsts flows below.1 within.1 (λ k h loop. kept (suc k) (omega (arith, h)) loop) in
+    λ i. here i ∷ later i
 
-pub solving-end : (s : NetworkState) (limit : ℕ) (found : Option ℕ) (old new : Searched) → IsSolving s old → is_some found ≡ false
-    → MatchOption found (HasNoPath (steps_of old.pairs) old.start old.goal × (new ≡ old)) (λ amount. Augments limit amount old new) → IsSolved s new
-solving-end s limit (Some amount) old new is none told = absurd (cc)
-solving-end s limit None old new is none told =
+-- Where no path is left, they are the outcome of solving.
+pub solving-done : (s : NetworkState) (value : ℕ) (old new : Searched) → IsState s → IsSolving s old value → HasNoPath (steps_of old.pairs) old.start old.goal → new ≡ old → IsSolved s new value
+solving-done s value old new state is none same =
     let n = s.network in
-    let left = subst (λ (o : Searched). HasNoPath (steps_of o.pairs) o.start o.goal) is.search_is told.0 in
+    let search : new ≡ residual_search n is.flows = same ∙ is.search_is in
+    let left = subst (λ (o : Searched). HasNoPath (steps_of o.pairs) o.start o.goal) is.search_is none in
+    let no_path = no_path-without_loops (residual_steps n.arcs is.flows) (steps_of (residual_pairs n.arcs is.flows)) n.source n.sink (residual-without_loops n.arcs is.flows is.reached.state.flow.within) left in
+    let read : is.flows ≡ reached_flows s new = sym (ap (reached_flows s) search ∙ read-flows n.arcs s.flows is.flows state.flow.within is.reached.state.flow.within is.kept) in
+    let solves : Solves n s.flows is.flows = record { paths = is.reached.paths; augments = is.reached.augments; no_path = no_path } in
     record {
-      solving = record { flows = is.flows; reached = is.reached; kept = is.kept; search_is = told.1 ∙ is.search_is };
-      no_path = no_path-without_loops (residual_steps n.arcs is.flows) (steps_of (residual_pairs n.arcs is.flows)) n.source n.sink (residual-without_loops n.arcs is.flows is.reached.state.flow.within) left;
+      solves = subst (Solves n s.flows) read solves;
+      state = subst (λ flows. IsState (with_flows s flows)) read is.reached.state;
+      search_is = subst (λ flows. new ≡ residual_search n flows) read search;
+      value_is = subst (λ flows. pos value ≡ flow_value n flows) read is.value_is;
     }
 
--- What is told of an arc's flow: the room against its pair, and where it has none, what flowed at first.
-told-flow : (arc : Arc) (first flow : ℕ) (loop idle : Bool) → (arc.tail == arc.head) ≡ loop → (arc.cap == 0) ≡ idle → first ≤ arc.cap → flow ≤ arc.cap → (arc.tail ≡ arc.head → flow ≡ first)
-    → unwrap_or (option_map (λ (p : Pair). p.against) (residual_pair arc flow)) first ≡ flow
-told-flow arc first flow true idle e f below within kept = rw e (sym (kept (exact_unsigned_eq arc.tail arc.head e)))
-told-flow arc first flow false true e f below within kept = rw (e, f) (let none : arc.cap ≡ 0 = exact_unsigned_eq arc.cap 0 f in omega arith)
-told-flow arc first flow false false e f below within kept = rw (e, f) refl
-
--- So the search tells its flows.
-flows-told : (arcs : List Arc) (firsts flows told : List ℕ) → AreWithinCapacities arcs firsts → AreWithinCapacities arcs flows → AreKept arcs firsts flows → length told ≡ length firsts
-    → ((k : ℕ) → k < length told → get_or told k 0 ≡ unwrap_or (against_at (residual_pairs arcs flows) k) (get_or firsts k 0)) → told ≡ flows
-flows-told arcs firsts flows told below within kept long each =
-    let first_long = AllZip-long _ arcs firsts below in
-    let flow_long = AllZip-long _ arcs flows within in
-    same_number_lists told flows (omega (arith, long, first_long, flow_long))
-    (λ k h.
-    let place : k < length arcs = omega (arith, h, long, first_long) in
-    let arc : Arc = get_or arcs k no_arc in
-    let pair = get_or_from_slice_get (residual_pairs arcs flows) k (residual_pair arc (get_or flows k 0)) None (slice_get-residual_pairs arcs flows k within place) in
-    each k h
-    ∙ ap (λ p. unwrap_or (option_map (λ (q : Pair). q.against) p) (get_or firsts k 0)) pair
-    ∙ told-flow arc (get_or firsts k 0) (get_or flows k 0) (arc.tail == arc.head) (arc.cap == 0) refl refl (flow-within arcs firsts k below) (flow-within arcs flows k within) (kept k place))
-
--- They are the outcome of solving.
-pub told-solves : (s : NetworkState) (search : Searched) (firsts told : List ℕ) → IsState s → IsSolved s search → firsts ≡ s.flows → length told ≡ length firsts
-    → ((k : ℕ) → k < length told → get_or told k 0 ≡ unwrap_or (against_at search.pairs k) (get_or firsts k 0)) → Solves s.network s.flows told × IsState (with_flows s told)
-told-solves s search firsts told state is first long each =
-    let solving = is.solving in
-    let pairs = ap (λ (o : Searched). o.pairs) solving.search_is in
-    let same =
-    flows-told s.network.arcs s.flows solving.flows told state.flow.within solving.reached.state.flow.within solving.kept (long ∙ ap length first)
-    (λ k h.
-    each k h
-    ∙ ap (λ (ps : List (Option Pair)). unwrap_or (against_at ps k) (get_or firsts k 0)) pairs
-    ∙ ap (λ xs. unwrap_or (against_at (residual_pairs s.network.arcs solving.flows) k) (get_or xs k 0)) first)
-    in
-    let solves : Solves s.network s.flows solving.flows = record { paths = solving.reached.paths; augments = solving.reached.augments; no_path = is.no_path } in
-    (subst (Solves s.network s.flows) (sym same) solves, subst (λ flows. IsState (with_flows s flows)) (sym same) solving.reached.state)
-
 -- There is a pair, or the place of one, for each flow.
-pub pairs-long : (s : NetworkState) (search : Searched) → IsState s → IsSolved s search → length search.pairs ≡ length s.flows
-pairs-long s search state is =
-    let solving = is.solving in
-    ap (λ (o : Searched). length o.pairs) solving.search_is
-    ∙ length-residual_pairs s.network.arcs solving.flows solving.reached.state.flow.within
+pub solved-long : (s : NetworkState) (search : Searched) (value : ℕ) → IsState s → IsSolved s search value → length search.pairs ≡ length s.flows
+solved-long s search value state is =
+    ap (λ (o : Searched). length o.pairs) is.search_is
+    ∙ length-residual_pairs s.network.arcs (reached_flows s search) is.state.flow.within
     ∙ sym (AllZip-long _ s.network.arcs s.flows state.flow.within)
-
--- The flows before index `i` are told, and those from there on are as at first.
-pub record AreToldUpTo (pairs : List (Option Pair)) (firsts : List ℕ) (i : ℕ) (flows : List ℕ) : Type 0 where
-  pub told : (k : ℕ) → k < i → get_or flows k 0 ≡ unwrap_or (against_at pairs k) (get_or firsts k 0)
-  pub rest : (k : ℕ) → i ≤ k → get_or flows k 0 ≡ get_or firsts k 0
-
--- one more
-pub told-more : (pairs : List (Option Pair)) (firsts : List ℕ) (i : ℕ) (flows : List ℕ) (flow : ℕ) → i < length flows → AreToldUpTo pairs firsts i flows → flow ≡ unwrap_or (against_at pairs i) (get_or flows i 0) → AreToldUpTo pairs firsts (i + 1) (set flows i flow)
-told-more pairs firsts i flows flow h are same = record {
-  told = below_more (λ k. get_or (set flows i flow) k 0 ≡ unwrap_or (against_at pairs k) (get_or firsts k 0)) i
-      (λ k below. let other : k ≢ i = omega arith in get_or-set_other flows i k flow 0 other ∙ are.told k below)
-      (get_or-set_at flows i i flow 0 refl h ∙ same ∙ ap (λ x. unwrap_or (against_at pairs i) x) (are.rest i (omega arith)));
-  rest = λ k above. let other : k ≢ i = omega arith in get_or-set_other flows i k flow 0 other ∙ are.rest k (omega arith);
-}

@@ -1,35 +1,38 @@
--- Why numbers on the arcs of a network are no flow of a value from 0 on: the first of these that holds.
+-- Why numbers on the arcs of a network, one for each, are no flow of a value from 0 on: the first fault that they have.
 -- Public: a public contract says no more than this.
-use Rattle.std.specs.Prelude.{ℕ, ◌≡◌, ◌<◌, ◌≤◌, ◌-◌, List, pos, ◌<ℤ◌, slice_get, Some}
+use Rattle.std.specs.Prelude.{ℕ, ◌-◌, ◌==◌, ◌&&◌, if◌then◌else◌, not, Bool, List, length, slice_index_or, Option, Some, None, nat_lt, int_lt, pos}
+use Rattle.std.specs.List.{find, range_with_len}
+use Rattle.std.specs.Option.{option_map, option_or}
 use Rattle.dmf_net.specs.declared.arc.Arc.{Arc}
 use Rattle.dmf_net.specs.declared.fault.FlowFault.{FlowFault}
-use Rattle.dmf_net.specs.declared.fault.FlowFault.TheVariants.{OverCapacity, NotConserved, Negative, NoMemory}
+use Rattle.dmf_net.specs.declared.fault.FlowFault.TheVariants.{OverCapacity, NotConserved, Negative}
+use Rattle.dmf_net.specs.Arc.{no_arc}
 use Rattle.dmf_net.specs.Network.{Network}
-use Rattle.dmf_net.specs.Flow.{AreWithinCapacities, IsInnerNode, IsConservedAt, IsFlow, flow_value}
+use Rattle.dmf_net.specs.Flow.{flow_on, outflow, inflow, flow_value}
 
--- `k` has the property, and no smaller number has.
-pub record IsLeast (P : ℕ → Type 0) (k : ℕ) : Type 0 where
-  pub holds : P k
-  pub least : (i : ℕ) → i < k → ¬ P i
+-- whether more flows on arc number `j` than it can carry
+abbrev pub is_over_capacity : List Arc → List ℕ → ℕ → Bool
+is_over_capacity arcs flows j = nat_lt (slice_index_or arcs (j - 1) no_arc).cap (flow_on flows j)
 
--- More flows on arc number `j` than it can carry.
-pub record IsOverCapacity (arcs : List Arc) (flows : List ℕ) (j : ℕ) : Type 0 where
-  pub from_one : 1 ≤ j
-  pub arc : Arc
-  pub flow : ℕ
-  pub arc_is : slice_get arcs (j - 1) ≡ Some arc
-  pub flow_is : slice_get flows (j - 1) ≡ Some flow
-  pub over : arc.cap < flow
+-- the first such arc
+abbrev pub first_over_capacity : List Arc → List ℕ → Option ℕ
+first_over_capacity arcs flows = find (is_over_capacity arcs flows) (range_with_len 1 (length arcs))
 
--- At the inner node `v` outflow and inflow differ.
-pub record IsUnbalanced (n : Network) (flows : List ℕ) (v : ℕ) : Type 0 where
-  pub inner : IsInnerNode n v
-  pub differ : ¬ IsConservedAt n flows v
+-- whether outflow and inflow differ at node `v`, which is neither the source nor the sink
+abbrev pub is_unbalanced : Network → List ℕ → ℕ → Bool
+is_unbalanced n flows v =
+    (not (v == n.source) && not (v == n.sink)) && not (outflow n.arcs flows v == inflow n.arcs flows v)
 
--- The fault is told where it holds: of the arcs over capacity the one with the least number, if there is none
--- the least node that is unbalanced, and if there is none a value below 0. Want of memory may be told at any flows.
-abbrev pub FlowFaultHolds : Network → List ℕ → FlowFault → Type 0
-FlowFaultHolds n flows (OverCapacity j) = IsLeast (IsOverCapacity n.arcs flows) j
-FlowFaultHolds n flows (NotConserved v) = AreWithinCapacities n.arcs flows × IsLeast (IsUnbalanced n flows) v
-FlowFaultHolds n flows Negative = IsFlow n flows × (flow_value n flows <ℤ pos 0)
-FlowFaultHolds n flows NoMemory = Unit {0}
+-- the least such node
+abbrev pub first_unbalanced : Network → List ℕ → Option ℕ
+first_unbalanced n flows = find (is_unbalanced n flows) (range_with_len 1 n.nodes)
+
+-- a value below 0
+abbrev pub value_fault : Network → List ℕ → Option FlowFault
+value_fault n flows = if int_lt (flow_value n flows) (pos 0) then Some Negative else None
+
+-- the first fault, if there is one
+abbrev pub flow_fault : Network → List ℕ → Option FlowFault
+flow_fault n flows =
+    option_or (option_map OverCapacity (first_over_capacity n.arcs flows))
+    (option_or (option_map NotConserved (first_unbalanced n flows)) (value_fault n flows))

@@ -17,3 +17,5 @@ pub mod Revert
 pub mod Direction
 pub mod Laws
 pub mod Pairs
+pub mod Moves
+pub mod Planning

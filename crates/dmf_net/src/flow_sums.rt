@@ -1,8 +1,7 @@
 ghost use Rattle.std.specs.Prelude.{◌≡◌, ℕ, ◌-◌, ◌^◌, ◌<◌, ◌≤◌, length, slice_index, All, IfOk, MatchOption};
 ghost use Rattle.dmf_net.specs.Arc.{IsArc, capacity_sum};
 ghost use Rattle.dmf_net.specs.Flow.{AreWithinCapacities};
-ghost use Rattle.dmf_net.specs.FlowFault.{IsLeast, IsOverCapacity};
-ghost use Rattle.dmf_net.specs.FlowSums.{AreFlowSums, IsInnerUpTo, AreSameAt, DifferAt};
+ghost use Rattle.dmf_net.specs.FlowSums.{AreFlowSums, IsLeast, IsOverCapacity, IsInnerUpTo, AreSameAt, DifferAt};
 
 use crate::arc::Arc;
 use std::alloc::{AllocError, Global};

@@ -9,7 +9,7 @@ pub use laws::{
     one_smallest_side, one_state_before, reverting_gives_back, solved_is_greatest,
 };
 pub use limits::{MAX_ARCS, MAX_NODES};
-pub use plan::{plan_add, plan_cap, plan_close, plan_solve};
+pub use plan::{plan_add, plan_cap, plan_close, plan_solve, plan_solve_with_side};
 pub use side::{Side, side_after, smallest_side};
 pub use side_ids::SideIds;
 pub use state::State;

@@ -3,28 +3,56 @@ ghost use Rattle.dmf_net.specs.Arc.{capacity_sum};
 ghost use Rattle.dmf_net.specs.Flow.{AreWithinCapacities};
 ghost use Rattle.dmf_net.specs.FlowSums.{IsNodeFlow};
 ghost use Rattle.dmf_net.specs.Edit.{MovesFit, moved, differences};
+ghost use Rattle.dmf_net.specs.Pairs.{flow_read, flows_read};
+ghost use Rattle.dmf_path.specs.Search.{pair_number};
 ghost use Rattle.dmf_net.specs.Direction.{step_along, along};
 
 use crate::arc::Arc;
 use crate::edit::Move;
 use crate::flow_sums::NodeFlow;
+use dmf_path::Search;
 use std::alloc::{AllocError, Global};
 
-/// The moves of the arcs on which the flow differs, in the order of their numbers.
-pub fn list_moves(alloc: Global, before: &[u64], after: &[u64]) -> Result<Vec<Move>, AllocError>
-    requires one_each { length after.now ≡ length before.now }
+/// Which link of an arc's pair has the flow on the arc as its room.
+#[derive(Clone, Copy, Debug, PartialEq, Eq)]
+pub enum FlowLink {
+    Along,
+    Against,
+}
+
+/// The moves of the arcs on which the flow that a search has reached differs from that before, in the order of their
+/// numbers.
+pub fn list_moves(
+    alloc: Global,
+    before: &[u64],
+    search: &Search,
+    link: FlowLink,
+) -> Result<Vec<Move>, AllocError>
+    requires one_each { length before.now ≤ length search.now.pairs }
     requires at_most_arcs { length before.now ≤ 2 ^ 27 }
-    ensures { IfOk result (λ moves. moves.items ≡ differences 1 before.now after.now) }
+    ensures { IfOk result (λ moves. moves.items ≡ differences 1 before.now (flows_read link before.now search.now.pairs)) }
 {
     let mut moves = Vec::new(alloc);
     for (i, &from) in before.iter().enumerate() {
-        let to = after[i];
+        let to = flow_read(search, i, link, from);
         if from != to {
             let arc = i as u32 + 1;
             moves.push(Move { arc, from, to })?;
         }
     }
     Ok(moves)
+}
+
+/// The flow that a search has reached on the arc at index `k`: where the arc has no pair, what flowed at first.
+fn flow_read(search: &Search, k: usize, link: FlowLink, first: u64) -> u64
+    requires { k < length search.now.pairs }
+    ensures { result ≡ flow_read link first (pair_number search.now.pairs k) }
+{
+    let room = match link {
+        FlowLink::Along => search.along(k),
+        FlowLink::Against => search.against(k),
+    };
+    room.unwrap_or(first)
 }
 
 /// Whether moves are made or taken back.

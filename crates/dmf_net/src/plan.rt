@@ -1,4 +1,4 @@
-ghost use Rattle.std.specs.Prelude.{◌≡◌, ◌≢◌, ◌≤◌, Err, IfOk, IsOkUnless, MatchOption};
+ghost use Rattle.std.specs.Prelude.{◌≡◌, ◌≢◌, ◌≤◌, Err, IfOk, IsOkUnless, MatchOption, pos};
 ghost use Rattle.std.specs.Result.{result_err};
 ghost use Rattle.dmf_net.specs.Change.{Cap, Close, Add, Solve, change_fault, Becomes, IsEditOf};
 ghost use Rattle.dmf_net.specs.Cut.{HasCutOf};
@@ -6,12 +6,16 @@ ghost use Rattle.dmf_net.specs.Drain.{TakesOff};
 ghost use Rattle.dmf_net.specs.Edit.{applied, Fits, ListsDifferences};
 ghost use Rattle.dmf_net.specs.Flow.{flow_on, flow_value};
 ghost use Rattle.dmf_net.specs.Greatest.{IsGreatest};
+ghost use Rattle.dmf_net.specs.Pairs.{IsSolved, reached_flows};
+ghost use Rattle.dmf_net.specs.Planning.{PlansSolve};
+ghost use Rattle.dmf_net.specs.Side.{IsSmallestSide};
 
 use crate::drain::drain;
 use crate::edit::Edit;
 use crate::fault::PlanFault;
-use crate::moves::list_moves;
-use crate::solve::solved_flows;
+use crate::moves::{FlowLink, list_moves};
+use crate::side::{Side, solved_side};
+use crate::solve::{Solved, solve};
 use crate::state::State;
 use std::alloc::Global;
 
@@ -101,7 +105,33 @@ pub fn plan_solve(alloc: Global, state: &State) -> Result<Edit, PlanFault>
     ensures greatest { IfOk result (λ edit. IsGreatest state.now.network (applied edit state.now).flows) }
     ensures cut { IfOk result (λ edit. HasCutOf state.now.network (flow_value state.now.network (applied edit state.now).flows)) }
 {
-    let flows = solved_flows(alloc, state)?;
-    let moves = list_moves(alloc, state.flows(), &flows)?;
+    let solved = solve(alloc, state)?;
+    solve_edit(alloc, state, &solved)
+}
+
+/// Plans the same greatest flow, and tells the smallest side of the network, which does not change by it. One search finds
+/// both.
+///
+/// Takes memory for the side too; where it is refused, the answer is [`PlanFault::NoMemory`].
+pub fn plan_solve_with_side(alloc: Global, state: &State) -> Result<(Edit, Side), PlanFault>
+    ensures refused { IsOkUnless result PlanFault.NoMemory }
+    ensures edit { IfOk result (λ planned. PlansSolve state.now planned.0) }
+    ensures side { IfOk result (λ planned. IsSmallestSide state.now.network planned.1) }
+    ensures value { IfOk result (λ planned. pos planned.1.capacity ≡ flow_value state.now.network (applied planned.0 state.now).flows) }
+{
+    let solved = solve(alloc, state)?;
+    let edit = solve_edit(alloc, state, &solved)?;
+    let side = solved_side(alloc, state, &solved)?;
+    Ok((edit, side))
+}
+
+/// The edit that gives each arc of the state the flow that solving has reached.
+fn solve_edit(alloc: Global, state: &State, solved: &Solved) -> Result<Edit, PlanFault>
+    requires { IsSolved state.now solved.now.search solved.now.value }
+    ensures refused { IsOkUnless result PlanFault.NoMemory }
+    ensures edit { IfOk result (PlansSolve state.now) }
+    ensures flows { IfOk result (λ edit. (applied edit state.now).flows ≡ reached_flows state.now solved.now.search) }
+{
+    let moves = list_moves(alloc, state.flows(), &solved.search, FlowLink::Against)?;
     Ok(Edit::Solve { moves })
 }

@@ -5,15 +5,16 @@ ghost use Rattle.dmf_path.specs.Node.{IsNode};
 ghost use Rattle.dmf_net.specs.Flow.{flow_value};
 ghost use Rattle.dmf_net.specs.Greatest.{IsGreatest, IsSurpassed};
 ghost use Rattle.dmf_net.specs.Side.{has_node, IsSmallestSide};
-ghost use Rattle.dmf_path.specs.Path.{IsReachable};
-ghost use Rattle.dmf_net.specs.Residual.{residual_steps};
+ghost use Rattle.dmf_net.specs.Pairs.{IsReachedSide, IsSolved};
 ghost use Rattle.dmf_net.specs.Edit.{applied, Fits};
 
 use crate::edit::Edit;
 use crate::fault::CutFault;
 use crate::residual::residual_search;
 use crate::side_ids::SideIds;
+use crate::solve::Solved;
 use crate::state::State;
+use dmf_path::Search;
 use std::alloc::{AllocError, Global};
 use std::marker::Model;
 
@@ -71,15 +72,12 @@ pub fn smallest_side(alloc: Global, state: &State) -> Result<Side, CutFault>
     ensures greatest { OnOk result (IsGreatest state.now.network state.now.flows) }
     ensures fault { IfErr result (λ fault. fault ≡ CutFault.NotGreatest → IsSurpassed state.now.network state.now.flows) }
 {
-    let marks = reached_nodes(alloc, state)?;
-    if marks[state.sink() as usize - 1] {
+    let search = residual_search(alloc, state)?;
+    let side = reached_side(alloc, &search, state.value())?;
+    if side.contains(state.sink()) {
         return Err(CutFault::NotGreatest);
     }
-    let ids = marked_nodes(alloc, &marks)?;
-    Ok(Side {
-        ids,
-        capacity: state.value(),
-    })
+    Ok(side)
 }
 
 /// The smallest side of the network that an edit makes of the state's, which does not change. The edit fits the state, as
@@ -99,13 +97,23 @@ pub fn side_after(alloc: Global, state: &State, edit: &Edit) -> Result<Side, Cut
     smallest_side(alloc, &after)
 }
 
-/// Which nodes residual paths of the state's flow lead to from the source, node 1 first.
-fn reached_nodes(alloc: Global, state: &State) -> Result<Vec<bool>, AllocError>
-    ensures one_each { IfOk result (λ marks. length marks.items ≡ state.now.network.nodes) }
-    ensures marks { IfOk result (λ marks. (v : ℕ) → IsNode state.now.network.nodes v →
-        IsTrue (slice_index_or marks.items (v - 1) false) ↔ IsReachable (residual_steps state.now.network.arcs state.now.flows) state.now.network.source v) }
+/// The smallest side of the state's network, once it is solved.
+pub fn solved_side(alloc: Global, state: &State, solved: &Solved) -> Result<Side, AllocError>
+    requires { IsSolved state.now solved.now.search solved.now.value }
+    ensures side { IfOk result (λ side. IsSmallestSide state.now.network side) }
+    ensures value { IfOk result (λ side. side.capacity ≡ solved.now.value) }
 {
-    residual_search(alloc, state)?.reached(alloc)
+    reached_side(alloc, &solved.search, solved.value)
+}
+
+/// The nodes to which paths of a search lead, with this capacity.
+fn reached_side(alloc: Global, search: &Search, capacity: u64) -> Result<Side, AllocError>
+    requires { search.now.nodes ≤ 2 ^ 24 }
+    ensures { IfOk result (IsReachedSide search.now capacity) }
+{
+    let marks = search.reached(alloc)?;
+    let ids = marked_nodes(alloc, &marks)?;
+    Ok(Side { ids, capacity })
 }
 
 /// The numbers of the nodes that are marked, ascending. The first mark is that of node 1.

@@ -1,11 +1,11 @@
-ghost use Rattle.std.specs.Prelude.{◌≡◌, ◌≢◌, ℕ, true, false, ◌+◌, ◌-◌, ◌^◌, ◌<◌, ◌≤◌, ◌↔◌, pos, length, slice_get, Some, None, Ok, Err, IsTrue, IfOk, IfErr, OnOk, OnErr, IsOkUnless, MatchOption};
+ghost use Rattle.std.specs.Prelude.{◌≡◌, ◌≢◌, ℕ, true, false, ◌+◌, ◌-◌, ◌^◌, ◌<◌, ◌≤◌, ◌⊎◌, pos, length, slice_get, Some, None, Ok, Err, IsTrue, IfOk, OnOk, OnErr, IsErrOf, IsOkUnless, MatchOption};
 ghost use Rattle.std.specs.Result.{result_err};
 ghost use Rattle.dmf_path.specs.Node.{IsNode, is_node};
 ghost use Rattle.dmf_net.specs.Arc.{open_arc, capacity_sum, open_count};
 ghost use Rattle.dmf_net.specs.Network.{arc_number, has_arc, with_arc};
 ghost use Rattle.dmf_net.specs.Flow.{flow_value};
 ghost use Rattle.dmf_net.specs.FlowSums.{IsNodeFlow};
-ghost use Rattle.dmf_net.specs.FlowFault.{FlowFaultHolds};
+ghost use Rattle.dmf_net.specs.FlowFault.{flow_fault};
 ghost use Rattle.dmf_net.specs.NetworkState.{IsState, without_arcs, with_flows, with_idle_arc};
 ghost use Rattle.dmf_net.specs.Change.{arc_fault, arc_refusal, net_fault};
 ghost use Rattle.dmf_net.specs.Direction.{along, HasIdleLast};
@@ -166,9 +166,9 @@ impl State {
     /// where it is refused, the answer is [`FlowFault::NoMemory`].
     pub fn with_flows(&self, alloc: Global, flows: Vec<u64>) -> Result<State, FlowFault>
         requires { length flows.items ≡ length self.now.network.arcs }
+        ensures refused { IsErrOf result FlowFault.NoMemory ⊎ (result_err result ≡ flow_fault self.now.network flows.items) }
         ensures ok { IfOk result (λ state. state ≡ with_flows self.now flows.items) }
         ensures state { OnOk result (IsState (with_flows self.now flows.items)) }
-        ensures fault { IfErr result (FlowFaultHolds self.now.network flows.items) }
     {
         let at_source = self.judge(alloc, &flows)?;
         let arcs = Vec::from_slice(alloc, &self.arcs)?;
@@ -183,9 +183,9 @@ impl State {
     /// What flows out of the source and into it, or why these flows are no flow of a value from 0 on.
     fn judge(&self, alloc: Global, flows: &[u64]) -> Result<NodeFlow, FlowFault>
         requires { length flows.now ≡ length self.now.network.arcs }
+        ensures refused { IsErrOf result FlowFault.NoMemory ⊎ (result_err result ≡ flow_fault self.now.network flows.now) }
         ensures state { OnOk result (IsState (with_flows self.now flows.now)) }
         ensures source { IfOk result (IsNodeFlow self.now.network.arcs flows.now self.now.network.source) }
-        ensures fault { IfErr result (FlowFaultHolds self.now.network flows.now) }
     {
         if let Some(arc) = first_over_capacity(&self.arcs, flows) {
             return Err(FlowFault::OverCapacity(arc));

@@ -1,6 +1,6 @@
 use crate::{
     Arc, CutFault, Edit, FlowFault, Move, NetFault, PlanFault, State, plan_add, plan_solve,
-    side_after, smallest_side,
+    plan_solve_with_side, side_after, smallest_side,
 };
 use std::alloc::Global;
 use std::test::Fail;
@@ -195,6 +195,10 @@ fn the_smallest_side_is_told(rt: HostRuntime) -> Result<(), Fail> {
     let after = side_after(rt.alloc(), &state, &edit)?;
     assert!(rt; after.ids().eq([1]));
     assert_eq!(rt; after.capacity(), 5);
+    let (again, planned) = plan_solve_with_side(rt.alloc(), &state)?;
+    assert_eq!(rt; again, edit);
+    assert!(rt; planned.ids().eq([1]));
+    assert_eq!(rt; planned.capacity(), 5);
     assert_eq!(rt; state.value(), 0);
     assert_eq!(rt; state.flow(1), 0);
     state.apply(&edit)?;

@@ -25,6 +25,7 @@ pub mod CountingLinks
 pub mod Sums
 pub mod Starts
 pub mod Putting
+pub mod Filling
 pub mod Built
 pub mod Searching
 pub mod Lowered

@@ -1,9 +1,7 @@
 //! Smallest minimum cuts: printed, and told after solutions.
 use crate::networks::{FULL_ARC, LENIENT, NETWORK_A, TWO_SHORTEST};
 use crate::row::{Row, is_held, is_held_byte_by_byte};
-use crate::streams::{
-    ByteReader, FlushMarker, Outcome, SlowWriter, hold_with_cuts, solve_with_cut,
-};
+use crate::streams::{ByteReader, FlushMarker, Outcome, SlowWriter, hold_over, solve_over};
 use dmf_run::{EngineFault, Status};
 use std::alloc::Global;
 use std::test::Fail;
@@ -137,7 +135,7 @@ fn cuts_are_told_after_solutions(rt: HostRuntime) -> Result<(), Fail> {
     for row in telling_rows() {
         let about = row.about;
         let mut written = Vec::new(rt.alloc());
-        let outcome = hold_with_cuts(rt.alloc(), row.problem, row.commands, &mut written);
+        let outcome = hold_over(rt.alloc(), row.problem, row.commands, &mut written, true);
         assert_eq!(rt; outcome, row.outcome, "{about}");
         assert!(rt; written.as_slice() == row.written, "{about}");
     }
@@ -169,14 +167,15 @@ fn solved_problems() -> [(&'static [u8], &'static [u8]); 5] {
 fn problems_are_solved_with_their_cuts(rt: HostRuntime) -> Result<(), Fail> {
     for (problem, wanted) in solved_problems() {
         let mut written = Vec::new(rt.alloc());
-        let outcome = solve_with_cut(rt.alloc(), problem, &mut written);
+        let outcome = solve_over(rt.alloc(), problem, &mut written, true);
         assert_eq!(rt; outcome, Ok(Status::Well));
         assert!(rt; written.as_slice() == wanted);
         let mut slowly = Vec::new(rt.alloc());
-        let outcome = solve_with_cut(
+        let outcome = solve_over(
             rt.alloc(),
             ByteReader::new(problem),
             SlowWriter::new(&mut slowly),
+            true,
         );
         assert_eq!(rt; outcome, Ok(Status::Well));
         assert!(rt; slowly.as_slice() == wanted);
@@ -187,15 +186,21 @@ fn problems_are_solved_with_their_cuts(rt: HostRuntime) -> Result<(), Fail> {
 #[test]
 fn a_solution_and_its_cut_are_flushed_once(rt: HostRuntime) -> Result<(), Fail> {
     let mut written = Vec::new(rt.alloc());
-    let outcome = solve_with_cut(rt.alloc(), NO_ARCS, FlushMarker { held: &mut written });
+    let outcome = solve_over(
+        rt.alloc(),
+        NO_ARCS,
+        FlushMarker { held: &mut written },
+        true,
+    );
     assert_eq!(rt; outcome, Ok(Status::Well));
     assert!(rt; written.as_slice() == b"s 0\nc cut 0\nc side 1\n|".as_slice());
     let mut written = Vec::new(rt.alloc());
-    let outcome = hold_with_cuts(
+    let outcome = hold_over(
         rt.alloc(),
         NO_ARCS,
         b"solve\nprint cut\n".as_slice(),
         FlushMarker { held: &mut written },
+        true,
     );
     assert_eq!(rt; outcome, Ok(Status::Well));
     assert!(rt; written.as_slice() == b"s 0\nc cut 0\nc side 1\n|c cut 0\nc side 1\n|".as_slice());
@@ -210,7 +215,7 @@ fn solve_into(alloc: Global, written: &mut Vec<u8>, room: usize, flush_fails: bo
         room,
         flush_fails,
     };
-    solve_with_cut(alloc, NETWORK_A, writer)
+    solve_over(alloc, NETWORK_A, writer, true)
 }
 
 #[test]

@@ -12,6 +12,7 @@ fn a_failed_read_of_the_problem_stops_the_run(rt: HostRuntime) -> Result<(), Fai
         ByteReader::failing_at_end(NETWORK_A),
         b"print problem\n".as_slice(),
         &mut written,
+        false,
     );
     assert_eq!(rt; outcome, Err(EngineFault::Read));
     assert!(rt; written.is_empty());
@@ -28,6 +29,7 @@ fn a_failed_read_of_the_commands_leaves_the_replies_to_whole_lines(
         NETWORK_A,
         ByteReader::failing_at_end(b"add 1 4 7\nund"),
         &mut written,
+        false,
     );
     assert_eq!(rt; outcome, Err(EngineFault::Read));
     assert!(rt; written.as_slice() == b"c add 6 value 0\n".as_slice());
@@ -42,6 +44,7 @@ fn the_end_of_the_commands_ends_their_last_line(rt: HostRuntime) -> Result<(), F
         NETWORK_A,
         ByteReader::new(b"add 1 4 7\nund"),
         &mut written,
+        false,
     );
     assert_eq!(rt; outcome, Ok(Status::SomeRefused));
     let replies = b"c add 6 value 0\nc refused 2 unknown command\n";
@@ -72,6 +75,7 @@ fn a_failed_write_leaves_a_front_of_the_replies(rt: HostRuntime) -> Result<(), F
             NETWORK_A,
             b"add 1 4 7\nundo\n".as_slice(),
             writer,
+            false,
         );
         assert_eq!(rt; outcome, Err(EngineFault::Write), "{about}");
         assert_eq!(rt; written.len(), held, "{about}");

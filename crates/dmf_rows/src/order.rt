@@ -89,6 +89,7 @@ fn a_reply_is_flushed_before_more_is_read(rt: HostRuntime) -> Result<(), Fail> {
             room: 1000,
             watch: &watch,
         },
+        false,
     );
     assert_eq!(rt; outcome, Ok(Status::SomeRefused));
     assert!(rt; !watch.misused.get());
@@ -109,6 +110,7 @@ fn nothing_is_read_once_a_write_failed(rt: HostRuntime) -> Result<(), Fail> {
             room: 20,
             watch: &watch,
         },
+        false,
     );
     assert_eq!(rt; outcome, Err(EngineFault::Write));
     assert!(rt; watch.failed.get());

@@ -27,6 +27,7 @@ pub fn is_held_byte_by_byte(alloc: Global, row: Row) -> bool {
         ByteReader::new(row.problem),
         ByteReader::new(row.commands),
         SlowWriter::new(&mut written),
+        false,
     );
     outcome == row.outcome && is_written(&written, row.written)
 }

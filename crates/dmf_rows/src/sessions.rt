@@ -207,6 +207,7 @@ fn each_reply_is_flushed_and_nothing_else(rt: HostRuntime) -> Result<(), Fail> {
         NETWORK_A,
         b"add 1 4 7\nc a comment\n\nsolve\ncap 1 9\nclose 6\nclosed 6\nundo".as_slice(),
         FlushMarker { held: &mut written },
+        false,
     );
     assert_eq!(rt; outcome, Ok(Status::SomeRefused));
     let replies = b"c add 6 value 0\n|\

@@ -69,6 +69,7 @@ fn bytes_may_come_and_go_one_by_one(rt: HostRuntime) -> Result<(), Fail> {
             rt.alloc(),
             ByteReader::new(row.problem),
             SlowWriter::new(&mut written),
+            false,
         );
         assert!(rt; is_solved(outcome, &written, row), "{about}");
     }
@@ -108,7 +109,12 @@ fn a_faulty_problem_is_told_and_nothing_is_written(rt: HostRuntime) -> Result<()
 #[test]
 fn a_solution_is_flushed_once(rt: HostRuntime) -> Result<(), Fail> {
     let mut written = Vec::new(rt.alloc());
-    let outcome = solve_over(rt.alloc(), FULL_ARC, FlushMarker { held: &mut written });
+    let outcome = solve_over(
+        rt.alloc(),
+        FULL_ARC,
+        FlushMarker { held: &mut written },
+        false,
+    );
     assert_eq!(rt; outcome, Ok(Status::Well));
     let solution = b"s 18446744073709551615\nf 1 2 18446744073709551615\n|";
     assert!(rt; written.as_slice() == solution.as_slice());
@@ -122,6 +128,7 @@ fn a_failed_read_leaves_nothing_written(rt: HostRuntime) -> Result<(), Fail> {
         rt.alloc(),
         ByteReader::failing_at_end(NETWORK_A),
         &mut written,
+        false,
     );
     assert_eq!(rt; outcome, Err(EngineFault::Read));
     assert!(rt; written.is_empty());
@@ -142,7 +149,7 @@ fn solve_into(
         room,
         flush_fails,
     };
-    solve_over(alloc, NETWORK_A, writer)
+    solve_over(alloc, NETWORK_A, writer, false)
 }
 
 #[test]

@@ -10,71 +10,43 @@ pub type Outcome = Result<Status, EngineFault>;
 
 /// Holds a session over memory, and adds what it writes to `written`.
 pub fn hold(alloc: Global, problem: &[u8], commands: &[u8], written: &mut Vec<u8>) -> Outcome {
-    hold_over(alloc, problem, commands, written)
+    hold_over(alloc, problem, commands, written, false)
 }
 
-/// Holds a session over any readers and writer.
+/// Holds a session over any readers and writer; with `want_cut` each solve tells a cut.
 pub fn hold_over<P: Read + Drop, C: Read + Drop, W: Write + Drop>(
     alloc: Global,
     problem: P,
     commands: C,
     writer: W,
+    want_cut: bool,
 ) -> Outcome {
     run_session(
         alloc,
         &mut StdSource::new(problem),
         &mut StdSource::new(commands),
         &mut StdSink::new(writer),
-        false,
-    )
-}
-
-/// Holds a session that tells a cut after each solve.
-pub fn hold_with_cuts<P: Read + Drop, C: Read + Drop, W: Write + Drop>(
-    alloc: Global,
-    problem: P,
-    commands: C,
-    writer: W,
-) -> Outcome {
-    run_session(
-        alloc,
-        &mut StdSource::new(problem),
-        &mut StdSource::new(commands),
-        &mut StdSink::new(writer),
-        true,
+        want_cut,
     )
 }
 
 /// Solves a problem over memory, and adds what is written to `written`.
 pub fn solve(alloc: Global, problem: &[u8], written: &mut Vec<u8>) -> Outcome {
-    solve_over(alloc, problem, written)
+    solve_over(alloc, problem, written, false)
 }
 
-/// Solves a problem over any reader and writer.
+/// Solves a problem over any reader and writer; with `want_cut` the cut is told after its solution.
 pub fn solve_over<P: Read + Drop, W: Write + Drop>(
     alloc: Global,
     problem: P,
     writer: W,
+    want_cut: bool,
 ) -> Outcome {
     run_solve(
         alloc,
         &mut StdSource::new(problem),
         &mut StdSink::new(writer),
-        false,
-    )
-}
-
-/// Solves a problem, and tells the cut after its solution.
-pub fn solve_with_cut<P: Read + Drop, W: Write + Drop>(
-    alloc: Global,
-    problem: P,
-    writer: W,
-) -> Outcome {
-    run_solve(
-        alloc,
-        &mut StdSource::new(problem),
-        &mut StdSink::new(writer),
-        true,
+        want_cut,
     )
 }
 

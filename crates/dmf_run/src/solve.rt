@@ -1,6 +1,7 @@
 //! A problem is solved, from bytes to bytes.
 ghost use Rattle.std.specs.Prelude.{IfOk};
 ghost use Rattle.dmf_net.specs.Change.{Solve, Becomes};
+ghost use Rattle.dmf_net.specs.Edit.{applied, Fits};
 ghost use Rattle.dmf_session.specs.Step.{IsSideWanted};
 ghost use Rattle.dmf_run.specs.Streams.{reader_of, writer_of};
 ghost use Rattle.dmf_run.specs.SolveRun.{RunsSolve, WrittenIsOptimal};
@@ -9,7 +10,7 @@ use crate::fault::{EngineFault, Status};
 use crate::laws::written_is_optimal;
 use crate::problem::read_state;
 use crate::reply::put_solved;
-use dmf_net::{NoMemory, Side, State, plan_solve, smallest_side};
+use dmf_net::{Edit, NoMemory, PlanFault, Side, State, plan_solve, plan_solve_with_side};
 use dmf_text::{Sink, Source};
 use std::alloc::Global;
 
@@ -53,18 +54,22 @@ fn solve(alloc: Global, mut state: State, want_cut: bool) -> Result<Solved, NoMe
     ensures becomes { IfOk result (λ solved. Becomes state Solve solved.state) }
     ensures side { IfOk result (λ solved. IsSideWanted want_cut solved.state.network solved.side) }
 {
-    let Ok(edit) = plan_solve(alloc, &state) else {
+    let Ok((edit, side)) = plan(alloc, &state, want_cut) else {
         return Err(NoMemory);
     };
     state.apply(&edit)?;
-    let side = if want_cut {
-        // The flow is greatest, so only memory can be refused.
-        let Ok(side) = smallest_side(alloc, &state) else {
-            return Err(NoMemory);
-        };
-        Some(side)
-    } else {
-        None
-    };
     Ok(Solved { state, side })
+}
+
+/// The edit that solves the state, and the smallest side of its network, where it is wanted.
+fn plan(alloc: Global, state: &State, want_cut: bool) -> Result<(Edit, Option<Side>), PlanFault>
+    ensures fits { IfOk result (λ planned. Fits planned.0 state.now) }
+    ensures becomes { IfOk result (λ planned. Becomes state.now Solve (applied planned.0 state.now)) }
+    ensures side { IfOk result (λ planned. IsSideWanted want_cut state.now.network planned.1) }
+{
+    if want_cut {
+        let (edit, side) = plan_solve_with_side(alloc, state)?;
+        return Ok((edit, Some(side)));
+    }
+    Ok((plan_solve(alloc, state)?, None))
 }

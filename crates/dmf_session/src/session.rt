@@ -7,7 +7,9 @@ ghost use Rattle.dmf_session.specs.Optimal.{HasOptimalPresent};
 use crate::command::{Command, Refusal, Reply};
 use crate::history::{History, MAX_CHANGES, RedoFault};
 use crate::laws::greatest_is_optimal;
-use dmf_net::{State, plan_add, plan_cap, plan_close, plan_solve, side_after, smallest_side};
+use dmf_net::{
+    State, plan_add, plan_cap, plan_close, plan_solve, plan_solve_with_side, smallest_side,
+};
 use std::alloc::Global;
 use std::marker::Model;
 
@@ -128,11 +130,11 @@ impl<H: History> Session<H> {
     {
         greatest_is_optimal();
         let present = self.history.present();
-        let edit = plan_solve(alloc, present)?;
-        let side = if want_cut {
-            Some(side_after(alloc, present, &edit)?)
+        let (edit, side) = if want_cut {
+            let (edit, side) = plan_solve_with_side(alloc, present)?;
+            (edit, Some(side))
         } else {
-            None
+            (plan_solve(alloc, present)?, None)
         };
         self.history.append(edit)?;
         Ok(Reply::Solution(side))

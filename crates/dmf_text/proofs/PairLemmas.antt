@@ -1,13 +1,13 @@
 -- Lemmas on the pairs of arcs, and on what a map keeps of them.
-use Rattle.std.proofs.Common.{◌≡◌, ℕ, zero, suc, ◌+◌, ◌-◌, ◌<◌, ◌≤◌, min, List, [], ◌∷◌, ◌++◌, length, take, drop, get_or, Bool, true, false, ◌||◌, if◌then◌else◌, Option, Some, None, is_some, Ok, Err, refl, sym, ap, ◌∙◌, subst, ⊎_elim, arith, drop-cons}
+use Rattle.std.proofs.Common.{◌≡◌, ℕ, suc, ◌+◌, ◌-◌, ◌<◌, ◌≤◌, min, List, [], ◌∷◌, ◌++◌, length, take, drop, get_or, Bool, true, false, ◌||◌, if◌then◌else◌, Option, Some, None, is_some, Ok, Err, refl, sym, ap, ◌∙◌, subst, ⊎_elim, arith, drop-cons}
 use Rattle.std.proofs.lemmas.Bool.{cases_Bool, cond-true, cond-false, and_parts, and_from, eqb-true, eq-eqb, le-leb, lt-leb}
 use Rattle.std.proofs.lemmas.List.{take_more}
 use Rattle.std.proofs.lemmas.List.Folds.{list_any-append}
 use Rattle.std.proofs.lemmas.List.Sums.{sum_by-append, sum_by-cons, sum_by_more_le_part}
 use Rattle.std.specs.HashMap.{HashMap, get, IsEmpty, Updates}
-use Rattle.std.specs.List.{slice_get}
 use Rattle.dmf_net.specs.declared.arc.Arc.{Arc}
 use Rattle.dmf_net.specs.Arc.{no_arc, capacity_sum}
+use Rattle.dmf_net.specs.Flow.{AreWithinCapacities}
 use Rattle.dmf_text.specs.declared.fault.SolutionFaultKind.{SolutionFaultKind}
 use Rattle.dmf_text.specs.declared.pairs.PairFlow.{PairFlow}
 use Rattle.dmf_text.specs.Solution.{Pair, same_pair, ends, has_pair, pair_capacity, pair_flow, Said, flow_fits, put_behind}
@@ -183,13 +183,7 @@ pub put-long : (flows : List (Pair × ℕ)) (before arcs : List Arc) → length 
 put-long flows before [] = refl
 put-long flows before (arc ∷ more) = ap (λ n. suc n) (put-long flows (before ++ arc ∷ []) more)
 
--- and it is within the arc's capacity
-pub put-within : (flows : List (Pair × ℕ)) (before arcs : List Arc) (k : ℕ) (arc : Arc) (flow : ℕ)
-    → slice_get arcs k ≡ Some arc → slice_get (put_behind flows before arcs) k ≡ Some flow → flow ≤ arc.cap
-put-within flows before [] k arc flow is put = absurd (let wrong : ⊥ = cc in wrong)
-put-within flows before (a ∷ more) zero arc flow is put =
-    let same : a ≡ arc = cc in
-    let least : min a.cap (pair_flow flows (ends a) - pair_capacity before (ends a)) ≡ flow = cc in
-    let cap = ap (λ b. b.cap) same in
-    omega (arith, least, cap)
-put-within flows before (a ∷ more) (suc k) arc flow is put = put-within flows (before ++ a ∷ []) more k arc flow is put
+-- and each is within the arc's capacity
+pub put-within : (flows : List (Pair × ℕ)) (before arcs : List Arc) → AreWithinCapacities arcs (put_behind flows before arcs)
+put-within flows before [] = tt
+put-within flows before (arc ∷ more) = (omega arith, put-within flows (before ++ arc ∷ []) more)

@@ -1,14 +1,14 @@
 -- Solution texts, in the format of the First DIMACS Implementation Challenge (Problem Definitions and Specifications,
 -- 1990, maximum flow): which line is at fault, and what a text stands for, given the network that it speaks of.
 -- Public: a public contract says no more than this.
-use Rattle.std.specs.Prelude.{ℕ, List, [], ◌∷◌, ◌++◌, ◌+◌, ◌-◌, ◌==◌, ◌&&◌, Bool, not, Option, Some, None, is_none, Result, Ok, Err, ok_or, if◌then◌else◌, length, map, codes, min, nat_eq, nat_le, pos, sum_by}
-use Rattle.std.specs.List.{filter_map, find, list_any, range_with_len, starts_with}
+use Rattle.std.specs.Prelude.{ℕ, List, [], ◌∷◌, ◌++◌, ◌+◌, ◌-◌, ◌==◌, ◌&&◌, Bool, Option, Some, None, is_none, Result, Ok, Err, ok_or, if◌then◌else◌, length, map, codes, min, nat_eq, nat_le, pos, sum_by}
+use Rattle.std.specs.List.{filter_map, list_any, starts_with}
 use Rattle.std.specs.Ordering.{int_eq}
 use Rattle.std.specs.Str.{bytes_eq}
 use Rattle.std.specs.Str.Lines.{lines}
 use Rattle.dmf_net.specs.declared.arc.Arc.{Arc}
-use Rattle.dmf_net.specs.Network.{Network}
-use Rattle.dmf_net.specs.Flow.{outflow, inflow, flow_value}
+use Rattle.dmf_net.specs.Flow.{flow_value}
+use Rattle.dmf_net.specs.FlowFault.{first_unbalanced}
 use Rattle.dmf_net.specs.NetworkState.{NetworkState, with_flows}
 use Rattle.dmf_text.specs.declared.digits.NumberFault.{NumberFault}
 use Rattle.dmf_text.specs.declared.digits.NumberFault.TheVariants as digits
@@ -123,16 +123,7 @@ put_behind flows before (arc ∷ more) =
 abbrev pub put_on : List (Pair × ℕ) → List Arc → List ℕ
 put_on flows arcs = put_behind flows [] arcs
 
--- whether outflow and inflow differ at a node other than the source and the sink
-abbrev pub is_unbalanced : Network → List ℕ → ℕ → Bool
-is_unbalanced n flows v =
-    (not (v == n.source) && not (v == n.sink)) && not (outflow n.arcs flows v == inflow n.arcs flows v)
-
--- the least node, of the nodes 1 to the last, at which they differ
-abbrev pub first_unbalanced : Network → List ℕ → Option ℕ
-first_unbalanced n flows = find (is_unbalanced n flows) (range_with_len 1 n.nodes)
-
--- the flow is conserved: there is no such node
+-- the flow is conserved: no node is unbalanced
 abbrev pub expect_none : Option ℕ → Result (Unit {0}) SolutionFaultKind
 expect_none None = Ok tt
 expect_none (Some node) = Err (NotConserved node)

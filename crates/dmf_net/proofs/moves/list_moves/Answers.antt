@@ -1,6 +1,8 @@
-use Rattle.std.proofs.Common.{◌+◌, ◌∷◌, [], ◌++◌, ◌∙◌, sym, ap, arith, take, take_all, append-nil, slice_index}
+use Rattle.std.proofs.Common.{ℕ, ◌≡◌, ◌+◌, List, ◌∷◌, [], ◌++◌, ◌∙◌, sym, ap, arith, take, take_all, append-nil, get_or}
 use Rattle.dmf_net.specs.Edit.{differences}
-use Rattle.dmf_net.proofs.Moving.{differences-more, move_of-differ, move_of-same}
+use Rattle.dmf_net.specs.Pairs.{flows_read}
+use Rattle.dmf_net.proofs.FlowsRead.{length-flows_read, get_or-flows_read}
+use Rattle.dmf_net.proofs.Moving.{differences-more, move_of, move_of-differ, move_of-same}
 use Rattle.dmf_net.proofs.moves.list_moves.Goals.{then-from-to+in_ok-push, else-from-to}
 use Rattle.dmf_net.proofs.moves.list_moves.Goals as goal
 
@@ -9,21 +11,29 @@ loop-i-init c = c.new-moves.ensures.items
 
 pub loop-i-preserved : goal.loop-i-preserved
 loop-i-preserved c =
-    let more = differences-more c.loop-i.i c.args.before.now c.args.after.now c.loop-i-test.true c.requires.one_each in
+    let before : List ℕ = c.args.before.now in
+    let after : List ℕ = flows_read c.args.link before c.args.search.now.pairs in
+    let i : ℕ = c.loop-i.i in
+    let from : ℕ = get_or before i 0 in
+    let read : c.flow_read-to.result ≡ get_or after i 0 = c.flow_read-to.ensures ∙ sym (get_or-flows_read c.args.link before c.args.search.now.pairs i c.requires.one_each c.loop-i-test.true) in
+    let more = differences-more i before after c.loop-i-test.true (length-flows_read c.args.link before c.args.search.now.pairs c.requires.one_each) in
+    let next : differences 1 (take i before) (take i after) ++ move_of (i + 1) from c.flow_read-to.result ≡ differences 1 (take (i + 1) before) (take (i + 1) after) =
+    ap (λ to. differences 1 (take i before) (take i after) ++ move_of (i + 1) from to) read ∙ sym more in
     elim c.if-from-to.branch [
       | then-from-to+in_ok-push w ↦
           ap (λ v. v.items) w.moves-is ∙ w.in_ok-push.ensures.items
-          ∙ ap (λ ms. ms ++ record { arc = c.loop-i.i + 1; from = slice_index c.args.before.now c.loop-i.i; to = slice_index c.args.after.now c.loop-i.i } ∷ []) c.loop-i.invariant
-          ∙ ap (λ ms. differences 1 (take c.loop-i.i c.args.before.now) (take c.loop-i.i c.args.after.now) ++ ms) (sym (move_of-differ _ _ _ w.if-from-to.true))
-          ∙ sym more
+          ∙ ap (λ ms. ms ++ record { arc = i + 1; from = from; to = c.flow_read-to.result } ∷ []) c.loop-i.invariant
+          ∙ ap (λ ms. differences 1 (take i before) (take i after) ++ ms) (sym (move_of-differ _ _ _ w.if-from-to.true))
+          ∙ next
       | else-from-to w ↦
           ap (λ v. v.items) w.moves-is ∙ c.loop-i.invariant ∙ sym (append-nil _)
-          ∙ ap (λ ms. differences 1 (take c.loop-i.i c.args.before.now) (take c.loop-i.i c.args.after.now) ++ ms) (sym (move_of-same (c.loop-i.i + 1) _ _ w.if-from-to.false))
-          ∙ sym more
+          ∙ ap (λ ms. differences 1 (take i before) (take i after) ++ ms) (sym (move_of-same (i + 1) _ _ w.if-from-to.false))
+          ∙ next
     ]
 
 pub returns : goal.returns
 returns c =
     let before = take_all c.loop-i.i c.args.before.now c.loop-i-test.false in
-    let after = take_all c.loop-i.i c.args.after.now (omega (arith, c.requires.one_each, c.loop-i-test.false)) in
+    let long = length-flows_read c.args.link c.args.before.now c.args.search.now.pairs c.requires.one_each in
+    let after = take_all c.loop-i.i (flows_read c.args.link c.args.before.now c.args.search.now.pairs) (omega (arith, long, c.loop-i-test.false)) in
     rw (before, after) at c.loop-i.invariant

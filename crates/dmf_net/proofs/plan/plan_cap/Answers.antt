@@ -9,7 +9,7 @@ pub returns-clause-fits : goal.returns-clause-fits
 returns-clause-fits c =
     let s = c.args.state.now in
     let found = subst (λ k. IsOpenWith s.network k c.in_ok-arc.old) (sym c.in_ok-arc.ensures.arc.0) c.in_ok-arc.ensures.arc.1 in
-    let drained = c.in_ok-moves.ensures in
+    let drained = c.in_ok-moves.ensures.moves in
     let small : sum_with s.network c.in_ok-arc.arc c.args.cap < 2 ^ 64 = omega (arith, c.room_for.ensures, c.if-cap-room_for.false, found.has_cap) in
     record {
       arc = found;

@@ -8,7 +8,7 @@ pub returns-clause-fits : goal.returns-clause-fits
 returns-clause-fits c =
     let s = c.args.state.now in
     let found = subst (λ k. IsOpenWith s.network k c.in_ok-arc.old) (sym c.in_ok-arc.ensures.arc.0) c.in_ok-arc.ensures.arc.1 in
-    let drained = c.in_ok-moves.ensures in
+    let drained = c.in_ok-moves.ensures.moves in
     record {
       arc = found;
       moves = drained.fit;

@@ -1,15 +1,17 @@
-use Rattle.std.proofs.Common.{◌∙◌}
+use Rattle.std.proofs.Common.{ap, sym, ◌∙◌}
+use Rattle.dmf_net.specs.Side.{has_node}
 use Rattle.dmf_net.proofs.LargerFlow.{surpassed-from_path}
 use Rattle.dmf_net.proofs.GreatestFlow.{greatest-from_no_path}
-use Rattle.dmf_net.proofs.SmallestSide.{mark-read, no_path-from_mark, reached-from_marks, IsSmallestSide-reached}
+use Rattle.dmf_net.proofs.SmallestSide.{reached-by_search, no_path-by_search, IsSmallestSide-by_search}
 use Rattle.dmf_net.proofs.side.smallest_side.Goals as goal
 
-pub returns-then-index-clause-fault : goal.returns-then-index-clause-fault
-returns-then-index-clause-fault c same =
+pub returns-then-contains-clause-fault : goal.returns-then-contains-clause-fault
+returns-then-contains-clause-fault c same =
     let n = c.args.state.now.network in
     let state = c.sink.ensures.state in
-    let read = mark-read c.in_ok-marks.marks.items n.nodes n.sink c.sink.result c.index.result.now c.in_ok-marks.ensures.one_each state.network.sink c.sink.ensures.value c.index.ensures in
-    let path = (c.in_ok-marks.ensures.marks n.sink state.network.sink).0 (read ∙ c.if-index.true) in
+    let inside = ap (has_node c.in_ok-side.side.ids) (sym c.sink.ensures.value) ∙ sym c.contains.ensures ∙ c.if-contains.true in
+    let reached = reached-by_search n c.args.state.now.flows c.in_ok-search.search c.value.result c.in_ok-side.side state.flow c.in_ok-search.ensures.search c.in_ok-side.ensures in
+    let path = reached.reached n.sink inside in
     surpassed-from_path n c.args.state.now.flows path.0 state.network state.flow path.1
 
 pub returns-clause-side : goal.returns-clause-side
@@ -17,19 +19,16 @@ returns-clause-side c =
     let n = c.args.state.now.network in
     let flows = c.args.state.now.flows in
     let state = c.sink.ensures.state in
-    let marks = c.in_ok-marks.marks.items in
-    let read = mark-read marks n.nodes n.sink c.sink.result c.index.result.now c.in_ok-marks.ensures.one_each state.network.sink c.sink.ensures.value c.index.ensures in
-    let none = no_path-from_mark n flows marks state.network c.in_ok-marks.ensures.marks (read ∙ c.if-index.false) in
-    let listed = rw c.deref.ensures.value at c.in_ok-ids.ensures.marked in
-    let reached = reached-from_marks n flows marks c.in_ok-ids.ids.items c.in_ok-marks.ensures.one_each c.in_ok-marks.ensures.marks listed in
-    IsSmallestSide-reached n flows c.in_ok-ids.ids.items c.value.result state.network state.flow none reached c.in_ok-ids.ensures.ascending c.value.ensures.value
+    let outside = ap (has_node c.in_ok-side.side.ids) (sym c.sink.ensures.value) ∙ sym c.contains.ensures ∙ c.if-contains.false in
+    let reached = reached-by_search n flows c.in_ok-search.search c.value.result c.in_ok-side.side state.flow c.in_ok-search.ensures.search c.in_ok-side.ensures in
+    let none = no_path-by_search n flows (has_node c.in_ok-side.side.ids) state.network reached outside in
+    IsSmallestSide-by_search n flows c.in_ok-search.search c.value.result c.in_ok-side.side state.network state.flow none c.in_ok-search.ensures.search c.value.ensures.value c.in_ok-side.ensures
 
 pub returns-clause-greatest : goal.returns-clause-greatest
 returns-clause-greatest c =
     let n = c.args.state.now.network in
     let flows = c.args.state.now.flows in
     let state = c.sink.ensures.state in
-    let marks = c.in_ok-marks.marks.items in
-    let read = mark-read marks n.nodes n.sink c.sink.result c.index.result.now c.in_ok-marks.ensures.one_each state.network.sink c.sink.ensures.value c.index.ensures in
-    let none = no_path-from_mark n flows marks state.network c.in_ok-marks.ensures.marks (read ∙ c.if-index.false) in
-    greatest-from_no_path n flows state.network state.flow none
+    let outside = ap (has_node c.in_ok-side.side.ids) (sym c.sink.ensures.value) ∙ sym c.contains.ensures ∙ c.if-contains.false in
+    let reached = reached-by_search n flows c.in_ok-search.search c.value.result c.in_ok-side.side state.flow c.in_ok-search.ensures.search c.in_ok-side.ensures in
+    greatest-from_no_path n flows state.network state.flow (no_path-by_search n flows (has_node c.in_ok-side.side.ids) state.network reached outside)

@@ -1,9 +1,11 @@
-use Rattle.std.proofs.Common.{◌≡◌, ◌∙◌, ℕ, List, Ok, Err, inl, inr, pos, arith, sym, ap, subst, ⊎_elim}
+use Rattle.std.proofs.Common.{◌≡◌, ◌∙◌, ◌⊎◌, ℕ, List, Some, Ok, Err, inl, inr, pos, arith, sym, ap, subst, ⊎_elim}
 use Rattle.std.proofs.lemmas.Int.{ints}
+use Rattle.std.specs.Result.{IsErrOf}
 use Rattle.std.proofs.lemmas.Result.{err_from_is_err_and}
 use Rattle.dmf_net.specs.Flow.{flow_value, IsFlow}
-use Rattle.dmf_net.specs.FlowFault.{FlowFaultHolds}
-use Rattle.dmf_net.specs.NetworkState.{with_flows}
+use Rattle.dmf_net.specs.declared.fault.FlowFault.TheVariants.{NoMemory}
+use Rattle.dmf_net.specs.FlowFault.{flow_fault}
+use Rattle.dmf_net.specs.NetworkState.{NetworkState, with_flows}
 use Rattle.dmf_text.specs.Solution.{Pair, pair_flow, put_on, Said}
 use Rattle.dmf_text.specs.SolutionReading.{KeepsPairs, Keeps}
 use Rattle.dmf_text.proofs.SolutionLemmas.{ended-refused, ended-differs, ended-good}
@@ -24,10 +26,10 @@ returns-in_err-solution c = λ said kept.
     let put = put-is (goal.at.returns-in_err-solution c).After-put_on c.in_ok-flows.flows.items c.in_ok-flows.ensures.put said kept in
     let failed = err_from_is_err_and c.from_residual-in_err-solution.result c.from_residual-in_err-solution.ensures.1 in
     let why = c.in_err-solution.field-0.0 in
-    let holds = subst (λ flows. FlowFaultHolds state.network flows why) put c.in_err-solution.ensures.fault in
+    let refused = subst (λ flows. IsErrOf {T = NetworkState} (Err why) NoMemory ⊎ (Some why ≡ flow_fault state.network flows)) put c.in_err-solution.ensures.refused in
     let told = failed.1 ∙ ap (λ kind. Err kind) failed.2 in
     ⊎_elim (λ memory. inl (told ∙ ap (λ kind. Err kind) memory)) (λ end. inr (told ∙ end))
-    (ended-refused state said c.in-Some.value (sym kept.value ∙ c.in-Some.is) why holds)
+    (ended-refused state said c.in-Some.value (sym kept.value ∙ c.in-Some.is) why refused)
 
 pub returns-then-value : goal.returns-then-value
 returns-then-value c = λ said kept.

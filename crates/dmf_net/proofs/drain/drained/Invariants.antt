@@ -1,5 +1,5 @@
 use Rattle.dmf_net.proofs.DrainingSearch.{IsDraining}
-use Rattle.dmf_net.proofs.drain.drained_flows.Given as goal
+use Rattle.dmf_net.proofs.drain.drained.Given as goal
 
 abbrev pub invariant-loop-left : goal.invariant-loop-left
 invariant-loop-left l = IsDraining l.state l.j l.limit l.left l.search
