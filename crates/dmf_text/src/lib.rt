@@ -1,8 +1,8 @@
 //! Texts of networks: lines, fields and numbers, what texts are read from and written to, and problem, solution and cut texts.
 #![tactic(auto)]
 
-mod behind;
 mod digits;
+mod exact_fields;
 mod fault;
 mod field;
 mod laws;

@@ -65,7 +65,8 @@ impl LineBuffer {
         self.bytes[self.start..end].copy_from_slice(text);
     }
 
-    #[inline(always)]
+    // A call of its own keeps the loop of `line_of` small, so that it is unrolled.
+    #[inline(never)]
     fn add_number(&mut self, number: u64)
         requires { 20 + length self.old ≤ 80 }
         ensures text { self.new ≡ decimal number ++ self.old }
