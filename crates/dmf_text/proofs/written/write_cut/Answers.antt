@@ -9,10 +9,10 @@ use Rattle.dmf_text.proofs.written.write_cut.Goals as goal
 use Rattle.dmf_text.proofs.written.write_cut.Goals.{After-put_line}
 
 -- the text is its first line, and what comes behind it
-first : (g : Over) (c : After-put_line g) → cut_text c.args.side.now ≡ written_line (codes "c" ∷ codes "put_front" ∷ decimal c.capacity.result ∷ []) ++ nodes_text c.args.side.now.ids
+first : (g : Over) (c : After-put_line g) → cut_text c.args.side.now ≡ written_line (codes "c" ∷ codes "cut" ∷ decimal c.capacity.result ∷ []) ++ nodes_text c.args.side.now.ids
 first g c =
     cut_text-lines c.args.side.now
-    ∙ ap (λ n. written_line (codes "c" ∷ codes "put_front" ∷ decimal n ∷ []) ++ nodes_text c.args.side.now.ids) (sym c.capacity.ensures)
+    ∙ ap (λ n. written_line (codes "c" ∷ codes "cut" ∷ decimal n ∷ []) ++ nodes_text c.args.side.now.ids) (sym c.capacity.ensures)
 
 pub returns-in_err-put_line : goal.returns-in_err-put_line
 returns-in_err-put_line g c =
