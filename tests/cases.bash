@@ -62,6 +62,29 @@ run_script() {
     fi
 }
 
+# Runs a script in Python that counts its cases itself: its last line is 'N passed, M failed'.
+count_script() {
+    local last
+    python3 "$@" >"$work/said" 2>&1
+    last=$(tail -n 1 "$work/said")
+    if [[ $last =~ ^([0-9]+)' passed, '([0-9]+)' failed'$ ]]; then
+        head -n -1 "$work/said" | cut -c 1-2000
+        passed=$((passed + BASH_REMATCH[1]))
+        failed=$((failed + BASH_REMATCH[2]))
+    else
+        fail "$*: $(tail -c 2000 "$work/said")"
+    fi
+}
+
+# Makes the library of tests/faults.c in the file faults.so. Fails where gcc is not there.
+make_library() {
+    command -v gcc >/dev/null || return 1
+    if ! gcc -shared -fPIC -O1 -o "$work/faults.so" tests/faults.c 2>"$work/err"; then
+        fail "tests/faults.c does not compile: $(head -c 1000 "$work/err")"
+        finish
+    fi
+}
+
 # What `dmf solve` writes of examples/a.max.
 solution_a=$'s 5\nf 1 2 3\nf 1 3 2\nf 2 3 1\nf 2 4 2\nf 3 4 3\n'
 

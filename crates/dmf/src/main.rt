@@ -13,6 +13,7 @@ use fault::Fault;
 use std::fs::File;
 use std::io::BufWriter;
 use std::process::ExitCode;
+use std::rt::Stdout;
 
 fn main(rt: HostRuntime) -> ExitCode {
     let outcome = run(&rt);
@@ -37,11 +38,8 @@ fn run(rt: &HostRuntime) -> Result<Status, Fault> {
 /// Solves the problem on standard input, and tells the cut where it is wanted.
 #[inline(never)]
 fn solve(rt: &HostRuntime, want_cut: bool) -> Result<Status, Fault> {
-    let Ok(writer) = BufWriter::new(rt.alloc(), rt.stdout()) else {
-        return Err(Fault::NO_MEMORY);
-    };
+    let mut out = output(rt)?;
     let mut problem = StdSource::new(rt.stdin());
-    let mut out = StdSink::new(writer);
     run_solve(rt.alloc(), &mut problem, &mut out, want_cut).map_err(Fault::Run)
 }
 
@@ -49,27 +47,27 @@ fn solve(rt: &HostRuntime, want_cut: bool) -> Result<Status, Fault> {
 /// each solve where it is wanted.
 #[inline(never)]
 fn hold_session(rt: &HostRuntime, path: &str, want_cut: bool) -> Result<Status, Fault> {
-    let file = open_problem(rt, path)?;
-    let Ok(writer) = BufWriter::new(rt.alloc(), rt.stdout()) else {
-        return Err(Fault::NO_MEMORY);
-    };
-    let mut problem = StdSource::new(file);
+    let mut problem = StdSource::new(open_problem(rt, path)?);
+    let mut out = output(rt)?;
     let mut commands = StdSource::new(rt.stdin());
-    let mut out = StdSink::new(writer);
     run_session(rt.alloc(), &mut problem, &mut commands, &mut out, want_cut).map_err(Fault::Run)
 }
 
 /// Checks the solution on standard input of the problem in the file at the path.
 #[inline(never)]
 fn check(rt: &HostRuntime, path: &str) -> Result<Status, Fault> {
-    let file = open_problem(rt, path)?;
-    let Ok(writer) = BufWriter::new(rt.alloc(), rt.stdout()) else {
-        return Err(Fault::NO_MEMORY);
-    };
-    let mut problem = StdSource::new(file);
+    let mut problem = StdSource::new(open_problem(rt, path)?);
+    let mut out = output(rt)?;
     let mut solution = StdSource::new(rt.stdin());
-    let mut out = StdSink::new(writer);
     run_check(rt.alloc(), &mut problem, &mut solution, &mut out).map_err(Fault::Run)
+}
+
+/// Standard output, behind a buffer.
+fn output(rt: &HostRuntime) -> Result<StdSink<BufWriter<Stdout>>, Fault> {
+    match BufWriter::new(rt.alloc(), rt.stdout()) {
+        Ok(writer) => Ok(StdSink::new(writer)),
+        Err(_) => Err(Fault::NO_MEMORY),
+    }
 }
 
 /// Opens the problem's file. One whose size is past the limit is not read at all.

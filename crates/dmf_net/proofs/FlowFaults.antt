@@ -1,6 +1,6 @@
 -- The fault of a flow, from what is found of it.
-use Rattle.std.proofs.Common.{ℕ, ◌≡◌, ◌+◌, ◌-◌, ◌<◌, ◌≤◌, zero, suc, List, length, get_or, Bool, true, false, nat_lt, Some, None, Option, refl, ap, sym, ◌∙◌, arith, ℤ, pos, negsuc, ◌<ℤ◌, ◌≤ℤ◌, ⊎_elim, eq-eqb}
-use Rattle.std.specs.List.{find, range_with_len, slice_get}
+use Rattle.std.proofs.Common.{ℕ, ◌≡◌, ◌+◌, ◌-◌, ◌<◌, ◌≤◌, zero, suc, List, length, get_or, Bool, true, false, nat_lt, Some, None, refl, ap, ◌∙◌, arith, ℤ, pos, negsuc, ◌<ℤ◌, ◌≤ℤ◌, ⊎_elim, eq-eqb}
+use Rattle.std.specs.List.{find, range_with_len}
 use Rattle.std.specs.Prelude.{int_lt}
 use Rattle.std.proofs.lemmas.Bool.{cond-true, cond-false, cases_lt, ltb-true, ne_eqb}
 use Rattle.std.proofs.lemmas.Bool.Decides.{nat_tests, eqb_tells}
@@ -13,7 +13,7 @@ use Rattle.dmf_net.specs.Network.{Network}
 use Rattle.dmf_net.specs.Flow.{outflow, inflow, flow_value, AreWithinCapacities, IsInnerNode, IsConservedAt, IsFlow}
 use Rattle.dmf_net.specs.FlowFault.{is_over_capacity, first_over_capacity, is_unbalanced, first_unbalanced, flow_fault}
 use Rattle.dmf_net.specs.FlowSums.{IsLeast, IsOverCapacity, IsUnbalanced}
-use Rattle.dmf_net.specs.NetworkState.{NetworkState, IsState}
+use Rattle.dmf_net.specs.NetworkState.{IsState}
 use Rattle.dmf_net.proofs.ResidualSearch.{flow-within}
 
 -- the first of some numbers

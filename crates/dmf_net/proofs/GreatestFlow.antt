@@ -1,4 +1,4 @@
--- Every network has a greatest flow, and with it a least cut of the same size.
+-- Every network has a greatest flow, and with it a minimum cut of the same size.
 use Rattle.std.proofs.Common.{ℕ, ◌≡◌, ◌==◌, List, [], ◌∷◌, Bool, true, false, cond, refl, subst, arith}
 use Rattle.std.specs.List.{zip}
 use Rattle.std.proofs.lemmas.Int.{ints}
@@ -14,7 +14,7 @@ use Rattle.dmf_net.specs.Residual.{residual_steps}
 use Rattle.dmf_net.specs.Change.{Solve}
 use Rattle.dmf_net.proofs.Summing.{at_node}
 use Rattle.dmf_net.proofs.Reached.{is_reached, AreReachedFrom-is_reached}
-use Rattle.dmf_net.proofs.MaxFlowMinCut.{reached-cut, reached-capacity, reached-greatest, reached-least_cut}
+use Rattle.dmf_net.proofs.MaxFlowMinCut.{reached-cut, reached-capacity, reached-greatest, reached-minimum_cut}
 use Rattle.dmf_net.proofs.LargerFlow.{no_path-from_greatest}
 use Rattle.dmf_net.proofs.SomeOutcome.{some-outcome}
 
@@ -34,14 +34,14 @@ cut-from_no_path n flows network flow none =
     let r = AreReachedFrom-is_reached steps n.nodes n.source in
     record { has = has; cut = reached-cut n flows has network r none; capacity = reached-capacity n flows has network flow none r }
 
--- The theorem that the value of a greatest flow is the capacity of a least cut.
+-- The theorem that the value of a greatest flow is the capacity of a minimum cut.
 pub max_flow-min_cut : MaxFlowMinCut
 max_flow-min_cut n flows network greatest =
     let steps = residual_steps n.arcs flows in
     let has = is_reached steps n.nodes n.source in
     let r = AreReachedFrom-is_reached steps n.nodes n.source in
     let none = no_path-from_greatest n flows network greatest in
-    record { has = has; least = reached-least_cut n flows has network greatest.flow none r; capacity = reached-capacity n flows has network greatest.flow none r }
+    record { has = has; least = reached-minimum_cut n flows has network greatest.flow none r; capacity = reached-capacity n flows has network greatest.flow none r }
 
 -- ---- there is a greatest flow
 

@@ -27,6 +27,7 @@ pub mod MaxFlowMinCut
 pub mod LargerFlow
 pub mod Ascending
 pub mod GreatestFlow
+pub mod GreatestSearch
 pub mod SomeSide
 pub mod ResidualPairs
 pub mod ResidualSearch

@@ -12,7 +12,7 @@ use Rattle.dmf_net.specs.Arc.{IsArc}
 use Rattle.dmf_net.specs.Network.{Network, IsNetwork}
 use Rattle.dmf_net.specs.Flow.{AreWithinCapacities, IsFlow, flow_value}
 use Rattle.dmf_net.specs.Greatest.{IsGreatest}
-use Rattle.dmf_net.specs.Cut.{IsCut, cut_capacity, IsLeastCut}
+use Rattle.dmf_net.specs.Cut.{IsCut, cut_capacity, IsMinimumCut}
 use Rattle.dmf_path.specs.Path.{HasNoPath}
 use Rattle.dmf_net.specs.Residual.{forward, backward, residual_from, residual_steps}
 use Rattle.dmf_net.proofs.Crossing.{leaving, entering, value-across}
@@ -268,8 +268,8 @@ greatest-from_cut n flows has network flow cut same = record {
 }
 
 -- A cut whose capacity is the value of a flow is least.
-pub least_cut-from_flow : (n : Network) (flows : List ℕ) (has : ℕ → Bool) → IsNetwork n → IsFlow n flows → IsCut n has → pos (cut_capacity n.arcs has) ≡ flow_value n flows → IsLeastCut n has
-least_cut-from_flow n flows has network flow cut same = record {
+pub minimum_cut-from_flow : (n : Network) (flows : List ℕ) (has : ℕ → Bool) → IsNetwork n → IsFlow n flows → IsCut n has → pos (cut_capacity n.arcs has) ≡ flow_value n flows → IsMinimumCut n has
+minimum_cut-from_flow n flows has network flow cut same = record {
   cut = cut;
   least = λ other is_cut. omega (arith, ints, same, value-le_capacity n flows other network flow is_cut);
 }
@@ -288,6 +288,6 @@ reached-greatest n flows has network flow none r =
     greatest-from_cut n flows has network flow (reached-cut n flows has network r none) (reached-capacity n flows has network flow none r)
 
 -- And the cut is least.
-pub reached-least_cut : (n : Network) (flows : List ℕ) (has : ℕ → Bool) → IsNetwork n → IsFlow n flows → HasNoPath (residual_steps n.arcs flows) n.source n.sink → AreReached n flows has → IsLeastCut n has
-reached-least_cut n flows has network flow none r =
-    least_cut-from_flow n flows has network flow (reached-cut n flows has network r none) (reached-capacity n flows has network flow none r)
+pub reached-minimum_cut : (n : Network) (flows : List ℕ) (has : ℕ → Bool) → IsNetwork n → IsFlow n flows → HasNoPath (residual_steps n.arcs flows) n.source n.sink → AreReached n flows has → IsMinimumCut n has
+reached-minimum_cut n flows has network flow none r =
+    minimum_cut-from_flow n flows has network flow (reached-cut n flows has network r none) (reached-capacity n flows has network flow none r)

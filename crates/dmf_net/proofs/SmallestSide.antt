@@ -1,4 +1,4 @@
--- The nodes that residual paths of a greatest flow lead to from the source are those that every least cut has.
+-- The nodes that residual paths of a greatest flow lead to from the source are those that every minimum cut has.
 use Rattle.std.proofs.Common.{ℕ, ◌≡◌, List, Bool, true, false, ap, sym, ◌∙◌, subst, arith, pos}
 use Rattle.std.specs.List.Sorted.{IsStrictlyIncreasing}
 use Rattle.std.proofs.lemmas.Bool.{both_ways}
@@ -7,34 +7,34 @@ use Rattle.std.proofs.lemmas.List.Kept.{AllPairs-from_increasing}
 use Rattle.dmf_path.specs.Node.{IsNode}
 use Rattle.dmf_net.specs.Network.{Network, IsNetwork}
 use Rattle.dmf_net.specs.Flow.{IsFlow, flow_value}
-use Rattle.dmf_net.specs.Cut.{cut_capacity, IsLeastCut, IsInEveryLeastCut}
+use Rattle.dmf_net.specs.Cut.{cut_capacity, IsMinimumCut, IsInEveryMinimumCut}
 use Rattle.dmf_net.specs.Side.{CutSide, has_node, IsSmallestSide, HasOneSmallestSide}
 use Rattle.dmf_path.specs.Search.{Searched}
 use Rattle.dmf_net.specs.Pairs.{residual_search, IsReachedSide}
 use Rattle.dmf_net.proofs.ResidualSearch.{reached-residual}
 use Rattle.dmf_path.specs.Path.{HasNoPath}
 use Rattle.dmf_net.specs.Residual.{residual_steps}
-use Rattle.dmf_net.proofs.MaxFlowMinCut.{AreTight, tight-from_capacity, closed-from_tight, AreReached, reached-cut, reached-capacity, reached-least_cut}
+use Rattle.dmf_net.proofs.MaxFlowMinCut.{AreTight, tight-from_capacity, closed-from_tight, AreReached, reached-cut, reached-capacity, reached-minimum_cut}
 use Rattle.dmf_net.proofs.Reached.{path-stays}
 use Rattle.dmf_net.proofs.Ascending.{same-nodes}
 
--- A least cut is tight, where the value of the flow is the capacity of some cut, as of the nodes that are reached.
-pub least_cut-tight : (n : Network) (flows : List ℕ) (has other : ℕ → Bool) → IsNetwork n → IsFlow n flows → HasNoPath (residual_steps n.arcs flows) n.source n.sink → AreReached n flows has → IsLeastCut n other → AreTight other n.arcs flows
-least_cut-tight n flows has other network flow none r least =
+-- A minimum cut is tight, where the value of the flow is the capacity of some cut, as of the nodes that are reached.
+pub minimum_cut-tight : (n : Network) (flows : List ℕ) (has other : ℕ → Bool) → IsNetwork n → IsFlow n flows → HasNoPath (residual_steps n.arcs flows) n.source n.sink → AreReached n flows has → IsMinimumCut n other → AreTight other n.arcs flows
+minimum_cut-tight n flows has other network flow none r least =
     let same = reached-capacity n flows has network flow none r in
     let within = least.least has (reached-cut n flows has network r none) in
     tight-from_capacity n flows other network flow least.cut (omega (arith, ints, same, within))
 
--- Every least cut has each node that is reached.
-pub reached-in_every : (n : Network) (flows : List ℕ) (has : ℕ → Bool) (v : ℕ) → IsNetwork n → IsFlow n flows → HasNoPath (residual_steps n.arcs flows) n.source n.sink → AreReached n flows has → has v ≡ true → IsInEveryLeastCut n v
+-- Every minimum cut has each node that is reached.
+pub reached-in_every : (n : Network) (flows : List ℕ) (has : ℕ → Bool) (v : ℕ) → IsNetwork n → IsFlow n flows → HasNoPath (residual_steps n.arcs flows) n.source n.sink → AreReached n flows has → has v ≡ true → IsInEveryMinimumCut n v
 reached-in_every n flows has v network flow none r inside other least =
     let p = r.reached v inside in
-    let closed = closed-from_tight other 1 n.arcs flows (least_cut-tight n flows has other network flow none r least) in
+    let closed = closed-from_tight other 1 n.arcs flows (minimum_cut-tight n flows has other network flow none r least) in
     path-stays (residual_steps n.arcs flows) other n.source v p.0 closed p.1 least.cut.source
 
--- A node that every least cut has is reached.
-pub reached-from_every : (n : Network) (flows : List ℕ) (has : ℕ → Bool) (v : ℕ) → IsNetwork n → IsFlow n flows → HasNoPath (residual_steps n.arcs flows) n.source n.sink → AreReached n flows has → IsInEveryLeastCut n v → has v ≡ true
-reached-from_every n flows has v network flow none r every = every has (reached-least_cut n flows has network flow none r)
+-- A node that every minimum cut has is reached.
+pub reached-from_every : (n : Network) (flows : List ℕ) (has : ℕ → Bool) (v : ℕ) → IsNetwork n → IsFlow n flows → HasNoPath (residual_steps n.arcs flows) n.source n.sink → AreReached n flows has → IsInEveryMinimumCut n v → has v ≡ true
+reached-from_every n flows has v network flow none r every = every has (reached-minimum_cut n flows has network flow none r)
 
 -- The ascending list of the nodes that are reached is the smallest side, and the value of the flow its capacity.
 pub IsSmallestSide-reached : (n : Network) (flows ids : List ℕ) (capacity : ℕ) → IsNetwork n → IsFlow n flows → HasNoPath (residual_steps n.arcs flows) n.source n.sink → AreReached n flows (has_node ids) → IsStrictlyIncreasing ids → pos capacity ≡ flow_value n flows → IsSmallestSide n (record { ids = ids; capacity = capacity })
@@ -44,7 +44,7 @@ IsSmallestSide-reached n flows ids capacity network flow none r increasing value
     λ inside. (r.of_nodes v inside, reached-in_every n flows (has_node ids) v network flow none r inside),
     λ is. reached-from_every n flows (has_node ids) v network flow none r is.1,
   );
-  least = reached-least_cut n flows (has_node ids) network flow none r;
+  least = reached-minimum_cut n flows (has_node ids) network flow none r;
   capacity_is = omega (arith, ints, value, reached-capacity n flows (has_node ids) network flow none r);
 }
 

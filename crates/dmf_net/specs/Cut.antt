@@ -18,13 +18,13 @@ abbrev pub cut_capacity : List Arc → (ℕ → Bool) → ℕ
 cut_capacity arcs has = sum_by (λ arc. if has arc.tail && not (has arc.head) then arc.cap else 0) arcs
 
 -- No cut has a smaller capacity.
-pub record IsLeastCut (n : Network) (has : ℕ → Bool) : Type 0 where
+pub record IsMinimumCut (n : Network) (has : ℕ → Bool) : Type 0 where
   pub cut : IsCut n has
   pub least : (other : ℕ → Bool) → IsCut n other → cut_capacity n.arcs has ≤ cut_capacity n.arcs other
 
--- Every least cut has node `v`. These nodes are the smallest side of the network.
-abbrev pub IsInEveryLeastCut : Network → ℕ → Type 0
-IsInEveryLeastCut n v = (has : ℕ → Bool) → IsLeastCut n has → has v ≡ true
+-- Every minimum cut has node `v`. These nodes are the smallest side of the network.
+abbrev pub IsInEveryMinimumCut : Network → ℕ → Type 0
+IsInEveryMinimumCut n v = (has : ℕ → Bool) → IsMinimumCut n has → has v ≡ true
 
 -- Some cut has this capacity.
 pub record HasCutOf (n : Network) (value : ℤ) : Type 0 where
@@ -32,16 +32,16 @@ pub record HasCutOf (n : Network) (value : ℤ) : Type 0 where
   pub cut : IsCut n has
   pub capacity : pos (cut_capacity n.arcs has) ≡ value
 
--- Some least cut has this capacity.
-pub record HasLeastCutOf (n : Network) (value : ℤ) : Type 0 where
+-- Some minimum cut has this capacity.
+pub record HasMinimumCutOf (n : Network) (value : ℤ) : Type 0 where
   pub has : ℕ → Bool
-  pub least : IsLeastCut n has
+  pub least : IsMinimumCut n has
   pub capacity : pos (cut_capacity n.arcs has) ≡ value
 
 -- A network has a greatest flow.
 abbrev pub HasGreatestFlow : Type 0
 HasGreatestFlow = (n : Network) → IsNetwork n → (flows : List ℕ) × IsGreatest n flows
 
--- Max-flow min-cut: the value of a greatest flow is the capacity of a least cut.
+-- Max-flow min-cut: the value of a greatest flow is the capacity of a minimum cut.
 abbrev pub MaxFlowMinCut : Type 0
-MaxFlowMinCut = (n : Network) (flows : List ℕ) → IsNetwork n → IsGreatest n flows → HasLeastCutOf n (flow_value n flows)
+MaxFlowMinCut = (n : Network) (flows : List ℕ) → IsNetwork n → IsGreatest n flows → HasMinimumCutOf n (flow_value n flows)

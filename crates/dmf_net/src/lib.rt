@@ -12,6 +12,7 @@ pub use limits::{MAX_ARCS, MAX_NODES};
 pub use plan::{plan_add, plan_cap, plan_close, plan_solve, plan_solve_with_side};
 pub use side::{Side, side_after, smallest_side};
 pub use side_ids::SideIds;
+pub use solve::is_greatest;
 pub use state::State;
 
 #[cfg(test)]

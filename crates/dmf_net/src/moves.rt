@@ -100,14 +100,14 @@ pub fn make_moves(
         let step = direction.step(m);
         let i = step.arc as usize - 1;
         let arc = arcs[i];
-        at_node.leaving = replaced(at_node.leaving, arc.tail == node, &step);
-        at_node.entering = replaced(at_node.entering, arc.head == node, &step);
+        at_node.leaving = sum_after(at_node.leaving, arc.tail == node, &step);
+        at_node.entering = sum_after(at_node.entering, arc.head == node, &step);
         flows[i] = step.to;
     }
 }
 
 /// The sum of some flows after a move, which is of one of them where `is_part`.
-fn replaced(sum: u64, is_part: bool, m: &Move) -> u64
+fn sum_after(sum: u64, is_part: bool, m: &Move) -> u64
     requires part { is_part ≡ true → m.now.from ≤ sum }
     requires small { is_part ≡ true → sum - m.now.from + m.now.to < 2 ^ 64 }
     ensures { result + (if is_part then m.now.from else 0) ≡ sum + (if is_part then m.now.to else 0) }

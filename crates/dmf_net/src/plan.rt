@@ -37,7 +37,7 @@ pub fn plan_cap(alloc: Global, state: &State, j: u64, cap: u64) -> Result<Edit, 
     ensures takes_off { IfOk result (λ edit. TakesOff state.now.network j cap state.now.flows (applied edit state.now).flows) }
 {
     let (arc, old) = state.open_arc(j)?;
-    if cap > state.room_for(old) {
+    if cap > state.largest_cap(old) {
         return Err(PlanFault::SumTooLarge);
     }
     let moves = drain(alloc, state, arc, cap)?;
@@ -81,7 +81,7 @@ pub fn plan_add(state: &State, tail: u64, head: u64, cap: u64) -> Result<Edit, P
     ensures becomes { IfOk result (λ edit. Becomes state.now (Add tail head cap) (applied edit state.now)) }
     ensures moves { IfOk result (λ edit. ListsDifferences edit state.now) }
 {
-    let arc = state.admit(tail, head, cap).map_err(PlanFault::from)?;
+    let arc = state.new_arc(tail, head, cap).map_err(PlanFault::from)?;
     Ok(Edit::Add {
         tail: arc.tail,
         head: arc.head,

@@ -31,7 +31,7 @@ impl State {
                 self.change_arc(j, arc, moves, Direction::Back);
             }
             Edit::Add { .. } => self.drop_last(),
-            Edit::Solve { ref moves } => self.make(moves, Direction::Back),
+            Edit::Solve { ref moves } => self.move_flows(moves, Direction::Back),
         }
     }
 }

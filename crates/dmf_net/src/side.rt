@@ -62,7 +62,7 @@ impl Side {
     }
 }
 
-/// The smallest side of the state's network: the nodes that every least cut has. The state's flow must be greatest.
+/// The smallest side of the state's network: the nodes that every minimum cut has. The state's flow must be greatest.
 ///
 /// Refused by [`CutFault::NotGreatest`] where some flow has a larger value. Takes memory for two links an arc and some
 /// numbers a node; where it is refused, the answer is [`CutFault::NoMemory`].

@@ -1,6 +1,8 @@
-ghost use Rattle.std.specs.Prelude.{IfOk};
+ghost use Rattle.std.specs.Prelude.{◌≡◌, ◌↔◌, false, IfOk, IsTrue};
+ghost use Rattle.dmf_net.specs.Greatest.{IsGreatest, IsSurpassed};
 ghost use Rattle.dmf_net.specs.Pairs.{IsSolved};
 
+use crate::fault::NoMemory;
 use crate::residual::residual_search;
 use crate::state::State;
 use dmf_path::Search;
@@ -23,4 +25,14 @@ pub fn solve(alloc: Global, state: &State) -> Result<Solved, AllocError>
         value += amount;
     }
     Ok(Solved { search, value })
+}
+
+/// Whether no flow of the state's network has a larger value than the state's flow. Takes memory for two links an arc and
+/// some numbers a node.
+pub fn is_greatest(alloc: Global, state: &State) -> Result<bool, NoMemory>
+    ensures greatest { IfOk result (λ answer. IsTrue answer ↔ IsGreatest state.now.network state.now.flows) }
+    ensures surpassed { IfOk result (λ answer. (answer ≡ false) ↔ IsSurpassed state.now.network state.now.flows) }
+{
+    let mut search = residual_search(alloc, state)?;
+    Ok(search.augment(u64::MAX).is_none())
 }

@@ -1,6 +1,6 @@
 use crate::{
-    Arc, CutFault, Edit, FlowFault, Move, NetFault, PlanFault, State, plan_add, plan_solve,
-    plan_solve_with_side, side_after, smallest_side,
+    Arc, CutFault, Edit, FlowFault, Move, NetFault, PlanFault, State, is_greatest, plan_add,
+    plan_solve, plan_solve_with_side, side_after, smallest_side,
 };
 use std::alloc::Global;
 use std::test::Fail;
@@ -189,6 +189,7 @@ fn a_backward_step_goes_by_its_rank(rt: HostRuntime) -> Result<(), Fail> {
 #[test]
 fn the_smallest_side_is_told(rt: HostRuntime) -> Result<(), Fail> {
     let mut state = example(rt.alloc())?;
+    assert_eq!(rt; is_greatest(rt.alloc(), &state)?, false);
     let refused = smallest_side(rt.alloc(), &state);
     assert_eq!(rt; refused.err(), Some(CutFault::NotGreatest));
     let edit = plan_solve(rt.alloc(), &state)?;
@@ -202,6 +203,8 @@ fn the_smallest_side_is_told(rt: HostRuntime) -> Result<(), Fail> {
     assert_eq!(rt; state.value(), 0);
     assert_eq!(rt; state.flow(1), 0);
     state.apply(&edit)?;
+    assert_eq!(rt; is_greatest(rt.alloc(), &state)?, true);
+    assert_eq!(rt; state.flows(), [3, 2, 1, 2, 3].as_slice());
     let side = smallest_side(rt.alloc(), &state)?;
     assert!(rt; side.ids().eq([1]));
     assert_eq!(rt; side.capacity(), 5);

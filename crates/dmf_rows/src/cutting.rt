@@ -9,7 +9,7 @@ use std::test::Fail;
 /// A problem without arcs.
 const NO_ARCS: &[u8] = b"p max 2 0\nn 1 s\nn 2 t\n";
 
-/// What is written of [`NETWORK_A`] solved with its cut. Both {1} and {1, 2, 3} are sides of a least cut.
+/// What is written of [`NETWORK_A`] solved with its cut. Both {1} and {1, 2, 3} are sides of a minimum cut.
 const SOLUTION_AND_CUT_A: &[u8] =
     b"s 5\nf 1 2 3\nf 1 3 2\nf 2 3 1\nf 2 4 2\nf 3 4 3\nc cut 5\nc side 1\n";
 

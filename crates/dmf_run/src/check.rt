@@ -9,7 +9,7 @@ use crate::fault::{EngineFault, Status};
 use crate::problem::read_state;
 use crate::reply::put_line;
 use crate::whole_text::read_all;
-use dmf_net::{CutFault, NoMemory, State, smallest_side};
+use dmf_net::{NoMemory, State, is_greatest};
 use dmf_text::LineField::{Number, Text};
 use dmf_text::{LineBuffer, Sink, SolutionFaultKind, Source, WriteFault, line_of, read_solution};
 use std::alloc::Global;
@@ -35,7 +35,7 @@ pub fn run_check<P: Source, C: Source, W: Sink>(
 {
     let state = read_state(alloc, problem)?;
     let solved = read_solved(alloc, &state, solution)?;
-    let greatest = is_greatest(alloc, &solved)?;
+    let greatest = verdict_of(alloc, &solved)?;
     put_verdict(&solved, greatest, out)?;
     Ok(status_of_verdict(greatest))
 }
@@ -62,14 +62,10 @@ fn read_solved<C: Source>(
 }
 
 /// Whether no flow of the network has a larger value than that of the state.
-fn is_greatest(alloc: Global, state: &State) -> Result<bool, NoMemory>
+fn verdict_of(alloc: Global, state: &State) -> Result<bool, NoMemory>
     ensures { IfOk result (IsVerdict state.now) }
 {
-    match smallest_side(alloc, state) {
-        Ok(_) => Ok(true),
-        Err(CutFault::NotGreatest) => Ok(false),
-        Err(CutFault::NoMemory) => Err(NoMemory),
-    }
+    is_greatest(alloc, state)
 }
 
 /// Writes whether the state's flow is greatest, and flushes it.

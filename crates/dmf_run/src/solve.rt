@@ -35,9 +35,7 @@ pub fn run_solve<P: Source, W: Sink>(
     written_is_optimal();
     let state = read_state(alloc, problem)?;
     let solved = solve(alloc, state, want_cut)?;
-    let Ok(()) = put_solved(&solved.state, &solved.side, out) else {
-        return Err(EngineFault::Write);
-    };
+    put_solved(&solved.state, &solved.side, out)?;
     Ok(Status::Well)
 }
 

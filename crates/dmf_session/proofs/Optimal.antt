@@ -5,15 +5,15 @@ use Rattle.std.proofs.lemmas.Option.{slice_get_within}
 use Rattle.dmf_net.specs.Network.{Network, IsNetwork}
 use Rattle.dmf_net.specs.NetworkState.{NetworkState}
 use Rattle.dmf_net.specs.Greatest.{IsGreatest, IsSurpassed}
-use Rattle.dmf_net.specs.Cut.{MaxFlowMinCut, IsLeastCut, cut_capacity}
+use Rattle.dmf_net.specs.Cut.{MaxFlowMinCut, IsMinimumCut, cut_capacity}
 use Rattle.dmf_net.specs.Laws.{SolvedIsGreatest}
 use Rattle.dmf_session.specs.Timeline.{Timeline, IsPresent, appended}
 use Rattle.dmf_session.specs.Optimal.{IsOptimal, HasOptimalPresent, GreatestIsOptimal}
 use Rattle.dmf_session.specs.Laws.{SolvedIsOptimal}
 use Rattle.dmf_session.proofs.Appending.{appended-present, is-state}
 
--- All least cuts have one capacity.
-one-capacity : (n : Network) (has other : ℕ → Bool) → IsLeastCut n has → IsLeastCut n other → cut_capacity n.arcs has ≡ cut_capacity n.arcs other
+-- All minimum cuts have one capacity.
+one-capacity : (n : Network) (has other : ℕ → Bool) → IsMinimumCut n has → IsMinimumCut n other → cut_capacity n.arcs has ≡ cut_capacity n.arcs other
 one-capacity n has other least also = omega (arith, least.least other also.cut, also.least has least.cut)
 
 -- A state whose flow is greatest is optimal.
@@ -22,7 +22,7 @@ greatest-optimal law s network greatest =
     let some = law s.network s.flows network greatest in
     record {
       greatest = greatest;
-      least_cut = some;
+      minimum_cut = some;
       smallest_side = λ side is. ap pos (is.capacity_is ∙ one-capacity s.network _ some.has is.least some.least) ∙ some.capacity;
     }
 

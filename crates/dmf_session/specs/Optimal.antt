@@ -5,15 +5,15 @@ use Rattle.dmf_net.specs.Flow.{flow_value}
 use Rattle.dmf_net.specs.Network.{IsNetwork}
 use Rattle.dmf_net.specs.NetworkState.{NetworkState}
 use Rattle.dmf_net.specs.Greatest.{IsGreatest}
-use Rattle.dmf_net.specs.Cut.{HasLeastCutOf}
+use Rattle.dmf_net.specs.Cut.{HasMinimumCutOf}
 use Rattle.dmf_net.specs.Side.{CutSide, IsSmallestSide}
 use Rattle.dmf_session.specs.Timeline.{Timeline, IsPresent}
 
--- No flow of the network has a larger value than that of the state, and this value is the capacity of a least cut, and
+-- No flow of the network has a larger value than that of the state, and this value is the capacity of a minimum cut, and
 -- so that of the smallest side.
 pub record IsOptimal (s : NetworkState) : Type 0 where
   pub greatest : IsGreatest s.network s.flows
-  pub least_cut : HasLeastCutOf s.network (flow_value s.network s.flows)
+  pub minimum_cut : HasMinimumCutOf s.network (flow_value s.network s.flows)
   pub smallest_side : (side : CutSide) → IsSmallestSide s.network side → pos side.capacity ≡ flow_value s.network s.flows
 
 -- The present state is optimal.

@@ -6,7 +6,7 @@ use dmf_net::{
     one_smallest_side, solved_is_greatest,
 };
 
-/// The law that a greatest flow has as its value the capacity of a least cut, and so that of the smallest side.
+/// The law that a greatest flow has as its value the capacity of a minimum cut, and so that of the smallest side.
 pub fn greatest_is_optimal()
     ensures { GreatestIsOptimal }
 {

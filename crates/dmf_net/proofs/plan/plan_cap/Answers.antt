@@ -10,7 +10,7 @@ returns-clause-fits c =
     let s = c.args.state.now in
     let found = subst (λ k. IsOpenWith s.network k c.in_ok-arc.old) (sym c.in_ok-arc.ensures.arc.0) c.in_ok-arc.ensures.arc.1 in
     let drained = c.in_ok-moves.ensures.moves in
-    let small : sum_with s.network c.in_ok-arc.arc c.args.cap < 2 ^ 64 = omega (arith, c.room_for.ensures, c.if-cap-room_for.false, found.has_cap) in
+    let small : sum_with s.network c.in_ok-arc.arc c.args.cap < 2 ^ 64 = omega (arith, c.largest_cap.ensures, c.if-cap-largest_cap.false, found.has_cap) in
     record {
       arc = found;
       moves = drained.fit;

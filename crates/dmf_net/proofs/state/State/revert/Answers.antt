@@ -6,11 +6,11 @@ use Rattle.dmf_net.proofs.Reverting.{fit-back, IsState-reverted}
 use Rattle.dmf_net.proofs.state.State.revert.Goals.{in-Cap, in-Cap-2}
 use Rattle.dmf_net.proofs.state.State.revert.Goals as goal
 
-pub make-requires-clause-fit : goal.make-requires-clause-fit
-make-requires-clause-fit c = fit-back _ _ _ c.requires (ap moves_of c.in-Solve.is ∙ sym c.deref.ensures.value)
+pub move_flows-requires-clause-fit : goal.move_flows-requires-clause-fit
+move_flows-requires-clause-fit c = fit-back _ _ _ c.requires (ap moves_of c.in-Solve.is ∙ sym c.deref.ensures.value)
 
-pub make-requires-clause-state : goal.make-requires-clause-state
-make-requires-clause-state c =
+pub move_flows-requires-clause-state : goal.move_flows-requires-clause-state
+move_flows-requires-clause-state c =
     rw c.deref.ensures.value (IsState-reverted _ _ (subst (λ e. Stands e c.args.self.now) c.in-Solve.is c.requires))
 
 pub change_arc-requires-clause-fit : goal.change_arc-requires-clause-fit

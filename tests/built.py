@@ -1,0 +1,94 @@
+"""Runs the built program on cases, in the folder where the caller stands, and beside it the second implementation. What builds
+the program is `./dmf --version`."""
+
+import os
+import subprocess
+import tempfile
+from concurrent.futures import ProcessPoolExecutor
+from typing import NamedTuple
+
+from oracle import program
+
+BUILT = os.path.join(os.path.dirname(os.path.dirname(os.path.abspath(__file__))), "crates", "dmf", "out", "dmf")
+PROBLEM = b"problem.max"
+SECONDS = 60
+
+
+class Case(NamedTuple):
+    """The words behind the program's name, the problem in the file problem.max, and what is on standard input, in bytes."""
+
+    name: str
+    words: tuple
+    problem: bytes
+    input: bytes
+
+
+class Run(NamedTuple):
+    """How a run ended. A signal that ended it is a status below 0."""
+
+    status: int
+    out: bytes
+    err: bytes
+
+
+def run(case, **environment):
+    """Runs the program. What the environment has beside the caller's are texts."""
+    try:
+        ran = subprocess.run(
+            [BUILT, *case.words],
+            input=case.input,
+            capture_output=True,
+            timeout=SECONDS,
+            env={**os.environ, **environment},
+        )
+    except subprocess.TimeoutExpired:
+        return Run(None, b"", f"it has not ended in {SECONDS} s".encode())
+    return Run(ran.returncode, ran.stdout, ran.stderr)
+
+
+def watch(case, library, **fault):
+    """Runs the program with tests/faults.c preloaded, by what its first lines name. Gives the run and the calls that it made: the
+    name of each, the file's number, and what came of it."""
+    if os.path.exists("calls"):
+        os.remove("calls")
+    names = {f"FAULT_{name}".removesuffix("_CALL"): str(value) for name, value in fault.items()}
+    ended = run(case, LD_PRELOAD=library, FAULT_CALLS="calls", **names)
+    if not os.path.exists("calls"):
+        return ended, []
+    with open("calls") as calls:
+        return ended, [(name, int(file), int(result)) for name, file, result in map(str.split, calls)]
+
+
+def put_problem(case):
+    with open(PROBLEM, "wb") as file:
+        file.write(case.problem)
+
+
+def wanted(case, refusals=None):
+    """How the second implementation ends, in the same folder."""
+    return program.run(case.words, case.input, refusals)
+
+
+def enter_folder(folder):
+    """Goes to a new folder inside this one, which has a folder that is no problem."""
+    os.chdir(tempfile.mkdtemp(dir=folder))
+    os.mkdir("folder")
+
+
+def in_parallel(judge, items, size=1):
+    """What a function gives for each item, in the order of the items. Each process has a folder of its own, and takes so many
+    items at once."""
+    with tempfile.TemporaryDirectory() as folder:
+        with ProcessPoolExecutor(initializer=enter_folder, initargs=(folder,)) as pool:
+            yield from pool.map(judge, items, chunksize=size)
+
+
+def report(judge, items, size=1):
+    """Judges each item by a function that says what is wrong with it, if something is. Names what failed, ends with the line
+    'N passed, M failed', and gives the script's status."""
+    said = list(in_parallel(judge, items, size))
+    failed = [wrong for wrong in said if wrong]
+    for wrong in failed:
+        print(f"failed: {wrong}")
+    print(f"{len(said) - len(failed)} passed, {len(failed)} failed")
+    return len(failed) > 0

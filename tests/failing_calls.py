@@ -1,0 +1,145 @@
+"""Lets each read and each write of a run fail in turn, by the preloaded library that the first argument names: with an error, as
+a call that was interrupted, and as a write that takes no byte. Reads and writes are cut short too.
+
+From the calls of a run it is seen in which order it reads and writes. A session has written the replies to all lines that it
+was given whole before it reads on; other runs write nothing before all is read; and after a call that failed none reads."""
+
+import errno
+import sys
+from functools import partial
+from itertools import count
+from typing import NamedTuple
+
+import built
+from built import PROBLEM, Case
+from oracle.program import Outcome, ended_lines, told
+from worked import CHECKS, SESSIONS, SOLVES, WORKED
+
+INPUT, OUTPUT = 0, 1
+WORDS = [
+    Case("the help", (b"--help",), b"", b""),
+    Case("the version", (b"--version",), b"", b""),
+    Case("a word that is not taken", (b"wash",), b"", b""),
+]
+# The most bytes of a read and of a write: all that are asked for, many, few, and one.
+WHOLE, MANY, FEW, ONE = 1 << 30, 1000, 7, 1
+TAKES_NOTHING = 0
+
+
+class Fault(NamedTuple):
+    """The call that fails, and its error."""
+
+    call: str
+    error: int
+
+    def is_passed_over(self):
+        """Whether the program is to go on as if nothing had failed. An interrupted write is tried again, and a file whose size
+        is not told is read."""
+        return self in (Fault("write", errno.EINTR), Fault("statx", errno.EIO))
+
+
+FAULTS_OF_CALLS = [
+    Fault("read", errno.EIO),
+    Fault("read", errno.EINTR),
+    Fault("write", errno.EIO),
+    Fault("write", errno.EINTR),
+    Fault("write", TAKES_NOTHING),
+    Fault("open", errno.EMFILE),
+    Fault("fcntl", errno.EMFILE),
+    Fault("statx", errno.EIO),
+]
+
+
+class Texts:
+    """What the runs of a case are to write."""
+
+    def __init__(self, case):
+        self.case = case
+        self.ample = built.wanted(case)
+        if not isinstance(self.ample.written, bytes):
+            # The help's text is the program's own.
+            self.ample = self.ample._replace(written=built.run(case).out)
+        self.replies = {}
+
+    def due(self, given, is_read):
+        """What is to be written before more is read: where so many bytes were given of standard input, and where all was read."""
+        command = self.case.words[:1]
+        if is_read or self.case in WORDS:
+            return self.ample.written
+        if command != (b"session",):
+            return b""
+        front = ended_lines(self.case.input[:given])
+        if front not in self.replies:
+            self.replies[front] = built.wanted(self.case._replace(input=front)).written
+        return self.replies[front]
+
+
+def wrong_in(texts, fault, run, calls):
+    """Says what is wrong with a run in which a call may have failed."""
+    given, written, failed = 0, 0, None
+    is_read, problem_is_read = False, PROBLEM not in texts.case.words
+    for name, file, result in calls:
+        due = texts.due(given, is_read)
+        if name == "read" and failed:
+            return f"it reads on after a failed {failed[0]}"
+        if name == "read" and written != len(due):
+            return f"it reads on after it has written {written} bytes, and not {len(due)}"
+        if name == "read" and file == INPUT and not problem_is_read:
+            return "it reads standard input before it has read the problem"
+        if result < 0 or (name, result) == ("write", TAKES_NOTHING):
+            failed = failed or (None if fault.is_passed_over() else (name, file))
+        elif (name, file) == ("read", INPUT):
+            given, is_read = given + result, result == 0
+        elif name == "read":
+            problem_is_read = result == 0
+        elif (name, file) == ("write", OUTPUT):
+            written += result
+    due = texts.due(given, is_read)
+    if len(run.out) != written:
+        return f"its calls wrote {written} bytes"
+    return None if wanted_end(texts.ample, failed, due, run).allows(*run) else f"it ends so: {run}"
+
+
+def wanted_end(ample, failed, due, run):
+    """How a run is to end in which this call failed. A writer that failed once may be given the rest of its text again, but
+    none that follows."""
+    if failed is None:
+        return ample
+    call, file = failed
+    if call == "read":
+        return Outcome(4, due, told("read failed"))
+    if call != "write":
+        return Outcome(4, b"", told("cannot open the problem"))
+    if file == OUTPUT:
+        return Outcome(4, due[: len(run.out)], told("write failed"))
+    # Where standard error takes less than all, the status still tells.
+    return ample._replace(told=run.err)
+
+
+def judge(case_and_pieces, library):
+    """Says what is wrong with the runs of a case."""
+    case, pieces = case_and_pieces
+    built.put_problem(case)
+    texts = Texts(case)
+    for piece in pieces:
+        for fault in FAULTS_OF_CALLS:
+            for number in count(1):
+                run, calls = built.watch(case, library, CALL=fault.call, AT=number, AS=fault.error, PIECE=piece)
+                wrong = wrong_in(texts, fault, run, calls)
+                if wrong:
+                    return f"{case.name}: pieces of {piece}, {fault.call} {number} fails with {fault.error}: {wrong}"
+                if sum(name == fault.call for name, *_ in calls) < number:
+                    break
+    return None
+
+
+def pieces_of(case):
+    """Of a long text not too small ones: each read and each write is a run."""
+    return [WHOLE, MANY if len(case.input) > MANY else FEW]
+
+
+if __name__ == "__main__":
+    cases = [case for case, _ in WORKED] + WORDS
+    items = [(case, pieces_of(case)) for case in cases]
+    items += [(kind[-1].case, [ONE]) for kind in (SOLVES, SESSIONS, CHECKS)]
+    sys.exit(built.report(partial(judge, library=sys.argv[1]), items))

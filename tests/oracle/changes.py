@@ -1,0 +1,46 @@
+"""Changes: what each makes of a state, or why it is refused."""
+
+from dataclasses import replace
+
+from .network import Arc, drained, solved
+from .texts import LARGEST, Fault
+
+MOST_ARCS = 134_217_728
+
+
+def open_arc(state, j):
+    if not 1 <= j <= len(state.arcs):
+        raise Fault("no such arc")
+    if state.arcs[j - 1].is_closed:
+        raise Fault("arc is closed")
+    return state.arcs[j - 1]
+
+
+def with_arc(state, j, arc):
+    return replace(state, arcs=state.arcs[: j - 1] + (arc,) + state.arcs[j:])
+
+
+def cap(state, j, capacity):
+    arc = open_arc(state, j)
+    if state.capacity_sum() - arc.cap + capacity > LARGEST:
+        raise Fault("capacities past 64 bits")
+    return with_arc(drained(state, j, capacity), j, arc._replace(cap=capacity))
+
+
+def close(state, j):
+    arc = open_arc(state, j)
+    return with_arc(drained(state, j, 0), j, arc._replace(cap=0, is_closed=True))
+
+
+def add(state, tail, head, capacity):
+    if not (1 <= tail <= state.nodes and 1 <= head <= state.nodes):
+        raise Fault("no such node")
+    if len(state.arcs) == MOST_ARCS:
+        raise Fault("too many arcs")
+    if state.capacity_sum() + capacity > LARGEST:
+        raise Fault("capacities past 64 bits")
+    return replace(state, arcs=state.arcs + (Arc(tail, head, capacity),), flows=state.flows + (0,))
+
+
+def solve(state):
+    return solved(state)

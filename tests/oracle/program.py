@@ -1,0 +1,170 @@
+"""The program as its caller sees it: words, files, standard streams and statuses."""
+
+import re
+from typing import NamedTuple
+
+from .network import is_greatest, solved
+from .problem import read_problem
+from .session import MOST_LINES, Refusals, cut_of, run_lines
+from .solution import read_solution, solution_text
+from .texts import LineFault, written
+
+MOST_BYTES = 1_073_741_824
+WELL, SOME_REFUSED, NOT_GREATEST = 0, 1, 1
+USAGE, TEXT_FAULT, STREAM_FAULT, NO_MEMORY = 2, 3, 4, 5
+
+
+class Outcome(NamedTuple):
+    """How a run ends: its status, what it writes to standard output, and what it tells on standard error. A pattern stands for
+    the texts that it matches, where the documents do not have the text itself."""
+
+    status: int
+    written: object
+    told: object = b""
+
+    def allows(self, status, out, err):
+        """Whether a run that ended so ended as this says."""
+        pairs = (self.written, out), (self.told, err)
+        return self.status == status and all(
+            wanted == got if isinstance(wanted, bytes) else wanted.fullmatch(got) is not None for wanted, got in pairs
+        )
+
+
+class Ended(Exception):
+    """A run that ends before it writes anything."""
+
+    def __init__(self, status, told):
+        super().__init__(told)
+        self.outcome = Outcome(status, b"", told)
+
+
+def told(text):
+    return f"dmf: {text}\n".encode()
+
+
+READ_FAILED = Ended(STREAM_FAULT, told("read failed"))
+WRITE_FAILED = told("write failed")
+TOO_MUCH = told("too much input")
+OUT_OF_MEMORY = Outcome(NO_MEMORY, b"", told("no memory"))
+VERSION = Outcome(WELL, b"dmf 0.1.0\n")
+REFUSED_WORDS = Outcome(USAGE, b"", re.compile(rb"error: .*\nUsage: dmf.*\n", re.DOTALL))
+NO_TEXT = Outcome(USAGE, b"", told("a word is not UTF-8"))
+COMMANDS = ("solve", "session", "check")
+
+
+def help_on(words):
+    """The help of a command, or of the program. Its text is the program's own, but that it says how it is used."""
+    usage = b"".join(rb" " + word.encode() for word in words)
+    return Outcome(WELL, re.compile(rb".*\nUsage: dmf" + usage + rb"\b.*\n", re.DOTALL))
+
+
+def bounded(text):
+    if len(text) > MOST_BYTES:
+        raise Ended(STREAM_FAULT, TOO_MUCH)
+    return text
+
+
+def judged(read, *texts):
+    try:
+        return read(*texts)
+    except LineFault as fault:
+        raise Ended(TEXT_FAULT, told(fault)) from None
+
+
+def solve(problem, want_cut):
+    state = solved(judged(read_problem, bounded(problem)))
+    return Outcome(WELL, solution_text(state) + (cut_of(state) if want_cut else b""))
+
+
+def check(problem, solution):
+    state = judged(read_problem, bounded(problem))
+    state = judged(read_solution, bounded(solution), state)
+    if is_greatest(state):
+        return Outcome(WELL, written("c", "greatest", state.value()))
+    return Outcome(NOT_GREATEST, written("c", "flow", state.value()))
+
+
+def session(problem, commands, want_cut, refusals=None):
+    state = judged(read_problem, bounded(problem))
+    line_count = commands.count(b"\n") + (not commands.endswith(b"\n") and commands != b"")
+    is_too_much = len(commands) > MOST_BYTES or line_count > MOST_LINES
+    if is_too_much:
+        commands = ended_lines(commands[:MOST_BYTES])
+    replies, some_refused = run_lines(state, commands, want_cut, refusals or Refusals())
+    if is_too_much:
+        return Outcome(STREAM_FAULT, replies, TOO_MUCH)
+    return Outcome(SOME_REFUSED if some_refused else WELL, replies)
+
+
+def ended_lines(text):
+    """The lines of a text that a line feed ends."""
+    return text[: text.rfind(b"\n") + 1]
+
+
+def read_file(path):
+    try:
+        with open(path, "rb") as file:
+            return file.read()
+    except IsADirectoryError:
+        raise READ_FAILED from None
+    except (OSError, ValueError):
+        raise Ended(STREAM_FAULT, told("cannot open the problem")) from None
+
+
+def asked(words):
+    """What words ask for: the command's word, whether a cut is wanted, and the path where one is; or how the run ends at once.
+    Words are taken from left to right."""
+    if words in ([], ["--"]):
+        return "solve", False, None
+    if words[0] in ("-h", "--help"):
+        return help_on([])
+    if words[0] in ("-V", "--version"):
+        return VERSION
+    if words[0] == "help":
+        is_known = len(words) == 1 or len(words) == 2 and words[1] in (*COMMANDS, "help")
+        return help_on(words[1:]) if is_known else REFUSED_WORDS
+    if words[0] not in COMMANDS:
+        return REFUSED_WORDS
+    return asked_of(words[0], words[1:])
+
+
+def asked_of(command, words):
+    """What the words behind a command ask for."""
+    path_count = 0 if command == "solve" else 1
+    paths, want_cut, are_flags = [], False, True
+    for word in words:
+        if are_flags and word in ("-h", "--help"):
+            return help_on([command])
+        if are_flags and word == "--":
+            are_flags = False
+        elif are_flags and word == "--cut" and command != "check" and not want_cut:
+            want_cut = True
+        elif are_flags and word.startswith("-") and word != "-":
+            return REFUSED_WORDS
+        else:
+            paths.append(word)
+        if len(paths) > path_count:
+            return REFUSED_WORDS
+    if len(paths) < path_count:
+        return REFUSED_WORDS
+    return command, want_cut, *(paths or [None])
+
+
+def run(words, standard_input, refusals=None):
+    """How the program ends on these words, which are bytes, with this text on standard input."""
+    try:
+        words = [word.decode() for word in words]
+    except UnicodeDecodeError:
+        return NO_TEXT
+    asked_for = asked(words)
+    if isinstance(asked_for, Outcome):
+        return asked_for
+    command, want_cut, path = asked_for
+    try:
+        if command == "solve":
+            return solve(standard_input, want_cut)
+        if command == "check":
+            return check(read_file(path), standard_input)
+        return session(read_file(path), standard_input, want_cut, refusals)
+    except Ended as ended:
+        return ended.outcome

@@ -1,0 +1,143 @@
+"""Sessions: command lines, the timeline of whole states, and the replies."""
+
+from . import changes
+from .network import is_greatest, smallest_side
+from .problem import problem_text
+from .solution import cut_text, solution_text
+from .texts import Fault, fields_of, number_of, written
+
+MOST_LINES = 1_000_000
+LONGEST_LINE = 4_096
+# How many fields may stand behind each command's word.
+FIELDS = {
+    b"cap": {2},
+    b"add": {3},
+    b"close": {1},
+    b"solve": {0},
+    b"undo": {0, 1},
+    b"redo": {0, 1},
+    b"print": {1},
+}
+PRINTED = {b"problem", b"flow", b"cut"}
+CHANGES = {"cap": changes.cap, "add": changes.add, "close": changes.close, "solve": changes.solve}
+
+
+def command_of(line, is_ended):
+    """The word of the command that a line means, with what it speaks of; None for a blank line and a comment."""
+    if len(line) > LONGEST_LINE:
+        raise Fault("line too long")
+    fields = fields_of(line.removesuffix(b"\r") if is_ended else line)
+    if not fields or fields[0] == b"c":
+        return None
+    word, *rest = fields
+    if word not in FIELDS:
+        raise Fault("unknown command")
+    if len(rest) not in FIELDS[word]:
+        raise Fault("wrong number of fields")
+    if word == b"print":
+        if rest[0] not in PRINTED:
+            raise Fault("unknown command")
+        return "print", rest[0].decode()
+    numbers = [number_of(field) for field in rest]
+    if word in (b"undo", b"redo") and not numbers:
+        numbers = [1]
+    return word.decode(), *numbers
+
+
+def cut_of(state):
+    return cut_text(*smallest_side(state))
+
+
+class Session:
+    """The states of a session, and the place of the present one."""
+
+    def __init__(self, state, want_cut):
+        self.states = [state]
+        self.place = 0
+        self.want_cut = want_cut
+
+    def present(self):
+        return self.states[self.place]
+
+    def reply(self, word, *rest):
+        """Carries a command out, and gives its reply. Raises the fault for which it is refused, and then changes nothing."""
+        if word == "print":
+            return self.printed(*rest)
+        if word in CHANGES:
+            return self.changed(word, *rest)
+        self.move(word, *rest)
+        return written("c", word, "value", self.present().value())
+
+    def changed(self, word, *rest):
+        state = CHANGES[word](self.present(), *rest)
+        self.states = self.states[: self.place + 1] + [state]
+        self.place += 1
+        if word == "solve":
+            return solution_text(state) + (cut_of(state) if self.want_cut else b"")
+        number = [len(state.arcs)] if word == "add" else []
+        return written("c", word, *number, "value", state.value())
+
+    def move(self, word, count):
+        if word == "undo" and count > self.place:
+            raise Fault("nothing to undo")
+        if word == "redo" and count > len(self.states) - 1 - self.place:
+            raise Fault("nothing to redo")
+        self.place += count if word == "redo" else -count
+
+    def printed(self, what):
+        state = self.present()
+        if what == "problem":
+            return problem_text(state)
+        if what == "flow":
+            return solution_text(state)
+        if not is_greatest(state):
+            raise Fault("flow is not greatest")
+        return cut_of(state)
+
+    def may_want_memory(self, word, *rest):
+        """Whether this command may be refused memory, as it stands here: a change that nothing else refuses, a print of the
+        cut, and steps forward of which one adds an arc."""
+        if word in CHANGES:
+            try:
+                CHANGES[word](self.present(), *rest)
+            except Fault:
+                return False
+            return True
+        if word == "redo":
+            later = self.states[self.place : self.place + rest[0] + 1]
+            return len(later) == rest[0] + 1 and len(later[0].arcs) < len(later[-1].arcs)
+        return (word, *rest) == ("print", "cut")
+
+
+class Refusals:
+    """The lines of a session that are refused memory, counted from 1, where they may be; the lines that may be are noted."""
+
+    def __init__(self, lines=()):
+        self.lines = frozenset(lines)
+        self.possible = set()
+
+    def judge(self, session, line, command):
+        if session.may_want_memory(*command):
+            self.possible.add(line)
+            if line in self.lines:
+                raise Fault("no memory")
+
+
+def run_lines(state, text, want_cut, refusals):
+    """What the lines of a command text write, one reply a line, and whether one of them is refused. An empty rest behind the
+    last line feed is no line. Lines past the limit are left out."""
+    session = Session(state, want_cut)
+    replies = []
+    some_refused = False
+    *ended, rest = text.split(b"\n")
+    for number, line in enumerate((ended + [rest] * bool(rest))[:MOST_LINES], 1):
+        try:
+            command = command_of(line, number <= len(ended))
+            if command is None:
+                continue
+            refusals.judge(session, number, command)
+            replies.append(session.reply(*command))
+        except Fault as fault:
+            some_refused = True
+            replies.append(written("c", "refused", number, fault))
+    return b"".join(replies), some_refused

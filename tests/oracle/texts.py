@@ -1,0 +1,58 @@
+"""Lines, fields and numbers of a text, and the faults for which a text is refused."""
+
+import re
+
+LARGEST = 2**64 - 1
+
+
+class Fault(Exception):
+    """Why a line, a field or a whole text is refused. The text is what is told."""
+
+
+class LineFault(Fault):
+    """The fault of a text, with the number of its line."""
+
+    def __init__(self, line, fault):
+        super().__init__(f"line {line}: {fault}")
+
+
+def lines_of(text):
+    """Each line of a text: the pieces between line feeds, without one carriage return directly before a line feed."""
+    *ended, rest = text.split(b"\n")
+    return [line.removesuffix(b"\r") for line in ended] + ([rest] if rest else [])
+
+
+def fields_of(line):
+    """The longest runs of bytes other than space and tab."""
+    return re.findall(rb"[^ \t]+", line)
+
+
+def number_of(field):
+    if not re.fullmatch(rb"[0-9]+", field):
+        raise Fault("not a number")
+    digits = field.lstrip(b"0") or b"0"
+    if len(digits) > len(str(LARGEST)) or int(digits) > LARGEST:
+        raise Fault("number too large")
+    return int(digits)
+
+
+def read_text(text, reading):
+    """What a text stands for: `reading` takes the fields of its lines one after the other, but for blank lines and comments,
+    and then says what they stand for together."""
+    lines = lines_of(text)
+    for place, line in enumerate(lines, 1):
+        fields = fields_of(line)
+        if fields and not fields[0].startswith(b"c"):
+            try:
+                reading.take(fields)
+            except Fault as fault:
+                raise LineFault(place, fault) from None
+    try:
+        return reading.end()
+    except Fault as fault:
+        raise LineFault(len(lines) + 1, fault) from None
+
+
+def written(*fields):
+    """A line of these fields."""
+    return " ".join(map(str, fields)).encode() + b"\n"

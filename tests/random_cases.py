@@ -1,0 +1,335 @@
+"""Random cases: problems, command scripts, solutions and words, right ones and faulty ones.
+
+A text is made as a list of lines, and a line as a list of fields. Faults are put into these, or into the bytes at the end."""
+
+from dataclasses import replace
+
+from built import PROBLEM, Case
+from oracle.changes import add, cap, close, solve
+from oracle.network import Arc, State
+from oracle.session import FIELDS
+from oracle.texts import LARGEST, Fault
+
+ODD_FIELDS = (
+    [b"0", b"1", b"2", b"3", b"-1", b"+1", b"1.5", b"1e3", b"0x1", b"x", b"s", b"t", b"max", b"min", b"c", b"cx"]
+    + [b"9223372036854775808", b"18446744073709551615", b"18446744073709551616", b"99999999999999999999"]
+    + [b"184467440737095516150", b"1" * 5000, b"0" * 30 + b"1", b"0" * 30 + b"x", b"1\r", b"\r", b"\0", b"\x0b1", b"1\xff"]
+    + [b"16777216", b"16777217", b"134217728", b"134217729", b"4294967296", b"4294967297", "\u0661".encode(), b"\xa01"]
+)
+ODD_LINES = [
+    [b"p", b"max", b"2", b"0"],
+    [b"p", b"max", b"4", b"5"],
+    [b"p", b"min", b"4", b"5"],
+    [b"n", b"1", b"s"],
+    [b"n", b"2", b"t"],
+    [b"n", b"1", b"t"],
+    [b"n", b"0", b"x"],
+    [b"a", b"1", b"2", b"1"],
+    [b"a", b"1", b"2", b"0", b"3", b"5"],
+    [b"a", b"1", b"2", b"18446744073709551615"],
+    [b"s", b"0"],
+    [b"s", b"1", b"1"],
+    [b"f", b"1", b"2", b"0"],
+    [b"f", b"1", b"2", b"1"],
+    [b"f", b"2", b"1", b"1"],
+    [b"f", b"1", b"2"],
+    [b"P", b"max", b"2", b"0"],
+    [b"c"],
+    [b"cap", b"1", b"2"],
+    [],
+]
+ODD_BYTES = [bytes([byte]) for byte in range(256)]
+# Command lines that are refused by their form, and some that only look so.
+ODD_COMMANDS = [
+    [b"wash"],
+    [b"SOLVE"],
+    [b"Print", b"flow"],
+    [b"solved"],
+    [b"closed", b"1"],
+    [b"c"],
+    [b"c", b"solve"],
+    [b"csolve"],
+    [b"print"],
+    [b"print", b"side"],
+    [b"print", b"Flow"],
+    [b"print", b"flow", b"flow"],
+    [b"print", b"side", b"x"],
+    [b"solve", b"1"],
+    [b"undo", b"1", b"1"],
+    [b"redo", b"x"],
+    [b"undo", b"18446744073709551615"],
+    [b"redo", b"18446744073709551616"],
+    [b"cap", b"1"],
+    [b"add", b"1", b"2"],
+    [b"add", b"1", b"x", b"18446744073709551616"],
+    [b"close"],
+    [b"close", b"1", b"1"],
+    [b"x" * 4096],
+    [b"x" * 4097],
+    [b"c", b"x" * 4094],
+    [b"c", b"x" * 4095],
+    [b"solve" + b" " * 4091],
+    [b"solve" + b" " * 4091 + b"\r"],
+    [b"solve" + b" " * 4090 + b"\r"],
+    [b"solve" + b" " * 4092],
+    [b"solve\r"],
+    [b"\0"],
+    [b"\x0bsolve"],
+    [],
+]
+
+
+def line(*fields):
+    return [str(field).encode() for field in fields]
+
+
+def capacities(random):
+    """A way in which capacities are chosen."""
+    kind = random.randrange(12)
+    if kind < 3:
+        return lambda: 1
+    if kind == 3:
+        return lambda: random.randrange(3)
+    if kind == 4:
+        return lambda: random.choice([0, 1, 2**31, 2**32, 2**60, 2**62, 2**63, LARGEST // 7, LARGEST])
+    if kind == 5:
+        return lambda: random.randrange(LARGEST // 100)
+    return lambda: random.randrange(1, 12)
+
+
+def near_ends(nodes, random):
+    """The ends of arcs of which most lead to one of the next places, so that paths are long."""
+    reach, fewest, most = random.choice([1, 2, 3]), random.choice([0, 1, 1]), random.choice([1, 2, 4, 6, 8])
+    for tail in range(nodes):
+        for _ in range(random.randint(fewest, most)):
+            head = random.randrange(nodes) if random.random() < 0.2 else tail + random.randint(1, reach)
+            yield tail, min(head, nodes - 1)
+
+
+def level_ends(nodes, random):
+    """The ends of arcs that lead from level to level."""
+    width, degree = random.choice([2, 3, 4, 6]), random.choice([1, 2, 2])
+    for place in range(1, nodes - 1):
+        if place <= width:
+            yield 0, place
+        following = range((place - 1) // width * width + 1 + width, nodes - 1)[:width]
+        for head in random.sample(following, min(degree, len(following))) or [nodes - 1]:
+            yield place, head
+
+
+def chain_ends(nodes, random):
+    """The ends of arcs that make chains, with short cuts from chain to chain. A shortest path takes short cuts, and the greatest
+    flow often leaves them empty again."""
+    count = random.randint(2, 4)
+    chains = [[0, *range(1 + first, nodes - 1, count), nodes - 1] for first in range(count)]
+    for chain in chains:
+        yield from zip(chain, chain[1:])
+    for _ in range(random.randint(1, 2 * count)):
+        chain, other = random.sample(chains, 2)
+        place = random.randrange(len(chain) - 1)
+        yield chain[place], random.choice(other[place + 1 :] or other[-1:])
+
+
+def network(random, most_nodes=60):
+    """A network without flow. A few have a sum of capacities past 64 bits."""
+    nodes = min(most_nodes, random.choice([2, 3, 4, 5, 6, 6, 8, 10, 14, 14, 20, 26, 60]))
+    ends = list(random.choice([near_ends, level_ends, chain_ends, chain_ends])(nodes, random))
+    for share, other in (0.05, 1), (random.choice([0, 0, 0.2, 1]), -1):
+        # Parallel arcs and opposite ones.
+        ends += [pair[::other] for pair in ends if random.random() < share]
+    if random.random() < 0.7:
+        random.shuffle(ends)
+    names = random.sample(range(1, nodes + 1), nodes)
+    chosen = capacities(random)
+    arcs = tuple(Arc(names[tail], names[head], chosen()) for tail, head in ends)
+    source, sink = (names[0], names[-1]) if random.random() < 0.9 else random.sample(names, 2)
+    return State(nodes, source, sink, arcs, (0,) * len(arcs))
+
+
+def problem_lines(state, random):
+    terminals = [line("n", state.source, "s"), line("n", state.sink, "t")]
+    if random.random() < 0.2:
+        terminals.reverse()
+    arcs = [line("a", *arc[:3]) for arc, _ in state.open_arcs()]
+    return [line("p", "max", state.nodes, len(arcs)), *terminals, *arcs]
+
+
+def changed(state, random):
+    """The state after a few changes, with what may flow there."""
+    for _ in range(random.choice([0, 1, 2, 4, 8])):
+        arc = random.randint(1, len(state.arcs) + 1)
+        ends = [random.randint(1, state.nodes) for _ in range(2)]
+        amount = random.choice([0, 0, 1, 2, 5, 9])
+        change = random.choice([solve, cap, cap, close, add])
+        numbers = {solve: [], cap: [arc, amount], close: [arc], add: [*ends, amount]}[change]
+        try:
+            state = change(state, *numbers)
+        except Fault:
+            pass
+    return state
+
+
+def with_cycles(state, random):
+    """The state with more flow on cycles of arcs that are met by walking on at random."""
+    flows = list(state.flows)
+    for _ in range(random.randrange(4)):
+        node, trail = random.randint(1, state.nodes), []
+        while True:
+            nexts = [j for j, arc in enumerate(state.arcs) if arc.tail == node and flows[j] < arc.cap]
+            if not nexts or len(trail) > state.nodes:
+                break
+            trail.append(random.choice(nexts))
+            node = state.arcs[trail[-1]].head
+            begins = [place for place, j in enumerate(trail) if state.arcs[j].tail == node]
+            if begins:
+                for j in set(trail[begins[-1] :]):
+                    flows[j] += 1
+                break
+    return replace(state, flows=tuple(flows))
+
+
+def solution_lines(state, random):
+    """The lines of a solution in any order. Some pairs are told by several lines, and some without flow by none."""
+    lines = [line("s", state.value() if random.random() < 0.95 else random.randrange(9))]
+    for arc, flow in state.open_arcs():
+        if flow == 0 and random.random() < 0.5:
+            continue
+        part = random.randint(0, flow) if random.random() < 0.3 else flow
+        lines.append(line("f", arc.tail, arc.head, part))
+        if part < flow:
+            lines.append(line("f", arc.tail, arc.head, flow - part))
+    if random.random() < 0.5:
+        random.shuffle(lines)
+    return lines
+
+
+def command_lines(state, random):
+    """A script of commands. Most of them can be carried out."""
+    count = random.choice([3, 8, 20, 60, 200])
+    odd_share = random.choice([0, 0.02, 0.3])
+    words = random.choices([*FIELDS, b"print"], [5, 3, 1, 4, 2, 2, 2, random.randrange(9)], k=random.randint(1, count))
+    arc_count = len(state.arcs)
+    lines = []
+    for word in words:
+        if random.random() < odd_share:
+            lines.append(random.choice(ODD_COMMANDS))
+            continue
+        arc = random.randint(0 if odd_share else 1, arc_count + 1)
+        amount = random.choice([0, 1, 1, 1, 2, 2, 3, 5, 9, 9, 20, 2**63])
+        ends = [random.randint(0 if odd_share else 1, state.nodes + bool(odd_share)) for _ in range(2)]
+        steps = [random.choice([0, 1, 1, 2, 2, 3, 9])] * random.randrange(2)
+        numbers = {b"cap": [arc, amount], b"add": [*ends, amount], b"close": [arc], b"undo": steps, b"redo": steps}
+        shown = [random.choice([b"problem", b"flow", b"flow", b"cut", b"cut"])] if word == b"print" else []
+        lines.append([word, *line(*numbers.get(word, [])), *shown])
+        arc_count += word == b"add"
+    return lines
+
+
+def with_fault(lines, random):
+    """The lines with one thing changed. What is made need not be at fault."""
+    lines = [list(fields) for fields in lines] or [[]]
+    # The first three lines of a problem are at fault in most ways.
+    place = random.randrange(random.choice([1, 3, len(lines), len(lines)])) % len(lines)
+    fields = lines[place]
+    kind = random.randrange(11)
+    if kind == 0:
+        del lines[place]
+    elif kind == 10:
+        del lines[place:]
+    elif kind == 1:
+        lines.insert(random.randint(0, len(lines)), fields)
+    elif kind == 2:
+        other = random.randrange(len(lines))
+        lines[place], lines[other] = lines[other], lines[place]
+    elif kind == 3 or not fields:
+        lines.insert(random.randint(0, len(lines)), random.choice(ODD_LINES))
+    elif kind == 4:
+        fields.insert(random.randint(0, len(fields)), random.choice(ODD_FIELDS))
+    elif kind == 5:
+        fields.pop(random.randrange(len(fields)))
+    else:
+        at = random.randrange(len(fields))
+        fields[at] = other_field(fields[at], lines, random)
+    return lines
+
+
+def other_field(field, lines, random):
+    """A field in place of this one: a number near it, a field of another line, or an odd one."""
+    kind = random.randrange(3)
+    if kind == 0 and field.isdigit():
+        return str(max(0, int(field) + random.choice([-1, 1]))).encode()
+    if kind == 1:
+        return random.choice(random.choice([fields for fields in lines if fields]))
+    return random.choice(ODD_FIELDS)
+
+
+def plain_text(lines):
+    return b"".join(b" ".join(fields) + b"\n" for fields in lines)
+
+
+def loose_text(lines, random, comment):
+    """The text of lines with more space than is needed, leading zeros, comments, blank lines and carriage returns."""
+    text = b""
+    for fields in lines:
+        spaced = [random.choice([b"", b"", b" ", b"\t \t"])]
+        for field in fields:
+            zeros = b"0" * random.choice([0, 0, 0, 1, 25]) if field.isdigit() else b""
+            spaced += [zeros + field, random.choice([b" ", b" ", b"\t", b"   "])]
+        text += b"".join(spaced if random.random() < 0.2 else spaced[:-1])
+        text += random.choice([b"\n", b"\n", b"\n", b"\r\n", b"\r\r\n" if random.random() < 0.05 else b"\n"])
+        if random.random() < 0.1:
+            text += random.choice([b"\n", b" \t\n", b"\r\n", comment + b"\n", b" " + comment + b" \xff\0 p max\r\n"])
+    return text
+
+
+def text_of(lines, random, comment, fault_share):
+    """The text of lines. This share of the texts is changed somewhere, which may be a fault."""
+    is_changed = random.random() < fault_share
+    if is_changed:
+        for _ in range(random.choice([0, 1, 1, 2])):
+            lines = with_fault(lines, random)
+    text = plain_text(lines) if random.random() < 0.5 else loose_text(lines, random, comment)
+    if random.random() < 0.1:
+        text = text.removesuffix(b"\n")
+    if is_changed and random.random() < 0.3:
+        place = random.randint(0, len(text))
+        text = random.choice([text[:place], text[:place] + random.choice(ODD_BYTES) + text[place:], text[:place] + text[place + 1 :]])
+    return text
+
+
+def words_of(command, random):
+    """Words that ask for this, with or without a cut; some of them are faulty."""
+    path = [random.choices([PROBLEM, b"missing.max", b"folder"], [98, 1, 1])[0]] if command != b"solve" else []
+    cut = [b"--cut"] * random.randrange(2) if command != b"check" else []
+    words = [command] + random.sample(cut + path, len(cut + path))
+    if words == [b"solve"] and random.random() < 0.3:
+        words = []
+    if random.random() < 0.03:
+        words.insert(random.randint(0, len(words)), random.choice(ODD_WORDS))
+    return tuple(words)
+
+
+ODD_WORDS = (
+    [b"solve", b"session", b"check", b"help", b"--help", b"-h", b"--version", b"-V", b"--cut", b"--", b"wash", b"--wash"]
+    + [PROBLEM, b"missing.max", b"folder", b"\xff", b"", b"./" + PROBLEM]
+)
+
+
+def random_words(random):
+    """Any words. The problem's file may be missing, or a folder."""
+    return tuple(random.choices(ODD_WORDS, k=random.randrange(5)))
+
+
+def random_case(name, random):
+    command = random.choices([b"solve", b"session", b"check", b""], [20, 45, 30, 5])[0]
+    state = network(random)
+    if command == b"check":
+        state = with_cycles(changed(state, random), random)
+    problem = text_of(problem_lines(state, random), random, b"cx", 0.5 if command == b"solve" else 0.05)
+    if command == b"check":
+        text = text_of(solution_lines(state, random), random, b"cx", 0.6)
+    elif command == b"session":
+        text = text_of(command_lines(state, random), random, b"c", 0.2)
+    else:
+        text = problem
+    return Case(name, words_of(command, random) if command else random_words(random), problem, text)
