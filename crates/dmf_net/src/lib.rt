@@ -23,6 +23,8 @@ mod drain;
 #[cfg(test)]
 mod drain_tests;
 mod edit;
+mod edited;
+mod edited_pairs;
 mod fault;
 mod flow_sums;
 mod laws;

@@ -10,7 +10,8 @@ use crate::problem::read_state;
 use crate::reply::put_line;
 use crate::whole_text::read_all;
 use dmf_net::{NoMemory, State, is_greatest};
-use dmf_text::{LineBuffer, Sink, SolutionFaultKind, Source, WriteFault, read_solution};
+use dmf_text::LineField::{Number, Text};
+use dmf_text::{LineBuffer, Sink, SolutionFaultKind, Source, WriteFault, line_of, read_solution};
 use std::alloc::Global;
 
 /// Reads a problem, then a solution of it, and then writes `c greatest V` where no flow has a larger value than that of
@@ -77,12 +78,7 @@ fn put_verdict<W: Sink>(state: &State, greatest: bool, out: &mut W) -> Result<()
 fn verdict_line(greatest: bool, value: u64) -> LineBuffer
     ensures { result ≡ verdict_line greatest value }
 {
-    let mut line = LineBuffer::new();
-    line.add_number(value);
-    line.add_text(b" ");
-    line.add_text(verdict_word(greatest));
-    line.add_text(b"c ");
-    line
+    line_of(&[Text(b"c"), Text(verdict_word(greatest)), Number(value)])
 }
 
 fn verdict_word(greatest: bool) -> &'static [u8]

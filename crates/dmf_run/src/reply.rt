@@ -8,7 +8,10 @@ ghost use Rattle.dmf_run.specs.WrittenLine.{is_refusal};
 use crate::refusal::refusal_text;
 use dmf_net::{Side, State};
 use dmf_session::{Command, Refusal, Reply};
-use dmf_text::{LineBuffer, Sink, WriteFault, put_all, write_cut, write_problem, write_solution};
+use dmf_text::LineField::{Number, Text};
+use dmf_text::{
+    LineBuffer, Sink, WriteFault, line_of, put_all, write_cut, write_problem, write_solution,
+};
 
 /// How a line was answered.
 #[derive(Clone, Copy, Debug, PartialEq, Eq)]
@@ -103,12 +106,13 @@ fn flush<W: Sink>(out: &mut W) -> Result<(), WriteFault>
 fn refused_line(number: u32, refusal: &Refusal) -> LineBuffer
     ensures { result ≡ run.refused_text number refusal.now }
 {
-    let mut line = LineBuffer::new();
-    line.add_text(refusal_text(refusal));
-    line.add_text(b" ");
-    line.add_number(u64::from(number));
-    line.add_text(b"c refused ");
-    line
+    let number = u64::from(number);
+    line_of(&[
+        Text(b"c"),
+        Text(b"refused"),
+        Number(number),
+        Text(refusal_text(refusal)),
+    ])
 }
 
 /// Writes the reply to a command.
@@ -133,25 +137,25 @@ pub fn show<W: Sink>(
 fn value_line(command: Command, value: u64) -> LineBuffer
     ensures { result ≡ run.value_text command value }
 {
-    let mut line = LineBuffer::new();
-    line.add_number(value);
-    line.add_text(b" value ");
-    line.add_text(word_of(command));
-    line.add_text(b"c ");
-    line
+    line_of(&[
+        Text(b"c"),
+        Text(word_of(command)),
+        Text(b"value"),
+        Number(value),
+    ])
 }
 
 fn added_line(command: Command, arc: u32, value: u64) -> LineBuffer
     ensures { result ≡ run.added_text command arc value }
 {
-    let mut line = LineBuffer::new();
-    line.add_number(value);
-    line.add_text(b" value ");
-    line.add_number(u64::from(arc));
-    line.add_text(b" ");
-    line.add_text(word_of(command));
-    line.add_text(b"c ");
-    line
+    let word = word_of(command);
+    line_of(&[
+        Text(b"c"),
+        Text(word),
+        Number(u64::from(arc)),
+        Text(b"value"),
+        Number(value),
+    ])
 }
 
 fn word_of(command: Command) -> &'static [u8]

@@ -84,27 +84,27 @@ skipped-empty bytes none =
     (cases_lt n (length bytes))
 
 -- the bytes of a line, past its blanks, cut at the next blank
-pub record IsCut (line field after : List ℕ) : Type 0 where
+pub record IsSplit (line field after : List ℕ) : Type 0 where
   pub rest : List ℕ
   pub skipped : rest ≡ drop (prefix_len is_blank line) line
   pub front : field ≡ take (position_or_len is_blank rest) rest
   pub back : after ≡ drop (position_or_len is_blank rest) rest
 
-pub fields-cut : (line field after : List ℕ) → IsCut line field after → 0 < length field → fields line ≡ field ∷ fields after
-fields-cut line field after cut some =
-    let rest = cut.rest in
+pub fields-split : (line field after : List ℕ) → IsSplit line field after → 0 < length field → fields line ≡ field ∷ fields after
+fields-split line field after split some =
+    let rest = split.rest in
     let m = position_or_len is_blank rest in
-    let long = ap length cut.front ∙ length-take m rest in
-    fields-skip line ∙ ap fields (sym cut.skipped) ∙ fields-first rest (omega arith)
-    ∙ ap (λ f. f ∷ fields (drop m rest)) (sym cut.front) ∙ ap (λ a. field ∷ fields a) (sym cut.back)
+    let long = ap length split.front ∙ length-take m rest in
+    fields-skip line ∙ ap fields (sym split.skipped) ∙ fields-first rest (omega arith)
+    ∙ ap (λ f. f ∷ fields (drop m rest)) (sym split.front) ∙ ap (λ a. field ∷ fields a) (sym split.back)
 
-pub fields-cut_none : (line field after : List ℕ) → IsCut line field after → length field ≡ 0 → (fields line ≡ []) × (fields after ≡ [])
-fields-cut_none line field after cut none =
-    let rest = cut.rest in
+pub fields-split_none : (line field after : List ℕ) → IsSplit line field after → length field ≡ 0 → (fields line ≡ []) × (fields after ≡ [])
+fields-split_none line field after split none =
+    let rest = split.rest in
     let m = position_or_len is_blank rest in
     let most = prefix_len-le-length (λ b. not (is_blank b)) rest in
-    let long = ap length cut.front ∙ length-take m rest in
+    let long = ap length split.front ∙ length-take m rest in
     let empty : length rest ≡ 0 =
-    ap length cut.skipped ∙ skipped-empty line (sym (ap (position_or_len is_blank) cut.skipped) ∙ (let zero : m ≡ 0 = omega arith in zero)) in
-    let gone = ap length cut.back ∙ length-drop m rest in
-    (fields-skip line ∙ ap fields (sym cut.skipped) ∙ fields-nil rest empty, fields-nil after (omega arith))
+    ap length split.skipped ∙ skipped-empty line (sym (ap (position_or_len is_blank) split.skipped) ∙ (let zero : m ≡ 0 = omega arith in zero)) in
+    let gone = ap length split.back ∙ length-drop m rest in
+    (fields-skip line ∙ ap fields (sym split.skipped) ∙ fields-nil rest empty, fields-nil after (omega arith))

@@ -6,15 +6,15 @@ use Rattle.std.specs.List.{enumerate_from}
 use Rattle.std.specs.Str.Lines.{lines}
 use Rattle.dmf_text.specs.Lines.{numbered_lines}
 use Rattle.dmf_text.specs.Fields.{fields}
-use Rattle.dmf_text.specs.Judging.{Line, first_said, ◌>>◌, at_line, outcome_after}
+use Rattle.dmf_text.specs.Judging.{Line, first_fact, ◌>>◌, at_line, outcome_after}
 
 -- ---- what lines say first
 
-pub first_said-push : {X : Type 0} (say : Line → Option X) (lines : List Line) (line : Line) → first_said say (lines ++ line ∷ []) ≡ option_or (first_said say lines) (say line)
-first_said-push say [] line = elim (say line) as (λ o. option_or o None ≡ o) [ None ↦ refl | Some x ↦ refl ]
-first_said-push say (l ∷ lines) line =
-    let P : Option _ → Type 0 = λ o. option_or o (first_said say (lines ++ line ∷ [])) ≡ option_or (option_or o (first_said say lines)) (say line) in
-    elim (say l) as P [ None ↦ first_said-push say lines line | Some x ↦ refl ]
+pub first_fact-push : {X : Type 0} (say : Line → Option X) (lines : List Line) (line : Line) → first_fact say (lines ++ line ∷ []) ≡ option_or (first_fact say lines) (say line)
+first_fact-push say [] line = elim (say line) as (λ o. option_or o None ≡ o) [ None ↦ refl | Some x ↦ refl ]
+first_fact-push say (l ∷ lines) line =
+    let P : Option _ → Type 0 = λ o. option_or o (first_fact say (lines ++ line ∷ [])) ≡ option_or (option_or o (first_fact say lines)) (say line) in
+    elim (say l) as P [ None ↦ first_fact-push say lines line | Some x ↦ refl ]
 
 -- ---- numbered lines
 
@@ -40,88 +40,88 @@ none-numbered n (l ∷ others) is = absurd (let no : ⊥ = cc in no)
 
 -- ---- the outcome
 
-module _ {Said Kind Fault A : Type 0} (said_by : List Line → Said) (judged : Said → Line → Result (Unit {0}) Kind)
-    (ended : Said → Result A Kind) (fault : ℕ → Kind → Fault) (before : List Line) where
+module _ {Facts Kind Fault A : Type 0} (facts_of : List Line → Facts) (judged : Facts → Line → Result (Unit {0}) Kind)
+    (ended : Facts → Result A Kind) (fault : ℕ → Kind → Fault) (before : List Line) where
   module _ (line : Line) (more : List Line) where
     -- a good line is passed over
-    pub outcome-good : judged (said_by before) line ≡ Ok tt
-        → outcome_after said_by judged ended fault before (line ∷ more) ≡ outcome_after said_by judged ended fault (before ++ line ∷ []) more
+    pub outcome-good : judged (facts_of before) line ≡ Ok tt
+        → outcome_after facts_of judged ended fault before (line ∷ more) ≡ outcome_after facts_of judged ended fault (before ++ line ∷ []) more
     unfolding outcome_after
-    outcome-good good = ap (λ j. at_line fault (length before + 1) j >> outcome_after said_by judged ended fault (before ++ line ∷ []) more) good
+    outcome-good good = ap (λ j. at_line fault (length before + 1) j >> outcome_after facts_of judged ended fault (before ++ line ∷ []) more) good
 
     -- a bad one is told
-    pub outcome-bad : (kind : Kind) → judged (said_by before) line ≡ Err kind
-        → outcome_after said_by judged ended fault before (line ∷ more) ≡ Err (fault (length before + 1) kind)
+    pub outcome-bad : (kind : Kind) → judged (facts_of before) line ≡ Err kind
+        → outcome_after facts_of judged ended fault before (line ∷ more) ≡ Err (fault (length before + 1) kind)
     unfolding outcome_after
-    outcome-bad kind bad = ap (λ j. at_line fault (length before + 1) j >> outcome_after said_by judged ended fault (before ++ line ∷ []) more) bad
+    outcome-bad kind bad = ap (λ j. at_line fault (length before + 1) j >> outcome_after facts_of judged ended fault (before ++ line ∷ []) more) bad
 
   -- with no line left the end is judged
-  pub outcome-end : (end : Result A Kind) → end ≡ ended (said_by before)
-      → outcome_after said_by judged ended fault before [] ≡ at_line fault (length before + 1) end
+  pub outcome-end : (end : Result A Kind) → end ≡ ended (facts_of before)
+      → outcome_after facts_of judged ended fault before [] ≡ at_line fault (length before + 1) end
   unfolding outcome_after
   outcome-end end is = ap (at_line fault (length before + 1)) (sym is)
 
 -- ---- a reader on its way through a text
 
 -- Some lines were taken, which say this and of which the last had this number, and these are left.
-pub record Walk {Said Kind Fault A : Type 0} (said_by : List Line → Said) (judged : Said → Line → Result (Unit {0}) Kind)
-    (ended : Said → Result A Kind) (fault : ℕ → Kind → Fault) (text : List ℕ) (said : Said) (last : ℕ) (left : List (ℕ × List ℕ)) : Type 0 where
+pub record Walk {Facts Kind Fault A : Type 0} (facts_of : List Line → Facts) (judged : Facts → Line → Result (Unit {0}) Kind)
+    (ended : Facts → Result A Kind) (fault : ℕ → Kind → Fault) (text : List ℕ) (facts : Facts) (last : ℕ) (left : List (ℕ × List ℕ)) : Type 0 where
   pub before : List Line
   pub rest : List (List ℕ)
   pub left_is : left ≡ enumerate_from (length before + 1) rest
-  pub said_is : said ≡ said_by before
-  pub same : outcome_after said_by judged ended fault [] (map fields (lines text)) ≡ outcome_after said_by judged ended fault before (map fields rest)
+  pub facts_are : facts ≡ facts_of before
+  pub same : outcome_after facts_of judged ended fault [] (map fields (lines text)) ≡ outcome_after facts_of judged ended fault before (map fields rest)
   pub last_is : last ≡ length before
   pub bound : length before + length rest ≤ length text
 
-module _ {Said Kind Fault A : Type 0} {said_by : List Line → Said} {judged : Said → Line → Result (Unit {0}) Kind}
-    {ended : Said → Result A Kind} {fault : ℕ → Kind → Fault} where
+module _ {Facts Kind Fault A : Type 0} {facts_of : List Line → Facts} {judged : Facts → Line → Result (Unit {0}) Kind}
+    {ended : Facts → Result A Kind} {fault : ℕ → Kind → Fault} where
   pub walk-start : (text : List ℕ) (left : List (ℕ × List ℕ)) → left ≡ numbered_lines text → length left ≤ length text
-      → Walk said_by judged ended fault text (said_by []) 0 left
+      → Walk facts_of judged ended fault text (facts_of []) 0 left
   walk-start text left is bound = record {
     before = [];
     rest = lines text;
     left_is = is;
-    said_is = refl;
+    facts_are = refl;
     same = refl;
     last_is = refl;
     bound = (let long = ap length is ∙ length-enumerate_from 1 (lines text) in omega arith);
   }
 
-  module _ (text : List ℕ) (said : Said) (last : ℕ) (left : List (ℕ × List ℕ)) (walk : Walk said_by judged ended fault text said last left) where
+  module _ (text : List ℕ) (facts : Facts) (last : ℕ) (left : List (ℕ × List ℕ)) (walk : Walk facts_of judged ended fault text facts last left) where
     module _ (number : ℕ) (line : List ℕ) (after : List (ℕ × List ℕ)) (is : left ≡ (number, line) ∷ after) where
       -- the next line is good
-      pub walk-next : (now : Said) → judged said (fields line) ≡ Ok tt → ((before : List Line) → said ≡ said_by before → now ≡ said_by (before ++ fields line ∷ []))
-          → Walk said_by judged ended fault text now number after
+      pub walk-next : (now : Facts) → judged facts (fields line) ≡ Ok tt → ((before : List Line) → facts ≡ facts_of before → now ≡ facts_of (before ++ fields line ∷ []))
+          → Walk facts_of judged ended fault text now number after
       walk-next now good taken =
           let first = first-numbered number line after (length walk.before + 1) walk.rest (sym walk.left_is ∙ is) in
-          let good_here : judged (said_by walk.before) (fields line) ≡ Ok tt = ap (λ s. judged s (fields line)) (sym walk.said_is) ∙ good in
+          let good_here : judged (facts_of walk.before) (fields line) ≡ Ok tt = ap (λ s. judged s (fields line)) (sym walk.facts_are) ∙ good in
           let longer = length-append walk.before (fields line ∷ []) in
           let fewer = ap length first.lines_are in
           record {
             before = walk.before ++ fields line ∷ [];
             rest = first.others;
             left_is = first.after_is ∙ ap (λ n. enumerate_from n first.others) (let n : length walk.before + 1 + 1 ≡ length (walk.before ++ fields line ∷ []) + 1 = omega arith in n);
-            said_is = taken walk.before walk.said_is;
-            same = walk.same ∙ ap (λ ls. outcome_after said_by judged ended fault walk.before (map fields ls)) first.lines_are
-                ∙ outcome-good said_by judged ended fault walk.before (fields line) (map fields first.others) good_here;
+            facts_are = taken walk.before walk.facts_are;
+            same = walk.same ∙ ap (λ ls. outcome_after facts_of judged ended fault walk.before (map fields ls)) first.lines_are
+                ∙ outcome-good facts_of judged ended fault walk.before (fields line) (map fields first.others) good_here;
             last_is = first.number_is ∙ sym longer;
             bound = omega (arith, walk.bound);
           }
 
       -- the next line is at fault
-      pub walk-bad : (kind : Kind) → judged said (fields line) ≡ Err kind
-          → outcome_after said_by judged ended fault [] (map fields (lines text)) ≡ Err (fault number kind)
+      pub walk-bad : (kind : Kind) → judged facts (fields line) ≡ Err kind
+          → outcome_after facts_of judged ended fault [] (map fields (lines text)) ≡ Err (fault number kind)
       walk-bad kind bad =
           let first = first-numbered number line after (length walk.before + 1) walk.rest (sym walk.left_is ∙ is) in
-          let bad_here : judged (said_by walk.before) (fields line) ≡ Err kind = ap (λ s. judged s (fields line)) (sym walk.said_is) ∙ bad in
-          walk.same ∙ ap (λ ls. outcome_after said_by judged ended fault walk.before (map fields ls)) first.lines_are
-          ∙ outcome-bad said_by judged ended fault walk.before (fields line) (map fields first.others) kind bad_here
+          let bad_here : judged (facts_of walk.before) (fields line) ≡ Err kind = ap (λ s. judged s (fields line)) (sym walk.facts_are) ∙ bad in
+          walk.same ∙ ap (λ ls. outcome_after facts_of judged ended fault walk.before (map fields ls)) first.lines_are
+          ∙ outcome-bad facts_of judged ended fault walk.before (fields line) (map fields first.others) kind bad_here
           ∙ ap (λ n. Err (fault n kind)) (sym first.number_is)
 
     -- there is no next line
-    pub walk-end : left ≡ [] → (end : Result A Kind) → end ≡ ended said
-        → outcome_after said_by judged ended fault [] (map fields (lines text)) ≡ at_line fault (last + 1) end
+    pub walk-end : left ≡ [] → (end : Result A Kind) → end ≡ ended facts
+        → outcome_after facts_of judged ended fault [] (map fields (lines text)) ≡ at_line fault (last + 1) end
     walk-end none end is =
-        walk.same ∙ ap (λ ls. outcome_after said_by judged ended fault walk.before (map fields ls)) (none-numbered (length walk.before + 1) walk.rest (sym walk.left_is ∙ none))
-        ∙ outcome-end said_by judged ended fault walk.before end (is ∙ ap ended walk.said_is) ∙ ap (λ n. at_line fault (n + 1) end) (sym walk.last_is)
+        walk.same ∙ ap (λ ls. outcome_after facts_of judged ended fault walk.before (map fields ls)) (none-numbered (length walk.before + 1) walk.rest (sym walk.left_is ∙ none))
+        ∙ outcome-end facts_of judged ended fault walk.before end (is ∙ ap ended walk.facts_are) ∙ ap (λ n. at_line fault (n + 1) end) (sym walk.last_is)

@@ -10,7 +10,7 @@ use Rattle.dmf_net.specs.Arc.{no_arc, capacity_sum}
 use Rattle.dmf_net.specs.Flow.{AreWithinCapacities}
 use Rattle.dmf_text.specs.declared.fault.SolutionFaultKind.{SolutionFaultKind}
 use Rattle.dmf_text.specs.declared.pairs.PairFlow.{PairFlow}
-use Rattle.dmf_text.specs.Solution.{Pair, same_pair, ends, has_pair, pair_capacity, pair_flow, Said, flow_fits, put_behind}
+use Rattle.dmf_text.specs.Solution.{Pair, same_pair, ends, has_pair, pair_capacity, pair_flow, Facts, flow_fits, put_behind}
 use Rattle.dmf_text.specs.SolutionReading.{cap_of, flow_of, KeepsPairs, AddsFlow, CannotAdd}
 
 -- ---- pairs
@@ -45,19 +45,19 @@ module _ (arcs : List Arc) (arc : Arc) where
 flow-more : (flows : List (Pair × ℕ)) (pair : Pair) (flow : ℕ) (q : Pair)
     → pair_flow (flows ++ (pair, flow) ∷ []) q ≡ pair_flow flows q + (if same_pair pair q then flow else 0)
 flow-more flows pair flow q =
-    let part : Pair × ℕ → ℕ = λ said. if same_pair said.0 q then said.1 else 0 in
+    let part : Pair × ℕ → ℕ = λ flow. if same_pair flow.0 q then flow.1 else 0 in
     let joined = sum_by-append part flows ((pair, flow) ∷ []) in
     let one = sum_by-cons part (pair, flow) [] in
     omega (arith, joined, one)
 
-bad-at : (arcs : List Arc) (said : Said) (pair : Pair) (flow : ℕ) (kind : SolutionFaultKind) (known : Option PairFlow)
-    → is_some known ≡ has_pair arcs pair → cap_of known ≡ pair_capacity arcs pair → flow_of known ≡ pair_flow said.flows pair
-    → CannotAdd known flow kind → flow_fits arcs said pair flow ≡ Err kind
-bad-at arcs said pair flow kind None has cap before cannot = rw (sym has) (ap (λ k. Err k) (sym cannot))
-bad-at arcs said pair flow kind (Some known) has cap before cannot =
+bad-at : (arcs : List Arc) (facts : Facts) (pair : Pair) (flow : ℕ) (kind : SolutionFaultKind) (known : Option PairFlow)
+    → is_some known ≡ has_pair arcs pair → cap_of known ≡ pair_capacity arcs pair → flow_of known ≡ pair_flow facts.flows pair
+    → CannotAdd known flow kind → flow_fits arcs facts pair flow ≡ Err kind
+bad-at arcs facts pair flow kind None has cap before cannot = rw (sym has) (ap (λ k. Err k) (sym cannot))
+bad-at arcs facts pair flow kind (Some known) has cap before cannot =
     let over = cannot.0 in
-    let past : pair_capacity arcs pair < pair_flow said.flows pair + flow = omega (arith, cap, before, over) in
-    rw (sym has, lt-leb (pair_flow said.flows pair + flow) (pair_capacity arcs pair) past) (ap (λ k. Err k) (sym cannot.1))
+    let past : pair_capacity arcs pair < pair_flow facts.flows pair + flow = omega (arith, cap, before, over) in
+    rw (sym has, lt-leb (pair_flow facts.flows pair + flow) (pair_capacity arcs pair) past) (ap (λ k. Err k) (sym cannot.1))
 
 -- ---- what a map keeps
 
@@ -133,22 +133,22 @@ module _ {S : Type 0} where
       omega (arith, more, none))
 
   -- The judgement of a flow that was added.
-  pub fits-good : (arcs : List Arc) (said : Said) (old new : HashMap Pair PairFlow S) (pair : Pair) (flow : ℕ)
-      → KeepsPairs arcs (pair_flow said.flows) old → AddsFlow old pair flow new → flow_fits arcs said pair flow ≡ Ok tt
-  fits-good arcs said old new pair flow kept added =
+  pub fits-good : (arcs : List Arc) (facts : Facts) (old new : HashMap Pair PairFlow S) (pair : Pair) (flow : ℕ)
+      → KeepsPairs arcs (pair_flow facts.flows) old → AddsFlow old pair flow new → flow_fits arcs facts pair flow ≡ Ok tt
+  fits-good arcs facts old new pair flow kept added =
       let known = added.known in
       let has : has_pair arcs pair ≡ true = sym (kept.there pair) ∙ ap is_some added.is_there in
       let cap : known.cap ≡ pair_capacity arcs pair = sym (ap cap_of added.is_there) ∙ kept.caps pair in
-      let before : known.flow ≡ pair_flow said.flows pair = sym (ap flow_of added.is_there) ∙ kept.flows pair in
+      let before : known.flow ≡ pair_flow facts.flows pair = sym (ap flow_of added.is_there) ∙ kept.flows pair in
       let fits = added.fits in
-      let room : pair_flow said.flows pair + flow ≤ pair_capacity arcs pair = omega (arith, cap, before, fits) in
-      rw (has, le-leb (pair_flow said.flows pair + flow) (pair_capacity arcs pair) room) refl
+      let room : pair_flow facts.flows pair + flow ≤ pair_capacity arcs pair = omega (arith, cap, before, fits) in
+      rw (has, le-leb (pair_flow facts.flows pair + flow) (pair_capacity arcs pair) room) refl
 
   -- And of one that was not.
-  pub fits-bad : (arcs : List Arc) (said : Said) (old : HashMap Pair PairFlow S) (pair : Pair) (flow : ℕ) (kind : SolutionFaultKind)
-      → KeepsPairs arcs (pair_flow said.flows) old → CannotAdd (get same_pair old pair) flow kind → flow_fits arcs said pair flow ≡ Err kind
-  fits-bad arcs said old pair flow kind kept cannot =
-      bad-at arcs said pair flow kind (get same_pair old pair) (kept.there pair) (kept.caps pair) (kept.flows pair) cannot
+  pub fits-bad : (arcs : List Arc) (facts : Facts) (old : HashMap Pair PairFlow S) (pair : Pair) (flow : ℕ) (kind : SolutionFaultKind)
+      → KeepsPairs arcs (pair_flow facts.flows) old → CannotAdd (get same_pair old pair) flow kind → flow_fits arcs facts pair flow ≡ Err kind
+  fits-bad arcs facts old pair flow kind kept cannot =
+      bad-at arcs facts pair flow kind (get same_pair old pair) (kept.there pair) (kept.caps pair) (kept.flows pair) cannot
 
   -- What is counted of a pair and one arc more are within the capacities of all arcs.
   pub capacity-fits : (arcs : List Arc) (i : ℕ) (old : HashMap Pair PairFlow S) → KeepsPairs (take i arcs) (λ _. 0) old → i < length arcs

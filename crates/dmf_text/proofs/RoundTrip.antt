@@ -11,11 +11,11 @@ use Rattle.dmf_net.specs.Arc.{IsArc, capacity_sum, open_count}
 use Rattle.dmf_net.specs.Network.{Network, IsNetwork}
 use Rattle.dmf_text.specs.Number.{number_of}
 use Rattle.dmf_text.specs.Judging.{Line}
-use Rattle.dmf_text.specs.Problem.{Said, Counts, said_by, counts_named, problem_line, node_named, terminal_line, arc_line, judged, ended, state_of, problem_fault, problem_after, problem_of}
+use Rattle.dmf_text.specs.Problem.{Facts, Counts, facts_of, counts_named, judged_problem, node_named, judged_node, judged_arc, judged, ended, state_of, problem_fault, problem_after, problem_of}
 use Rattle.dmf_text.specs.Reading.{with_line}
 use Rattle.dmf_text.specs.Written.{open_arcs, arc_fields, problem_lines, problem_text, open_network, idle_state}
 use Rattle.dmf_text.proofs.JudgingLemmas.{outcome-good, outcome-end}
-use Rattle.dmf_text.proofs.ProblemLemmas.{said_by-push}
+use Rattle.dmf_text.proofs.ProblemLemmas.{facts_of-push}
 use Rattle.dmf_text.proofs.WrittenLines.{IsField, AreFields, plain, decimal-field, number_of-decimal, lines-written}
 
 is-node : (nodes v : ℕ) → IsNode nodes v → is_node nodes v ≡ true
@@ -38,32 +38,32 @@ module _ (nodes : ℕ) (f : List ℕ) (v : ℕ) (number : number_of f ≡ Ok v) 
   sink-named = rw (number, is-node nodes v node) refl
 
 -- what the lines say up to the problem line, the source's line, the sink's line, and these arcs
-abbrev after-problem : Counts → Said
+abbrev after-problem : Counts → Facts
 after-problem counts = record { counts = Some counts; source = None; sink = None; arcs = [] }
 
-abbrev after-source : Counts → ℕ → Said
+abbrev after-source : Counts → ℕ → Facts
 after-source counts source = record { counts = Some counts; source = Some source; sink = None; arcs = [] }
 
-abbrev after-arcs : Counts → ℕ → ℕ → List Arc → Said
+abbrev after-arcs : Counts → ℕ → ℕ → List Arc → Facts
 after-arcs counts source sink arcs = record { counts = Some counts; source = Some source; sink = Some sink; arcs = arcs }
 
-problem-good : (behind : List (List ℕ)) (counts : Counts) → counts_named behind ≡ Ok counts → problem_line (said_by []) behind ≡ Ok tt
-unfolding problem_line
+problem-good : (behind : List (List ℕ)) (counts : Counts) → counts_named behind ≡ Ok counts → judged_problem (facts_of []) behind ≡ Ok tt
+unfolding judged_problem
 problem-good behind counts named = rw named refl
 
-source-good : (counts : Counts) (f : List ℕ) (v : ℕ) → node_named counts.nodes (f ∷ codes "s" ∷ []) ≡ Ok v → terminal_line (after-problem counts) (f ∷ codes "s" ∷ []) ≡ Ok tt
-unfolding terminal_line
+source-good : (counts : Counts) (f : List ℕ) (v : ℕ) → node_named counts.nodes (f ∷ codes "s" ∷ []) ≡ Ok v → judged_node (after-problem counts) (f ∷ codes "s" ∷ []) ≡ Ok tt
+unfolding judged_node
 source-good counts f v named = rw named refl
 
 sink-good : (counts : Counts) (source : ℕ) (f : List ℕ) (v : ℕ) → node_named counts.nodes (f ∷ codes "t" ∷ []) ≡ Ok v → v ≢ source
-    → terminal_line (after-source counts source) (f ∷ codes "t" ∷ []) ≡ Ok tt
-unfolding terminal_line
+    → judged_node (after-source counts source) (f ∷ codes "t" ∷ []) ≡ Ok tt
+unfolding judged_node
 sink-good counts source f v named other = rw (named, ne_eqb v source other) refl
 
 module _ (counts : Counts) (source sink : ℕ) (done : List Arc) (arc : Arc) (is : IsArc counts.nodes arc) (small : arc.tail < 2 ^ 64) (small-head : arc.head < 2 ^ 64) (small-cap : arc.cap < 2 ^ 64) where
   arc-good : length done < counts.arcs → capacity_sum done + arc.cap < 2 ^ 64
-      → arc_line (after-arcs counts source sink done) (decimal arc.tail ∷ decimal arc.head ∷ decimal arc.cap ∷ []) ≡ Ok tt
-  unfolding arc_line
+      → judged_arc (after-arcs counts source sink done) (decimal arc.tail ∷ decimal arc.head ∷ decimal arc.cap ∷ []) ≡ Ok tt
+  unfolding judged_arc
   arc-good room fits =
       rw (
         lt-ltb (length done) counts.arcs room,
@@ -94,14 +94,14 @@ pub record IsOpenArc (nodes : ℕ) (arc : Arc) : Type 0 where
   pub opened : arc.closed ≡ false
 
 module _ (counts : Counts) (source sink : ℕ) (few-nodes : counts.nodes ≤ 2 ^ 24) where
-  arcs-walk : (todo done : List Arc) (before : List Line) → said_by before ≡ after-arcs counts source sink done → AllByRecursion (IsOpenArc counts.nodes) todo
+  arcs-walk : (todo done : List Arc) (before : List Line) → facts_of before ≡ after-arcs counts source sink done → AllByRecursion (IsOpenArc counts.nodes) todo
       → length done + length todo ≡ counts.arcs → capacity_sum (done ++ todo) < 2 ^ 64
       → problem_after before (map arc_fields todo) ≡ Ok (state_of (after-arcs counts source sink (done ++ todo)))
-  arcs-walk [] done before said are count fits =
-      outcome-end said_by judged ended problem_fault before (Ok (state_of (after-arcs counts source sink done)))
-      (sym (ap ended said ∙ ended-good counts source sink done (omega arith)))
+  arcs-walk [] done before facts are count fits =
+      outcome-end facts_of judged ended problem_fault before (Ok (state_of (after-arcs counts source sink done)))
+      (sym (ap ended facts ∙ ended-good counts source sink done (omega arith)))
       ∙ ap (λ arcs. Ok (state_of (after-arcs counts source sink arcs))) (sym (append-nil done))
-  arcs-walk (arc ∷ todo) done before said are count fits =
+  arcs-walk (arc ∷ todo) done before facts are count fits =
       let is = are.0.is_arc in
       let tail = is.tail in
       let head = is.head in
@@ -113,13 +113,13 @@ module _ (counts : Counts) (source sink : ℕ) (few-nodes : counts.nodes ≤ 2 ^
       let room : length done < counts.arcs = omega arith in
       let fits-here : capacity_sum done + arc.cap < 2 ^ 64 = omega (arith, sums, split) in
       let next = before ++ arc_fields arc ∷ [] in
-      let said-next : said_by next ≡ after-arcs counts source sink (done ++ arc ∷ []) =
-      said_by-push before (arc_fields arc) ∙ ap (λ s. with_line s (arc_fields arc)) said ∙ with-arc counts source sink done arc is small small-head small-cap are.0.opened in
+      let facts-next : facts_of next ≡ after-arcs counts source sink (done ++ arc ∷ []) =
+      facts_of-push before (arc_fields arc) ∙ ap (λ s. with_line s (arc_fields arc)) facts ∙ with-arc counts source sink done arc is small small-head small-cap are.0.opened in
       let joined : (done ++ arc ∷ []) ++ todo ≡ done ++ arc ∷ todo = append_assoc done (arc ∷ []) todo in
       let long = length-append done (arc ∷ []) in
-      outcome-good said_by judged ended problem_fault before (arc_fields arc) (map arc_fields todo)
-      (ap (λ s. judged s (arc_fields arc)) said ∙ arc-good counts source sink done arc is small small-head small-cap room fits-here)
-      ∙ arcs-walk todo (done ++ arc ∷ []) next said-next are.1 (omega (arith, long)) (rw joined fits)
+      outcome-good facts_of judged ended problem_fault before (arc_fields arc) (map arc_fields todo)
+      (ap (λ s. judged s (arc_fields arc)) facts ∙ arc-good counts source sink done arc is small small-head small-cap room fits-here)
+      ∙ arcs-walk todo (done ++ arc ∷ []) next facts-next are.1 (omega (arith, long)) (rw joined fits)
       ∙ ap (λ arcs. Ok (state_of (after-arcs counts source sink arcs))) joined
 
 -- ---- the whole text
@@ -182,14 +182,14 @@ module _ (n : Network) (is : IsNetwork n) where
       )
 
   -- what the text of a network says, line after line
-  said-problem : said_by ((codes "p" ∷ codes "max" ∷ decimal n.nodes ∷ decimal (open_count n.arcs) ∷ []) ∷ []) ≡ after-problem (counts_of n)
-  said-problem = rw (number_of-decimal n.nodes nodes-small, number_of-decimal (open_count n.arcs) (omega (arith, open-few))) refl
+  facts-problem : facts_of ((codes "p" ∷ codes "max" ∷ decimal n.nodes ∷ decimal (open_count n.arcs) ∷ []) ∷ []) ≡ after-problem (counts_of n)
+  facts-problem = rw (number_of-decimal n.nodes nodes-small, number_of-decimal (open_count n.arcs) (omega (arith, open-few))) refl
 
-  said-source : with_line (after-problem (counts_of n)) (codes "n" ∷ decimal n.source ∷ codes "s" ∷ []) ≡ after-source (counts_of n) n.source
-  said-source = rw (number_of-decimal n.source (small-node n.source is.source)) refl
+  facts-source : with_line (after-problem (counts_of n)) (codes "n" ∷ decimal n.source ∷ codes "s" ∷ []) ≡ after-source (counts_of n) n.source
+  facts-source = rw (number_of-decimal n.source (small-node n.source is.source)) refl
 
-  said-sink : with_line (after-source (counts_of n) n.source) (codes "n" ∷ decimal n.sink ∷ codes "t" ∷ []) ≡ after-arcs (counts_of n) n.source n.sink []
-  said-sink = rw (number_of-decimal n.sink (small-node n.sink is.sink)) refl
+  facts-sink : with_line (after-source (counts_of n) n.source) (codes "n" ∷ decimal n.sink ∷ codes "t" ∷ []) ≡ after-arcs (counts_of n) n.source n.sink []
+  facts-sink = rw (number_of-decimal n.sink (small-node n.sink is.sink)) refl
 
   -- the text stands for the network of the open arcs, with no flow on it
   pub round-trip : problem_of (problem_text n) ≡ Ok (idle_state (open_network n))
@@ -202,22 +202,22 @@ module _ (n : Network) (is : IsNetwork n) where
       let arcs-is = number_of-decimal (open_count n.arcs) (omega (arith, open-few)) in
       let source-is = number_of-decimal n.source (small-node n.source is.source) in
       let sink-is = number_of-decimal n.sink (small-node n.sink is.sink) in
-      let good-p : judged (said_by []) p ≡ Ok tt =
+      let good-p : judged (facts_of []) p ≡ Ok tt =
       problem-good (codes "max" ∷ decimal n.nodes ∷ decimal (open_count n.arcs) ∷ []) (counts_of n)
       (counts-good (decimal n.nodes) (decimal (open_count n.arcs)) n.nodes (open_count n.arcs) nodes-is arcs-is is.at_least_two_nodes is.at_most_nodes open-few) in
-      let good-s : judged (said_by (p ∷ [])) s ≡ Ok tt =
-      ap (λ said. judged said s) said-problem
+      let good-s : judged (facts_of (p ∷ [])) s ≡ Ok tt =
+      ap (λ facts. judged facts s) facts-problem
       ∙ source-good (counts_of n) (decimal n.source) n.source (source-named n.nodes (decimal n.source) n.source source-is is.source) in
-      let said-s : said_by (p ∷ s ∷ []) ≡ after-source (counts_of n) n.source =
-      said_by-push (p ∷ []) s ∙ ap (λ said. with_line said s) said-problem ∙ said-source in
-      let good-t : judged (said_by (p ∷ s ∷ [])) t ≡ Ok tt =
-      ap (λ said. judged said t) said-s
+      let facts-s : facts_of (p ∷ s ∷ []) ≡ after-source (counts_of n) n.source =
+      facts_of-push (p ∷ []) s ∙ ap (λ facts. with_line facts s) facts-problem ∙ facts-source in
+      let good-t : judged (facts_of (p ∷ s ∷ [])) t ≡ Ok tt =
+      ap (λ facts. judged facts t) facts-s
       ∙ sink-good (counts_of n) n.source (decimal n.sink) n.sink (sink-named n.nodes (decimal n.sink) n.sink sink-is is.sink) (λ same. is.two_terminals (sym same)) in
-      let said-t : said_by (p ∷ s ∷ t ∷ []) ≡ after-arcs (counts_of n) n.source n.sink [] =
-      said_by-push (p ∷ s ∷ []) t ∙ ap (λ said. with_line said t) said-s ∙ said-sink in
+      let facts-t : facts_of (p ∷ s ∷ t ∷ []) ≡ after-arcs (counts_of n) n.source n.sink [] =
+      facts_of-push (p ∷ s ∷ []) t ∙ ap (λ facts. with_line facts t) facts-s ∙ facts-sink in
       ap (problem_after []) (lines-written (problem_lines n) lines-are)
-      ∙ outcome-good said_by judged ended problem_fault [] p (s ∷ t ∷ arcs) good-p
-      ∙ outcome-good said_by judged ended problem_fault (p ∷ []) s (t ∷ arcs) good-s
-      ∙ outcome-good said_by judged ended problem_fault (p ∷ s ∷ []) t arcs good-t
-      ∙ arcs-walk (counts_of n) n.source n.sink is.at_most_nodes (open_arcs n.arcs) [] (p ∷ s ∷ t ∷ []) said-t are-open
+      ∙ outcome-good facts_of judged ended problem_fault [] p (s ∷ t ∷ arcs) good-p
+      ∙ outcome-good facts_of judged ended problem_fault (p ∷ []) s (t ∷ arcs) good-s
+      ∙ outcome-good facts_of judged ended problem_fault (p ∷ s ∷ []) t arcs good-t
+      ∙ arcs-walk (counts_of n) n.source n.sink is.at_most_nodes (open_arcs n.arcs) [] (p ∷ s ∷ t ∷ []) facts-t are-open
       (zero-add (length (open_arcs n.arcs)) ∙ length-filter (λ arc. not arc.closed) n.arcs) open-fits

@@ -22,9 +22,9 @@ use Rattle.dmf_text.specs.declared.fault.SolutionFaultKind.TheVariants.{NoMemory
 use Rattle.dmf_text.specs.declared.solution_reading.SolutionReading.{SolutionReading}
 use Rattle.dmf_text.specs.Number.{number_of}
 use Rattle.dmf_text.specs.Judging.{Line}
-use Rattle.dmf_text.specs.Solution.{same_pair, Said, said_by, value_in, flow_in, flow_fits, flow_line, put_on, ended}
+use Rattle.dmf_text.specs.Solution.{same_pair, Facts, facts_of, value_in, flow_in, flow_fits, judged_flow, put_on, ended}
 use Rattle.dmf_text.specs.SolutionReading.{flow_kind, AddsFlow, CannotAdd, Keeps, with_line, TakesLine}
-use Rattle.dmf_text.proofs.JudgingLemmas.{first_said-push}
+use Rattle.dmf_text.proofs.JudgingLemmas.{first_fact-push}
 use Rattle.dmf_text.proofs.PairLemmas.{keeps-added, fits-good, fits-bad, put-within}
 
 -- ---- lines
@@ -34,41 +34,41 @@ or-nothing None = refl
 or-nothing (Some x) = refl
 
 -- what lines say, and one more line
-pub said_by-push : (lines : List Line) (line : Line) → said_by (lines ++ line ∷ []) ≡ with_line (said_by lines) line
-said_by-push lines line = λ i. record {
-  value = first_said-push value_in lines line i;
+pub facts_of-push : (lines : List Line) (line : Line) → facts_of (lines ++ line ∷ []) ≡ with_line (facts_of lines) line
+facts_of-push lines line = λ i. record {
+  value = first_fact-push value_in lines line i;
   flows = (filter_map-append flow_in lines (line ∷ [])
       ∙ ap (λ more. filter_map flow_in lines ++ more) (elim (flow_in line) as (λ o. cons_option o [] ≡ option_to_list o) [ None ↦ refl | Some x ↦ refl ])) i;
 }
 
 -- a flow line whose numbers are these, by what came of adding its flow
-module _ (arcs : List Arc) (said : Said) (reading now : SolutionReading) (f g h : List ℕ) (tail head flow : ℕ)
+module _ (arcs : List Arc) (facts : Facts) (reading now : SolutionReading) (f g h : List ℕ) (tail head flow : ℕ)
     (first : number_of f ≡ Ok tail) (second : number_of g ≡ Ok head) (third : number_of h ≡ Ok flow)
-    (kept : Keeps arcs said reading) (value : now.value ≡ reading.value) where
-  line-judged : flow_line arcs said (f ∷ g ∷ h ∷ []) ≡ flow_fits arcs said (tail, head) flow
-  unfolding flow_line
+    (kept : Keeps arcs facts reading) (value : now.value ≡ reading.value) where
+  line-judged : judged_flow arcs facts (f ∷ g ∷ h ∷ []) ≡ flow_fits arcs facts (tail, head) flow
+  unfolding judged_flow
   line-judged = rw (first, second, third) refl
 
-  line-says : with_line said (codes "f" ∷ f ∷ g ∷ h ∷ []) ≡ record { value = said.value; flows = said.flows ++ ((tail, head), flow) ∷ [] }
-  line-says = rw (first, second, third) (λ i. record { value = or-nothing said.value i; flows = said.flows ++ ((tail, head), flow) ∷ [] })
+  line-says : with_line facts (codes "f" ∷ f ∷ g ∷ h ∷ []) ≡ record { value = facts.value; flows = facts.flows ++ ((tail, head), flow) ∷ [] }
+  line-says = rw (first, second, third) (λ i. record { value = or-nothing facts.value i; flows = facts.flows ++ ((tail, head), flow) ∷ [] })
 
   pub line-taken : (result : Result (Unit {0}) SolutionFaultKind)
       → MatchResult result (λ _. AddsFlow reading.pairs (tail, head) flow now.pairs) (CannotAdd (get same_pair reading.pairs (tail, head)) flow)
-      → TakesLine arcs said (codes "f" ∷ f ∷ g ∷ h ∷ []) (flow_line arcs said (f ∷ g ∷ h ∷ [])) now result
+      → TakesLine arcs facts (codes "f" ∷ f ∷ g ∷ h ∷ []) (judged_flow arcs facts (f ∷ g ∷ h ∷ [])) now result
   line-taken (Ok done) added =
-      let pairs = keeps-added arcs said.flows reading.pairs now.pairs (tail, head) flow kept.pairs added in
-      let keeps : Keeps arcs (record { value = said.value; flows = said.flows ++ ((tail, head), flow) ∷ [] }) now = record { value = value ∙ kept.value; pairs = pairs } in
-      (line-judged ∙ fits-good arcs said reading.pairs now.pairs (tail, head) flow kept.pairs added, subst (λ s. Keeps arcs s now) (sym line-says) keeps)
-  line-taken (Err kind) cannot = line-judged ∙ fits-bad arcs said reading.pairs (tail, head) flow kind kept.pairs cannot
+      let pairs = keeps-added arcs facts.flows reading.pairs now.pairs (tail, head) flow kept.pairs added in
+      let keeps : Keeps arcs (record { value = facts.value; flows = facts.flows ++ ((tail, head), flow) ∷ [] }) now = record { value = value ∙ kept.value; pairs = pairs } in
+      (line-judged ∙ fits-good arcs facts reading.pairs now.pairs (tail, head) flow kept.pairs added, subst (λ s. Keeps arcs s now) (sym line-says) keeps)
+  line-taken (Err kind) cannot = line-judged ∙ fits-bad arcs facts reading.pairs (tail, head) flow kind kept.pairs cannot
 
 -- ---- the end
 
-module _ (s : NetworkState) (said : Said) (value : ℕ) (told : said.value ≡ Some value) where
+module _ (s : NetworkState) (facts : Facts) (value : ℕ) (told : facts.value ≡ Some value) where
   abbrev flows : List ℕ
-  flows = put_on said.flows s.network.arcs
+  flows = put_on facts.flows s.network.arcs
 
   -- another value
-  pub ended-differs : IsFlow s.network flows → flow_value s.network flows ≢ pos value → Err ValueDiffers ≡ ended s said
+  pub ended-differs : IsFlow s.network flows → flow_value s.network flows ≢ pos value → Err ValueDiffers ≡ ended s facts
   unfolding ended
   ended-differs flow differs =
       let other : int_eq (flow_value s.network flows) (pos value) ≡ false =
@@ -76,14 +76,14 @@ module _ (s : NetworkState) (said : Said) (value : ℕ) (told : said.value ≡ S
       rw (told, none-unbalanced s.network flows flow, other) refl
 
   -- no fault
-  pub ended-good : IsFlow s.network flows → flow_value s.network flows ≡ pos value → Ok (with_flows s flows) ≡ ended s said
+  pub ended-good : IsFlow s.network flows → flow_value s.network flows ≡ pos value → Ok (with_flows s flows) ≡ ended s facts
   unfolding ended
   ended-good flow same =
       rw (told, none-unbalanced s.network flows flow, (Decides-int_eq (flow_value s.network flows) (pos value)).1 same) refl
 
   -- Flows that are not taken have the fault that is found in them, and none is over capacity.
   refused-by : (why : FlowFault) (unbalanced : Option ℕ) (negative : Bool) → first_unbalanced s.network flows ≡ unbalanced → int_lt (flow_value s.network flows) (pos 0) ≡ negative
-      → Some why ≡ option_or (option_map fault.NotConserved unbalanced) (if negative then Some fault.Negative else None) → Err (flow_kind why) ≡ ended s said
+      → Some why ≡ option_or (option_map fault.NotConserved unbalanced) (if negative then Some fault.Negative else None) → Err (flow_kind why) ≡ ended s facts
   unfolding ended
   refused-by why (Some v) negative found less fault_is =
       let is : why ≡ fault.NotConserved v = cc in
@@ -96,8 +96,8 @@ module _ (s : NetworkState) (said : Said) (value : ℕ) (told : said.value ≡ S
       rw (is, told, found, other) refl
   refused-by why None false found less fault_is = absurd (cc)
 
-  pub ended-refused : (why : FlowFault) → IsErrOf {T = NetworkState} (Err why) fault.NoMemory ⊎ (Some why ≡ flow_fault s.network flows) → (flow_kind why ≡ NoMemory) ⊎ (Err (flow_kind why) ≡ ended s said)
+  pub ended-refused : (why : FlowFault) → IsErrOf {T = NetworkState} (Err why) fault.NoMemory ⊎ (Some why ≡ flow_fault s.network flows) → (flow_kind why ≡ NoMemory) ⊎ (Err (flow_kind why) ≡ ended s facts)
   ended-refused why (inl memory) = inl (let is : why ≡ fault.NoMemory = cc in ap flow_kind is)
   ended-refused why (inr fault_is) =
       inr (refused-by why (first_unbalanced s.network flows) (int_lt (flow_value s.network flows) (pos 0)) refl refl
-      (rw (none-over s.network.arcs flows (put-within said.flows [] s.network.arcs)) at fault_is))
+      (rw (none-over s.network.arcs flows (put-within facts.flows [] s.network.arcs)) at fault_is))

@@ -1,7 +1,8 @@
 -- The bytes of written lines.
-use Rattle.std.proofs.Common.{◌≡◌, ℕ, suc, ◌+◌, ◌-◌, subst, ◌<◌, List, [], ◌∷◌, ◌++◌, length, take, drop, get_or, slice_get, Some, arith, map, filter, nat_abs, Bool, true, false, not, if◌then◌else◌, codes, refl, sym, ap, ◌∙◌, append_assoc, append-nil, decimal, take-append-drop}
+use Rattle.std.proofs.Common.{◌≡◌, ℕ, suc, ◌+◌, ◌-◌, subst, ◌<◌, ◌≤◌, List, [], ◌∷◌, ◌++◌, length, take, drop, get_or, slice_get, Some, arith, map, filter, nat_abs, Bool, true, false, not, if◌then◌else◌, codes, refl, sym, ap, ◌∙◌, append_assoc, append-nil, decimal, take-append-drop, length-drop}
+use Rattle.std.proofs.Math.Numerals.{add-one}
 use Rattle.std.proofs.Math.Seq.{drop-cons}
-use Rattle.std.proofs.lemmas.List.{map-append, take_more}
+use Rattle.std.proofs.lemmas.List.{map-append, take_more, drop_all, length-map}
 use Rattle.std.proofs.lemmas.List.Elements.{filter-append}
 use Rattle.std.proofs.lemmas.Grind.{flat_map-append}
 use Rattle.std.proofs.lemmas.Option.{get_or_from_slice_get}
@@ -12,22 +13,37 @@ use Rattle.dmf_net.specs.Flow.{flow_value}
 use Rattle.dmf_net.specs.Network.{Network}
 use Rattle.dmf_net.specs.NetworkState.{NetworkState}
 use Rattle.dmf_net.specs.Side.{CutSide}
-use Rattle.std.specs.List.{zip}
+use Rattle.std.specs.List.{zip, join_with_byte}
 use Rattle.dmf_text.specs.Judging.{Line}
 use Rattle.dmf_text.specs.Written.{written_line, written, flow_fields, arcs_text, flows_text, nodes_text, problem_text, solution_text, cut_text}
 
--- lines, field by field
-pub line-of_two : (x y : List ℕ) → written_line (x ∷ y ∷ []) ≡ x ++ (32 ∷ (y ++ 10 ∷ []))
+-- a line, field by field
+pub line-none : written_line [] ≡ 10 ∷ []
 unfolding written_line
-line-of_two x y = simp append_assoc
+line-none = refl
 
-pub line-of_three : (x y z : List ℕ) → written_line (x ∷ y ∷ z ∷ []) ≡ x ++ (32 ∷ (y ++ (32 ∷ (z ++ 10 ∷ []))))
+pub line-one : (field : List ℕ) → written_line (field ∷ []) ≡ field ++ 10 ∷ []
 unfolding written_line
-line-of_three x y z = simp append_assoc
+line-one field = refl
 
-pub line-of_four : (w x y z : List ℕ) → written_line (w ∷ x ∷ y ∷ z ∷ []) ≡ w ++ (32 ∷ (x ++ (32 ∷ (y ++ (32 ∷ (z ++ 10 ∷ []))))))
+pub line-more : (field : List ℕ) (more : Line) → 0 < length more → written_line (field ∷ more) ≡ field ++ (32 ∷ written_line more)
 unfolding written_line
-line-of_four w x y z = simp append_assoc
+line-more field [] some = absurd (omega arith)
+line-more field (next ∷ more) some = append_assoc field (32 ∷ join_with_byte 32 (next ∷ more)) (10 ∷ [])
+
+-- the line of the fields from one on
+module _ {X : Type 0} (bytes : X → List ℕ) (fields : List X) (i : ℕ) (d : X) (below : i < length fields) where
+  from-one : map bytes (drop i fields) ≡ bytes (get_or fields i d) ∷ map bytes (drop (i + 1) fields)
+  from-one = ap (map bytes) (drop-cons fields i d below) ∙ ap (λ k. bytes (get_or fields i d) ∷ map bytes (drop k fields)) (sym (add-one i))
+
+  pub line-last : length fields ≤ i + 1 → written_line (map bytes (drop i fields)) ≡ bytes (get_or fields i d) ++ 10 ∷ []
+  line-last last =
+      ap written_line (from-one ∙ ap (λ l. bytes (get_or fields i d) ∷ map bytes l) (drop_all (i + 1) fields last)) ∙ line-one (bytes (get_or fields i d))
+
+  pub line-from : i + 1 < length fields → written_line (map bytes (drop i fields)) ≡ bytes (get_or fields i d) ++ (32 ∷ written_line (map bytes (drop (i + 1) fields)))
+  line-from more =
+      let long = length-map (drop (i + 1) fields) bytes ∙ length-drop (i + 1) fields in
+      ap written_line from-one ∙ line-more (bytes (get_or fields i d)) (map bytes (drop (i + 1) fields)) (omega (arith, long))
 
 -- The lines of those of a list that are to be written: open arcs, or open arcs with their flows.
 module _ {X : Type 0} (is_kept : X → Bool) (fields : X → Line) where

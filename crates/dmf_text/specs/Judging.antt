@@ -21,9 +21,9 @@ abbrev pub number_at : ℕ → List (List ℕ) → ℕ
 number_at i behind = result_unwrap_or (number_of (field i behind)) 0
 
 -- what the first line says that says it
-abbrev pub first_said : {X : Type 0} → (Line → Option X) → List Line → Option X
-first_said say [] = None
-first_said say (line ∷ more) = option_or (say line) (first_said say more)
+abbrev pub first_fact : {X : Type 0} → (Line → Option X) → List Line → Option X
+first_fact say [] = None
+first_fact say (line ∷ more) = option_or (say line) (first_fact say more)
 
 -- ---- judgements
 
@@ -43,9 +43,9 @@ expect true kind = Ok tt
 expect false kind = Err kind
 
 -- a number, or why a field is none, as a fault of such a kind
-abbrev pub told : {Kind : Type 0} → (NumberFault → Kind) → Result ℕ NumberFault → Result ℕ Kind
-told kind_of (Ok n) = Ok n
-told kind_of (Err fault) = Err (kind_of fault)
+abbrev pub map_fault : {Kind : Type 0} → (NumberFault → Kind) → Result ℕ NumberFault → Result ℕ Kind
+map_fault kind_of (Ok n) = Ok n
+map_fault kind_of (Err fault) = Err (kind_of fault)
 
 -- ---- what a text stands for
 
@@ -55,11 +55,11 @@ at_line fault number (Ok x) = Ok x
 at_line fault number (Err kind) = Err (fault number kind)
 
 -- Lines say something together, a line is judged by what the lines before it say, and the end by what all say.
-module _ {Said Kind Fault A : Type 0} (said_by : List Line → Said) (judged : Said → Line → Result (Unit {0}) Kind)
-    (ended : Said → Result A Kind) (fault : ℕ → Kind → Fault) where
+module _ {Facts Kind Fault A : Type 0} (facts_of : List Line → Facts) (judged : Facts → Line → Result (Unit {0}) Kind)
+    (ended : Facts → Result A Kind) (fault : ℕ → Kind → Fault) where
   -- what a text stands for, of which `before` are the first lines, each good, and these are the others: the first
   -- fault of a line, or that of the end, which has the number of lines plus one, or what the end gives
   unfoldable pub outcome_after : List Line → List Line → Result A Fault
-  outcome_after before [] = at_line fault (length before + 1) (ended (said_by before))
+  outcome_after before [] = at_line fault (length before + 1) (ended (facts_of before))
   outcome_after before (line ∷ more) =
-      at_line fault (length before + 1) (judged (said_by before) line) >> outcome_after (before ++ line ∷ []) more
+      at_line fault (length before + 1) (judged (facts_of before) line) >> outcome_after (before ++ line ∷ []) more

@@ -6,6 +6,7 @@ pub mod Judging
 pub mod Problem
 pub mod Laws
 pub mod Solution
+pub mod LineField
 pub mod Written
 pub mod Terminal
 pub mod Reading

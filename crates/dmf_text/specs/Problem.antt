@@ -17,7 +17,7 @@ use Rattle.dmf_text.specs.declared.fault.ProblemFaultKind.{ProblemFaultKind}
 use Rattle.dmf_text.specs.declared.fault.ProblemFaultKind.TheVariants.{ProblemLineExpected, SecondProblemLine, UnknownLine, NotMax, FieldCount, NotANumber, TooLarge, CountOutOfRange, NodeOutOfRange, NotSourceOrSink, SecondTerminal, SameTerminals, ArcBeforeTerminals, TooManyArcs, TooFewArcs, TerminalMissing, SumTooLarge, NoMemory}
 use Rattle.dmf_text.specs.Fields.{fields}
 use Rattle.dmf_text.specs.Number.{number_of}
-use Rattle.dmf_text.specs.Judging.{Line, field, number_at, first_said, ◌>>=◌, ◌>>◌, expect, told, outcome_after}
+use Rattle.dmf_text.specs.Judging.{Line, field, number_at, first_fact, ◌>>=◌, ◌>>◌, expect, map_fault, outcome_after}
 
 -- ---- what good lines say
 
@@ -45,26 +45,26 @@ arc_in (kind ∷ behind) =
     if bytes_eq kind (codes "a") then Some (open_arc (number_at 0 behind) (number_at 1 behind) (number_at 2 behind)) else None
 
 -- what lines say together
-pub record Said : Type 0 where
+pub record Facts : Type 0 where
   pub counts : Option Counts
   pub source : Option ℕ
   pub sink : Option ℕ
   pub arcs : List Arc
 
-abbrev pub said_by : List Line → Said
-said_by lines = record {
-  counts = first_said counts_in lines;
-  source = first_said (terminal_in (codes "s")) lines;
-  sink = first_said (terminal_in (codes "t")) lines;
+abbrev pub facts_of : List Line → Facts
+facts_of lines = record {
+  counts = first_fact counts_in lines;
+  source = first_fact (terminal_in (codes "s")) lines;
+  sink = first_fact (terminal_in (codes "t")) lines;
   arcs = filter_map arc_in lines;
 }
 
 -- NODES and ARCS, 0 where no line says them
-abbrev pub node_count : Said → ℕ
-node_count said = unwrap_or (option_map (λ counts. counts.nodes) said.counts) 0
+abbrev pub node_count : Facts → ℕ
+node_count facts = unwrap_or (option_map (λ counts. counts.nodes) facts.counts) 0
 
-abbrev pub arc_count : Said → ℕ
-arc_count said = unwrap_or (option_map (λ counts. counts.arcs) said.counts) 0
+abbrev pub arc_count : Facts → ℕ
+arc_count facts = unwrap_or (option_map (λ counts. counts.arcs) facts.counts) 0
 
 -- ---- the judgement of a line, given what the lines before it say
 
@@ -75,7 +75,7 @@ number_fault digits.TooLarge = TooLarge
 
 -- the number that field i spells
 abbrev pub number_in : ℕ → List (List ℕ) → Result ℕ ProblemFaultKind
-number_in i behind = told number_fault (number_of (field i behind))
+number_in i behind = map_fault number_fault (number_of (field i behind))
 
 -- `max NODES ARCS`
 unfoldable pub counts_named : List (List ℕ) → Result Counts ProblemFaultKind
@@ -89,9 +89,9 @@ counts_named behind = do
   Ok (record { nodes = nodes; arcs = arcs })
 
 -- `p`, and behind it `max NODES ARCS`
-unfoldable pub problem_line : Said → List (List ℕ) → Result (Unit {0}) ProblemFaultKind
-problem_line said behind = do
-  expect (is_none said.counts) SecondProblemLine
+unfoldable pub judged_problem : Facts → List (List ℕ) → Result (Unit {0}) ProblemFaultKind
+judged_problem facts behind = do
+  expect (is_none facts.counts) SecondProblemLine
   counts ← counts_named behind
   Ok tt
 
@@ -105,11 +105,11 @@ node_named nodes behind = do
   Ok node
 
 -- of the two terminals, that of this letter, and the other one
-abbrev pub own : List ℕ → Said → Option ℕ
-own letter said = if bytes_eq letter (codes "s") then said.source else said.sink
+abbrev pub own : List ℕ → Facts → Option ℕ
+own letter facts = if bytes_eq letter (codes "s") then facts.source else facts.sink
 
-abbrev pub other : List ℕ → Said → Option ℕ
-other letter said = if bytes_eq letter (codes "s") then said.sink else said.source
+abbrev pub other : List ℕ → Facts → Option ℕ
+other letter facts = if bytes_eq letter (codes "s") then facts.sink else facts.source
 
 -- the node is not this terminal
 abbrev pub differs : ℕ → Option ℕ → Bool
@@ -117,59 +117,59 @@ differs node None = true
 differs node (Some terminal) = not (node == terminal)
 
 -- `n`, and behind it `ID s` or `ID t`
-unfoldable pub terminal_line : Said → List (List ℕ) → Result (Unit {0}) ProblemFaultKind
-terminal_line said behind = do
-  expect (is_some said.counts) ProblemLineExpected
-  node ← node_named (node_count said) behind
-  expect (is_none (own (field 1 behind) said)) SecondTerminal
-  expect (differs node (other (field 1 behind) said)) SameTerminals
+unfoldable pub judged_node : Facts → List (List ℕ) → Result (Unit {0}) ProblemFaultKind
+judged_node facts behind = do
+  expect (is_some facts.counts) ProblemLineExpected
+  node ← node_named (node_count facts) behind
+  expect (is_none (own (field 1 behind) facts)) SecondTerminal
+  expect (differs node (other (field 1 behind) facts)) SameTerminals
 
 -- `a`, and behind it `SRC DST CAP`
-unfoldable pub arc_line : Said → List (List ℕ) → Result (Unit {0}) ProblemFaultKind
-arc_line said behind = do
-  expect (is_some said.counts) ProblemLineExpected
-  expect (is_some said.source && is_some said.sink) ArcBeforeTerminals
-  expect (nat_lt (length said.arcs) (arc_count said)) TooManyArcs
+unfoldable pub judged_arc : Facts → List (List ℕ) → Result (Unit {0}) ProblemFaultKind
+judged_arc facts behind = do
+  expect (is_some facts.counts) ProblemLineExpected
+  expect (is_some facts.source && is_some facts.sink) ArcBeforeTerminals
+  expect (nat_lt (length facts.arcs) (arc_count facts)) TooManyArcs
   expect (length behind == 3) FieldCount
   tail ← number_in 0 behind
   head ← number_in 1 behind
   cap ← number_in 2 behind
-  expect (is_node (node_count said) tail) NodeOutOfRange
-  expect (is_node (node_count said) head) NodeOutOfRange
-  expect (nat_lt (capacity_sum said.arcs + cap) (2 ^ 64)) SumTooLarge
+  expect (is_node (node_count facts) tail) NodeOutOfRange
+  expect (is_node (node_count facts) head) NodeOutOfRange
+  expect (nat_lt (capacity_sum facts.arcs + cap) (2 ^ 64)) SumTooLarge
 
 -- a line of any kind: a line without fields is blank and one whose first field begins with `c` is a comment, and
 -- these have no fault
-abbrev pub judged : Said → Line → Result (Unit {0}) ProblemFaultKind
-judged said [] = Ok tt
-judged said (kind ∷ behind) =
-    if bytes_eq kind (codes "a") then arc_line said behind
-    else if bytes_eq kind (codes "n") then terminal_line said behind
-    else if bytes_eq kind (codes "p") then problem_line said behind
+abbrev pub judged : Facts → Line → Result (Unit {0}) ProblemFaultKind
+judged facts [] = Ok tt
+judged facts (kind ∷ behind) =
+    if bytes_eq kind (codes "a") then judged_arc facts behind
+    else if bytes_eq kind (codes "n") then judged_node facts behind
+    else if bytes_eq kind (codes "p") then judged_problem facts behind
     else if starts_with nat_eq kind (codes "c") then Ok tt
     else Err UnknownLine
 
 -- ---- what a text stands for
 
 -- the network that lines say, with no flow on it
-abbrev pub state_of : Said → NetworkState
-state_of said = record {
+abbrev pub state_of : Facts → NetworkState
+state_of facts = record {
   network = record {
-    nodes = node_count said;
-    source = unwrap_or said.source 0;
-    sink = unwrap_or said.sink 0;
-    arcs = said.arcs;
+    nodes = node_count facts;
+    source = unwrap_or facts.source 0;
+    sink = unwrap_or facts.sink 0;
+    arcs = facts.arcs;
   };
-  flows = replicate (length said.arcs) 0;
+  flows = replicate (length facts.arcs) 0;
 }
 
 -- the end of a text, given what its lines say
-unfoldable pub ended : Said → Result NetworkState ProblemFaultKind
-ended said = do
-  expect (is_some said.counts) ProblemLineExpected
-  expect (is_some said.source && is_some said.sink) TerminalMissing
-  expect (nat_le (arc_count said) (length said.arcs)) TooFewArcs
-  Ok (state_of said)
+unfoldable pub ended : Facts → Result NetworkState ProblemFaultKind
+ended facts = do
+  expect (is_some facts.counts) ProblemLineExpected
+  expect (is_some facts.source && is_some facts.sink) TerminalMissing
+  expect (nat_le (arc_count facts) (length facts.arcs)) TooFewArcs
+  Ok (state_of facts)
 
 -- a fault of the line with this number
 abbrev pub problem_fault : ℕ → ProblemFaultKind → ProblemFault
@@ -177,7 +177,7 @@ problem_fault number kind = record { line = number; kind = kind }
 
 -- what a problem text stands for, of which `before` are the first lines, each good, and these are the others
 abbrev pub problem_after : List Line → List Line → Result NetworkState ProblemFault
-problem_after before more = outcome_after said_by judged ended problem_fault before more
+problem_after before more = outcome_after facts_of judged ended problem_fault before more
 
 -- what a problem text stands for
 abbrev pub problem_of : List ℕ → Result NetworkState ProblemFault

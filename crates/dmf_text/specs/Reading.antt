@@ -11,7 +11,7 @@ use Rattle.dmf_text.specs.declared.reading.Body.{Body}
 use Rattle.dmf_text.specs.declared.reading.Reading.{Reading}
 use Rattle.dmf_text.specs.declared.reading.Reading.TheVariants.{Start, Terminals, Arcs}
 use Rattle.dmf_text.specs.Judging.{Line}
-use Rattle.dmf_text.specs.Problem.{Said, counts_in, terminal_in, arc_in}
+use Rattle.dmf_text.specs.Problem.{Facts, counts_in, terminal_in, arc_in}
 
 -- the fault of an arc line whose arc a network does not take
 abbrev pub arc_kind : NetFault → ProblemFaultKind
@@ -20,13 +20,13 @@ arc_kind net.TooManyArcs = TooManyArcs
 arc_kind net.SumTooLarge = SumTooLarge
 arc_kind net.NoMemory = NoMemory
 
--- what is said before any line is taken
-abbrev pub nothing_said : Said
-nothing_said = record { counts = None; source = None; sink = None; arcs = [] }
+-- the facts before any line is taken
+abbrev pub no_facts : Facts
+no_facts = record { counts = None; source = None; sink = None; arcs = [] }
 
 -- what the lines say that were taken before both terminals are named
-abbrev pub said_in_head : Head → Said
-said_in_head head = record {
+abbrev pub facts_in_head : Head → Facts
+facts_in_head head = record {
   counts = Some (record { nodes = head.nodes; arcs = head.arcs });
   source = head.source;
   sink = head.sink;
@@ -34,36 +34,36 @@ said_in_head head = record {
 }
 
 -- and after that
-abbrev pub said_in_body : Body → Said
-said_in_body body = record {
+abbrev pub facts_in_body : Body → Facts
+facts_in_body body = record {
   counts = Some (record { nodes = body.state.network.nodes; arcs = body.arcs });
   source = Some body.state.network.source;
   sink = Some body.state.network.sink;
   arcs = body.state.network.arcs;
 }
 
-abbrev pub said_in : Reading → Said
-said_in Start = nothing_said
-said_in (Terminals head) = said_in_head head
-said_in (Arcs body) = said_in_body body
+abbrev pub facts_in : Reading → Facts
+facts_in Start = no_facts
+facts_in (Terminals head) = facts_in_head head
+facts_in (Arcs body) = facts_in_body body
 
 -- what lines say, and one more line
-abbrev pub with_line : Said → Line → Said
-with_line said line = record {
-  counts = option_or said.counts (counts_in line);
-  source = option_or said.source (terminal_in (codes "s") line);
-  sink = option_or said.sink (terminal_in (codes "t") line);
-  arcs = said.arcs ++ option_to_list (arc_in line);
+abbrev pub with_line : Facts → Line → Facts
+with_line facts line = record {
+  counts = option_or facts.counts (counts_in line);
+  source = option_or facts.source (terminal_in (codes "s") line);
+  sink = option_or facts.sink (terminal_in (codes "t") line);
+  arcs = facts.arcs ++ option_to_list (arc_in line);
 }
 
--- The line was taken, of which this is the judgement, by a reader that had what was `said` before it and has what is
--- said `now`; or its fault is told.
-abbrev pub Takes : {A : Type 0} → Said → Line → Result (Unit {0}) ProblemFaultKind → Said → Result A ProblemFaultKind → Type 0
-Takes said line judgement now outcome =
-    MatchResult outcome (λ _. (judgement ≡ Ok tt) × (now ≡ with_line said line)) (λ kind. judgement ≡ Err kind)
+-- The line was taken, of which this is the judgement, by a reader that had these facts before it and has those
+-- of `now` after it; or its fault is told.
+abbrev pub Takes : {A : Type 0} → Facts → Line → Result (Unit {0}) ProblemFaultKind → Facts → Result A ProblemFaultKind → Type 0
+Takes facts line judgement now outcome =
+    MatchResult outcome (λ _. (judgement ≡ Ok tt) × (now ≡ with_line facts line)) (λ kind. judgement ≡ Err kind)
 
 -- the same, where memory may be refused
-abbrev pub TakesInMemory : {A : Type 0} → Said → Line → Result (Unit {0}) ProblemFaultKind → Said → Result A ProblemFaultKind → Type 0
-TakesInMemory said line judgement now outcome =
-    MatchResult outcome (λ _. (judgement ≡ Ok tt) × (now ≡ with_line said line))
+abbrev pub TakesInMemory : {A : Type 0} → Facts → Line → Result (Unit {0}) ProblemFaultKind → Facts → Result A ProblemFaultKind → Type 0
+TakesInMemory facts line judgement now outcome =
+    MatchResult outcome (λ _. (judgement ≡ Ok tt) × (now ≡ with_line facts line))
     (λ kind. (kind ≡ NoMemory) ⊎ (judgement ≡ Err kind))

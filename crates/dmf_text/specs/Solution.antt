@@ -17,7 +17,7 @@ use Rattle.dmf_text.specs.declared.fault.SolutionFaultKind.{SolutionFaultKind}
 use Rattle.dmf_text.specs.declared.fault.SolutionFaultKind.TheVariants.{UnknownLine, FieldCount, NotANumber, TooLarge, NoSuchPair, OverCapacity, SecondValue, ValueMissing, NotConserved, ValueDiffers, NoMemory}
 use Rattle.dmf_text.specs.Fields.{fields}
 use Rattle.dmf_text.specs.Number.{number_of}
-use Rattle.dmf_text.specs.Judging.{Line, field, number_at, first_said, ◌>>=◌, ◌>>◌, expect, told, outcome_after}
+use Rattle.dmf_text.specs.Judging.{Line, field, number_at, first_fact, ◌>>=◌, ◌>>◌, expect, map_fault, outcome_after}
 
 -- ---- pairs of nodes
 
@@ -54,16 +54,16 @@ flow_in (kind ∷ behind) =
     if bytes_eq kind (codes "f") then Some ((number_at 0 behind, number_at 1 behind), number_at 2 behind) else None
 
 -- what lines say together
-pub record Said : Type 0 where
+pub record Facts : Type 0 where
   pub value : Option ℕ
   pub flows : List (Pair × ℕ)
 
-abbrev pub said_by : List Line → Said
-said_by lines = record { value = first_said value_in lines; flows = filter_map flow_in lines }
+abbrev pub facts_of : List Line → Facts
+facts_of lines = record { value = first_fact value_in lines; flows = filter_map flow_in lines }
 
 -- the flows of all lines of a pair together
 abbrev pub pair_flow : List (Pair × ℕ) → Pair → ℕ
-pair_flow flows pair = sum_by (λ said. if same_pair said.0 pair then said.1 else 0) flows
+pair_flow flows pair = sum_by (λ flow. if same_pair flow.0 pair then flow.1 else 0) flows
 
 -- ---- the judgement of a line, given the arcs of the network and what the lines before it say
 
@@ -74,38 +74,38 @@ number_fault digits.TooLarge = TooLarge
 
 -- the number that field i spells
 abbrev pub number_in : ℕ → List (List ℕ) → Result ℕ SolutionFaultKind
-number_in i behind = told number_fault (number_of (field i behind))
+number_in i behind = map_fault number_fault (number_of (field i behind))
 
 -- `s`, and behind it `VALUE`
-unfoldable pub value_line : Said → List (List ℕ) → Result (Unit {0}) SolutionFaultKind
-value_line said behind = do
-  expect (is_none said.value) SecondValue
+unfoldable pub judged_value : Facts → List (List ℕ) → Result (Unit {0}) SolutionFaultKind
+judged_value facts behind = do
+  expect (is_none facts.value) SecondValue
   expect (length behind == 1) FieldCount
   value ← number_in 0 behind
   Ok tt
 
 -- so much more flows on the arcs of the pair
-abbrev pub flow_fits : List Arc → Said → Pair → ℕ → Result (Unit {0}) SolutionFaultKind
-flow_fits arcs said pair flow = do
+abbrev pub flow_fits : List Arc → Facts → Pair → ℕ → Result (Unit {0}) SolutionFaultKind
+flow_fits arcs facts pair flow = do
   expect (has_pair arcs pair) NoSuchPair
-  expect (nat_le (pair_flow said.flows pair + flow) (pair_capacity arcs pair)) OverCapacity
+  expect (nat_le (pair_flow facts.flows pair + flow) (pair_capacity arcs pair)) OverCapacity
 
 -- `f`, and behind it `SRC DST FLOW`
-unfoldable pub flow_line : List Arc → Said → List (List ℕ) → Result (Unit {0}) SolutionFaultKind
-flow_line arcs said behind = do
+unfoldable pub judged_flow : List Arc → Facts → List (List ℕ) → Result (Unit {0}) SolutionFaultKind
+judged_flow arcs facts behind = do
   expect (length behind == 3) FieldCount
   tail ← number_in 0 behind
   head ← number_in 1 behind
   flow ← number_in 2 behind
-  flow_fits arcs said (tail, head) flow
+  flow_fits arcs facts (tail, head) flow
 
 -- a line of any kind: a line without fields is blank and one whose first field begins with `c` is a comment, and
 -- these have no fault
-abbrev pub judged : List Arc → Said → Line → Result (Unit {0}) SolutionFaultKind
-judged arcs said [] = Ok tt
-judged arcs said (kind ∷ behind) =
-    if bytes_eq kind (codes "f") then flow_line arcs said behind
-    else if bytes_eq kind (codes "s") then value_line said behind
+abbrev pub judged : List Arc → Facts → Line → Result (Unit {0}) SolutionFaultKind
+judged arcs facts [] = Ok tt
+judged arcs facts (kind ∷ behind) =
+    if bytes_eq kind (codes "f") then judged_flow arcs facts behind
+    else if bytes_eq kind (codes "s") then judged_value facts behind
     else if starts_with nat_eq kind (codes "c") then Ok tt
     else Err UnknownLine
 
@@ -129,12 +129,12 @@ expect_none None = Ok tt
 expect_none (Some node) = Err (NotConserved node)
 
 -- the end of a text, given what its lines say
-unfoldable pub ended : NetworkState → Said → Result NetworkState SolutionFaultKind
-ended s said = do
-  value ← ok_or said.value ValueMissing
-  expect_none (first_unbalanced s.network (put_on said.flows s.network.arcs))
-  expect (int_eq (flow_value s.network (put_on said.flows s.network.arcs)) (pos value)) ValueDiffers
-  Ok (with_flows s (put_on said.flows s.network.arcs))
+unfoldable pub ended : NetworkState → Facts → Result NetworkState SolutionFaultKind
+ended s facts = do
+  value ← ok_or facts.value ValueMissing
+  expect_none (first_unbalanced s.network (put_on facts.flows s.network.arcs))
+  expect (int_eq (flow_value s.network (put_on facts.flows s.network.arcs)) (pos value)) ValueDiffers
+  Ok (with_flows s (put_on facts.flows s.network.arcs))
 
 -- a fault of the line with this number
 abbrev pub solution_fault : ℕ → SolutionFaultKind → SolutionFault
@@ -143,7 +143,7 @@ solution_fault number kind = record { line = number; kind = kind }
 -- what a solution text stands for, where this state has the network: the same network with the flows of the text
 abbrev pub solution_of : NetworkState → List ℕ → Result NetworkState SolutionFault
 solution_of s text =
-    outcome_after said_by (judged s.network.arcs) (ended s) solution_fault [] (map fields (lines text))
+    outcome_after facts_of (judged s.network.arcs) (ended s) solution_fault [] (map fields (lines text))
 
 -- the fault that is told where memory was refused: it is of no line
 abbrev pub solution_out_of_memory : SolutionFault

@@ -11,7 +11,7 @@ use Rattle.dmf_text.specs.declared.fault.SolutionFaultKind.TheVariants.{NoSuchPa
 use Rattle.dmf_text.specs.declared.pairs.PairFlow.{PairFlow}
 use Rattle.dmf_text.specs.declared.solution_reading.SolutionReading.{SolutionReading}
 use Rattle.dmf_text.specs.Judging.{Line}
-use Rattle.dmf_text.specs.Solution.{Pair, same_pair, has_pair, pair_capacity, pair_flow, Said, value_in, flow_in}
+use Rattle.dmf_text.specs.Solution.{Pair, same_pair, has_pair, pair_capacity, pair_flow, Facts, value_in, flow_in}
 
 -- the fault of a text whose flows are not taken
 abbrev pub flow_kind : FlowFault → SolutionFaultKind
@@ -48,18 +48,18 @@ CannotAdd None flow kind = kind ≡ NoSuchPair
 CannotAdd (Some known) flow kind = (known.cap < known.flow + flow) × (kind ≡ OverCapacity)
 
 -- The reader has what is said of a network with these arcs.
-pub record Keeps (arcs : List Arc) (said : Said) (reading : SolutionReading) : Type 0 where
-  pub value : reading.value ≡ said.value
-  pub pairs : KeepsPairs arcs (pair_flow said.flows) reading.pairs
+pub record Keeps (arcs : List Arc) (facts : Facts) (reading : SolutionReading) : Type 0 where
+  pub value : reading.value ≡ facts.value
+  pub pairs : KeepsPairs arcs (pair_flow facts.flows) reading.pairs
 
 -- what lines say, and one more line
-abbrev pub with_line : Said → Line → Said
-with_line said line = record {
-  value = option_or said.value (value_in line);
-  flows = said.flows ++ option_to_list (flow_in line);
+abbrev pub with_line : Facts → Line → Facts
+with_line facts line = record {
+  value = option_or facts.value (value_in line);
+  flows = facts.flows ++ option_to_list (flow_in line);
 }
 
--- The line was taken, of which this is the judgement, by a reader that had what was `said` before it; or its fault is told.
-abbrev pub TakesLine : List Arc → Said → Line → Result (Unit {0}) SolutionFaultKind → SolutionReading → Result (Unit {0}) SolutionFaultKind → Type 0
-TakesLine arcs said line judgement now outcome =
-    MatchResult outcome (λ _. (judgement ≡ Ok tt) × Keeps arcs (with_line said line) now) (λ kind. judgement ≡ Err kind)
+-- The line was taken, of which this is the judgement, by a reader that had these facts before it; or its fault is told.
+abbrev pub TakesLine : List Arc → Facts → Line → Result (Unit {0}) SolutionFaultKind → SolutionReading → Result (Unit {0}) SolutionFaultKind → Type 0
+TakesLine arcs facts line judgement now outcome =
+    MatchResult outcome (λ _. (judgement ≡ Ok tt) × Keeps arcs (with_line facts line) now) (λ kind. judgement ≡ Err kind)

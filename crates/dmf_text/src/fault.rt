@@ -1,6 +1,6 @@
 //! Why a text is no problem text, or no solution text.
-use crate::behind::WrongFieldCount;
 use crate::digits::NumberFault;
+use crate::exact_fields::WrongFieldCount;
 use dmf_net::{FlowFault, NetFault};
 use std::alloc::AllocError;
 use thiserror::Error;

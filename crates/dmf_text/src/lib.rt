@@ -1,8 +1,8 @@
 //! Texts of networks: lines, fields and numbers, what texts are read from and written to, and problem, solution and cut texts.
 #![tactic(auto)]
 
-mod behind;
 mod digits;
+mod exact_fields;
 mod fault;
 mod field;
 mod laws;
@@ -29,7 +29,7 @@ pub use fault::{ProblemFault, ProblemFaultKind, SolutionFault, SolutionFaultKind
 pub use field::Fields;
 pub use laws::accepted_is_state;
 pub use line::Lines;
-pub use line_buffer::LineBuffer;
+pub use line_buffer::{LineBuffer, LineField, line_of};
 pub use problem::read_problem;
 pub use reader::{Failed, Source, StdSource};
 pub use solution::read_solution;

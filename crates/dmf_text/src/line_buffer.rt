@@ -1,10 +1,20 @@
 //! Lines of written texts, made in place.
-ghost use Rattle.std.specs.Prelude.{◌≡◌, ◌≤◌, ◌+◌, ◌∷◌, ◌++◌, [], ℕ, List, length, drop, decimal};
+ghost use Rattle.std.specs.Prelude.{◌≡◌, ◌≤◌, ◌<◌, ◌+◌, ◌∷◌, ◌++◌, [], ℕ, List, length, drop, map, decimal};
+ghost use Rattle.dmf_text.specs.Written.{written_line};
 
 use itoa::write_digits;
 use std::marker::Model;
 
-/// The end of a line, to which fields are added in front, so that the last is added first.
+/// A field of a line that is to be written.
+#[derive(Clone, Copy)]
+pub enum LineField<'a> {
+    /// These bytes.
+    Text(&'a [u8]),
+    /// A number, in decimal digits.
+    Number(u64),
+}
+
+/// A line of at most 80 bytes, on the stack.
 #[derive(Drop)]
 pub struct LineBuffer {
     bytes: [u8; 80],
@@ -20,8 +30,10 @@ impl Model for LineBuffer {
 }
 
 impl LineBuffer {
-    /// The line feed alone.
-    pub fn new() -> LineBuffer
+    ghost use Rattle.dmf_text.specs.LineField.{field_bytes, most_bytes};
+
+    // The line feed alone. Fields are added in front of it, the last one first.
+    fn new() -> LineBuffer
         ensures { result ≡ 10 ∷ [] }
     {
         LineBuffer {
@@ -30,8 +42,21 @@ impl LineBuffer {
         }
     }
 
-    /// Adds a text in front. The line has at most 80 bytes with it.
-    pub fn add_text(&mut self, text: &[u8])
+    // Adds a field in front.
+    #[inline(always)]
+    fn add(&mut self, field: LineField<'_>)
+        requires { most_bytes field + length self.old ≤ 80 }
+        ensures text { self.new ≡ field_bytes field.entry ++ self.old }
+        ensures len { length self.new ≤ most_bytes field.entry + length self.old }
+    {
+        match field {
+            LineField::Text(text) => self.add_text(text),
+            LineField::Number(number) => self.add_number(number),
+        }
+    }
+
+    #[inline(always)]
+    fn add_text(&mut self, text: &[u8])
         requires { length text.now + length self.old ≤ 80 }
         ensures { self.new ≡ text.now ++ self.old }
     {
@@ -40,8 +65,9 @@ impl LineBuffer {
         self.bytes[self.start..end].copy_from_slice(text);
     }
 
-    /// Adds a number in front of a line of at most 60 bytes, so that each number has room.
-    pub fn add_number(&mut self, number: u64)
+    // A call of its own keeps the loop of `line_of` small, so that it is unrolled.
+    #[inline(never)]
+    fn add_number(&mut self, number: u64)
         requires { 20 + length self.old ≤ 80 }
         ensures text { self.new ≡ decimal number ++ self.old }
         ensures len { length self.new ≤ 20 + length self.old }
@@ -49,10 +75,28 @@ impl LineBuffer {
         self.start = write_digits(number, &mut self.bytes, self.start);
     }
 
-    /// The line.
+    /// The line, with its line feed.
     pub fn as_bytes(&self) -> &[u8]
         ensures { result.now ≡ self.now }
     {
         &self.bytes[self.start..]
     }
+}
+
+ghost use Rattle.dmf_text.specs.LineField.{field_bytes, most_line_bytes};
+
+/// The line of these fields: one space between each two, and a line feed. It takes no memory.
+#[inline(always)]
+pub fn line_of(fields: &[LineField<'_>]) -> LineBuffer
+    requires { most_line_bytes fields.now < 80 }
+    ensures { result ≡ written_line (map field_bytes fields.now) }
+{
+    let mut line = LineBuffer::new();
+    for i in (0..fields.len()).rev() {
+        if i + 1 < fields.len() {
+            line.add_text(b" ");
+        }
+        line.add(fields[i]);
+    }
+    line
 }

@@ -3,8 +3,8 @@ ghost use Rattle.std.specs.Prelude.{◌≡◌, ◌≢◌, ◌≤◌, ◌&&◌, �
 ghost use Rattle.std.specs.Option.{ForSome};
 ghost use Rattle.dmf_path.specs.Node.{is_node};
 
-use crate::behind::three_fields;
 use crate::digits::number;
+use crate::exact_fields::three_fields;
 use crate::fault::ProblemFaultKind;
 use crate::field::Fields;
 use crate::terminal::{Terminal, named};
@@ -49,24 +49,24 @@ pub(crate) enum Reading {
 
 impl Reading {
     ghost use Rattle.dmf_text.specs.Fields.{fields};
-    ghost use Rattle.dmf_text.specs.Problem.{judged, problem_line, terminal_line, arc_line, ended};
-    ghost use Rattle.dmf_text.specs.Reading.{said_in, Takes, TakesInMemory};
+    ghost use Rattle.dmf_text.specs.Problem.{judged, judged_problem, judged_node, judged_arc, ended};
+    ghost use Rattle.dmf_text.specs.Reading.{facts_in, Takes, TakesInMemory};
 
     /// Takes the next line, unless it has a fault or memory is refused.
     pub(crate) fn take_line(&mut self, alloc: Global, line: &[u8]) -> Result<(), ProblemFaultKind>
-        ensures { TakesInMemory (said_in self.old) (fields line.now)
-            (judged (said_in self.old) (fields line.now)) (said_in self.new) result }
+        ensures { TakesInMemory (facts_in self.old) (fields line.now)
+            (judged (facts_in self.old) (fields line.now)) (facts_in self.new) result }
     {
         let mut behind = Fields::new(line);
         let Some(kind) = behind.next() else {
             return Ok(());
         };
         if kind == b"a".as_slice() {
-            self.take_arc(behind)
+            self.take_arc_line(behind)
         } else if kind == b"n".as_slice() {
-            self.take_terminal(alloc, behind)
+            self.take_node_line(alloc, behind)
         } else if kind == b"p".as_slice() {
-            self.take_counts(behind)
+            self.take_problem_line(behind)
         } else if kind.starts_with(b"c") {
             Ok(())
         } else {
@@ -75,10 +75,10 @@ impl Reading {
     }
 
     /// Takes a problem line, of which these are the fields behind the first.
-    #[tactic(auto, unfolding(crate::specs::Problem::problem_line))]
-    fn take_counts(&mut self, behind: Fields<'_>) -> Result<(), ProblemFaultKind>
-        ensures { Takes (said_in self.old) (codes "p" ∷ behind.entry)
-            (problem_line (said_in self.old) behind.entry) (said_in self.new) result }
+    #[tactic(auto, unfolding(crate::specs::Problem::judged_problem))]
+    fn take_problem_line(&mut self, behind: Fields<'_>) -> Result<(), ProblemFaultKind>
+        ensures { Takes (facts_in self.old) (codes "p" ∷ behind.entry)
+            (judged_problem (facts_in self.old) behind.entry) (facts_in self.new) result }
     {
         let Reading::Start = self else {
             return Err(ProblemFaultKind::SecondProblemLine);
@@ -88,10 +88,10 @@ impl Reading {
     }
 
     /// Takes a node line, of which these are the fields behind the first.
-    #[tactic(auto, unfolding(crate::specs::Problem::terminal_line))]
-    fn take_terminal(&mut self, alloc: Global, behind: Fields<'_>) -> Result<(), ProblemFaultKind>
-        ensures { Takes (said_in self.old) (codes "n" ∷ behind.entry)
-            (terminal_line (said_in self.old) behind.entry) (said_in self.new) result }
+    #[tactic(auto, unfolding(crate::specs::Problem::judged_node))]
+    fn take_node_line(&mut self, alloc: Global, behind: Fields<'_>) -> Result<(), ProblemFaultKind>
+        ensures { Takes (facts_in self.old) (codes "n" ∷ behind.entry)
+            (judged_node (facts_in self.old) behind.entry) (facts_in self.new) result }
     {
         match self {
             Reading::Start => Err(ProblemFaultKind::ProblemLineExpected),
@@ -107,22 +107,22 @@ impl Reading {
     }
 
     /// Takes an arc line, of which these are the fields behind the first.
-    #[tactic(auto, unfolding(crate::specs::Problem::arc_line))]
-    fn take_arc(&mut self, behind: Fields<'_>) -> Result<(), ProblemFaultKind>
-        ensures { TakesInMemory (said_in self.old) (codes "a" ∷ behind.entry)
-            (arc_line (said_in self.old) behind.entry) (said_in self.new) result }
+    #[tactic(auto, unfolding(crate::specs::Problem::judged_arc))]
+    fn take_arc_line(&mut self, behind: Fields<'_>) -> Result<(), ProblemFaultKind>
+        ensures { TakesInMemory (facts_in self.old) (codes "a" ∷ behind.entry)
+            (judged_arc (facts_in self.old) behind.entry) (facts_in self.new) result }
     {
         match self {
             Reading::Start => Err(ProblemFaultKind::ProblemLineExpected),
             Reading::Terminals(_) => Err(ProblemFaultKind::ArcBeforeTerminals),
-            Reading::Arcs(body) => body.take_arc(behind),
+            Reading::Arcs(body) => body.take_arc_line(behind),
         }
     }
 
     /// The state that the lines stand for, at the end of the text.
     #[tactic(auto, unfolding(crate::specs::Problem::ended))]
     pub(crate) fn finish(self) -> Result<State, ProblemFaultKind>
-        ensures { result ≡ ended (said_in self) }
+        ensures { result ≡ ended (facts_in self) }
     {
         match self {
             Reading::Start => Err(ProblemFaultKind::ProblemLineExpected),
@@ -133,15 +133,15 @@ impl Reading {
 }
 
 impl Head {
-    ghost use Rattle.dmf_text.specs.Problem.{counts_named, terminal_line};
-    ghost use Rattle.dmf_text.specs.Reading.{said_in, said_in_head, with_line, nothing_said, Takes};
+    ghost use Rattle.dmf_text.specs.Problem.{counts_named, judged_node};
+    ghost use Rattle.dmf_text.specs.Reading.{facts_in, facts_in_head, with_line, no_facts, Takes};
 
     /// What a problem line says, of which these are the fields behind the first.
     #[tactic(auto, unfolding(crate::specs::Problem::counts_named))]
     fn of_problem_line(behind: Fields<'_>) -> Result<Head, ProblemFaultKind>
         ensures { MatchResult result
             (λ head. (counts_named behind.entry ≡ Ok (record { nodes = head.nodes; arcs = head.arcs }))
-            × (said_in_head head ≡ with_line nothing_said (codes "p" ∷ behind.entry)))
+            × (facts_in_head head ≡ with_line no_facts (codes "p" ∷ behind.entry)))
             (λ kind. counts_named behind.entry ≡ Err kind) }
     {
         let (word, nodes, arcs) = three_fields(behind)?;
@@ -162,12 +162,12 @@ impl Head {
     }
 
     /// Takes a node line, of which these are the fields behind the first. With both terminals there is a network.
-    #[tactic(auto, unfolding(crate::specs::Problem::terminal_line))]
+    #[tactic(auto, unfolding(crate::specs::Problem::judged_node))]
     fn with_terminal(&self, alloc: Global, behind: Fields<'_>) -> Result<Reading, ProblemFaultKind>
         ensures { MatchResult result
-            (λ reading. (terminal_line (said_in_head self.now) behind.entry ≡ Ok tt)
-            × (said_in reading ≡ with_line (said_in_head self.now) (codes "n" ∷ behind.entry)))
-            (λ kind. terminal_line (said_in_head self.now) behind.entry ≡ Err kind) }
+            (λ reading. (judged_node (facts_in_head self.now) behind.entry ≡ Ok tt)
+            × (facts_in reading ≡ with_line (facts_in_head self.now) (codes "n" ∷ behind.entry)))
+            (λ kind. judged_node (facts_in_head self.now) behind.entry ≡ Err kind) }
     {
         let (terminal, node) = named(self.nodes, behind)?;
         let (own, source, sink) = match terminal {
@@ -195,14 +195,14 @@ impl Head {
 }
 
 impl Body {
-    ghost use Rattle.dmf_text.specs.Problem.{arc_line, ended};
-    ghost use Rattle.dmf_text.specs.Reading.{said_in_body, TakesInMemory};
+    ghost use Rattle.dmf_text.specs.Problem.{judged_arc, ended};
+    ghost use Rattle.dmf_text.specs.Reading.{facts_in_body, TakesInMemory};
 
     /// Takes an arc line, of which these are the fields behind the first.
-    #[tactic(auto, unfolding(crate::specs::Problem::arc_line))]
-    fn take_arc(&mut self, behind: Fields<'_>) -> Result<(), ProblemFaultKind>
-        ensures { TakesInMemory (said_in_body self.old) (codes "a" ∷ behind.entry)
-            (arc_line (said_in_body self.old) behind.entry) (said_in_body self.new) result }
+    #[tactic(auto, unfolding(crate::specs::Problem::judged_arc))]
+    fn take_arc_line(&mut self, behind: Fields<'_>) -> Result<(), ProblemFaultKind>
+        ensures { TakesInMemory (facts_in_body self.old) (codes "a" ∷ behind.entry)
+            (judged_arc (facts_in_body self.old) behind.entry) (facts_in_body self.new) result }
     {
         if self.state.arcs().len() >= self.arcs as usize {
             return Err(ProblemFaultKind::TooManyArcs);
@@ -218,7 +218,7 @@ impl Body {
     /// The state that the lines stand for, at the end of the text.
     #[tactic(auto, unfolding(crate::specs::Problem::ended))]
     fn finish(self) -> Result<State, ProblemFaultKind>
-        ensures { result ≡ ended (said_in_body self) }
+        ensures { result ≡ ended (facts_in_body self) }
     {
         if self.state.arcs().len() < self.arcs as usize {
             return Err(ProblemFaultKind::TooFewArcs);

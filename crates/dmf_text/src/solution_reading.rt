@@ -3,11 +3,11 @@ ghost use Rattle.std.specs.Prelude.{◌≡◌, ◌⊎◌, ◌∷◌, List, codes
 ghost use Rattle.dmf_net.specs.declared.arc.Arc.{Arc};
 ghost use Rattle.dmf_text.specs.declared.fault.SolutionFaultKind.TheVariants.{NoMemory};
 ghost use Rattle.dmf_text.specs.Fields.{fields};
-ghost use Rattle.dmf_text.specs.Solution.{Said, judged, value_line, flow_line, ended};
+ghost use Rattle.dmf_text.specs.Solution.{Facts, judged, judged_value, judged_flow, ended};
 ghost use Rattle.dmf_text.specs.SolutionReading.{Keeps, TakesLine};
 
-use crate::behind::{one_field, three_fields};
 use crate::digits::number;
+use crate::exact_fields::{one_field, three_fields};
 use crate::fault::SolutionFaultKind;
 use crate::field::Fields;
 use crate::pairs::{PairFlow, Pairs, add_flow, pairs_of, put_on};
@@ -35,17 +35,17 @@ impl SolutionReading {
 
     /// Takes the next line, unless it has a fault.
     pub(crate) fn take_line(&mut self, line: &[u8]) -> Result<(), SolutionFaultKind>
-        ensures { (arcs : List Arc) (said : Said) → Keeps arcs said self.old
-            → TakesLine arcs said (fields line.now) (judged arcs said (fields line.now)) self.new result }
+        ensures { (arcs : List Arc) (facts : Facts) → Keeps arcs facts self.old
+            → TakesLine arcs facts (fields line.now) (judged arcs facts (fields line.now)) self.new result }
     {
         let mut behind = Fields::new(line);
         let Some(kind) = behind.next() else {
             return Ok(());
         };
         if kind == b"f".as_slice() {
-            self.take_flow(behind)
+            self.take_flow_line(behind)
         } else if kind == b"s".as_slice() {
-            self.take_value(behind)
+            self.take_value_line(behind)
         } else if kind.starts_with(b"c") {
             Ok(())
         } else {
@@ -54,10 +54,10 @@ impl SolutionReading {
     }
 
     /// Takes a value line, of which these are the fields behind the first.
-    #[tactic(auto, unfolding(crate::specs::Solution::value_line))]
-    fn take_value(&mut self, behind: Fields<'_>) -> Result<(), SolutionFaultKind>
-        ensures { (arcs : List Arc) (said : Said) → Keeps arcs said self.old
-            → TakesLine arcs said (codes "s" ∷ behind.entry) (value_line said behind.entry) self.new result }
+    #[tactic(auto, unfolding(crate::specs::Solution::judged_value))]
+    fn take_value_line(&mut self, behind: Fields<'_>) -> Result<(), SolutionFaultKind>
+        ensures { (arcs : List Arc) (facts : Facts) → Keeps arcs facts self.old
+            → TakesLine arcs facts (codes "s" ∷ behind.entry) (judged_value facts behind.entry) self.new result }
     {
         if self.value.is_some() {
             return Err(SolutionFaultKind::SecondValue);
@@ -67,10 +67,10 @@ impl SolutionReading {
     }
 
     /// Takes a flow line, of which these are the fields behind the first.
-    #[tactic(auto, unfolding(crate::specs::Solution::flow_line))]
-    fn take_flow(&mut self, behind: Fields<'_>) -> Result<(), SolutionFaultKind>
-        ensures { (arcs : List Arc) (said : Said) → Keeps arcs said self.old
-            → TakesLine arcs said (codes "f" ∷ behind.entry) (flow_line arcs said behind.entry) self.new result }
+    #[tactic(auto, unfolding(crate::specs::Solution::judged_flow))]
+    fn take_flow_line(&mut self, behind: Fields<'_>) -> Result<(), SolutionFaultKind>
+        ensures { (arcs : List Arc) (facts : Facts) → Keeps arcs facts self.old
+            → TakesLine arcs facts (codes "f" ∷ behind.entry) (judged_flow arcs facts behind.entry) self.new result }
     {
         let (tail, head, flow) = three_fields(behind)?;
         let tail = number(tail)?;
@@ -82,7 +82,7 @@ impl SolutionReading {
     /// The state that the lines stand for, at the end of the text: the network of this one with the flows that they say.
     #[tactic(auto, unfolding(crate::specs::Solution::ended))]
     pub(crate) fn finish(self, alloc: Global, state: &State) -> Result<State, SolutionFaultKind>
-        ensures { (said : Said) → Keeps state.now.network.arcs said self → (result ≡ Err NoMemory) ⊎ (result ≡ ended state.now said) }
+        ensures { (facts : Facts) → Keeps state.now.network.arcs facts self → (result ≡ Err NoMemory) ⊎ (result ≡ ended state.now facts) }
     {
         let SolutionReading { pairs, value } = self;
         let Some(value) = value else {

@@ -3,8 +3,8 @@ ghost use Rattle.std.specs.Prelude.{◌≡◌, MatchResult, Err};
 ghost use Rattle.dmf_text.specs.Problem.{node_named};
 ghost use Rattle.dmf_text.specs.Terminal.{Names};
 
-use crate::behind::two_fields;
 use crate::digits::number;
+use crate::exact_fields::two_fields;
 use crate::fault::ProblemFaultKind;
 use crate::field::Fields;
 

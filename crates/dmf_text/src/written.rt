@@ -1,12 +1,14 @@
 //! Problem, solution and cut texts, written.
-ghost use Rattle.std.specs.Prelude.{◌≡◌, ◌≤◌, ◌∷◌, [], Ok, not, if◌then◌else◌, codes, decimal, length};
+ghost use Rattle.std.specs.Prelude.{◌≡◌, ◌≤◌, ◌<◌, ◌∷◌, [], Ok, not, if◌then◌else◌, codes, decimal, length, map};
 ghost use Rattle.std.specs.List.{zip};
 ghost use Rattle.dmf_net.specs.NetworkState.{IsState};
+ghost use Rattle.dmf_text.specs.LineField.{field_bytes, most_line_bytes};
 ghost use Rattle.dmf_text.specs.Problem.{problem_of};
 ghost use Rattle.dmf_text.specs.Writing.{Writes};
 ghost use Rattle.dmf_text.specs.Written.{written_line, arcs_text, flows_text, nodes_text, problem_text, solution_text, cut_text, open_network, idle_state};
 
-use crate::line_buffer::LineBuffer;
+use crate::line_buffer::LineField::{Number, Text};
+use crate::line_buffer::{LineField, line_of};
 use crate::writer::{Sink, WriteFault, put_all};
 use dmf_net::{Arc, Side, SideIds, State};
 
@@ -26,7 +28,7 @@ pub fn write_problem<W: Sink>(state: &State, out: &mut W) -> Result<(), WriteFau
 pub fn write_solution<W: Sink>(state: &State, out: &mut W) -> Result<(), WriteFault>
     ensures written { Writes W.contents W.has_failed out.old out.new result (solution_text state.now) }
 {
-    put_all(out, value_line(state.value()).as_bytes())?;
+    put_line(&[Text(b"s"), Number(state.value())], out)?;
     put_flows(state, out)
 }
 
@@ -35,7 +37,7 @@ pub fn write_solution<W: Sink>(state: &State, out: &mut W) -> Result<(), WriteFa
 pub fn write_cut<W: Sink>(side: &Side, out: &mut W) -> Result<(), WriteFault>
     ensures written { Writes W.contents W.has_failed out.old out.new result (cut_text side.now) }
 {
-    put_all(out, cut_line(side.capacity()).as_bytes())?;
+    put_line(&[Text(b"c"), Text(b"cut"), Number(side.capacity())], out)?;
     put_nodes(side.ids(), out)
 }
 
@@ -43,13 +45,22 @@ fn put_problem<W: Sink>(state: &State, out: &mut W) -> Result<(), WriteFault>
     ensures written { Writes W.contents W.has_failed out.old out.new result (problem_text state.now.network) }
     ensures state { IsState state.now }
 {
-    put_all(
+    let (nodes, arcs) = (u64::from(state.nodes()), u64::from(state.open_count()));
+    put_line(
+        &[Text(b"p"), Text(b"max"), Number(nodes), Number(arcs)],
         out,
-        problem_line(state.nodes(), state.open_count()).as_bytes(),
     )?;
-    put_all(out, node_line(state.source(), b"s").as_bytes())?;
-    put_all(out, node_line(state.sink(), b"t").as_bytes())?;
+    put_terminal(state.source(), b"s", out)?;
+    put_terminal(state.sink(), b"t", out)?;
     put_arcs(state.arcs(), out)
+}
+
+// Writes the node line of a terminal.
+fn put_terminal<W: Sink>(node: u32, letter: &[u8], out: &mut W) -> Result<(), WriteFault>
+    requires { length letter.now ≤ 1 }
+    ensures { Writes W.contents W.has_failed out.old out.new result (written_line (codes "n" ∷ decimal node ∷ letter.now ∷ [])) }
+{
+    put_line(&[Text(b"n"), Number(u64::from(node)), Text(letter)], out)
 }
 
 fn put_arcs<W: Sink>(arcs: &[Arc], out: &mut W) -> Result<(), WriteFault>
@@ -81,7 +92,11 @@ fn put_arc<W: Sink>(letter: &[u8], arc: &Arc, has: u64, out: &mut W) -> Result<(
     if arc.closed {
         return Ok(());
     }
-    put_all(out, arc_line(letter, arc, has).as_bytes())
+    let (tail, head) = (u64::from(arc.tail), u64::from(arc.head));
+    put_line(
+        &[Text(letter), Number(tail), Number(head), Number(has)],
+        out,
+    )
 }
 
 // Writes a line for each node of a side.
@@ -89,73 +104,16 @@ fn put_nodes<W: Sink>(ids: SideIds, out: &mut W) -> Result<(), WriteFault>
     ensures { Writes W.contents W.has_failed out.old out.new result (nodes_text ids.entry) }
 {
     for id in ids {
-        put_all(out, side_line(id).as_bytes())?;
+        put_line(&[Text(b"c"), Text(b"side"), Number(u64::from(id))], out)?;
     }
     Ok(())
 }
 
-fn problem_line(nodes: u32, arcs: u32) -> LineBuffer
-    ensures { result ≡ written_line (codes "p" ∷ codes "max" ∷ decimal nodes ∷ decimal arcs ∷ []) }
+// Writes the line of these fields.
+#[inline(always)]
+fn put_line<W: Sink>(fields: &[LineField<'_>], out: &mut W) -> Result<(), WriteFault>
+    requires { most_line_bytes fields.now < 80 }
+    ensures { Writes W.contents W.has_failed out.old out.new result (written_line (map field_bytes fields.now)) }
 {
-    let mut line = LineBuffer::new();
-    line.add_number(u64::from(arcs));
-    line.add_text(b" ");
-    line.add_number(u64::from(nodes));
-    line.add_text(b"p max ");
-    line
-}
-
-fn node_line(node: u32, letter: &[u8]) -> LineBuffer
-    requires { length letter.now ≤ 1 }
-    ensures { result ≡ written_line (codes "n" ∷ decimal node ∷ letter.now ∷ []) }
-{
-    let mut line = LineBuffer::new();
-    line.add_text(letter);
-    line.add_text(b" ");
-    line.add_number(u64::from(node));
-    line.add_text(b"n ");
-    line
-}
-
-fn value_line(value: u64) -> LineBuffer
-    ensures { result ≡ written_line (codes "s" ∷ decimal value ∷ []) }
-{
-    let mut line = LineBuffer::new();
-    line.add_number(value);
-    line.add_text(b"s ");
-    line
-}
-
-fn cut_line(capacity: u64) -> LineBuffer
-    ensures { result ≡ written_line (codes "c" ∷ codes "cut" ∷ decimal capacity ∷ []) }
-{
-    let mut line = LineBuffer::new();
-    line.add_number(capacity);
-    line.add_text(b"c cut ");
-    line
-}
-
-fn side_line(id: u32) -> LineBuffer
-    ensures { result ≡ written_line (codes "c" ∷ codes "side" ∷ decimal id ∷ []) }
-{
-    let mut line = LineBuffer::new();
-    line.add_number(u64::from(id));
-    line.add_text(b"c side ");
-    line
-}
-
-// The line of an arc: the letter, the ends, and what it has, which is its capacity or its flow.
-fn arc_line(letter: &[u8], arc: &Arc, has: u64) -> LineBuffer
-    requires { length letter.now ≤ 1 }
-    ensures { result ≡ written_line (letter.now ∷ decimal arc.now.tail ∷ decimal arc.now.head ∷ decimal has ∷ []) }
-{
-    let mut line = LineBuffer::new();
-    line.add_number(has);
-    line.add_text(b" ");
-    line.add_number(u64::from(arc.head));
-    line.add_text(b" ");
-    line.add_number(u64::from(arc.tail));
-    line.add_text(b" ");
-    line.add_text(letter);
-    line
+    put_all(out, line_of(fields).as_bytes())
 }

@@ -2,7 +2,7 @@ use Rattle.std.proofs.Common.{Ok, Err, sym, ap, ◌∙◌, inl, inr, ⊎_elim}
 use Rattle.dmf_text.specs.Fields.{fields}
 use Rattle.dmf_text.specs.Reading.{with_line}
 use Rattle.dmf_text.proofs.JudgingLemmas.{walk-start, walk-next, walk-bad, walk-end}
-use Rattle.dmf_text.proofs.ProblemLemmas.{said_by-push}
+use Rattle.dmf_text.proofs.ProblemLemmas.{facts_of-push}
 use Rattle.dmf_text.proofs.problem.read_problem.Goals as goal
 
 pub loop-number-init : goal.loop-number-init
@@ -13,7 +13,7 @@ loop-number-init c =
 pub loop-number-preserved : goal.loop-number-preserved
 loop-number-preserved c =
     walk-next _ _ _ _ c.loop-number.invariant _ _ _ c.in-Some.ensures.steps _ c.in_default.ensures.0
-    (λ before said. c.in_default.ensures.1 ∙ ap (λ s. with_line s (fields c.in-Some.line.now)) said ∙ sym (said_by-push before (fields c.in-Some.line.now)))
+    (λ before facts. c.in_default.ensures.1 ∙ ap (λ s. with_line s (fields c.in-Some.line.now)) facts ∙ sym (facts_of-push before (fields c.in-Some.line.now)))
 
 pub returns-in-Err : goal.returns-in-Err
 returns-in-Err c =

@@ -3,7 +3,7 @@ use Rattle.dmf_text.specs.declared.fault.SolutionFaultKind.TheVariants.{NoMemory
 use Rattle.dmf_text.specs.Fields.{fields}
 use Rattle.dmf_text.specs.SolutionReading.{with_line}
 use Rattle.dmf_text.proofs.JudgingLemmas.{walk-start, walk-next, walk-bad, walk-end}
-use Rattle.dmf_text.proofs.SolutionLemmas.{said_by-push}
+use Rattle.dmf_text.proofs.SolutionLemmas.{facts_of-push}
 use Rattle.dmf_text.proofs.solution.read_solution.Goals as goal
 
 pub loop-number-init : goal.loop-number-init
@@ -21,7 +21,7 @@ loop-number-preserved c =
     let taken = c.in_default-take_line.ensures c.args.state.now.network.arcs before.0 before.1 in (
       with_line before.0 line,
       taken.1,
-      walk-next _ _ _ _ before.2 _ _ _ c.in-Some.ensures.steps _ taken.0 (λ lines said. ap (λ s. with_line s line) said ∙ sym (said_by-push lines line)),
+      walk-next _ _ _ _ before.2 _ _ _ c.in-Some.ensures.steps _ taken.0 (λ lines facts. ap (λ s. with_line s line) facts ∙ sym (facts_of-push lines line)),
     )
 
 pub returns-in-Err : goal.returns-in-Err

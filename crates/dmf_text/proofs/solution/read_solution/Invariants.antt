@@ -1,4 +1,4 @@
-use Rattle.dmf_text.specs.Solution.{Said, said_by, judged, ended, solution_fault}
+use Rattle.dmf_text.specs.Solution.{Facts, facts_of, judged, ended, solution_fault}
 use Rattle.dmf_text.specs.SolutionReading.{Keeps}
 use Rattle.dmf_text.proofs.JudgingLemmas.{Walk}
 use Rattle.dmf_text.proofs.solution.read_solution.Given as goal
@@ -6,5 +6,5 @@ use Rattle.dmf_text.proofs.solution.read_solution.Given as goal
 -- the reader has what the lines say that were taken
 abbrev pub invariant-loop-number : goal.invariant-loop-number
 invariant-loop-number l =
-    (said : Said) × Keeps l.state.network.arcs said l.reading
-    × Walk said_by (judged l.state.network.arcs) (ended l.state) solution_fault l.text said l.last l.number-iterator
+    (facts : Facts) × Keeps l.state.network.arcs facts l.reading
+    × Walk facts_of (judged l.state.network.arcs) (ended l.state) solution_fault l.text facts l.last l.number-iterator

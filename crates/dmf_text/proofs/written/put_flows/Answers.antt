@@ -8,7 +8,7 @@ use Rattle.std.specs.List.{zip}
 use Rattle.dmf_net.specs.Arc.{open_arc}
 use Rattle.dmf_text.specs.Written.{flow_fields, flows_text}
 use Rattle.dmf_text.proofs.WrittenLemmas.{kept-nil, kept-more, kept-split, is_open_flow, flow-line, zip-long}
-use Rattle.dmf_text.proofs.WritingLemmas.{Cut, cut-front, cut-more}
+use Rattle.dmf_text.proofs.WritingLemmas.{PutsFront, front-of, front-after}
 use Rattle.dmf_text.proofs.written.put_flows.Given.{Over}
 use Rattle.dmf_text.proofs.written.put_flows.Goals as goal
 use Rattle.dmf_text.proofs.written.put_flows.Goals.{After-arcs-arcs}
@@ -34,10 +34,10 @@ returns-in_err-put_arc g c =
     let line = flow-line arcs c.args.state.now.flows i c.flow.result d each c.loop-i-test.true c.flow.ensures in
     let long = zip-long arcs c.args.state.now.flows each in
     let below : i < length pairs = omega (arith, long, c.loop-i-test.true) in
-    let cut = subst (λ text. Cut g.W.Sink.contents g.W.Sink.has_failed c.loop-i.out c.put_arc.new.out text) (sym line) c.in_err-put_arc.ensures in
+    let put_front = subst (λ text. PutsFront g.W.Sink.contents g.W.Sink.has_failed c.loop-i.out c.put_arc.new.out text) (sym line) c.in_err-put_arc.ensures in
     rw (failed.1, sym c.arcs-arcs.ensures.value, kept-split is_open_flow flow_fields pairs i (d, 0) below)
-    (cut-more g.W.Sink.contents g.W.Sink.has_failed _ c.loop-i.out _ (flows_text (take i pairs)) _ c.loop-i.invariant.held
-    (cut-front g.W.Sink.contents g.W.Sink.has_failed _ _ (flows_text (get_or pairs i (d, 0) ∷ [])) (flows_text (drop (suc i) pairs)) cut))
+    (front-after g.W.Sink.contents g.W.Sink.has_failed _ c.loop-i.out _ (flows_text (take i pairs)) _ c.loop-i.invariant.held
+    (front-of g.W.Sink.contents g.W.Sink.has_failed _ _ (flows_text (get_or pairs i (d, 0) ∷ [])) (flows_text (drop (suc i) pairs)) put_front))
 
 pub loop-i-preserved : goal.loop-i-preserved
 loop-i-preserved g c =

@@ -4,7 +4,7 @@ use Rattle.std.proofs.KnownBytes.{Appends-nil, Appends-trans}
 use Rattle.std.specs.Io.KnownBytes.{Appends}
 use Rattle.dmf_text.specs.Written.{nodes_text, side_fields, written_line}
 use Rattle.dmf_text.proofs.WrittenLemmas.{all-nil, all-last, all-split}
-use Rattle.dmf_text.proofs.WritingLemmas.{Cut, cut-front, cut-more}
+use Rattle.dmf_text.proofs.WritingLemmas.{PutsFront, front-of, front-after}
 use Rattle.dmf_text.proofs.written.put_nodes.Goals as goal
 
 pub loop-id-init : goal.loop-id-init
@@ -14,26 +14,26 @@ loop-id-init g c = record {
   mark = refl;
 }
 
-pub returns-in_err-put_all : goal.returns-in_err-put_all
-returns-in_err-put_all g c =
+pub returns-in_err-put_line : goal.returns-in_err-put_line
+returns-in_err-put_line g c =
     let failed = err_from_is_err_and c.from_residual.result c.from_residual.ensures.1 in
     let id = c.in-Some.id in
     let given = c.loop-id.yielded in
     let left = c.next.new.self in
     let all : given ++ (id ∷ left) ≡ c.args.ids = ap (λ ids. given ++ ids) (sym c.in-Some.ensures.steps) ∙ c.loop-id.invariant.given in
-    let cut = subst (λ text. Cut g.W.Sink.contents g.W.Sink.has_failed c.loop-id.out c.put_all.new.out text) (c.as_bytes.ensures ∙ c.side_line.ensures) c.in_err-put_all.ensures in
+    let put_front = subst (λ n. PutsFront g.W.Sink.contents g.W.Sink.has_failed c.loop-id.out c.put_line.new.out (written_line (side_fields n))) c.from.ensures c.in_err-put_line.ensures in
     rw (failed.1, sym all, all-split side_fields given id left)
-    (cut-more g.W.Sink.contents g.W.Sink.has_failed _ c.loop-id.out _ (nodes_text given) _ c.loop-id.invariant.held
-    (cut-front g.W.Sink.contents g.W.Sink.has_failed _ _ (written_line (side_fields id)) (nodes_text left) cut))
+    (front-after g.W.Sink.contents g.W.Sink.has_failed _ c.loop-id.out _ (nodes_text given) _ c.loop-id.invariant.held
+    (front-of g.W.Sink.contents g.W.Sink.has_failed _ _ (written_line (side_fields id)) (nodes_text left) put_front))
 
 pub loop-id-preserved : goal.loop-id-preserved
 loop-id-preserved g c =
-    let put = subst (λ text. Appends (g.W.Sink.contents c.loop-id.out) (g.W.Sink.contents c.put_all.new.out) text) (c.as_bytes.ensures ∙ c.side_line.ensures) c.in_ok-put_all.ensures.0 in
+    let put = subst (λ n. Appends (g.W.Sink.contents c.loop-id.out) (g.W.Sink.contents c.put_line.new.out) (written_line (side_fields n))) c.from.ensures c.in_ok-put_line.ensures.0 in
     record {
       given = append_assoc c.loop-id.yielded (c.in-Some.id ∷ []) c.next.new.self
           ∙ ap (λ ids. c.loop-id.yielded ++ ids) (sym c.in-Some.ensures.steps) ∙ c.loop-id.invariant.given;
       held = rw (all-last side_fields c.loop-id.yielded c.in-Some.id) (Appends-trans _ _ _ _ _ c.loop-id.invariant.held put);
-      mark = c.in_ok-put_all.ensures.1 ∙ c.loop-id.invariant.mark;
+      mark = c.in_ok-put_line.ensures.1 ∙ c.loop-id.invariant.mark;
     }
 
 pub returns : goal.returns

@@ -1,37 +1,31 @@
-use Rattle.std.proofs.Common.{◌≡◌, [], ◌∷◌, codes, decimal, nat_abs, ap, ◌∙◌, subst}
+use Rattle.std.proofs.Common.{◌≡◌, [], ◌∷◌, ◌++◌, codes, decimal, ap, ◌∙◌, sym, nat_abs}
 use Rattle.std.proofs.lemmas.Result.{err_from_is_err_and}
-use Rattle.std.specs.Io.KnownBytes.{Appends}
-use Rattle.dmf_net.specs.Flow.{flow_value}
-use Rattle.dmf_text.specs.Written.{written_line}
+use Rattle.std.specs.List.{zip}
+use Rattle.dmf_text.specs.Written.{written_line, solution_text, flows_text}
 use Rattle.dmf_text.proofs.WrittenLemmas.{solution_text-lines}
-use Rattle.dmf_text.proofs.WritingLemmas.{Cut, cut-front, writes-more}
+use Rattle.dmf_text.proofs.WritingLemmas.{first-failed, first-put}
 use Rattle.dmf_text.proofs.written.write_solution.Given.{Over}
 use Rattle.dmf_text.proofs.written.write_solution.Goals as goal
-use Rattle.dmf_text.proofs.written.write_solution.Goals.{After-put_all}
+use Rattle.dmf_text.proofs.written.write_solution.Goals.{After-put_line}
 
--- the first line is that of the value
-first : (g : Over) (c : After-put_all g)
-    → c.as_bytes.result.now ≡ written_line (codes "s" ∷ decimal (nat_abs (flow_value c.args.state.now.network c.args.state.now.flows)) ∷ [])
+-- the text is its first line, and what comes behind it
+first : (g : Over) (c : After-put_line g) → solution_text c.args.state.now ≡ written_line (codes "s" ∷ decimal c.value.result ∷ []) ++ flows_text (zip c.args.state.now.network.arcs c.args.state.now.flows)
 first g c =
-    c.as_bytes.ensures ∙ c.value_line.ensures
-    ∙ ap (λ n. written_line (codes "s" ∷ decimal n ∷ [])) (ap nat_abs c.value.ensures.value)
+    let flows = flows_text (zip c.args.state.now.network.arcs c.args.state.now.flows) in
+    solution_text-lines c.args.state.now
+    ∙ ap (λ n. written_line (codes "s" ∷ decimal n ∷ []) ++ flows) (sym (ap nat_abs c.value.ensures.value))
 
-pub returns-in_err-put_all : goal.returns-in_err-put_all
-returns-in_err-put_all g c =
+pub returns-in_err-put_line : goal.returns-in_err-put_line
+returns-in_err-put_line g c =
     let failed = err_from_is_err_and c.from_residual.result c.from_residual.ensures.1 in
-    let line = first g (goal.at.returns-in_err-put_all g c).After-put_all in
-    rw (failed.1, solution_text-lines c.args.state.now)
-    (record {
-      written = cut-front g.W.Sink.contents g.W.Sink.has_failed _ _ _ _
-          (subst (λ text. Cut g.W.Sink.contents g.W.Sink.has_failed c.args.out.now c.put_all.new.out text) line c.in_err-put_all.ensures);
-    })
+    record {
+      written = first-failed g.W.Sink.contents g.W.Sink.has_failed _ _ _ _ _ _ _ failed.1
+          (first g (goal.at.returns-in_err-put_line g c).After-put_line) c.in_err-put_line.ensures;
+    }
 
 pub returns : goal.returns
-returns g c =
-    let line = first g (goal.at.returns g c).After-put_all in
-    rw (solution_text-lines c.args.state.now)
-    (record {
-      written = writes-more g.W.Sink.contents g.W.Sink.has_failed _ c.put_all.new.out _ _ _ _
-          (subst (λ text. Appends (g.W.Sink.contents c.args.out.now) (g.W.Sink.contents c.put_all.new.out) text) line c.in_ok-put_all.ensures.0)
-          c.in_ok-put_all.ensures.1 c.put_flows.ensures;
-    })
+returns g c = record {
+  written = first-put g.W.Sink.contents g.W.Sink.has_failed _ c.put_line.new.out _ _ _ _ _
+      (first g (goal.at.returns g c).After-put_line) c.in_ok-put_line.ensures
+      c.put_flows.ensures;
+}

@@ -1,6 +1,0 @@
-use Rattle.std.proofs.Common.{codes, decimal}
-use Rattle.dmf_text.proofs.WrittenLemmas.{line-of_three}
-use Rattle.dmf_text.proofs.written.cut_line.Goals as goal
-
-pub returns : goal.returns
-returns c = let line = line-of_three (codes "c") (codes "cut") (decimal c.args.capacity) in cc
