@@ -1,5 +1,5 @@
 #!/usr/bin/env bash
-# Tests the built program where its standard streams are closed or take nothing, and where a text is past its limit.
+# Tests the built program where its standard streams are closed or take nothing, and where a problem is past its limit.
 . "$(dirname "$0")/cases.bash"
 
 # Runs the program with one of its standard streams closed, or with all of them, and judges it: the case's name, the
@@ -91,13 +91,9 @@ run_on_full "a full device under the help" --help </dev/null
 run_on_full "a full device under the version" --version </dev/null
 run_script "a closed pipe" tests/closed_pipe.py
 
-# Texts past their limits: a problem of 1 GiB and one byte, which takes no room on the disk, and one command line too many.
+# A problem past its limit, of 1 GiB and one byte, which takes no room on the disk.
 truncate -s 1073741825 "$work/huge.max"
 run "too large a problem" 4 "" $'dmf: too much input\n' session "$work/huge.max" <<<"print flow"
 run "too large a problem of a check" 4 "" $'dmf: too much input\n' check "$work/huge.max" <<<"s 0"
-(echo undo && yes c | head -n 999999) >"$work/lines"
-run "as many command lines as a session takes" 1 $'c refused 1 nothing to undo\n' "" session "$problem" <"$work/lines"
-echo c >>"$work/lines"
-run "one command line too many" 4 $'c refused 1 nothing to undo\n' $'dmf: too much input\n' session "$problem" <"$work/lines"
 
 finish

@@ -302,6 +302,14 @@ FAULTS = [
     ),
 ]
 WORKED = SOLVES + SESSIONS + CHECKS + FAULTS
+# As many command lines as a session takes, and one more.
+LIMITS = [
+    held("a million command lines", CROSSED, b"undo\n" + b"\n" * 999_999, "c refused 1 nothing to undo"),
+    Worked(
+        Case("a million command lines and one", (b"session", PROBLEM), text(CROSSED), b"undo\n" + b"\n" * 1_000_000),
+        Outcome(4, text("c refused 1 nothing to undo"), b"dmf: too much input\n"),
+    ),
+]
 
 
 def fronts():
@@ -326,4 +334,4 @@ def judge(pair):
 
 
 if __name__ == "__main__":
-    sys.exit(built.report(judge, WORKED + [(case, None) for case in fronts()], 10))
+    sys.exit(built.report(judge, WORKED + LIMITS + [(case, None) for case in fronts()], 10))

@@ -10,8 +10,8 @@ use Rattle.dmf_path.proofs.LinkPlaces.{lies-within, lies-partner}
 use Rattle.dmf_path.proofs.Flags.{room-of_flag, flag-of_room}
 
 -- No link with room falls by more than one.
-pub valid-labelled : (l : Links) (rooms flags labels : List ℕ) (start goal : ℕ) → AreLinks l → AreFlags l rooms flags → length rooms ≡ length l.heads → AreLabels l flags goal start labels → IsNode l.nodes goal → AreValid l labels rooms (slice_index labels start)
-valid-labelled l rooms flags labels start goal are flagged long labelled at_goal v p node lies room below =
+pub valid-labelled : (l : Links) (rooms flags labels : List ℕ) (start goal : ℕ) → AreLinks l → AreFlags l rooms flags → AreLabels l flags goal start labels → AreValid l labels rooms (slice_index labels start)
+valid-labelled l rooms flags labels start goal are flagged labelled v p node lies room below =
     let within : p < length l.heads = lies-within l v p are node lies in
     let link = are.each p within in
     let partner : ℕ = slice_index l.partners p in
@@ -44,6 +44,6 @@ walk-from l rooms flags labels start goal are flagged labelled (suc n) v is node
     (p ∷ on.0, (record { lies = lies; room = room; falls = back.label }, on.1)))
     (eqb_tells v goal)
 
-pub walk-labelled : (l : Links) (rooms flags labels : List ℕ) (start goal : ℕ) → AreLinks l → AreFlags l rooms flags → AreLabels l flags goal start labels → IsNode l.nodes goal → (v : ℕ) → IsNode l.nodes v → slice_index labels v ≢ no_label → (ps : List ℕ) × IsWalk l labels rooms goal v ps
-walk-labelled l rooms flags labels start goal are flagged labelled at_goal v node has =
+pub walk-labelled : (l : Links) (rooms flags labels : List ℕ) (start goal : ℕ) → AreLinks l → AreFlags l rooms flags → AreLabels l flags goal start labels → (v : ℕ) → IsNode l.nodes v → slice_index labels v ≢ no_label → (ps : List ℕ) × IsWalk l labels rooms goal v ps
+walk-labelled l rooms flags labels start goal are flagged labelled v node has =
     walk-from l rooms flags labels start goal are flagged labelled (slice_index labels v) v refl node has

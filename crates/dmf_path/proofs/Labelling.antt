@@ -35,9 +35,9 @@ queue-short l opens root labels queue done so_far =
     let one : 1 + unlabelled_count (set labels 0 0) ≡ unlabelled_count labels = unlabelled_count-set labels 0 0 (omega (arith, so_far.one_each)) so_far.zero (λ e. absurd (omega arith)) in
     omega (arith, one, so_far.counted)
 
--- A node with a label stands in the queue, and its label is less than the number of nodes.
-pub label-small : (l : Links) (opens : List ℕ) (root : ℕ) (labels queue : List ℕ) (done v : ℕ) → AreSpread l opens root labels queue done → IsNode l.nodes v → slice_index labels v ≢ no_label → (k : ℕ) × (k < length queue) × (slice_index queue k ≡ v) × (slice_index labels v ≤ k)
-label-small l opens root labels queue done v so_far node has =
+-- A node with a label stands in the queue, at a place no less than its label.
+pub queued-at : (l : Links) (opens : List ℕ) (root : ℕ) (labels queue : List ℕ) (done v : ℕ) → AreSpread l opens root labels queue done → IsNode l.nodes v → slice_index labels v ≢ no_label → (k : ℕ) × (k < length queue) × (slice_index queue k ≡ v) × (slice_index labels v ≤ k)
+queued-at l opens root labels queue done v so_far node has =
     let here = so_far.listed v node has in
     let is : slice_index queue here.0 ≡ v = get_or_default queue here.0 0 v here.1 ∙ here.2 in
     (here.0, here.1, is, omega (arith, ap (λ u. slice_index labels u) is, (so_far.queued here.0 here.1).small))
@@ -102,14 +102,14 @@ label-most l opens root labels queue done v are spread within =
     ⊎_elim
     (λ (none : ((slice_index labels v == no_label) ≡ true) × (slice_index labels v ≡ no_label)). omega (arith, none.1))
     (λ (has : ((slice_index labels v == no_label) ≡ false) × (slice_index labels v ≢ no_label)).
-    let stands = label-small l opens root labels queue done v spread (label-node l opens root labels queue done v spread within has.1) has.1 in
+    let stands = queued-at l opens root labels queue done v spread (label-node l opens root labels queue done v spread within has.1) has.1 in
     omega (arith, stands.1, stands.3, queue-short l opens root labels queue done spread, are.at_most_nodes))
     (eqb_tells (slice_index labels v) no_label)
 
 -- The labels once the queue is used up, or the node `stop` has a label.
 pub labels-spread : (l : Links) (opens : List ℕ) (root stop : ℕ) (labels queue : List ℕ) (done : ℕ) → AreLinks l → AreSpread l opens root labels queue done → stop ≤ l.nodes → (done ≡ length queue) ⊎ (slice_index labels stop ≢ no_label) → AreLabels l opens root stop labels
 labels-spread l opens root stop labels queue done are spread within ended =
-    let find : (v : ℕ) → IsNode l.nodes v → slice_index labels v ≢ no_label → (k : ℕ) × (k < length queue) × (slice_index queue k ≡ v) × (slice_index labels v ≤ k) = λ v node has. label-small l opens root labels queue done v spread node has in
+    let find : (v : ℕ) → IsNode l.nodes v → slice_index labels v ≢ no_label → (k : ℕ) × (k < length queue) × (slice_index queue k ≡ v) × (slice_index labels v ≤ k) = λ v node has. queued-at l opens root labels queue done v spread node has in
     record {
       one_each = spread.one_each;
       root_is = spread.root_is;
@@ -131,7 +131,7 @@ labels-spread l opens root stop labels queue done are spread within ended =
           (λ (behind : done ≤ stands.0). ⊎_elim
           (λ (all : done ≡ length queue). absurd (omega (arith, stands.1)))
           (λ (some : slice_index labels stop ≢ no_label).
-          let at_stop = label-small l opens root labels queue done stop spread (label-node l opens root labels queue done stop spread within some) some in
+          let at_stop = queued-at l opens root labels queue done stop spread (label-node l opens root labels queue done stop spread within some) some in
           absurd (omega (arith, same, below, ap (λ u. slice_index labels u) at_stop.2, spread.close stands.0 at_stop.0 (omega arith) stands.1 at_stop.1)))
           ended)
           (cases_lt stands.0 done))

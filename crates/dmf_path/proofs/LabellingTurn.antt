@@ -8,7 +8,7 @@ use Rattle.dmf_path.specs.Node.{IsNode}
 use Rattle.dmf_path.specs.Links.{Links, LiesAt, AreLinks, tail_of}
 use Rattle.dmf_path.specs.Labels.{no_label, IsBacked, Spreads}
 use Rattle.dmf_path.proofs.LinkPlaces.{lies-within}
-use Rattle.dmf_path.proofs.Labelling.{IsQueued, AreSpread, queue-short, label-small}
+use Rattle.dmf_path.proofs.Labelling.{IsQueued, AreSpread, queue-short, queued-at}
 
 -- One turn: the open links of the node that is next in the queue are looked at.
 pub record Turn : Type 0 where
@@ -158,7 +158,7 @@ label-next t k p before lies opened =
     let same : slice_index t.old (slice_index t.queue k) ≡ slice_index t.old (slice_index t.queue t.done) = ap (λ i. slice_index t.old (slice_index t.queue i)) last.1 in
     ⊎_elim
     (λ (was : (slice_index t.old head ≢ no_label) × (slice_index t.new head ≡ slice_index t.old head)).
-    let stands = label-small t.l t.opens t.root t.old t.queue t.done head t.so_far node was.0 in
+    let stands = queued-at t.l t.opens t.root t.old t.queue t.done head t.so_far node was.0 in
     omega (arith, was.1, same, ap (λ v. slice_index t.old v) stands.2, t.so_far.close t.done stands.0 (omega arith) t.ahead stands.1))
     (λ (comes : (slice_index t.old head ≡ no_label) × Contains t.fresh head × (slice_index t.new head ≡ slice_index t.old (slice_index t.queue t.done) + 1)). omega (arith, comes.2, same))
     (label-cases t head node.to_last (t.spreads.done p at_done.from at_done.below opened)))
@@ -179,7 +179,7 @@ backed-next t v node other has =
     ⊎_elim
     (λ (was : (slice_index t.old v ≢ no_label) × (slice_index t.new v ≡ slice_index t.old v)).
     let back = t.so_far.backed v node other was.0 in
-    let stands = label-small t.l t.opens t.root t.old t.queue t.done v t.so_far node was.0 in
+    let stands = queued-at t.l t.opens t.root t.old t.queue t.done v t.so_far node was.0 in
     let kept = t.spreads.kept (tail_of t.l back.place) (label-is_one t stands.0 (tail_of t.l back.place) stands.1 (omega (arith, back.label, stands.3))) in
     record { place = back.place; within = back.within; leads = back.leads; opened = back.opened; label = omega (arith, kept, back.label, was.1) })
     (λ (comes : (slice_index t.old v ≡ no_label) × Contains t.fresh v × (slice_index t.new v ≡ slice_index t.old (slice_index t.queue t.done) + 1)).

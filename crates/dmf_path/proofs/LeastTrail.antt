@@ -91,8 +91,8 @@ path-long l rooms labels start goal ps links valid node leads = ⊎_elim
     (cases_lt (length ps + get_or labels goal 0) (get_or labels start 0))
 
 -- A trail from the start to the goal is the least path.
-pub least-trail : (l : Links) (places rooms labels current trail : List ℕ) (start goal : ℕ) → AreLinks l → ArePlaces l places → length rooms ≡ length l.heads → IsNode l.nodes start → AreValid l labels rooms (get_or labels start 0) → IsWalking l labels rooms start goal current trail → end_of l start trail ≡ goal → IsLeastPath (steps_of (pairs_at l places rooms)) start goal (path_on l places rooms trail)
-least-trail l places rooms labels current trail start goal links are one_each node valid walking ends =
+pub least-trail : (l : Links) (places rooms labels current trail : List ℕ) (start goal : ℕ) → AreLinks l → ArePlaces l places → IsNode l.nodes start → AreValid l labels rooms (get_or labels start 0) → IsWalking l labels rooms start goal current trail → end_of l start trail ≡ goal → IsLeastPath (steps_of (pairs_at l places rooms)) start goal (path_on l places rooms trail)
+least-trail l places rooms labels current trail start goal links are node valid walking ends =
     let steps : List Step = steps_of (pairs_at l places rooms) in
     let path : List Step = path_on l places rooms trail in
     let walk : IsWalk l labels rooms goal start trail = walk-trail l rooms labels current goal start trail walking.trail_is ends in

@@ -2,7 +2,7 @@
 use Rattle.std.proofs.Common.{ℕ, ◌≡◌, ◌≢◌, ◌+◌, ◌-◌, ◌<◌, ◌↔◌, Bool, false, IsTrue, List, length, get_or, map, drop, refl, ap, sym, ◌∙◌, arith, eq-eqb, length-drop}
 use Rattle.std.specs.List.{slice_index_or}
 use Rattle.std.proofs.lemmas.Bool.{ne_eqb}
-use Rattle.std.proofs.lemmas.List.{get_or-map, get_or-drop, length-map}
+use Rattle.std.proofs.lemmas.List.{get_or-map, get_or-drop}
 use Rattle.dmf_path.specs.Node.{IsNode}
 use Rattle.dmf_path.specs.Path.{IsReachable}
 use Rattle.dmf_path.specs.Pair.{steps_of}
@@ -29,8 +29,7 @@ pub marks-reached : (l : Links) (places rooms opens labels : List ℕ) (root : �
     → (v : ℕ) → IsNode l.nodes v → IsTrue (slice_index_or marks (v - 1) false) ↔ IsReachable (steps_of (pairs_at l places rooms)) root v
 marks-reached l places rooms opens labels root marks links places_are rooms_are told are node is v inside =
     let flags : (p : ℕ) → p < length l.heads → get_or opens p 0 ≡ open_flag (get_or rooms p 0) = λ p h. ap (λ os. get_or os p 0) told ∙ get_or-map open_flag rooms p 0 0 (omega (arith, h, rooms_are.0)) in
-    let long : length opens ≡ length l.heads = ap length told ∙ length-map rooms open_flag ∙ rooms_are.0 in
-    let reached = reachable-labelled l places rooms opens labels root links places_are rooms_are.0 long flags are are.zero node v inside in
+    let reached = reachable-labelled l places rooms opens labels root links places_are flags are are.zero node v inside in
     let mark = mark_is labels marks l.nodes v are.one_each is inside in (
       λ marked. reached.0 (label-from (get_or labels v 0) (sym mark ∙ marked)),
       λ leads. mark ∙ label-to (get_or labels v 0) (reached.1 leads),

@@ -5,7 +5,7 @@ use Rattle.std.specs.List.{All}
 use Rattle.std.proofs.lemmas.List.Elements.{All-cons}
 use Rattle.dmf_path.specs.Node.{IsNode}
 use Rattle.dmf_path.specs.Links.{Links, LiesAt, AreLinks, tail_of}
-use Rattle.dmf_path.specs.Walk.{IsAdmissible, IsWalk, AreValid, ArePassed, IsTrail, least_on, pushed_once, pushed, CanPush}
+use Rattle.dmf_path.specs.Walk.{IsAdmissible, IsWalk, AreValid, ArePassed, IsTrail, bottleneck_on, pushed_once, pushed, CanPush}
 use Rattle.dmf_path.proofs.LinkPlaces.{lies-within}
 use Rattle.dmf_path.proofs.Pushing.{own, partner, other, is_beside, once-own, once-other, length-pushed_once}
 
@@ -117,7 +117,7 @@ HaveRoom amount rooms [] = Unit {0}
 HaveRoom amount rooms (p ∷ ps) = (amount ≤ get_or rooms p 0) × HaveRoom amount rooms ps
 
 -- so they have, up to the least of their rooms
-pub HaveRoom-least : (amount limit : ℕ) (rooms ps : List ℕ) → amount ≤ least_on rooms limit ps → HaveRoom amount rooms ps
+pub HaveRoom-least : (amount limit : ℕ) (rooms ps : List ℕ) → amount ≤ bottleneck_on rooms limit ps → HaveRoom amount rooms ps
 HaveRoom-least amount limit rooms [] within = tt
 HaveRoom-least amount limit rooms (p ∷ ps) within = (omega (arith, within), HaveRoom-least amount limit rooms ps (omega (arith, within)))
 

@@ -2,13 +2,13 @@
 use Rattle.std.proofs.Common.{ℕ, ◌≡◌, ◌≢◌, ◌+◌, ◌-◌, ◌^◌, ◌<◌, ◌≤◌, Bool, true, false, cond, List, [], ◌∷◌, length, get_or, set, min, ap, sym, ◌∙◌, subst, arith, ⊎_elim, get_or-set_other, get_or-set_same, length-set}
 use Rattle.std.proofs.lemmas.Bool.{cases_eq}
 use Rattle.dmf_path.specs.Links.{Links, AreLinks, AreRooms, AreFlags, open_flag}
-use Rattle.dmf_path.specs.Walk.{least_on, pushed_once, pushed, CanPush}
+use Rattle.dmf_path.specs.Walk.{bottleneck_on, pushed_once, pushed, CanPush}
 use Rattle.dmf_path.proofs.LinkPlaces.{partner-other}
 
 -- a limit may be lowered before or after
-pub least_on-min : (rooms : List ℕ) (limit x : ℕ) (ps : List ℕ) → least_on rooms (min limit x) ps ≡ min x (least_on rooms limit ps)
-least_on-min rooms limit x [] = omega arith
-least_on-min rooms limit x (p ∷ ps) = let later = least_on-min rooms limit x ps in omega (arith, later)
+pub bottleneck_on-min : (rooms : List ℕ) (limit x : ℕ) (ps : List ℕ) → bottleneck_on rooms (min limit x) ps ≡ min x (bottleneck_on rooms limit ps)
+bottleneck_on-min rooms limit x [] = omega arith
+bottleneck_on-min rooms limit x (p ∷ ps) = let later = bottleneck_on-min rooms limit x ps in omega (arith, later)
 
 -- a push leaves as many rooms
 pub length-pushed_once : (l : Links) (takes_back : Bool) (amount p : ℕ) (rooms : List ℕ) → length (pushed_once l takes_back amount p rooms) ≡ length rooms
@@ -77,32 +77,36 @@ AreRooms-once l takes_back amount p rooms links are within enough = (
 )
 
 -- The flags tell of the rooms after a push that can be taken back
-pub AreFlags-back : (l : Links) (amount p : ℕ) (rooms flags : List ℕ) (own_flag its_flag : ℕ) → AreLinks l → AreFlags l rooms flags → p < length l.heads →
-    its_flag ≡ open_flag (get_or (pushed_once l true amount p rooms) p 0) → own_flag ≡ open_flag (get_or (pushed_once l true amount p rooms) (get_or l.partners p 0) 0) →
-    AreFlags l (pushed_once l true amount p rooms) (set (set flags (get_or l.partners p 0) its_flag) p own_flag)
-AreFlags-back l amount p rooms flags own_flag its_flag links told within mine its =
-    let partner_in = (links.each p within).partner in (
+pub AreFlags-back : (l : Links) (amount p : ℕ) (rooms flags : List ℕ) → AreLinks l → length rooms ≡ length l.heads → AreFlags l rooms flags → p < length l.heads →
+    AreFlags l (pushed_once l true amount p rooms)
+    (set (set flags (get_or l.partners p 0) (open_flag (get_or rooms p 0 - amount))) p (open_flag (get_or (set rooms p (get_or rooms p 0 - amount)) (get_or l.partners p 0) 0 + amount)))
+AreFlags-back l amount p rooms flags links long told within =
+    let partner_in = (links.each p within).partner in
+    let taken = set rooms p (get_or rooms p 0 - amount) in
+    let mine = once-own l true amount p rooms links long within in
+    let its : get_or (pushed_once l true amount p rooms) (get_or l.partners p 0) 0 ≡ get_or taken (get_or l.partners p 0) 0 + amount =
+    get_or-set_same taken (get_or l.partners p 0) _ 0 (simp length-set (omega (arith, long, partner_in))) in (
       simp length-set told.0,
       λ q h.
           elim (is_beside l p q links within h) [
-            | own same ↦ rw same (get_or-set_same _ p _ 0 (simp length-set (omega (arith, told.0, within))) ∙ its)
-            | partner same back ↦ rw (back, same) (get_or-set_other _ p _ _ 0 (partner-other l p links within) ∙ get_or-set_same flags _ _ 0 (omega (arith, told.0, partner_in)) ∙ mine)
+            | own same ↦ rw same (get_or-set_same _ p _ 0 (simp length-set (omega (arith, told.0, within))) ∙ sym (ap open_flag its))
+            | partner same back ↦ rw (back, same) (get_or-set_other _ p _ _ 0 (partner-other l p links within) ∙ get_or-set_same flags _ _ 0 (omega (arith, told.0, partner_in)) ∙ sym (ap open_flag mine))
             | other a b c d ↦ get_or-set_other _ p q _ 0 a ∙ get_or-set_other flags _ q _ 0 b ∙ told.1 q h ∙ sym (ap open_flag (once-other l true amount p (get_or l.partners q 0) rooms c d))
           ],
     )
 
 -- and after one that cannot.
-pub AreFlags-along : (l : Links) (amount p : ℕ) (rooms flags : List ℕ) (its_flag : ℕ) → AreLinks l → AreFlags l rooms flags → p < length l.heads →
-    its_flag ≡ open_flag (get_or (pushed_once l false amount p rooms) p 0) →
-    AreFlags l (pushed_once l false amount p rooms) (set flags (get_or l.partners p 0) its_flag)
-AreFlags-along l amount p rooms flags its_flag links told within mine =
-    let partner_in = (links.each p within).partner in (
+pub AreFlags-along : (l : Links) (amount p : ℕ) (rooms flags : List ℕ) → AreLinks l → length rooms ≡ length l.heads → AreFlags l rooms flags → p < length l.heads →
+    AreFlags l (pushed_once l false amount p rooms) (set flags (get_or l.partners p 0) (open_flag (get_or rooms p 0 - amount)))
+AreFlags-along l amount p rooms flags links long told within =
+    let partner_in = (links.each p within).partner in
+    let mine = once-own l false amount p rooms links long within in (
       simp length-set told.0,
       λ q h.
           let apart = partner-other l p links within in
           elim (is_beside l p q links within h) [
             | own same ↦ rw same (get_or-set_other flags _ p _ 0 (λ e. apart (sym e)) ∙ told.1 p within ∙ sym (ap open_flag (get_or-set_other rooms p _ _ 0 apart)))
-            | partner same back ↦ rw (back, same) (get_or-set_same flags _ _ 0 (omega (arith, told.0, partner_in)) ∙ mine)
+            | partner same back ↦ rw (back, same) (get_or-set_same flags _ _ 0 (omega (arith, told.0, partner_in)) ∙ sym (ap open_flag mine))
             | other a b c d ↦ get_or-set_other flags _ q _ 0 b ∙ told.1 q h ∙ sym (ap open_flag (once-other l false amount p (get_or l.partners q 0) rooms c d))
           ],
     )

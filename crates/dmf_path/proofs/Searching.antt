@@ -4,7 +4,7 @@ use Rattle.std.specs.List.{All}
 use Rattle.dmf_path.specs.Path.{HasNoPath}
 use Rattle.dmf_path.specs.Pair.{steps_of}
 use Rattle.dmf_path.specs.Links.{Links, AreRooms, AreFlags, pairs_at}
-use Rattle.dmf_path.specs.Walk.{AreValid, IsWalking, end_of, least_on, pushed, CanPush}
+use Rattle.dmf_path.specs.Walk.{AreValid, IsWalking, end_of, bottleneck_on, pushed, CanPush}
 use Rattle.dmf_path.specs.Search.{Augments}
 use Rattle.dmf_path.specs.Searching.{IsSearch, IsUnlabelled, searched}
 use Rattle.dmf_path.proofs.Steps.{path_on, room_up_to-path_on}
@@ -37,7 +37,7 @@ IsSearch-found l places rooms flags labels current trail new_labels new_current 
 
 -- what can be pushed along the trail
 pub can-push : (l : Links) (takes_back : Bool) (places rooms flags labels current trail : List ℕ) (queue_room trail_room start goal limit amount : ℕ)
-    → IsSearch l places rooms flags labels current trail queue_room trail_room start goal → amount ≡ least_on rooms limit trail → CanPush l takes_back amount trail rooms
+    → IsSearch l places rooms flags labels current trail queue_room trail_room start goal → amount ≡ bottleneck_on rooms limit trail → CanPush l takes_back amount trail rooms
 can-push l takes_back places rooms flags labels current trail queue_room trail_room start goal limit amount is least =
     CanPush-falls l takes_back amount labels rooms start trail is.links
     (FallsOn-trail l labels rooms current start trail is.links is.start_is is.walking.trail_is)
@@ -80,12 +80,12 @@ IsSearch-pushed l takes_back amount places rooms flags labels current trail new_
 
 -- A push along the trail that leads to the goal augments.
 pub augments-pushed : (l : Links) (takes_back : Bool) (limit amount : ℕ) (places rooms flags labels current trail new_rooms : List ℕ) (queue_room trail_room start goal : ℕ)
-    → IsSearch l places rooms flags labels current trail queue_room trail_room start goal → end_of l start trail ≡ goal → amount ≡ least_on rooms limit trail
+    → IsSearch l places rooms flags labels current trail queue_room trail_room start goal → end_of l start trail ≡ goal → amount ≡ bottleneck_on rooms limit trail
     → new_rooms ≡ pushed l takes_back amount trail rooms
     → Augments limit amount (searched l places rooms start goal takes_back) (searched l places new_rooms start goal takes_back)
 augments-pushed l takes_back limit amount places rooms flags labels current trail new_rooms queue_room trail_room start goal is end least made = record {
   path = path_on l places rooms trail;
-  least = least-trail l places rooms labels current trail start goal is.links is.places_are is.rooms_are.0 is.start_is is.valid is.walking end;
+  least = least-trail l places rooms labels current trail start goal is.links is.places_are is.start_is is.valid is.walking end;
   amount_is = least ∙ sym (room_up_to-path_on l places rooms trail limit);
   gives = ap (λ pairs. record { nodes = l.nodes; pairs = pairs; start = start; goal = goal; takes_back = takes_back })
       (ap (pairs_at l places) made ∙ pushed_pairs-pushed l takes_back places rooms labels current trail start amount is.links is.places_are is.rooms_are.0 is.start_is is.walking.trail_is);
@@ -95,4 +95,4 @@ augments-pushed l takes_back limit amount places rooms flags labels current trai
 pub no_path-search : (l : Links) (places rooms flags labels current trail : List ℕ) (queue_room trail_room start goal : ℕ)
     → IsSearch l places rooms flags labels current trail queue_room trail_room start goal → IsUnlabelled l flags start goal → HasNoPath (steps_of (pairs_at l places rooms)) start goal
 no_path-search l places rooms flags labels current trail queue_room trail_room start goal is none =
-    no_path-unlabelled l places rooms flags none.labels start goal is.links is.places_are is.rooms_are.0 is.flags_are none.are is.start_is is.goal_is none.none
+    no_path-unlabelled l places rooms flags none.labels start goal is.links is.places_are is.flags_are none.are is.start_is none.none

@@ -3,7 +3,7 @@ use Rattle.std.proofs.Common.{ℕ, ◌≡◌, ◌+◌, ◌*◌, ◌==◌, if◌t
 use Rattle.dmf_path.specs.Step.{Step}
 use Rattle.dmf_path.specs.Path.{room_up_to}
 use Rattle.dmf_path.specs.Links.{Links, no_place, tail_of}
-use Rattle.dmf_path.specs.Walk.{least_on}
+use Rattle.dmf_path.specs.Walk.{bottleneck_on}
 
 -- the rank of the link at place `p`, where the places are those of the pairs from number `j` on
 abbrev pub rank_from : Links → ℕ → List ℕ → ℕ → ℕ
@@ -31,7 +31,7 @@ step_on l places rooms p = record {
 abbrev pub path_on : Links → List ℕ → List ℕ → List ℕ → List Step
 path_on l places rooms ps = map (step_on l places rooms) ps
 
--- The least room is the same on the links as on the path.
-pub room_up_to-path_on : (l : Links) (places rooms trail : List ℕ) (limit : ℕ) → room_up_to limit (path_on l places rooms trail) ≡ least_on rooms limit trail
+-- The bottleneck is the same on the links as on the path.
+pub room_up_to-path_on : (l : Links) (places rooms trail : List ℕ) (limit : ℕ) → room_up_to limit (path_on l places rooms trail) ≡ bottleneck_on rooms limit trail
 room_up_to-path_on l places rooms [] limit = refl
 room_up_to-path_on l places rooms (p ∷ ps) limit = ap (min (get_or rooms p 0)) (room_up_to-path_on l places rooms ps limit)

@@ -32,6 +32,32 @@ pub record WalkTurn : Type 0 where
   pub to : place ≤ end
   pub none : (p : ℕ) → slice_index current node ≤ p → p < place → 0 < slice_index rooms p → slice_index labels (slice_index heads p) + 1 ≢ slice_index labels node
 
+-- a turn, of what is known of its first admissible link
+abbrev pub walk-turn : (l : Links) (labels rooms : List ℕ) (start goal : ℕ) (current trail : List ℕ) (node place end : ℕ) (heads : List ℕ) → AreLinks l → IsNode l.nodes start → HasCome l labels rooms start goal current trail node
+    → end ≡ get_or l.first (node + 1) end → heads ≡ l.heads → slice_index current node ≤ place → place ≤ end
+    → ((p : ℕ) → slice_index current node ≤ p → p < place → 0 < slice_index rooms p → slice_index labels (slice_index heads p) + 1 ≢ slice_index labels node) → WalkTurn
+walk-turn l labels rooms start goal current trail node place end heads are at_start come end_read same_heads from to none = record {
+  l = l;
+  labels = labels;
+  rooms = rooms;
+  start = start;
+  goal = goal;
+  current = current;
+  trail = trail;
+  node = node;
+  place = place;
+  end = end;
+  heads = heads;
+  are = are;
+  at_start = at_start;
+  come = come;
+  end_read = end_read;
+  same_heads = same_heads;
+  from = from;
+  to = to;
+  none = none;
+}
+
 -- where the links of the node end
 end-is : (t : WalkTurn) → slice_index t.l.first (t.node + 1) ≡ t.end
 end-is t = get_or_default t.l.first (t.node + 1) 0 t.end (omega (arith, t.come.is_node.to_last, t.are.first_long)) ∙ sym t.end_read

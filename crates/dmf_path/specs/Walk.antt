@@ -55,9 +55,9 @@ pub record IsWalking (l : Links) (labels rooms : List ℕ) (start goal : ℕ) (c
   pub trail_is : IsTrail l labels rooms current start trail
 
 -- the least of a limit and the rooms of these links
-abbrev pub least_on : List ℕ → ℕ → List ℕ → ℕ
-least_on rooms limit [] = limit
-least_on rooms limit (p ∷ ps) = min (slice_index rooms p) (least_on rooms limit ps)
+abbrev pub bottleneck_on : List ℕ → ℕ → List ℕ → ℕ
+bottleneck_on rooms limit [] = limit
+bottleneck_on rooms limit (p ∷ ps) = min (slice_index rooms p) (bottleneck_on rooms limit ps)
 
 -- the rooms once an amount is pushed along the link at place `p`
 abbrev pub pushed_once : Links → Bool → ℕ → ℕ → List ℕ → List ℕ

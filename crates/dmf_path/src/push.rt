@@ -1,14 +1,14 @@
 //! Pushing along a trail.
-ghost use Rattle.std.specs.Prelude.{◌≡◌, ℕ, Bool, ◌+◌, ◌≤◌, ◌<◌, length, take, All, slice_index, vec_capacity};
-ghost use Rattle.dmf_path.specs.Links.{AreLinks, AreRooms, AreFlags, links_of};
-ghost use Rattle.dmf_path.specs.Walk.{least_on, pushed_once, pushed, CanPush};
+ghost use Rattle.std.specs.Prelude.{◌≡◌, ℕ, Bool, ◌+◌, ◌≤◌, ◌<◌, length, take, All, slice_index, slice_set, vec_capacity};
+ghost use Rattle.dmf_path.specs.Links.{AreLinks, AreRooms, AreFlags, links_of, open_flag};
+ghost use Rattle.dmf_path.specs.Walk.{bottleneck_on, pushed_once, pushed, CanPush};
 
 use crate::links::{LinkTable, open_flag};
 
-/// The least of the limit and the rooms of these links.
-pub fn least_room(rooms: &[u64], trail: &[u32], limit: u64) -> u64
+/// The least of the limit and the rooms of these links: the bottleneck.
+pub fn bottleneck(rooms: &[u64], trail: &[u32], limit: u64) -> u64
     requires { All (λ p. p < length rooms.now) trail.now }
-    ensures { result ≡ least_on rooms.now limit trail.now }
+    ensures { result ≡ bottleneck_on rooms.now limit trail.now }
 {
     let mut least = limit;
     for &place in trail {
@@ -59,11 +59,25 @@ pub fn push_once(
 {
     let place = place as usize;
     let partner = table.partners[place] as usize;
-    rooms[place] -= amount;
-    flags[partner] = open_flag(rooms[place]);
+    let room = rooms[place];
+    rooms[place] = room - amount;
+    renew_flag(flags, partner, room, room - amount);
     if takes_back {
-        rooms[partner] += amount;
-        flags[place] = open_flag(rooms[partner]);
+        let room = rooms[partner];
+        rooms[partner] = room + amount;
+        renew_flag(flags, place, room, room + amount);
+    }
+}
+
+/// Makes a flag tell of a room what it told of the room before. It is written only where it changes: mostly it does not,
+/// and then the place of the flag is not looked at.
+fn renew_flag(flags: &mut [u8], place: usize, before: u64, after: u64)
+    requires within { place < length flags.old }
+    requires told { slice_index flags.old place ≡ open_flag before }
+    ensures { flags.new ≡ slice_set flags.old place (open_flag after) }
+{
+    if (before > 0) != (after > 0) {
+        flags[place] = open_flag(after);
     }
 }
 

@@ -12,7 +12,7 @@ ghost use Rattle.dmf_path.specs.Searching.{IsUnlabelled};
 use crate::label::{NO_LABEL, label_nodes};
 use crate::links::{LinkTable, NO_PLACE, build, open_flag};
 use crate::pair::Pairs;
-use crate::push::{keep_open, least_room, push_along, push_once};
+use crate::push::{bottleneck, keep_open, push_along, push_once};
 use crate::walk::walk;
 use std::alloc::{AllocError, Global};
 use std::marker::Model;
@@ -113,7 +113,7 @@ impl Search {
         if !found {
             return None;
         }
-        let amount = least_room(&self.rooms, &self.trail, limit);
+        let amount = bottleneck(&self.rooms, &self.trail, limit);
         push_along(
             &self.table,
             &self.trail,

@@ -1,6 +1,6 @@
 use Rattle.std.proofs.Common.{◌≡◌, ◌∙◌, refl, arith}
 use Rattle.std.proofs.lemmas.List.{with_items_is}
-use Rattle.dmf_path.specs.Walk.{least_on}
+use Rattle.dmf_path.specs.Walk.{bottleneck_on}
 use Rattle.dmf_path.proofs.Searching.{IsSearch-found, can-push, IsSearch-pushed, augments-pushed, no_path-search}
 use Rattle.dmf_path.proofs.Pushed.{within-trail}
 use Rattle.dmf_path.proofs.search.Search.augment.Goals as goal
@@ -10,8 +10,8 @@ returns-then-not-found c =
     let none = rw c.deref-2.ensures.value at (c.find-found.ensures.none c.if-not-found.true) in
     rw (← c.self.view_is) (no_path-search _ _ _ _ _ _ _ _ _ _ _ c.self.invariant none, refl)
 
-pub least_room-amount-requires : goal.least_room-amount-requires
-least_room-amount-requires c =
+pub bottleneck-amount-requires : goal.bottleneck-amount-requires
+bottleneck-amount-requires c =
     let f = IsSearch-found _ _ _ _ c.self.inside.labels.items c.self.inside.current.items c.self.inside.trail.items c.find-found.new.labels c.find-found.new.current c.find-found.new.trail.items _ _ _ _ _ _ c.self.invariant
     (omega (arith, c.find-found.auto.labels, c.deref_mut.ensures.len, c.self.inside.labels.ok.0)) c.find-found.ensures.start_label
     (rw c.deref.ensures.value at c.find-found.ensures.valid) (rw c.deref.ensures.value at c.find-found.ensures.walking) c.find-found.ensures.queue_room c.find-found.ensures.trail_room in
@@ -22,7 +22,7 @@ push_along-requires-clause-can c =
     let f = IsSearch-found _ _ _ _ c.self.inside.labels.items c.self.inside.current.items c.self.inside.trail.items c.find-found.new.labels c.find-found.new.current c.find-found.new.trail.items _ _ _ _ _ _ c.self.invariant
     (omega (arith, c.find-found.auto.labels, c.deref_mut.ensures.len, c.self.inside.labels.ok.0)) c.find-found.ensures.start_label
     (rw c.deref.ensures.value at c.find-found.ensures.valid) (rw c.deref.ensures.value at c.find-found.ensures.walking) c.find-found.ensures.queue_room c.find-found.ensures.trail_room in
-    let least : c.least_room-amount.result ≡ least_on c.self.inside.rooms.items c.args.limit c.find-found.new.trail.items = rw (c.deref-3.ensures.value, c.deref-4.ensures.value) at c.least_room-amount.ensures in
+    let least : c.bottleneck-amount.result ≡ bottleneck_on c.self.inside.rooms.items c.args.limit c.find-found.new.trail.items = rw (c.deref-3.ensures.value, c.deref-4.ensures.value) at c.bottleneck-amount.ensures in
     rw (c.deref-5.ensures.value, c.deref_mut-3.ensures.value) (can-push _ _ _ _ _ _ _ _ _ _ _ _ c.args.limit _ f least)
 
 pub keep_open-requires : goal.keep_open-requires
@@ -54,6 +54,6 @@ returns c =
     (rw c.deref.ensures.value at c.find-found.ensures.valid) (rw c.deref.ensures.value at c.find-found.ensures.walking) c.find-found.ensures.queue_room c.find-found.ensures.trail_room in
     let made = rw (c.deref-5.ensures.value, c.deref_mut-3.ensures.value) at c.push_along.ensures.rooms in
     let rooms = with_items_is c.self.inside.rooms c.push_along.new.rooms (c.push_along.auto.rooms ∙ c.deref_mut-3.ensures.len) in
-    let least : c.least_room-amount.result ≡ least_on c.self.inside.rooms.items c.args.limit c.find-found.new.trail.items = rw (c.deref-3.ensures.value, c.deref-4.ensures.value) at c.least_room-amount.ensures in
+    let least : c.bottleneck-amount.result ≡ bottleneck_on c.self.inside.rooms.items c.args.limit c.find-found.new.trail.items = rw (c.deref-3.ensures.value, c.deref-4.ensures.value) at c.bottleneck-amount.ensures in
     rw (← c.self.view_is, rooms)
     (augments-pushed _ _ _ _ _ _ _ _ _ _ c.push_along.new.rooms _ _ _ _ f (c.find-found.ensures.found c.if-not-found.false) least made)

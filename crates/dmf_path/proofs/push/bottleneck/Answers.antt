@@ -1,8 +1,8 @@
 use Rattle.std.proofs.Common.{ap, sym, ◌∙◌, arith, drop, ◌+◌, ◌<◌, length}
 use Rattle.std.proofs.lemmas.List.{drop_more}
-use Rattle.dmf_path.specs.Walk.{least_on}
-use Rattle.dmf_path.proofs.Pushing.{least_on-min}
-use Rattle.dmf_path.proofs.push.least_room.Goals as goal
+use Rattle.dmf_path.specs.Walk.{bottleneck_on}
+use Rattle.dmf_path.proofs.Pushing.{bottleneck_on-min}
+use Rattle.dmf_path.proofs.push.bottleneck.Goals as goal
 
 pub loop-place-preserved : goal.loop-place-preserved
 loop-place-preserved c =
@@ -11,6 +11,6 @@ loop-place-preserved c =
     let i = c.loop-place.place-index in
     let more : i < length trail = omega arith in
     rw c.min-least.ensures
-    (least_on-min rooms c.loop-place.least _ (drop (i + 1) trail)
-    ∙ sym (ap (least_on rooms c.loop-place.least) (drop_more trail i 0 more))
+    (bottleneck_on-min rooms c.loop-place.least _ (drop (i + 1) trail)
+    ∙ sym (ap (bottleneck_on rooms c.loop-place.least) (drop_more trail i 0 more))
     ∙ c.loop-place.invariant)
