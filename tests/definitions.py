@@ -1,6 +1,6 @@
 """Compares the second implementation with the definitions, on small random networks, where it does not follow them to the letter:
-a least path is the least of all paths, a greatest flow has the capacity of a least of all cuts as its value, and the smallest
-side has the nodes that all minimum cuts have."""
+a least path is the least of all paths, a greatest flow has the least capacity of all cuts as its value, and the smallest side has
+the nodes that all minimum cuts have."""
 
 import sys
 from itertools import combinations

@@ -43,7 +43,6 @@ def told(text):
 
 
 READ_FAILED = Ended(STREAM_FAULT, told("read failed"))
-WRITE_FAILED = told("write failed")
 TOO_MUCH = told("too much input")
 OUT_OF_MEMORY = Outcome(NO_MEMORY, b"", told("no memory"))
 VERSION = Outcome(WELL, b"dmf 0.1.0\n")

@@ -2,7 +2,6 @@
 use Rattle.std.proofs.Common.{ℕ, ◌≡◌, ◌-◌, ◌^◌, ◌<◌, ◌≤◌, ◌==◌, ◌↔◌, Bool, true, false, List, [], ◌∷◌, length, get_or, zero, suc, refl, ap, subst, arith, Some, eq-eqb}
 use Rattle.std.specs.List.{slice_get}
 use Rattle.std.proofs.lemmas.List.Elements.{All-get_or}
-use Rattle.std.proofs.lemmas.Slice.Zip.{AllZip-long}
 use Rattle.std.proofs.lemmas.List.Sums.{get_or-le-sum_by}
 use Rattle.std.proofs.lemmas.Option.{slice_get_within}
 use Rattle.dmf_path.specs.declared.pair.Pair.{Pair}
@@ -26,11 +25,25 @@ length-residual_pairs (arc ∷ arcs) [] within = absurd within
 length-residual_pairs (arc ∷ arcs) (flow ∷ flows) within = ap suc (length-residual_pairs arcs flows within.1)
 
 -- each of the pairs
-pub slice_get-residual_pairs : (arcs : List Arc) (flows : List ℕ) (k : ℕ) → AreWithinCapacities arcs flows → k < length arcs → slice_get (residual_pairs arcs flows) k ≡ Some (residual_pair (get_or arcs k no_arc) (get_or flows k 0))
-slice_get-residual_pairs [] flows k within h = absurd (omega (arith, h))
-slice_get-residual_pairs (arc ∷ arcs) [] k within h = absurd within
-slice_get-residual_pairs (arc ∷ arcs) (flow ∷ flows) zero within h = refl
-slice_get-residual_pairs (arc ∷ arcs) (flow ∷ flows) (suc k) within h = slice_get-residual_pairs arcs flows k within.1 (omega (arith, h))
+pub slice_get-residual_pairs : (arcs : List Arc) (flows : List ℕ) (k : ℕ) → k < length (residual_pairs arcs flows) → slice_get (residual_pairs arcs flows) k ≡ Some (residual_pair (get_or arcs k no_arc) (get_or flows k 0))
+slice_get-residual_pairs [] flows k h = absurd (omega (arith, h))
+slice_get-residual_pairs (arc ∷ arcs) [] k h = absurd (omega (arith, h))
+slice_get-residual_pairs (arc ∷ arcs) (flow ∷ flows) zero h = refl
+slice_get-residual_pairs (arc ∷ arcs) (flow ∷ flows) (suc k) h = slice_get-residual_pairs arcs flows k (omega (arith, h))
+
+-- an index of them is one of the arcs and of the flows
+pub index-within : (arcs : List Arc) (flows : List ℕ) (k : ℕ) → k < length (residual_pairs arcs flows) → (k < length arcs) × (k < length flows)
+index-within [] flows k h = absurd (omega (arith, h))
+index-within (arc ∷ arcs) [] k h = absurd (omega (arith, h))
+index-within (arc ∷ arcs) (flow ∷ flows) zero h = (omega arith, omega arith)
+index-within (arc ∷ arcs) (flow ∷ flows) (suc k) h = let rest = index-within arcs flows k (omega (arith, h)) in (omega (arith, rest.0), omega (arith, rest.1))
+
+-- There are as many as flows, where one stands for each arc.
+pub length-pairs_each : (arcs : List Arc) (flows : List ℕ) → length flows ≡ length arcs → length (residual_pairs arcs flows) ≡ length flows
+length-pairs_each [] [] same = refl
+length-pairs_each [] (flow ∷ flows) same = absurd (omega (arith, same))
+length-pairs_each (arc ∷ arcs) [] same = refl
+length-pairs_each (arc ∷ arcs) (flow ∷ flows) same = ap suc (length-pairs_each arcs flows (omega (arith, same)))
 
 -- a flow is within its arc's capacity
 pub flow-within : (arcs : List Arc) (flows : List ℕ) (k : ℕ) → AreWithinCapacities arcs flows → get_or flows k 0 ≤ (get_or arcs k no_arc).cap
@@ -58,7 +71,7 @@ ArePairs-residual s is = record {
       let within : k < length arcs = omega (arith, long, length-residual_pairs arcs s.flows is.flow.within) in
       let arc : Arc = get_or arcs k no_arc in
       let flow : ℕ = get_or s.flows k 0 in
-      let read = slice_get-residual_pairs arcs s.flows k is.flow.within within in
+      let read = slice_get-residual_pairs arcs s.flows k long in
       let le = get_or-le-sum_by (λ (a : Arc). a.cap) arcs k no_arc within in
       pair-is s.network.nodes arc flow p (arc.tail == arc.head) (arc.cap == 0)
       (All-get_or (IsArc s.network.nodes) arcs k no_arc within is.network.arcs)
@@ -67,13 +80,6 @@ ArePairs-residual s is = record {
       (let same : residual_pair arc flow ≡ Some p = cc in same);
   at_most = omega (arith, length-residual_pairs s.network.arcs s.flows is.flow.within, is.network.at_most_arcs);
 }
-
--- an index of them is one of the arcs and of the flows
-pub index-within : (s : NetworkState) (k : ℕ) → IsState s → k < length (residual_pairs s.network.arcs s.flows) → (k < length s.network.arcs) × (k < length s.flows)
-index-within s k is h =
-    let pairs = length-residual_pairs s.network.arcs s.flows is.flow.within in
-    let long = AllZip-long _ s.network.arcs s.flows is.flow.within in
-    (omega (arith, h, pairs), omega (arith, h, pairs, long))
 
 -- What the search reaches, residual steps reach.
 pub reached-residual : (n : Network) (flows : List ℕ) (search : Searched) (v : ℕ) → AreWithinCapacities n.arcs flows → search ≡ residual_search n flows → IsReachable (steps_of search.pairs) search.start v ↔ IsReachable (residual_steps n.arcs flows) n.source v

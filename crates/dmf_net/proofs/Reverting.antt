@@ -76,11 +76,6 @@ pub IsState-reverted : (edit : Edit) (t : NetworkState) → Stands edit t → Is
 IsState-reverted edit t stands =
     subst IsState (sym (gives-back edit stands.before stands.fits) ∙ ap (reverted edit) stands.gives) stands.state
 
--- The arc that an edit added is idle where the edit stands.
-pub HasIdleLast-added : (tail head cap : ℕ) (t : NetworkState) → Stands (Add tail head cap) t → HasIdleLast t
-HasIdleLast-added tail head cap t stands =
-    record { before = stands.before; state = stands.state; arc = open_arc tail head cap; is_open = refl; gives = stands.gives }
-
 -- the totals without an idle last arc
 totals-before : (s : NetworkState) (arc : Arc) (sum : ℕ) (source : NodeFlow) (count : ℕ) → IsState s → arc.closed ≡ false → KeepsTotals (with_idle_arc s arc) sum source count → KeepsTotals s (sum - arc.cap) source (count - 1)
 totals-before s arc sum source count state is_open keeps =

@@ -61,7 +61,7 @@ sums-all end nodes arcs flows sums i same long s = record {
 }
 
 -- all flows together are within the capacities together
-flows-le-capacities : (arcs : List Arc) (flows : List ℕ) → AreWithinCapacities arcs flows → sum_by (λ p. p.1) (zip arcs flows) ≤ capacity_sum arcs
+pub flows-le-capacities : (arcs : List Arc) (flows : List ℕ) → AreWithinCapacities arcs flows → sum_by (λ p. p.1) (zip arcs flows) ≤ capacity_sum arcs
 flows-le-capacities [] [] w = omega arith
 flows-le-capacities [] (x ∷ flows) w = absurd w
 flows-le-capacities (a ∷ arcs) [] w = absurd w

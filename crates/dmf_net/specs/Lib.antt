@@ -18,4 +18,5 @@ pub mod Direction
 pub mod Laws
 pub mod Pairs
 pub mod Moves
+pub mod Edited
 pub mod Planning

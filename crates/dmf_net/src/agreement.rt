@@ -12,7 +12,7 @@ use std::test::Fail;
 const NETWORKS: u32 = 300;
 
 /// A network of open arcs, each given by its tail, its head and its capacity.
-fn network(
+pub fn network(
     alloc: Global,
     nodes: u32,
     source: u32,
@@ -124,13 +124,17 @@ fn a_flow_that_is_given_agrees(rt: HostRuntime) -> Result<(), Fail> {
 
 /// Numbers that look random, the same in each run: a linear congruential generator with Knuth's constants.
 #[derive(Drop)]
-struct Draws {
+pub struct Draws {
     seed: u64,
 }
 
 impl Draws {
+    pub fn new(seed: u64) -> Self {
+        Draws { seed }
+    }
+
     /// A number of 64 bits.
-    fn draw(&mut self) -> u64 {
+    pub fn draw(&mut self) -> u64 {
         self.seed = self
             .seed
             .wrapping_mul(6_364_136_223_846_793_005)
@@ -139,7 +143,7 @@ impl Draws {
     }
 
     /// A number below the bound.
-    fn below(&mut self, bound: u32) -> u32
+    pub fn below(&mut self, bound: u32) -> u32
         requires { 0 < bound }
         ensures { result < bound }
     {
@@ -178,7 +182,7 @@ impl Draws {
 /// A network of 5 to 60 nodes. Some of its arcs come back to their tails, some lie side by side, and some enter the source.
 /// In half of the networks arcs lead to near nodes, so that paths are long; in half of them most capacities are from 1 to 3,
 /// so that flow is taken back. The first capacity is below 2^63, all others are below 2^55.
-fn random_network(alloc: Global, draws: &mut Draws) -> Result<State, Fail> {
+pub fn random_network(alloc: Global, draws: &mut Draws) -> Result<State, Fail> {
     let nodes = 5 + draws.below(56);
     let source = draws.node(nodes - 1);
     let mut state = State::new(alloc, nodes, source, nodes);
@@ -203,7 +207,7 @@ fn random_network(alloc: Global, draws: &mut Draws) -> Result<State, Fail> {
 #[test]
 fn random_networks_agree(rt: HostRuntime) -> Result<(), Fail> {
     let alloc = rt.alloc();
-    let mut draws = Draws { seed: 20_260 };
+    let mut draws = Draws::new(20_260);
     for _ in 0..NETWORKS {
         let mut state = random_network(alloc, &mut draws)?;
         solve(&rt, alloc, &mut state)?;

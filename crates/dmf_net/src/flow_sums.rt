@@ -1,7 +1,8 @@
-ghost use Rattle.std.specs.Prelude.{◌≡◌, ℕ, ◌-◌, ◌^◌, ◌<◌, ◌≤◌, length, slice_index, All, IfOk, MatchOption};
+ghost use Rattle.std.specs.Prelude.{◌≡◌, ℕ, ◌-◌, ◌^◌, ◌<◌, ◌≤◌, length, slice_index, sum_by, All, IfOk, MatchOption};
+ghost use Rattle.std.specs.List.{zip};
 ghost use Rattle.dmf_net.specs.Arc.{IsArc, capacity_sum};
 ghost use Rattle.dmf_net.specs.Flow.{AreWithinCapacities};
-ghost use Rattle.dmf_net.specs.FlowSums.{AreFlowSums, IsLeast, IsOverCapacity, IsInnerUpTo, AreSameAt, DifferAt};
+ghost use Rattle.dmf_net.specs.FlowSums.{AreFlowSums, IsNodeFlow, IsLeast, IsOverCapacity, IsInnerUpTo, AreSameAt, DifferAt};
 
 use crate::arc::Arc;
 use std::alloc::{AllocError, Global};
@@ -75,6 +76,26 @@ impl FlowSums {
             entering: self.entering[k],
         }
     }
+}
+
+/// What flows out of a node and into it, in one pass over the arcs.
+pub fn node_flow(arcs: &[Arc], flows: &[u64], node: u32) -> NodeFlow
+    requires one_flow_each { length flows.now ≡ length arcs.now }
+    requires small { sum_by (λ p. p.1) (zip arcs.now flows.now) < 2 ^ 64 }
+    ensures { IsNodeFlow arcs.now flows.now node result }
+{
+    let mut leaving = 0;
+    let mut entering = 0;
+    for (i, arc) in arcs.iter().enumerate() {
+        let flow = flows[i];
+        if arc.tail == node {
+            leaving += flow;
+        }
+        if arc.head == node {
+            entering += flow;
+        }
+    }
+    NodeFlow { leaving, entering }
 }
 
 /// The number of the first arc on which more flows than its capacity, counted from 1.

@@ -23,6 +23,8 @@ mod drain;
 #[cfg(test)]
 mod drain_tests;
 mod edit;
+mod edited;
+mod edited_pairs;
 mod fault;
 mod flow_sums;
 mod laws;
@@ -31,6 +33,8 @@ mod moves;
 mod plan;
 mod residual;
 mod revert;
+#[cfg(test)]
+mod revert_tests;
 #[cfg(test)]
 mod scanning;
 mod side;

@@ -1,4 +1,4 @@
-ghost use Rattle.std.specs.Prelude.{◌≡◌, ◌≤◌, IfOk};
+ghost use Rattle.std.specs.Prelude.{◌≡◌, IfOk};
 ghost use Rattle.dmf_net.specs.NetworkState.{IsState};
 ghost use Rattle.dmf_net.specs.Pairs.{residual_pair, residual_search};
 
@@ -44,9 +44,8 @@ impl Pairs for ResidualPairs<'_> {
     }
 }
 
-/// The pair of an arc on which so much flows.
-fn residual_pair(arc: Arc, flow: u64) -> Option<Pair>
-    requires { flow ≤ arc.cap }
+/// The pair of an arc on which so much flows, at most its capacity.
+pub fn residual_pair(arc: Arc, flow: u64) -> Option<Pair>
     ensures { result ≡ residual_pair arc flow }
 {
     if arc.tail == arc.head || arc.cap == 0 {
@@ -55,7 +54,7 @@ fn residual_pair(arc: Arc, flow: u64) -> Option<Pair>
     Some(Pair {
         tail: arc.tail,
         head: arc.head,
-        along: arc.cap - flow,
+        along: arc.cap.saturating_sub(flow),
         against: flow,
     })
 }

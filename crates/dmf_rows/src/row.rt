@@ -1,5 +1,5 @@
 //! Worked sessions over memory, as rows of a table.
-use crate::streams::{ByteReader, Outcome, SlowWriter, hold, hold_over};
+use crate::streams::{ByteReader, Outcome, SlowWriter, hold, hold_over, hold_whole};
 use std::alloc::Global;
 
 /// A worked session: its two texts, what it writes, and how it ends.
@@ -12,11 +12,17 @@ pub struct Row {
     pub outcome: Outcome,
 }
 
-/// Whether a session on the row's texts ends and writes as the row says.
+/// Whether a session on the row's texts ends and writes as the row says, over a history of edits and over one of whole
+/// states.
 pub fn is_held(alloc: Global, row: Row) -> bool {
     let mut written = Vec::new(alloc);
     let outcome = hold(alloc, row.problem, row.commands, &mut written);
-    outcome == row.outcome && is_written(&written, row.written)
+    let mut by_states = Vec::new(alloc);
+    let outcome_by_states = hold_whole(alloc, row.problem, row.commands, &mut by_states);
+    outcome == row.outcome
+        && is_written(&written, row.written)
+        && outcome_by_states == row.outcome
+        && is_written(&by_states, row.written)
 }
 
 /// The same where the bytes come and go one by one.

@@ -1,6 +1,7 @@
 //! Readers and writers that are slow, or fail.
-use dmf_run::{EngineFault, Status, run_check, run_session, run_solve};
-use dmf_text::{StdSink, StdSource};
+use dmf_run::{EngineFault, Status, run_check, run_commands, run_session, run_solve};
+use dmf_session::{Session, WholeHistory};
+use dmf_text::{StdSink, StdSource, read_problem};
 use std::alloc::Global;
 use std::io;
 use std::io::{ErrorKind, Read, Write};
@@ -11,6 +12,23 @@ pub type Outcome = Result<Status, EngineFault>;
 /// Holds a session over memory, and adds what it writes to `written`.
 pub fn hold(alloc: Global, problem: &[u8], commands: &[u8], written: &mut Vec<u8>) -> Outcome {
     hold_over(alloc, problem, commands, written, false)
+}
+
+/// Holds a session over a history of whole states.
+pub fn hold_whole(
+    alloc: Global,
+    problem: &[u8],
+    commands: &[u8],
+    written: &mut Vec<u8>,
+) -> Outcome {
+    let state = read_problem(alloc, problem).map_err(EngineFault::Problem)?;
+    run_commands(
+        alloc,
+        Session::new(WholeHistory::new(alloc, state)?),
+        &mut StdSource::new(commands),
+        &mut StdSink::new(written),
+        false,
+    )
 }
 
 /// Holds a session over any readers and writer; with `want_cut` each solve tells a cut.

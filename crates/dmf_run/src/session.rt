@@ -11,7 +11,7 @@ use crate::input::{Input, Next};
 use crate::kept_line::KeptLine;
 use crate::problem::read_state;
 use crate::reply::{Answer, refuse, show};
-use dmf_session::{Command, History, Session, WholeHistory};
+use dmf_session::{Command, DeltaHistory, History, Session};
 use dmf_text::{Sink, Source, WriteFault};
 use std::alloc::Global;
 
@@ -81,7 +81,7 @@ pub fn run_session<P: Source, C: Source, W: Sink>(
         result }
 {
     let state = read_state(alloc, problem)?;
-    let history = WholeHistory::new(alloc, state)?;
+    let history = DeltaHistory::new(alloc, state);
     run_commands(alloc, Session::new(history), commands, out, want_cut)
 }
 

@@ -2,3 +2,4 @@ pub mod Appending
 pub mod Optimal
 pub mod Answering
 pub mod OneAnswer
+pub mod Edits

@@ -1,4 +1,5 @@
 pub mod Timeline
+pub mod Delta
 pub mod Optimal
 pub mod Step
 pub mod Laws

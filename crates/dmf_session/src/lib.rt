@@ -2,12 +2,16 @@
 #![tactic(auto)]
 
 pub use command::{Command, Refusal, Reply};
+pub use delta::DeltaHistory;
 pub use history::{History, MAX_CHANGES, NothingToUndo, RedoFault};
 pub use laws::{an_answer, greatest_is_optimal, one_answer, solved_is_optimal};
 pub use session::Session;
 pub use whole::WholeHistory;
 
 mod command;
+mod delta;
+#[cfg(test)]
+mod delta_tests;
 mod history;
 mod laws;
 mod session;

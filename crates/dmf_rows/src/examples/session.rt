@@ -1,6 +1,6 @@
 //! A change is tried out, and taken back.
 use dmf_net::State;
-use dmf_session::{Command, Reply, Session, WholeHistory};
+use dmf_session::{Command, DeltaHistory, Reply, Session};
 use std::test::Fail;
 
 #[test]
@@ -8,7 +8,7 @@ fn a_change_is_taken_back(rt: HostRuntime) -> Result<(), Fail> {
     let alloc = rt.alloc();
     let mut state = State::new(alloc, 2, 1, 2);
     state.push_arc(1, 2, 7)?;
-    let mut session = Session::new(WholeHistory::new(alloc, state)?);
+    let mut session = Session::new(DeltaHistory::new(alloc, state));
     for command in [Command::Solve, Command::Cap { arc: 1, cap: 3 }] {
         // A session has room for 1,000,000 changes.
         assert!(rt; !session.is_full());

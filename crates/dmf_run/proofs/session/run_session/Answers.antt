@@ -12,5 +12,5 @@ returns g c =
     let old = streams_of (commands c.args.commands.now) (out c.args.out.now) in
     let new = streams_of (commands c.run_commands.new.commands) (out c.run_commands.new.out) in
     let read = c.in_ok-state.ensures in
-    let runs = subst (λ t. RunsCommands c.args.want_cut t old new c.run_commands.result) (c.new-2.ensures ∙ c.in_ok-history.ensures) c.run_commands.ensures in
+    let runs = subst (λ t. RunsCommands c.args.want_cut t old new c.run_commands.result) (c.new.ensures ∙ c.new-history.ensures) c.run_commands.ensures in
     (read.0, read.1, answered-by_run c.args.want_cut (problem c.args.problem.now) (problem c.read_state.new.source) old new read.0 c.run_commands.result (record { state = c.in_ok-state.state; problem = read.2; runs = runs }))

@@ -1,0 +1,199 @@
+-- A state as an edit leaves it, read through the edit.
+use Rattle.std.proofs.Common.{ℕ, ◌≡◌, ◌≢◌, ◌+◌, ◌-◌, ◌^◌, ◌<◌, ◌≤◌, ◌==◌, List, [], ◌∷◌, ◌++◌, length, get_or, set, take, drop, suc, cond, true, false, sum_by, refl, ap, sym, ◌∙◌, subst, arith, ⊎_elim, eq-eqb}
+use Rattle.std.specs.List.{zip}
+use Rattle.std.proofs.lemmas.Bool.{ne_eqb}
+use Rattle.std.proofs.lemmas.Bool.Decides.{eqb_tells}
+use Rattle.std.proofs.lemmas.List.{get_or-set_same, get_or-set_other, length-set, length_push, get_or_append_left, take_all}
+use Rattle.std.proofs.lemmas.List.Sums.{sum_by-cons, sum_by_more_le_part}
+use Rattle.std.proofs.lemmas.Option.{slice_get_within}
+use Rattle.std.proofs.lemmas.Slice.Zip.{length-zip, get_or-zip}
+use Rattle.std.proofs.Math.ListN.{drop_of_length-le}
+use Rattle.std.proofs.Math.Seq.{drop-cons, get_or-append_seam}
+use Rattle.dmf_net.specs.declared.arc.Arc.{Arc}
+use Rattle.dmf_net.specs.declared.edit.Edit.{Edit}
+use Rattle.dmf_net.specs.declared.edit.Edit.TheVariants.{Cap, Add, Close, Solve}
+use Rattle.dmf_net.specs.declared.edit.Move.{Move}
+use Rattle.dmf_net.specs.Arc.{no_arc, capacity_sum, with_cap, closed_arc, open_arc}
+use Rattle.dmf_net.specs.Edit.{moved, moves_of, applied, MovesFit}
+use Rattle.dmf_net.specs.Edited.{arc_after, added_arc}
+use Rattle.dmf_net.specs.Flow.{AreWithinCapacities, flow_value}
+use Rattle.dmf_net.specs.FlowSums.{IsNodeFlow}
+use Rattle.dmf_net.specs.Network.{arc_number}
+use Rattle.dmf_net.specs.NetworkState.{NetworkState}
+use Rattle.dmf_net.proofs.ChangedArc.{flow_value-with_arc}
+use Rattle.dmf_net.proofs.IdleArc.{flow_value-idle}
+use Rattle.dmf_net.proofs.Moving.{no_move, MovesFit-made}
+use Rattle.dmf_net.proofs.Summing.{at_node, sum-more, part-le, flows-le-capacities}
+
+-- ---- flows
+
+-- The first `i` moves are made.
+pub record ArePut (moves : List Move) (last_flows : List ℕ) (i : ℕ) (flows : List ℕ) : Type 0 where
+  pub last : ℕ
+  pub fit : MovesFit last (drop i moves) flows
+  pub rest : moved (drop i moves) flows ≡ last_flows
+
+pub put-none : (moves : List Move) (flows : List ℕ) → MovesFit 0 moves flows → ArePut moves (moved moves flows) 0 flows
+put-none moves flows fit = record { last = 0; fit = fit; rest = refl }
+
+module _ (moves : List Move) (last_flows : List ℕ) (i : ℕ) (flows : List ℕ) (h : i < length moves) (a : ArePut moves last_flows i flows) where
+  split : drop i moves ≡ get_or moves i no_move ∷ drop (i + 1) moves
+  split =
+      let next : suc i ≡ i + 1 = omega arith in
+      subst (λ k. drop i moves ≡ get_or moves i no_move ∷ drop k moves) next (drop-cons moves i no_move h)
+
+  fit : MovesFit a.last (get_or moves i no_move ∷ drop (i + 1) moves) flows
+  fit = subst (λ ms. MovesFit a.last ms flows) split a.fit
+
+  pub index-put : (1 ≤ (get_or moves i no_move).arc) × ((get_or moves i no_move).arc - 1 < length flows)
+  index-put = (omega (arith, fit.0), slice_get_within flows ((get_or moves i no_move).arc - 1) (get_or moves i no_move).from fit.1)
+
+  pub put-more : ArePut moves last_flows (i + 1) (set flows ((get_or moves i no_move).arc - 1) (get_or moves i no_move).to)
+  put-more = record {
+    last = (get_or moves i no_move).arc;
+    fit = MovesFit-made a.last (get_or moves i no_move) (drop (i + 1) moves) flows fit;
+    rest = subst (λ ms. moved ms flows ≡ last_flows) split a.rest;
+  }
+
+pub put-all : (moves : List Move) (last_flows : List ℕ) (i : ℕ) (flows : List ℕ) → length moves ≤ i → ArePut moves last_flows i flows → flows ≡ last_flows
+put-all moves last_flows i flows long a = subst (λ ms. moved ms flows ≡ last_flows) (drop_of_length-le moves long) a.rest
+
+-- The edit adds no arc.
+abbrev pub AddsNone : Edit → Type 0
+AddsNone edit = (tail head cap : ℕ) → edit ≡ Add tail head cap → ⊥
+
+-- Then its moves make the flows after it.
+pub flows-moved : (edit : Edit) (s : NetworkState) → AddsNone edit → (applied edit s).flows ≡ moved (moves_of edit) s.flows
+flows-moved (Cap j old new moves) s none = refl
+flows-moved (Close j old moves) s none = refl
+flows-moved (Add tail head cap) s none = absurd (none tail head cap refl)
+flows-moved (Solve moves) s none = refl
+
+-- ---- arcs
+
+-- an arc that was there before
+pub arc-after : (edit : Edit) (s : NetworkState) (k : ℕ) → k < length s.network.arcs → get_or (applied edit s).network.arcs k no_arc ≡ arc_after edit k (get_or s.network.arcs k no_arc)
+arc-after (Cap j old new moves) s k h = ⊎_elim
+    (λ (here : ((k == j - 1) ≡ true) × (k ≡ j - 1)).
+    rw here.0
+    (ap (λ i. get_or (set s.network.arcs (j - 1) (with_cap new (arc_number s.network j))) i no_arc) here.1
+    ∙ get_or-set_same s.network.arcs (j - 1) (with_cap new (arc_number s.network j)) no_arc (omega (arith, h, here.1))
+    ∙ ap (λ i. with_cap new (get_or s.network.arcs i no_arc)) (sym here.1)))
+    (λ (other : ((k == j - 1) ≡ false) × (k ≢ j - 1)). rw other.0 (get_or-set_other s.network.arcs (j - 1) k (with_cap new (arc_number s.network j)) no_arc other.1))
+    (eqb_tells k (j - 1))
+arc-after (Close j old moves) s k h = ⊎_elim
+    (λ (here : ((k == j - 1) ≡ true) × (k ≡ j - 1)).
+    rw here.0
+    (ap (λ i. get_or (set s.network.arcs (j - 1) (closed_arc (arc_number s.network j))) i no_arc) here.1
+    ∙ get_or-set_same s.network.arcs (j - 1) (closed_arc (arc_number s.network j)) no_arc (omega (arith, h, here.1))
+    ∙ ap (λ i. closed_arc (get_or s.network.arcs i no_arc)) (sym here.1)))
+    (λ (other : ((k == j - 1) ≡ false) × (k ≢ j - 1)). rw other.0 (get_or-set_other s.network.arcs (j - 1) k (closed_arc (arc_number s.network j)) no_arc other.1))
+    (eqb_tells k (j - 1))
+arc-after (Add tail head cap) s k h = get_or_append_left s.network.arcs (open_arc tail head cap ∷ []) no_arc k h
+arc-after (Solve moves) s k h = refl
+
+-- an arc past them
+pub arc-added : (edit : Edit) (s : NetworkState) (k : ℕ) → length s.network.arcs ≤ k → k < length (applied edit s).network.arcs → get_or (applied edit s).network.arcs k no_arc ≡ added_arc edit
+arc-added (Cap j old new moves) s k past h = absurd (omega (arith, past, h, length-set s.network.arcs (j - 1) (with_cap new (arc_number s.network j))))
+arc-added (Close j old moves) s k past h = absurd (omega (arith, past, h, length-set s.network.arcs (j - 1) (closed_arc (arc_number s.network j))))
+arc-added (Add tail head cap) s k past h =
+    let last : k ≡ length s.network.arcs = omega (arith, past, h, length_push s.network.arcs (open_arc tail head cap)) in
+    ap (λ i. get_or (s.network.arcs ++ open_arc tail head cap ∷ []) i no_arc) last ∙ get_or-append_seam s.network.arcs (open_arc tail head cap) [] no_arc
+arc-added (Solve moves) s k past h = absurd (omega (arith, past, h))
+
+-- ---- what stays
+
+pub nodes-after : (edit : Edit) (s : NetworkState) → (applied edit s).network.nodes ≡ s.network.nodes
+nodes-after (Cap j old new moves) s = refl
+nodes-after (Close j old moves) s = refl
+nodes-after (Add tail head cap) s = refl
+nodes-after (Solve moves) s = refl
+
+pub source-after : (edit : Edit) (s : NetworkState) → (applied edit s).network.source ≡ s.network.source
+source-after (Cap j old new moves) s = refl
+source-after (Close j old moves) s = refl
+source-after (Add tail head cap) s = refl
+source-after (Solve moves) s = refl
+
+pub sink-after : (edit : Edit) (s : NetworkState) → (applied edit s).network.sink ≡ s.network.sink
+sink-after (Cap j old new moves) s = refl
+sink-after (Close j old moves) s = refl
+sink-after (Add tail head cap) s = refl
+sink-after (Solve moves) s = refl
+
+pub arcs-most : (edit : Edit) (s : NetworkState) → length (applied edit s).network.arcs ≤ length s.network.arcs + 1
+arcs-most (Cap j old new moves) s = omega (arith, length-set s.network.arcs (j - 1) (with_cap new (arc_number s.network j)))
+arcs-most (Close j old moves) s = omega (arith, length-set s.network.arcs (j - 1) (closed_arc (arc_number s.network j)))
+arcs-most (Add tail head cap) s = omega (arith, length_push s.network.arcs (open_arc tail head cap))
+arcs-most (Solve moves) s = omega arith
+
+-- ---- the value
+
+-- The value after an edit that adds no arc is that of its flows on the network before.
+pub value-same : (edit : Edit) (s : NetworkState) → AddsNone edit → length (applied edit s).flows ≡ length s.network.arcs → flow_value (applied edit s).network (applied edit s).flows ≡ flow_value s.network (applied edit s).flows
+value-same (Cap j old new moves) s none long = flow_value-with_arc s.network j (with_cap new (arc_number s.network j)) (moved moves.items s.flows) refl refl long
+value-same (Close j old moves) s none long = flow_value-with_arc s.network j (closed_arc (arc_number s.network j)) (moved moves.items s.flows) refl refl long
+value-same (Add tail head cap) s none long = absurd (none tail head cap refl)
+value-same (Solve moves) s none long = refl
+
+-- It has as many arcs.
+pub arcs-long : (edit : Edit) (s : NetworkState) → AddsNone edit → length (applied edit s).network.arcs ≡ length s.network.arcs
+arcs-long (Cap j old new moves) s none = length-set s.network.arcs (j - 1) (with_cap new (arc_number s.network j))
+arcs-long (Close j old moves) s none = length-set s.network.arcs (j - 1) (closed_arc (arc_number s.network j))
+arcs-long (Add tail head cap) s none = absurd (none tail head cap refl)
+arcs-long (Solve moves) s none = refl
+
+-- The value after an arc is added is that before.
+pub value-added : (edit : Edit) (s : NetworkState) (tail head cap : ℕ) → edit ≡ Add tail head cap → length s.flows ≡ length s.network.arcs → flow_value s.network s.flows ≡ flow_value (applied edit s).network (applied edit s).flows
+value-added edit s tail head cap is long = rw is (sym (flow_value-idle s.network s.flows (open_arc tail head cap) long))
+
+-- the flows together, whichever arcs stand beside them
+sum-beside : (arcs others : List Arc) (flows : List ℕ) → length arcs ≡ length others → sum_by (λ (p : Arc × ℕ). p.1) (zip arcs flows) ≡ sum_by (λ (p : Arc × ℕ). p.1) (zip others flows)
+sum-beside [] [] flows same = refl
+sum-beside [] (b ∷ others) flows same = absurd (omega (arith, same))
+sum-beside (a ∷ arcs) [] flows same = absurd (omega (arith, same))
+sum-beside (a ∷ arcs) (b ∷ others) [] same = refl
+sum-beside (a ∷ arcs) (b ∷ others) (x ∷ flows) same =
+    let g : Arc × ℕ → ℕ = λ p. p.1 in
+    omega (arith, sum_by-cons g (a, x) (zip arcs flows), sum_by-cons g (b, x) (zip others flows), sum-beside arcs others flows (omega (arith, same)))
+
+-- They are within 64 bits, where they are within capacities that are.
+pub sum-small : (arcs others : List Arc) (flows : List ℕ) → length arcs ≡ length others → AreWithinCapacities others flows → capacity_sum others < 2 ^ 64 → sum_by (λ (p : Arc × ℕ). p.1) (zip arcs flows) < 2 ^ 64
+sum-small arcs others flows same within small = omega (arith, sum-beside arcs others flows same, flows-le-capacities others flows within, small)
+
+-- ---- the sums at a node
+
+-- The sums over the first `i` arcs.
+pub record IsNodeFlowSoFar (arcs : List Arc) (flows : List ℕ) (v i leaving entering : ℕ) : Type 0 where
+  pub leaving_is : leaving ≡ sum_by (at_node (λ (a : Arc). a.tail) v) (take i (zip arcs flows))
+  pub entering_is : entering ≡ sum_by (at_node (λ (a : Arc). a.head) v) (take i (zip arcs flows))
+
+-- one more arc
+pub sum-next : (end : Arc → ℕ) (v : ℕ) (arcs : List Arc) (flows : List ℕ) (i sum : ℕ) → length flows ≡ length arcs → i < length arcs → sum ≡ sum_by (at_node end v) (take i (zip arcs flows)) → sum + cond (end (get_or arcs i no_arc) == v) (get_or flows i 0) 0 ≡ sum_by (at_node end v) (take (i + 1) (zip arcs flows))
+sum-next end v arcs flows i sum same h is = omega (arith, is, sum-more end v arcs flows i same h)
+
+-- what was added where the arc has the node at this end, and where it has not
+pub added-there : (a v x old new total : ℕ) → a ≡ v → new ≡ old + x → old + cond (a == v) x 0 ≡ total → new ≡ total
+added-there a v x old new total same is sum_is = let here = rw (eq-eqb a v same) at sum_is in is ∙ here
+
+pub added-elsewhere : (a v x old new total : ℕ) → a ≢ v → new ≡ old → old + cond (a == v) x 0 ≡ total → new ≡ total
+added-elsewhere a v x old new total apart is sum_is = let here = rw (ne_eqb a v apart) at sum_is in omega (arith, is, here)
+
+-- It is within all flows together.
+pub next-small : (end : Arc → ℕ) (v : ℕ) (arcs : List Arc) (flows : List ℕ) (i sum : ℕ) → length flows ≡ length arcs → i < length arcs → sum ≡ sum_by (at_node end v) (take i (zip arcs flows)) → sum_by (λ (p : Arc × ℕ). p.1) (zip arcs flows) < 2 ^ 64 → sum + get_or flows i 0 < 2 ^ 64
+next-small end v arcs flows i sum same h is small =
+    let f : Arc × ℕ → ℕ = at_node end v in
+    let g : Arc × ℕ → ℕ = λ p. p.1 in
+    let long : i < length (zip arcs flows) = rw length-zip (omega arith) in
+    let part = sum_by_more_le_part f g (zip arcs flows) i (no_arc, 0) long (λ p. part-le (end p.0 == v) p.1) in
+    let here : g (get_or (zip arcs flows) i (no_arc, 0)) ≡ get_or flows i 0 = ap g (get_or-zip arcs flows i (no_arc, 0) h (omega arith)) in
+    omega (arith, part, here, is, small)
+
+-- all arcs
+pub sums-whole : (arcs : List Arc) (flows : List ℕ) (v i leaving entering : ℕ) → length flows ≡ length arcs → length arcs ≤ i → IsNodeFlowSoFar arcs flows v i leaving entering → IsNodeFlow arcs flows v (record { leaving = leaving; entering = entering })
+sums-whole arcs flows v i leaving entering same long so_far =
+    let whole : take i (zip arcs flows) ≡ zip arcs flows = take_all i (zip arcs flows) (rw length-zip (omega arith)) in
+    record {
+      leaving = so_far.leaving_is ∙ ap (sum_by (at_node (λ (a : Arc). a.tail) v)) whole;
+      entering = so_far.entering_is ∙ ap (sum_by (at_node (λ (a : Arc). a.head) v)) whole;
+    }

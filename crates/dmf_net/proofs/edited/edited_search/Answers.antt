@@ -1,0 +1,20 @@
+use Rattle.std.proofs.Common.{List, ℕ, ap, ◌∙◌, length, subst}
+use Rattle.std.proofs.lemmas.Slice.Zip.{AllZip-long}
+use Rattle.dmf_path.specs.Pair.{ArePairs}
+use Rattle.dmf_net.specs.Edit.{applied}
+use Rattle.dmf_net.specs.Pairs.{residual_pairs}
+use Rattle.dmf_net.proofs.EditedState.{nodes-after}
+use Rattle.dmf_net.proofs.ResidualSearch.{ArePairs-residual}
+use Rattle.dmf_net.proofs.edited.edited_search.Goals as goal
+
+pub invariant_of-pairs : goal.invariant_of-pairs
+invariant_of-pairs c =
+    let t = applied c.args.edit.now c.args.state.now in
+    record { one_each = ap (λ (xs : List ℕ). length xs) (c.deref-2.ensures.value ∙ c.in_ok-flows.ensures) ∙ AllZip-long _ t.network.arcs t.flows c.requires.applied.flow.within }
+
+pub new-requires-clause-pairs : goal.new-requires-clause-pairs
+new-requires-clause-pairs c =
+    let s = c.args.state.now in
+    let t = applied c.args.edit.now s in
+    rw (c.deref-2.ensures.value, c.in_ok-flows.ensures, c.nodes.ensures.value)
+    (subst (λ m. ArePairs m (residual_pairs t.network.arcs t.flows)) (nodes-after c.args.edit.now s) (ArePairs-residual t c.requires.applied))

@@ -1,0 +1,110 @@
+//! Tests that an edit which is taken back leaves the state that was there.
+ghost use Rattle.std.specs.Prelude.{◌≡◌, IfOk};
+ghost use Rattle.dmf_net.specs.Edit.{applied, Fits};
+
+use crate::agreement::{Draws, network, random_network};
+use crate::fault::PlanFault;
+use crate::{Edit, State, plan_add, plan_cap, plan_close, plan_solve, reverting_gives_back};
+use std::alloc::Global;
+use std::process::Abort;
+use std::test::Fail;
+
+/// How many random networks are tried, each with some random edits.
+const NETWORKS: u32 = 300;
+
+const EDITS: u32 = 10;
+
+/// Applies the edit. What is given is a copy of the state before it.
+fn apply(alloc: Global, state: &mut State, edit: &Edit) -> Result<State, Fail>
+    requires { Fits edit.now state.old }
+    ensures before { IfOk result (λ before. before ≡ state.old) }
+    ensures after { IfOk result (λ before. state.new ≡ applied edit.now before) }
+{
+    let before = state.copy(alloc)?;
+    state.apply(edit)?;
+    Ok(before)
+}
+
+/// Takes the edit back, and compares what is left with the state before it.
+fn revert(rt: &impl Abort, state: &mut State, edit: &Edit, before: &State)
+    requires fits { Fits edit.now before.now }
+    requires stands { state.old ≡ applied edit.now before.now }
+    ensures { state.new ≡ before.now }
+{
+    reverting_gives_back();
+    let arcs = before.arcs();
+    state.revert(edit);
+    assert!(rt; state.arcs() == arcs);
+    assert!(rt; state.flows() == before.flows());
+    assert_eq!(rt; state.value(), before.value());
+    assert_eq!(rt; state.open_count(), before.open_count());
+}
+
+#[test]
+fn edits_are_taken_back_in_the_opposite_order(rt: HostRuntime) -> Result<(), Fail> {
+    let alloc = rt.alloc();
+    let a = [(1, 2, 3), (1, 3, 2), (2, 3, 5), (2, 4, 2), (3, 4, 3)];
+    let mut state = network(alloc, 4, 1, 4, &a)?;
+    let solve = plan_solve(alloc, &state)?;
+    let read = apply(alloc, &mut state, &solve)?;
+    let close = plan_close(alloc, &state, 1)?;
+    let solved = apply(alloc, &mut state, &close)?;
+    let cap = plan_cap(alloc, &state, 5, 1)?;
+    let closed = apply(alloc, &mut state, &cap)?;
+    let add = plan_add(&state, 1, 4, 7)?;
+    let capped = apply(alloc, &mut state, &add)?;
+    assert_eq!(rt; (state.value(), state.arcs().len()), (1, 6));
+    revert(&rt, &mut state, &add, &capped);
+    revert(&rt, &mut state, &cap, &closed);
+    revert(&rt, &mut state, &close, &solved);
+    assert_eq!(rt; state.value(), 5);
+    revert(&rt, &mut state, &solve, &read);
+    assert_eq!(rt; (state.value(), state.arcs().len()), (0, 5));
+    Ok(())
+}
+
+/// A random edit of the state: a solve, another capacity for an arc, a closed arc or a new arc.
+fn random_edit(alloc: Global, draws: &mut Draws, state: &State) -> Result<Edit, PlanFault>
+    ensures { IfOk result (λ edit. Fits edit state.now) }
+{
+    let arc = u64::from(draws.below(state.arcs().len() as u32 + 1)) + 1;
+    let head = u64::from(draws.below(state.nodes())) + 1;
+    let cap = draws.draw() >> 40;
+    match draws.below(4) {
+        0 => plan_solve(alloc, state),
+        1 => plan_cap(alloc, state, arc, cap),
+        2 => plan_close(alloc, state, arc),
+        _ => plan_add(state, u64::from(state.source()), head, cap),
+    }
+}
+
+/// Applies the edit, takes it back, and applies it again.
+fn try_edit(rt: &impl Abort, alloc: Global, state: &mut State, edit: &Edit) -> Result<(), Fail>
+    requires { Fits edit.now state.old }
+{
+    let before = apply(alloc, state, edit)?;
+    revert(rt, state, edit, &before);
+    state.apply(edit)?;
+    Ok(())
+}
+
+#[test]
+fn random_edits_are_taken_back(rt: HostRuntime) -> Result<(), Fail> {
+    let alloc = rt.alloc();
+    let mut draws = Draws::new(20_261);
+    let mut applied = 0_u32;
+    for _ in 0..NETWORKS {
+        let mut state = random_network(alloc, &mut draws)?;
+        let solve = plan_solve(alloc, &state)?;
+        try_edit(&rt, alloc, &mut state, &solve)?;
+        for _ in 0..EDITS {
+            if let Ok(edit) = random_edit(alloc, &mut draws, &state) {
+                try_edit(&rt, alloc, &mut state, &edit)?;
+                applied = applied.saturating_add(1);
+            }
+        }
+    }
+    // Few of them are refused.
+    assert!(rt; applied > NETWORKS * EDITS / 2);
+    Ok(())
+}
