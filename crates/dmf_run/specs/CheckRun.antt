@@ -1,11 +1,12 @@
 -- What checking a solution gave: the problem is read whole, then its solution, and then it is told whether no flow has a
 -- larger value.
 -- Public: a public contract says no more than this.
-use Rattle.std.specs.Prelude.{ℕ, ◌≡◌, ◌⊎◌, List, [], ◌∷◌, Bool, true, false, Result, Ok, Err, IfOk, codes, decimal, nat_abs, if◌then◌else◌}
+use Rattle.std.specs.Prelude.{ℕ, ◌≡◌, ◌⊎◌, List, [], ◌∷◌, Bool, true, false, Option, Some, None, Result, Ok, Err, IfOk, codes, decimal, nat_abs, if◌then◌else◌}
 use Rattle.std.specs.Io.KnownBytes.{Consumes}
 use Rattle.dmf_net.specs.Flow.{flow_value}
 use Rattle.dmf_net.specs.Greatest.{IsGreatest, IsSurpassed}
 use Rattle.dmf_net.specs.NetworkState.{NetworkState}
+use Rattle.dmf_text.specs.declared.fault.SolutionFault.{SolutionFault}
 use Rattle.dmf_text.specs.Solution.{solution_of}
 use Rattle.dmf_text.specs.Writing.{Writes}
 use Rattle.dmf_text.specs.Written.{written_line}
@@ -14,7 +15,7 @@ use Rattle.dmf_run.specs.declared.fault.Status.TheVariants.{Well, NotGreatest}
 use Rattle.dmf_run.specs.declared.fault.EngineFault.{EngineFault}
 use Rattle.dmf_run.specs.declared.fault.EngineFault.TheVariants as fault
 use Rattle.dmf_run.specs.Streams.{Reader, Writer}
-use Rattle.dmf_run.specs.Session.{GaveWhole, GaveTooMuch, ReadsProblem}
+use Rattle.dmf_run.specs.Session.{Reads, ReadsProblem}
 
 -- ---- what is told of a flow
 
@@ -38,14 +39,13 @@ verdict_text s greatest = verdict_line greatest (nat_abs (flow_value s.network s
 
 -- ---- the run
 
--- what reading a solution of this state's network gives, of whose text this much was given; no answer but these is given
+abbrev pub solution_fault_in : EngineFault → Option SolutionFault
+solution_fault_in (fault.Solution found) = Some found
+solution_fault_in other = None
+
+-- what reading a solution of this state's network gives
 abbrev pub ReadsSolution : NetworkState → Reader → Reader → List ℕ → Result NetworkState EngineFault → Type 0
-ReadsSolution s old new text (Ok solved) = GaveWhole old new text × (solution_of s text ≡ Ok solved)
-ReadsSolution s old new text (Err (fault.Solution f)) = GaveWhole old new text × (solution_of s text ≡ Err f)
-ReadsSolution s old new text (Err fault.Read) = new.has_failed ≡ true
-ReadsSolution s old new text (Err fault.TooMuchInput) = GaveTooMuch old new text
-ReadsSolution s old new text (Err fault.NoMemory) = new.has_failed ≡ old.has_failed
-ReadsSolution s old new text (Err told) = ⊥
+ReadsSolution s old new text result = Reads (solution_of s) solution_fault_in old new text result
 
 -- what a run is given and gives: its two readers and its writer before and after, and the texts that were given
 pub record Checked : Type 0 where

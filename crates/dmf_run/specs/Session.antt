@@ -1,8 +1,9 @@
 -- What a session gave: the problem is read, and then the command lines are carried out on it.
 -- Public: a public contract says no more than this.
-use Rattle.std.specs.Prelude.{◌^◌, ℕ, ◌≡◌, ◌⊎◌, ◌<◌, ◌≤◌, List, length, Bool, true, Result, Ok, Err}
+use Rattle.std.specs.Prelude.{◌^◌, ℕ, ◌≡◌, ◌⊎◌, ◌<◌, ◌≤◌, List, length, Bool, true, Option, Some, None, Result, Ok, Err}
 use Rattle.std.specs.Io.KnownBytes.{Consumes, IsAtEnd}
 use Rattle.dmf_net.specs.NetworkState.{NetworkState}
+use Rattle.dmf_text.specs.declared.fault.ProblemFault.{ProblemFault}
 use Rattle.dmf_text.specs.Problem.{problem_of}
 use Rattle.dmf_session.specs.Timeline.{start}
 use Rattle.dmf_run.specs.declared.fault.Status.{Status}
@@ -22,14 +23,31 @@ pub record GaveTooMuch (old new : Reader) (text : List ℕ) : Type 0 where
   pub past : 2 ^ 30 < length text
   pub mark : new.has_failed ≡ old.has_failed
 
--- what reading a problem gives, of whose text this much was given; no answer but these is given
+-- ---- a text that is read whole and judged
+
+-- The text was read whole, and the judge finds this fault, if there is one; nothing is so where there is none.
+abbrev pub FindsFault : {Fault : Type 0} → (List ℕ → Result NetworkState Fault) → Reader → Reader → List ℕ → Option Fault → Type 0
+FindsFault judge old new text None = ⊥
+FindsFault judge old new text (Some found) = GaveWhole old new text × (judge text ≡ Err found)
+
+-- What reading a text gives that a judge turns into a state, of which this much was given; no answer but these is given.
+-- `found_in` is the fault of the text that an answer tells.
+abbrev pub Reads : {Fault : Type 0} → (List ℕ → Result NetworkState Fault) → (EngineFault → Option Fault) → Reader → Reader → List ℕ → Result NetworkState EngineFault → Type 0
+Reads judge found_in old new text (Ok s) = GaveWhole old new text × (judge text ≡ Ok s)
+Reads judge found_in old new text (Err fault.Read) = new.has_failed ≡ true
+Reads judge found_in old new text (Err fault.TooMuchInput) = GaveTooMuch old new text
+Reads judge found_in old new text (Err fault.NoMemory) = new.has_failed ≡ old.has_failed
+Reads judge found_in old new text (Err told) = FindsFault judge old new text (found_in told)
+
+abbrev pub problem_fault_in : EngineFault → Option ProblemFault
+problem_fault_in (fault.Problem found) = Some found
+problem_fault_in other = None
+
+-- what reading a problem gives
 abbrev pub ReadsProblem : Reader → Reader → List ℕ → Result NetworkState EngineFault → Type 0
-ReadsProblem old new text (Ok s) = GaveWhole old new text × (problem_of text ≡ Ok s)
-ReadsProblem old new text (Err (fault.Problem f)) = GaveWhole old new text × (problem_of text ≡ Err f)
-ReadsProblem old new text (Err fault.Read) = new.has_failed ≡ true
-ReadsProblem old new text (Err fault.TooMuchInput) = GaveTooMuch old new text
-ReadsProblem old new text (Err fault.NoMemory) = new.has_failed ≡ old.has_failed
-ReadsProblem old new text (Err told) = ⊥
+ReadsProblem old new text result = Reads problem_of problem_fault_in old new text result
+
+-- ---- the run
 
 -- No command byte was taken, and nothing was written.
 abbrev pub Untouched : Streams → Streams → Type 0

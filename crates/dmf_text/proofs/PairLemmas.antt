@@ -178,12 +178,7 @@ put-more flows arcs i d below =
     ∙ ap (λ k. min (get_or arcs i d).cap (pair_flow flows (ends (get_or arcs i d)) - pair_capacity (take i arcs) (ends (get_or arcs i d)))
     ∷ put_behind flows (take (i + 1) arcs) (drop k arcs)) next
 
--- there is one for each arc
-pub put-long : (flows : List (Pair × ℕ)) (before arcs : List Arc) → length (put_behind flows before arcs) ≡ length arcs
-put-long flows before [] = refl
-put-long flows before (arc ∷ more) = ap (λ n. suc n) (put-long flows (before ++ arc ∷ []) more)
-
--- and each is within the arc's capacity
+-- each is within the capacity of its arc
 pub put-within : (flows : List (Pair × ℕ)) (before arcs : List Arc) → AreWithinCapacities arcs (put_behind flows before arcs)
 put-within flows before [] = tt
 put-within flows before (arc ∷ more) = (omega arith, put-within flows (before ++ arc ∷ []) more)
