@@ -15,7 +15,7 @@ use Rattle.dmf_net.specs.declared.arc.Arc.{Arc}
 use Rattle.dmf_net.specs.Arc.{IsArc, no_arc, capacity_sum}
 use Rattle.dmf_net.specs.Network.{Network, IsNetwork}
 use Rattle.dmf_net.specs.Flow.{AreWithinCapacities}
-use Rattle.dmf_net.specs.Drain.{carried, carried_from, received, return_link, carrying_steps}
+use Rattle.dmf_net.specs.Drain.{carried, carried_from, value_or_zero, return_link, carrying_steps}
 use Rattle.dmf_net.specs.NetworkState.{NetworkState, IsState}
 use Rattle.dmf_net.specs.Pairs.{carrying_pair, carrying_from, return_pair, carrying_pairs}
 use Rattle.dmf_net.proofs.Changing.{flow_at-le}
@@ -26,7 +26,7 @@ use Rattle.dmf_net.proofs.ResidualSteps.{in-optional}
 pub record AreNoMore (n : Network) (firsts flows : List ℕ) : Type 0 where
   pub one_each : length firsts ≡ length n.arcs
   pub no_more : IsNoMore firsts flows
-  pub at_sink : received n flows ≤ received n firsts
+  pub at_sink : value_or_zero n flows ≤ value_or_zero n firsts
 
 -- whether an arc has no pair
 abbrev pub is_idle : Arc → ℕ → Bool
@@ -99,14 +99,14 @@ others-from j (arc ∷ arcs) (first ∷ firsts) (flow ∷ flows) last after s le
     (Contains-append_cases (carried j arc flow) (carried_from (j + 1) arcs flows ++ after) s steps)
 
 -- The step of the last pair is the return link.
-return-steps : (n : Network) (firsts flows : List ℕ) → received n flows ≤ received n firsts → pair_steps (1 + length n.arcs) (return_pair n firsts flows) ≡ return_link n flows
+return-steps : (n : Network) (firsts flows : List ℕ) → value_or_zero n flows ≤ value_or_zero n firsts → pair_steps (1 + length n.arcs) (return_pair n firsts flows) ≡ return_link n flows
 return-steps n firsts flows less = ⊎_elim
-    (λ (idle : ((received n firsts == 0) ≡ true) × (received n firsts ≡ 0)).
-    rw (idle.0, le-ltb 0 (received n flows) (omega (arith, less, idle.1))) refl)
-    (λ (some : ((received n firsts == 0) ≡ false) × (received n firsts ≢ 0)).
+    (λ (idle : ((value_or_zero n firsts == 0) ≡ true) × (value_or_zero n firsts ≡ 0)).
+    rw (idle.0, le-ltb 0 (value_or_zero n flows) (omega (arith, less, idle.1))) refl)
+    (λ (some : ((value_or_zero n firsts == 0) ≡ false) × (value_or_zero n firsts ≢ 0)).
     let rank : 2 * (1 + length n.arcs) ≡ 2 * length n.arcs + 2 = omega arith in
     rw (some.0, rank) (append-nil (return_link n flows)))
-    (eqb_tells (received n firsts) 0)
+    (eqb_tells (value_or_zero n firsts) 0)
 
 pub carrying-without_loops : (n : Network) (firsts flows : List ℕ) → AreNoMore n firsts flows → AreWithoutLoops (carrying_steps n flows) (steps_of (carrying_pairs n firsts flows))
 carrying-without_loops n firsts flows less =
@@ -142,10 +142,10 @@ each-pair nodes (arc ∷ arcs) (first ∷ firsts) (flow ∷ flows) last are with
     each-pair nodes arcs firsts flows last (λ i d h. are (suc i) d (omega (arith, h))) within.1 (omega (arith, sum, fits)) is k p same
 
 -- the pair of the return link is one
-IsPair-return : (n : Network) (firsts flows : List ℕ) (p : Pair) (idle : Bool) → (received n firsts == 0) ≡ idle → IsNetwork n → received n flows < 2 ^ 64 → return_pair n firsts flows ≡ Some p → IsPair n.nodes p
+IsPair-return : (n : Network) (firsts flows : List ℕ) (p : Pair) (idle : Bool) → (value_or_zero n firsts == 0) ≡ idle → IsNetwork n → value_or_zero n flows < 2 ^ 64 → return_pair n firsts flows ≡ Some p → IsPair n.nodes p
 IsPair-return n firsts flows p true e network fits same = let none = rw e at same in absurd (cc)
 IsPair-return n firsts flows p false e network fits same =
-    let own : Pair = record { tail = n.sink; head = n.source; along = received n flows; against = 0 } in
+    let own : Pair = record { tail = n.sink; head = n.source; along = value_or_zero n flows; against = 0 } in
     let some = rw e at same in
     let made : own ≡ p = cc in
     subst (IsPair n.nodes) made (record { tail = network.sink; head = network.source; no_loop = λ e. network.two_terminals (sym e); fits = omega (arith, fits) })
@@ -189,7 +189,7 @@ ArePairs-carrying n firsts flows network long within =
     let out = flow_at-le (λ (a : Arc). a.tail) n.arcs flows n.source within in
     record {
       each = each-pair n.nodes n.arcs firsts flows (return_pair n firsts flows) network.arcs within network.capacities
-          (λ p same. IsPair-return n firsts flows p (received n firsts == 0) refl network (omega (arith, out, network.capacities)) same);
+          (λ p same. IsPair-return n firsts flows p (value_or_zero n firsts == 0) refl network (omega (arith, out, network.capacities)) same);
       at_most = omega (arith, length-carrying_pairs n firsts flows long (AllZip-long _ n.arcs flows within), network.at_most_arcs);
     }
 
@@ -201,5 +201,5 @@ arc-index s k state within apart =
     (omega (arith, all, within, apart), omega (arith, all, within, apart, long))
 
 -- the pair that stands for the return link
-pub return_pair-is : (n : Network) (flows : List ℕ) (value : ℕ) → IsNetwork n → value ≡ received n flows → return_pair n flows flows ≡ cond (n.sink == n.source || value == 0) None (Some (record { tail = n.sink; head = n.source; along = value; against = 0 }))
+pub return_pair-is : (n : Network) (flows : List ℕ) (value : ℕ) → IsNetwork n → value ≡ value_or_zero n flows → return_pair n flows flows ≡ cond (n.sink == n.source || value == 0) None (Some (record { tail = n.sink; head = n.source; along = value; against = 0 }))
 return_pair-is n flows value network is = rw (is, ne_eqb n.sink n.source (λ e. network.two_terminals (sym e))) refl

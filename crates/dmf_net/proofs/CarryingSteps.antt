@@ -11,7 +11,7 @@ use Rattle.dmf_net.specs.Arc.{no_arc}
 use Rattle.dmf_net.specs.Network.{Network, IsNetwork, arc_number, has_arc}
 use Rattle.dmf_net.specs.Flow.{flow_on, IsFlow, flow_value}
 use Rattle.dmf_path.specs.Steps.{IsStep, AreSteps}
-use Rattle.dmf_net.specs.Drain.{carried, carried_from, received, return_link, carrying_steps}
+use Rattle.dmf_net.specs.Drain.{carried, carried_from, value_or_zero, return_link, carrying_steps}
 use Rattle.dmf_net.proofs.ChangedArc.{has_arc-within}
 use Rattle.dmf_net.proofs.ResidualSteps.{LeadsAlong, in-optional, IsBefore, ascending-optional}
 use Rattle.dmf_net.proofs.Carrying.{CarryFlow, path_back-not_none}
@@ -29,7 +29,7 @@ pub record IsReturnLink (n : Network) (flows : List ℕ) (s : Step) : Type 0 whe
   pub from_sink : s.from ≡ n.sink
   pub to_source : s.to ≡ n.source
   pub rank_is : s.rank ≡ 2 * length n.arcs + 2
-  pub room_is : s.room ≡ received n flows
+  pub room_is : s.room ≡ value_or_zero n flows
   pub has_room : 0 < s.room
 
 -- The step leads along an arc on which something flows, or is the return link.
@@ -72,10 +72,10 @@ carried-contained j (a ∷ arcs) (x ∷ flows) s c =
 
 link-contained : (n : Network) (flows : List ℕ) (s : Step) → Contains (return_link n flows) s → IsReturnLink n flows s
 link-contained n flows s c =
-    let link : Step = record { from = n.sink; to = n.source; rank = 2 * length n.arcs + 2; room = received n flows } in
-    let told = in-optional (ltb 0 (received n flows)) link s c in
-    let less : 0 < received n flows = ltb-true 0 (received n flows) told.0 in
-    let room : received n flows ≡ s.room = ap (λ (t : Step). t.room) told.1 in
+    let link : Step = record { from = n.sink; to = n.source; rank = 2 * length n.arcs + 2; room = value_or_zero n flows } in
+    let told = in-optional (ltb 0 (value_or_zero n flows)) link s c in
+    let less : 0 < value_or_zero n flows = ltb-true 0 (value_or_zero n flows) told.0 in
+    let room : value_or_zero n flows ≡ s.room = ap (λ (t : Step). t.room) told.1 in
     record {
       from_sink = sym (ap (λ (t : Step). t.from) told.1);
       to_source = sym (ap (λ (t : Step). t.to) told.1);
@@ -133,12 +133,12 @@ one-ascends false s = λ i k d less h. absurd (omega (arith, h))
 -- The carrying steps are steps between nodes in the order of their ranks.
 pub AreSteps-carrying : (n : Network) (flows : List ℕ) → IsNetwork n → AreSteps n.nodes (carrying_steps n flows)
 AreSteps-carrying n flows network =
-    let link : Step = record { from = n.sink; to = n.source; rank = 2 * length n.arcs + 2; room = received n flows } in
+    let link : Step = record { from = n.sink; to = n.source; rank = 2 * length n.arcs + 2; room = value_or_zero n flows } in
     record {
       between = λ k d h. IsStep-carrying n flows _ network (carrying-contained n flows _ (Contains-get_or (carrying_steps n flows) k d h));
       ascending = ascending-carried 1 n.arcs flows (return_link n flows)
           (λ k d h. let c = link-contained n flows _ (Contains-get_or (return_link n flows) k d h) in omega (arith, c.rank_is))
-          (one-ascends (ltb 0 (received n flows)) link);
+          (one-ascends (ltb 0 (value_or_zero n flows)) link);
     }
 
 -- what is in front of a list, where the test holds
@@ -179,9 +179,9 @@ CarryFlow-carrying n flows network = record {
       let found = carrying-has n flows k within some in
       (found.0, found.1, found.2.tail, found.2.head);
   returns = λ positive.
-      let link : Step = record { from = n.sink; to = n.source; rank = 2 * length n.arcs + 2; room = received n flows } in
-      let some : 0 < received n flows = omega (arith, ints, positive) in
-      (link, Contains-append_right (carried_from 1 n.arcs flows) (return_link n flows) link (optional-has (ltb 0 (received n flows)) link (lt-ltb 0 (received n flows) some)), refl, refl);
+      let link : Step = record { from = n.sink; to = n.source; rank = 2 * length n.arcs + 2; room = value_or_zero n flows } in
+      let some : 0 < value_or_zero n flows = omega (arith, ints, positive) in
+      (link, Contains-append_right (carried_from 1 n.arcs flows) (return_link n flows) link (optional-has (ltb 0 (value_or_zero n flows)) link (lt-ltb 0 (value_or_zero n flows) some)), refl, refl);
 }
 
 -- What flows on an arc comes back: a path of carrying steps leads from its head to its tail.

@@ -7,7 +7,7 @@ use Rattle.std.proofs.lemmas.List.Elements.{AllZip-get_or}
 use Rattle.std.proofs.lemmas.Slice.Zip.{AllZip-long}
 use Rattle.dmf_path.specs.declared.pair.Pair.{Pair}
 use Rattle.dmf_path.specs.Step.{Step}
-use Rattle.dmf_path.specs.Path.{IsPath, HasNoPath, IsLeastPath, has_rank, room_up_to}
+use Rattle.dmf_path.specs.Path.{IsPath, HasNoPath, IsLeastPath, has_rank, bottleneck_up_to}
 use Rattle.dmf_path.specs.Pair.{steps_of, pushed_pair, pushed_from, pushed_pairs}
 use Rattle.dmf_path.specs.Search.{Searched, with_pairs, Augments, HasAlong, lowered_along}
 use Rattle.dmf_path.proofs.Loops.{least-without_loops, no_path-without_loops}
@@ -59,7 +59,7 @@ KeepLoops-lowered n firsts flows j limit path apart flow least kept k within loo
     let index : k ≡ j - 1 = omega (arith, e) in
     apart (subst (λ i. (get_or n.arcs i no_arc).head ≡ (get_or n.arcs i no_arc).tail) index (sym loop)) in
     let none = loop-unranked n flows (arc_number n j).head (arc_number n j).tail k path within loop (IsShortestPath-least (carrying_steps n flows) (arc_number n j).head (arc_number n j).tail path least) in
-    unlowered j (room_up_to (flow_on flows j - limit) path) path flows k (omega (arith, within, same)) other none ∙ kept k within loop
+    unlowered j (bottleneck_up_to (flow_on flows j - limit) path) path flows k (omega (arith, within, same)) other none ∙ kept k within loop
 
 -- ---- the pair of an arc
 
@@ -188,7 +188,7 @@ draining-once s j limit left amount search next has apart some draining augments
     let above : limit < flow_on flows j = omega (arith, some, draining.left_is) in
     let without = carrying-without_loops n s.flows flows draining.no_more in
     let least = least-without_loops (carrying_steps n flows) (steps_of (carrying_pairs n s.flows flows)) (arc_number n j).head (arc_number n j).tail path without own.least in
-    let is : amount ≡ room_up_to (flow_on flows j - limit) path = own.amount_is ∙ ap (λ bound. room_up_to bound path) draining.left_is in
+    let is : amount ≡ bottleneck_up_to (flow_on flows j - limit) path = own.amount_is ∙ ap (λ bound. bottleneck_up_to bound path) draining.left_is in
     let told = lowered-amount n j limit flows path above least in
     let none = other-rank j path (HaveOwnRanks-least n j flows path has state.network (omega (arith, above)) least) in
     let on = lowered-on n j limit flows path has state.flow in

@@ -8,7 +8,7 @@ use Rattle.dmf_net.specs.Network.{Network, IsNetwork}
 use Rattle.dmf_net.specs.Flow.{flow_at, AreWithinCapacities, IsFlow, flow_value}
 use Rattle.dmf_net.specs.NetworkState.{NetworkState, IsState}
 use Rattle.dmf_net.specs.Greatest.{IsGreatest}
-use Rattle.dmf_net.specs.Cut.{HasCutOf, HasGreatestFlow, MaxFlowMinCut}
+use Rattle.dmf_net.specs.Cut.{HasCutOf}
 use Rattle.dmf_path.specs.Path.{HasNoPath}
 use Rattle.dmf_net.specs.Residual.{residual_steps}
 use Rattle.dmf_net.specs.Change.{Solve}
@@ -17,6 +17,7 @@ use Rattle.dmf_net.proofs.Reached.{is_reached, AreReachedFrom-is_reached}
 use Rattle.dmf_net.proofs.MaxFlowMinCut.{reached-cut, reached-capacity, reached-greatest, reached-minimum_cut}
 use Rattle.dmf_net.proofs.LargerFlow.{no_path-from_greatest}
 use Rattle.dmf_net.proofs.SomeOutcome.{some-outcome}
+use Rattle.dmf_net.specs.Laws.{HasGreatestFlow, MaxFlowMinCut}
 
 -- ---- a flow whose residual network has no path from the source to the sink
 

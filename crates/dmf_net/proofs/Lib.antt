@@ -37,7 +37,7 @@ pub mod RoomLeaving
 pub mod FlowsRead
 pub mod FlowFaults
 pub mod SolvingSearch
-pub mod LoweredReceived
+pub mod LoweredValue
 pub mod CarryingPairs
 pub mod LoweredPairs
 pub mod DrainingSearch

@@ -6,18 +6,18 @@ use Rattle.std.proofs.lemmas.Bool.{ne_eqb}
 use Rattle.std.proofs.lemmas.Slice.Zip.{AllZip-long}
 use Rattle.dmf_path.specs.declared.pair.Pair.{Pair}
 use Rattle.dmf_path.specs.Step.{Step}
-use Rattle.dmf_path.specs.Path.{IsLeastPath, has_rank, room_up_to}
+use Rattle.dmf_path.specs.Path.{IsLeastPath, has_rank, bottleneck_up_to}
 use Rattle.dmf_path.specs.Pair.{pushed_pair, pushed_from, pushed_pairs}
 use Rattle.dmf_path.specs.Search.{lowered_pair, lowered_along}
 use Rattle.dmf_net.specs.declared.arc.Arc.{Arc}
 use Rattle.dmf_net.specs.Network.{Network, IsNetwork, arc_number, has_arc}
 use Rattle.dmf_net.specs.Flow.{flow_on, IsFlow}
-use Rattle.dmf_net.specs.Drain.{received, carrying_steps, lowered_from, lowered}
+use Rattle.dmf_net.specs.Drain.{value_or_zero, carrying_steps, lowered_from, lowered}
 use Rattle.dmf_net.specs.Pairs.{carrying_pair, carrying_from, return_pair, carrying_pairs}
 use Rattle.dmf_net.proofs.CarryingPairs.{AreNoMore, is_idle}
 use Rattle.dmf_net.proofs.ChangedArc.{has_arc-within}
 use Rattle.dmf_net.proofs.Draining.{no_more-in_turn}
-use Rattle.dmf_net.proofs.LoweredReceived.{received-lowered}
+use Rattle.dmf_net.proofs.LoweredValue.{value_or_zero-lowered}
 use Rattle.dmf_net.proofs.Lowering.{HaveOwnRanks, HaveOwnRanks-least, lowered-no_more}
 
 -- a pair with other rooms
@@ -35,7 +35,7 @@ pair-lowered amount j path arc first flow true e none = rw e refl
 pair-lowered amount j path arc first flow false e none = rw (e, none) (pair-rooms arc.tail arc.head _ _ _ _ (omega arith) (omega arith))
 
 -- The pair of the return link carries less where the path has it.
-return-pushed : (amount : ℕ) (path : List Step) (n : Network) (firsts flows now : List ℕ) (idle : Bool) → (received n firsts == 0) ≡ idle → received n now ≡ received n flows - cond (has_rank path (2 * length n.arcs + 2)) amount 0 → return_pair n firsts now ≡ pushed_pair false (1 + length n.arcs) amount path (return_pair n firsts flows)
+return-pushed : (amount : ℕ) (path : List Step) (n : Network) (firsts flows now : List ℕ) (idle : Bool) → (value_or_zero n firsts == 0) ≡ idle → value_or_zero n now ≡ value_or_zero n flows - cond (has_rank path (2 * length n.arcs + 2)) amount 0 → return_pair n firsts now ≡ pushed_pair false (1 + length n.arcs) amount path (return_pair n firsts flows)
 return-pushed amount path n firsts flows now true e less = rw e refl
 return-pushed amount path n firsts flows now false e less =
     let rank : 2 * (1 + length n.arcs) ≡ 2 * length n.arcs + 2 = omega arith in
@@ -79,19 +79,19 @@ other-rank j (s ∷ path) own = rw (ne_eqb s.rank (2 * j) own.0) (other-rank j p
 
 -- The pairs of the lowered flows are the pairs of the flows, pushed along the path and lowered at the arc.
 pub carrying_pairs-lowered : (n : Network) (firsts flows : List ℕ) (j limit : ℕ) (path : List Step) → AreNoMore n firsts flows → limit < flow_on flows j → has_arc n j ≡ true → IsNetwork n → IsFlow n flows → IsLeastPath (carrying_steps n flows) (arc_number n j).head (arc_number n j).tail path →
-    carrying_pairs n firsts (lowered j limit path flows) ≡ lowered_along (pushed_pairs false (room_up_to (flow_on flows j - limit) path) path (carrying_pairs n firsts flows)) (j - 1) (room_up_to (flow_on flows j - limit) path)
+    carrying_pairs n firsts (lowered j limit path flows) ≡ lowered_along (pushed_pairs false (bottleneck_up_to (flow_on flows j - limit) path) path (carrying_pairs n firsts flows)) (j - 1) (bottleneck_up_to (flow_on flows j - limit) path)
 carrying_pairs-lowered n firsts flows j limit path less above has network flow least =
     let at = has_arc-within n j has in
     let own = HaveOwnRanks-least n j flows path has network (omega (arith, above)) least in
-    pairs-lowered (room_up_to (flow_on flows j - limit) path) 1 j (j - 1) path n.arcs firsts flows (return_pair n firsts flows) (return_pair n firsts (lowered j limit path flows))
+    pairs-lowered (bottleneck_up_to (flow_on flows j - limit) path) 1 j (j - 1) path n.arcs firsts flows (return_pair n firsts flows) (return_pair n firsts (lowered j limit path flows))
     (omega (arith, at.0)) at.1 (other-rank j path own) less.one_each (AllZip-long _ n.arcs flows flow.within)
-    (return-pushed (room_up_to (flow_on flows j - limit) path) path n firsts flows (lowered j limit path flows) (received n firsts == 0) refl
-    (received-lowered n j limit flows path above has network flow least))
+    (return-pushed (bottleneck_up_to (flow_on flows j - limit) path) path n firsts flows (lowered j limit path flows) (value_or_zero n firsts == 0) refl
+    (value_or_zero-lowered n j limit flows path above has network flow least))
 
 -- No flow is more than it was at first then, nor is what the sink receives.
 pub no_more-lowered : (n : Network) (firsts flows : List ℕ) (j limit : ℕ) (path : List Step) → AreNoMore n firsts flows → limit < flow_on flows j → has_arc n j ≡ true → IsNetwork n → IsFlow n flows → IsLeastPath (carrying_steps n flows) (arc_number n j).head (arc_number n j).tail path → AreNoMore n firsts (lowered j limit path flows)
 no_more-lowered n firsts flows j limit path less above has network flow least = record {
   one_each = less.one_each;
   no_more = no_more-in_turn firsts flows (lowered j limit path flows) less.no_more (lowered-no_more j limit path flows);
-  at_sink = omega (arith, less.at_sink, received-lowered n j limit flows path above has network flow least);
+  at_sink = omega (arith, less.at_sink, value_or_zero-lowered n j limit flows path above has network flow least);
 }

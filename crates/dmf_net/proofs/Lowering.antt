@@ -11,13 +11,13 @@ use Rattle.dmf_path.specs.Step.{Step}
 use Rattle.dmf_net.specs.Arc.{no_arc}
 use Rattle.dmf_net.specs.Network.{Network, IsNetwork, arc_number, has_arc}
 use Rattle.dmf_net.specs.Flow.{flow_on, flow_at, outflow, inflow, AreWithinCapacities, IsFlow, flow_value}
-use Rattle.dmf_path.specs.Path.{IsPath, IsLeastPath, has_rank, room_up_to}
-use Rattle.dmf_net.specs.Drain.{received, carrying_steps, lowered_from, lowered}
+use Rattle.dmf_path.specs.Path.{IsPath, IsLeastPath, has_rank, bottleneck_up_to}
+use Rattle.dmf_net.specs.Drain.{value_or_zero, carrying_steps, lowered_from, lowered}
 use Rattle.dmf_net.proofs.ChangedArc.{has_arc-within}
 use Rattle.dmf_net.proofs.Changing.{flow_at-set}
 use Rattle.dmf_path.proofs.ShortestPaths.{Avoids, IsShortestPath, IsShortestPath-least, IsShortestPath-tail, avoids-start}
 use Rattle.dmf_net.proofs.Pushing.{at_end, more-at}
-use Rattle.dmf_net.proofs.Augmenting.{at_end-other, room_up_to-le}
+use Rattle.dmf_net.proofs.Augmenting.{at_end-other, bottleneck_up_to-le}
 use Rattle.dmf_path.proofs.OneLeast.{Ascend, step-by_rank}
 use Rattle.dmf_net.proofs.CarryingSteps.{IsCarrying, along, returns, carrying-contained, carrying-room, carrying-has, AreSteps-carrying}
 
@@ -152,7 +152,7 @@ balance-step n j amount flows s path v same (returns c) le apart none =
 
 -- What flows out of a node less what flows into it falls by the amount where the path begins, and grows by it where the
 -- path ends, but for what the return link carries; and likewise for arc number `j`.
-balance-lowered : (n : Network) (j amount bound : ℕ) (flows : List ℕ) (path : List Step) (a b v : ℕ) → has_arc n j ≡ true → length flows ≡ length n.arcs → amount ≤ flow_on flows j → amount ≤ room_up_to bound path → IsPath (carrying_steps n flows) a b path → HaveOwnRanks j path →
+balance-lowered : (n : Network) (j amount bound : ℕ) (flows : List ℕ) (path : List Step) (a b v : ℕ) → has_arc n j ≡ true → length flows ≡ length n.arcs → amount ≤ flow_on flows j → amount ≤ bottleneck_up_to bound path → IsPath (carrying_steps n flows) a b path → HaveOwnRanks j path →
     outflow n.arcs (lowered_from 1 j amount path flows) v + inflow n.arcs flows v + at_end amount (arc_number n j).tail v + at_end amount a v + returned amount n path n.source v
     ≡ outflow n.arcs flows v + inflow n.arcs (lowered_from 1 j amount path flows) v + at_end amount (arc_number n j).head v + at_end amount b v + returned amount n path n.sink v
 balance-lowered n j amount bound flows [] a b v has same some le leads own =
@@ -189,12 +189,12 @@ returned-none amount n (s ∷ path) u v none =
     let apart = rank-not_first s path (2 * length n.arcs + 2) none in
     rw (ne_eqb s.rank (2 * length n.arcs + 2) apart.0) (omega (arith, returned-none amount n path u v apart.1))
 
-link-room : (n : Network) (flows : List ℕ) (s : Step) → IsCarrying n flows s → s.rank ≡ 2 * length n.arcs + 2 → s.room ≡ received n flows
+link-room : (n : Network) (flows : List ℕ) (s : Step) → IsCarrying n flows s → s.rank ≡ 2 * length n.arcs + 2 → s.room ≡ value_or_zero n flows
 link-room n flows s (along c) rank = absurd (omega (arith, rank, c.leads.rank_is, c.leads.within))
 link-room n flows s (returns c) rank = c.room_is
 
 -- The return link carries the amount once at most, and no more than the sink receives.
-returned-le : (n : Network) (j amount bound : ℕ) (flows : List ℕ) (path : List Step) (a b u v : ℕ) → amount ≤ room_up_to bound path → IsPath (carrying_steps n flows) a b path → HaveOwnRanks j path → (returned amount n path u v ≤ at_end amount u v) × (returned amount n path u v ≤ received n flows)
+returned-le : (n : Network) (j amount bound : ℕ) (flows : List ℕ) (path : List Step) (a b u v : ℕ) → amount ≤ bottleneck_up_to bound path → IsPath (carrying_steps n flows) a b path → HaveOwnRanks j path → (returned amount n path u v ≤ at_end amount u v) × (returned amount n path u v ≤ value_or_zero n flows)
 returned-le n j amount bound flows [] a b u v le leads own = (omega arith, omega arith)
 returned-le n j amount bound flows (s ∷ path) a b u v le leads own = ⊎_elim
     (λ (here : ((s.rank == 2 * length n.arcs + 2) ≡ true) × (s.rank ≡ 2 * length n.arcs + 2)).
@@ -252,7 +252,7 @@ HaveOwnRanks-least n j flows path has network some least =
 
 -- ---- lowering along a least path
 
-room-positive : (n : Network) (flows : List ℕ) (a b bound : ℕ) (path : List Step) → 0 < bound → IsPath (carrying_steps n flows) a b path → 0 < room_up_to bound path
+room-positive : (n : Network) (flows : List ℕ) (a b bound : ℕ) (path : List Step) → 0 < bound → IsPath (carrying_steps n flows) a b path → 0 < bottleneck_up_to bound path
 room-positive n flows a b bound [] positive leads = positive
 room-positive n flows a b bound (s ∷ path) positive leads =
     let first = carrying-room n flows s (carrying-contained n flows s leads.0) in
@@ -260,49 +260,49 @@ room-positive n flows a b bound (s ∷ path) positive leads =
     omega (arith, first, later)
 
 -- Something is taken off, and no more than is above the limit.
-pub lowered-amount : (n : Network) (j limit : ℕ) (flows : List ℕ) (path : List Step) → limit < flow_on flows j → IsLeastPath (carrying_steps n flows) (arc_number n j).head (arc_number n j).tail path → (0 < room_up_to (flow_on flows j - limit) path) × (room_up_to (flow_on flows j - limit) path ≤ flow_on flows j - limit)
+pub lowered-amount : (n : Network) (j limit : ℕ) (flows : List ℕ) (path : List Step) → limit < flow_on flows j → IsLeastPath (carrying_steps n flows) (arc_number n j).head (arc_number n j).tail path → (0 < bottleneck_up_to (flow_on flows j - limit) path) × (bottleneck_up_to (flow_on flows j - limit) path ≤ flow_on flows j - limit)
 lowered-amount n j limit flows path above least = (
   room-positive n flows (arc_number n j).head (arc_number n j).tail (flow_on flows j - limit) path (omega (arith, above)) least.leads,
-  room_up_to-le (flow_on flows j - limit) path,
+  bottleneck_up_to-le (flow_on flows j - limit) path,
 )
 
 -- No flow is more than before.
 pub lowered-no_more : (j limit : ℕ) (path : List Step) (flows : List ℕ) → AllZip (λ x y. y ≤ x) flows (lowered j limit path flows)
-lowered-no_more j limit path flows = lowered_from-no_more 1 j (room_up_to (flow_on flows j - limit) path) path flows
+lowered-no_more j limit path flows = lowered_from-no_more 1 j (bottleneck_up_to (flow_on flows j - limit) path) path flows
 
 -- The arc's flow is less by that amount.
-pub lowered-on : (n : Network) (j limit : ℕ) (flows : List ℕ) (path : List Step) → has_arc n j ≡ true → IsFlow n flows → flow_on (lowered j limit path flows) j ≡ flow_on flows j - room_up_to (flow_on flows j - limit) path
+pub lowered-on : (n : Network) (j limit : ℕ) (flows : List ℕ) (path : List Step) → has_arc n j ≡ true → IsFlow n flows → flow_on (lowered j limit path flows) j ≡ flow_on flows j - bottleneck_up_to (flow_on flows j - limit) path
 lowered-on n j limit flows path has flow =
     let at = has_arc-within n j has in
     let same = AllZip-long _ n.arcs flows flow.within in
     let place : 1 + (j - 1) ≡ j = omega (arith, at.0) in
-    rw (get_or-lowered_from 1 j (room_up_to (flow_on flows j - limit) path) path flows (j - 1) (omega (arith, at.1, same)), eq-eqb (1 + (j - 1)) j place) refl
+    rw (get_or-lowered_from 1 j (bottleneck_up_to (flow_on flows j - limit) path) path flows (j - 1) (omega (arith, at.1, same)), eq-eqb (1 + (j - 1)) j place) refl
 
 -- What flows out of a node less what flows into it stays the same, but for what the return link carries.
 pub balance : (n : Network) (j limit : ℕ) (flows : List ℕ) (path : List Step) (v : ℕ) → limit < flow_on flows j → has_arc n j ≡ true → IsNetwork n → IsFlow n flows → IsLeastPath (carrying_steps n flows) (arc_number n j).head (arc_number n j).tail path →
-    outflow n.arcs (lowered j limit path flows) v + inflow n.arcs flows v + returned (room_up_to (flow_on flows j - limit) path) n path n.source v
-    ≡ outflow n.arcs flows v + inflow n.arcs (lowered j limit path flows) v + returned (room_up_to (flow_on flows j - limit) path) n path n.sink v
+    outflow n.arcs (lowered j limit path flows) v + inflow n.arcs flows v + returned (bottleneck_up_to (flow_on flows j - limit) path) n path n.source v
+    ≡ outflow n.arcs flows v + inflow n.arcs (lowered j limit path flows) v + returned (bottleneck_up_to (flow_on flows j - limit) path) n path n.sink v
 balance n j limit flows path v above has network flow least =
     let bound : ℕ = flow_on flows j - limit in
-    let amount : ℕ = room_up_to bound path in
-    let le = room_up_to-le bound path in
+    let amount : ℕ = bottleneck_up_to bound path in
+    let le = bottleneck_up_to-le bound path in
     let own = HaveOwnRanks-least n j flows path has network (omega (arith, above)) least in
     let both = balance-lowered n j amount bound flows path (arc_number n j).head (arc_number n j).tail v has (AllZip-long _ n.arcs flows flow.within) (omega (arith, le)) (omega arith) least.leads own in
     omega (arith, both)
 
 -- what the return link carries, at each node
-pub returned-least : (n : Network) (j limit : ℕ) (flows : List ℕ) (path : List Step) (u v : ℕ) → limit < flow_on flows j → has_arc n j ≡ true → IsNetwork n → IsLeastPath (carrying_steps n flows) (arc_number n j).head (arc_number n j).tail path → (returned (room_up_to (flow_on flows j - limit) path) n path u v ≤ at_end (room_up_to (flow_on flows j - limit) path) u v) × (returned (room_up_to (flow_on flows j - limit) path) n path u v ≤ received n flows)
+pub returned-least : (n : Network) (j limit : ℕ) (flows : List ℕ) (path : List Step) (u v : ℕ) → limit < flow_on flows j → has_arc n j ≡ true → IsNetwork n → IsLeastPath (carrying_steps n flows) (arc_number n j).head (arc_number n j).tail path → (returned (bottleneck_up_to (flow_on flows j - limit) path) n path u v ≤ at_end (bottleneck_up_to (flow_on flows j - limit) path) u v) × (returned (bottleneck_up_to (flow_on flows j - limit) path) n path u v ≤ value_or_zero n flows)
 returned-least n j limit flows path u v above has network least =
     let bound : ℕ = flow_on flows j - limit in
-    returned-le n j (room_up_to bound path) bound flows path (arc_number n j).head (arc_number n j).tail u v (omega arith) least.leads
+    returned-le n j (bottleneck_up_to bound path) bound flows path (arc_number n j).head (arc_number n j).tail u v (omega arith) least.leads
     (HaveOwnRanks-least n j flows path has network (omega (arith, above)) least)
 
 -- What is left is a flow.
 pub lowered-flow : (n : Network) (j limit : ℕ) (flows : List ℕ) (path : List Step) → limit < flow_on flows j → has_arc n j ≡ true → IsNetwork n → IsFlow n flows → IsLeastPath (carrying_steps n flows) (arc_number n j).head (arc_number n j).tail path → IsFlow n (lowered j limit path flows)
 lowered-flow n j limit flows path above has network flow least = record {
-  within = within-lowered_from 1 j (room_up_to (flow_on flows j - limit) path) path n.arcs flows flow.within;
+  within = within-lowered_from 1 j (bottleneck_up_to (flow_on flows j - limit) path) path n.arcs flows flow.within;
   conserved = λ v inner.
-      let amount : ℕ = room_up_to (flow_on flows j - limit) path in
+      let amount : ℕ = bottleneck_up_to (flow_on flows j - limit) path in
       let same = balance n j limit flows path v above has network flow least in
       let out = (returned-least n j limit flows path n.source v above has network least).0 in
       let into = (returned-least n j limit flows path n.sink v above has network least).0 in
@@ -312,9 +312,9 @@ lowered-flow n j limit flows path above has network flow least = record {
 }
 
 -- The value is less by at most that amount, and not below 0.
-pub lowered-value : (n : Network) (j limit : ℕ) (flows : List ℕ) (path : List Step) → limit < flow_on flows j → has_arc n j ≡ true → IsNetwork n → IsFlow n flows → pos 0 ≤ℤ flow_value n flows → IsLeastPath (carrying_steps n flows) (arc_number n j).head (arc_number n j).tail path → ((flow_value n flows -ℤ pos (room_up_to (flow_on flows j - limit) path)) ≤ℤ flow_value n (lowered j limit path flows)) × (pos 0 ≤ℤ flow_value n (lowered j limit path flows))
+pub lowered-value : (n : Network) (j limit : ℕ) (flows : List ℕ) (path : List Step) → limit < flow_on flows j → has_arc n j ≡ true → IsNetwork n → IsFlow n flows → pos 0 ≤ℤ flow_value n flows → IsLeastPath (carrying_steps n flows) (arc_number n j).head (arc_number n j).tail path → ((flow_value n flows -ℤ pos (bottleneck_up_to (flow_on flows j - limit) path)) ≤ℤ flow_value n (lowered j limit path flows)) × (pos 0 ≤ℤ flow_value n (lowered j limit path flows))
 lowered-value n j limit flows path above has network flow from_zero least =
-    let amount : ℕ = room_up_to (flow_on flows j - limit) path in
+    let amount : ℕ = bottleneck_up_to (flow_on flows j - limit) path in
     let same = balance n j limit flows path n.source above has network flow least in
     let out = returned-least n j limit flows path n.source n.source above has network least in
     let into = (returned-least n j limit flows path n.sink n.source above has network least).0 in

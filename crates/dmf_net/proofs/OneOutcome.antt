@@ -7,10 +7,11 @@ use Rattle.dmf_net.specs.Network.{Network}
 use Rattle.dmf_path.specs.Path.{HasNoPath}
 use Rattle.dmf_net.specs.Residual.{residual_steps, augmented}
 use Rattle.dmf_net.specs.Solve.{Augments}
-use Rattle.dmf_net.specs.Change.{Cap, Add, Close, Solve, HasOneOutcome}
+use Rattle.dmf_net.specs.Change.{Cap, Add, Close, Solve}
 use Rattle.dmf_path.proofs.OneLeast.{one-least}
 use Rattle.dmf_net.proofs.ResidualSteps.{AreSteps-residual}
 use Rattle.dmf_net.proofs.Draining.{one-drained}
+use Rattle.dmf_net.specs.Laws.{HasOneOutcome}
 
 -- Augmenting from the same flows ends at the same flows.
 one-last : (n : Network) → All (IsArc n.nodes) n.arcs → (last other : List ℕ) → HasNoPath (residual_steps n.arcs last) n.source n.sink → HasNoPath (residual_steps n.arcs other) n.source n.sink → (flows : List ℕ) (paths more : List (List Step)) → Augments n flows paths last → Augments n flows more other → last ≡ other

@@ -7,7 +7,7 @@ use Rattle.std.proofs.lemmas.Bool.Decides.{nat_tests}
 use Rattle.std.proofs.lemmas.List.Elements.{Contains-append_cases, Contains-append_left, Contains-append_right}
 use Rattle.dmf_path.specs.declared.pair.Pair.{Pair}
 use Rattle.dmf_path.specs.Step.{Step}
-use Rattle.dmf_path.specs.Path.{has_rank, IsPath, least_room, room_up_to}
+use Rattle.dmf_path.specs.Path.{has_rank, IsPath, bottleneck, bottleneck_up_to}
 use Rattle.dmf_path.specs.Pair.{pair_steps, steps_from, steps_of, pushed_pair, pushed_from, pushed_pairs}
 use Rattle.dmf_path.proofs.Loops.{AreWithoutLoops}
 use Rattle.dmf_net.specs.declared.arc.Arc.{Arc}
@@ -15,7 +15,7 @@ use Rattle.dmf_net.specs.Flow.{AreWithinCapacities}
 use Rattle.dmf_net.specs.Residual.{forward, backward, residual_from, residual_steps, augmented_from, augmented}
 use Rattle.dmf_net.specs.Pairs.{residual_pair, residual_pairs}
 use Rattle.dmf_net.specs.Arc.{no_arc}
-use Rattle.dmf_net.proofs.Augmenting.{room_up_to-le}
+use Rattle.dmf_net.proofs.Augmenting.{bottleneck_up_to-le}
 use Rattle.dmf_net.proofs.ResidualSteps.{along, against, in-optional, residual-contained}
 
 -- something more can flow where there is room
@@ -92,7 +92,7 @@ pub record HasStep (steps : List Step) (amount rank : ℕ) : Type 0 where
   pub room : amount ≤ step.room
 
 -- the step of a path with some rank
-step-of_rank : (steps : List Step) (a b amount bound rank : ℕ) (path : List Step) → IsPath steps a b path → amount ≤ room_up_to bound path → has_rank path rank ≡ true → HasStep steps amount rank
+step-of_rank : (steps : List Step) (a b amount bound rank : ℕ) (path : List Step) → IsPath steps a b path → amount ≤ bottleneck_up_to bound path → has_rank path rank ≡ true → HasStep steps amount rank
 step-of_rank steps a b amount bound rank [] leads within has = absurd (cc)
 step-of_rank steps a b amount bound rank (s ∷ path) leads within has =
     ⊎_elim
@@ -100,12 +100,12 @@ step-of_rank steps a b amount bound rank (s ∷ path) leads within has =
     (λ (elsewhere : s.rank ≢ rank). step-of_rank steps s.to b amount bound rank path leads.2 (omega (arith, within)) (rw (ne_eqb s.rank rank elsewhere) at has))
     (cases_eq s.rank rank)
 
--- the same, for the least room
-pub step-of_least : (steps : List Step) (a b rank : ℕ) (path : List Step) → IsPath steps a b path → has_rank path rank ≡ true → HasStep steps (least_room path) rank
+-- the same, for the bottleneck
+pub step-of_least : (steps : List Step) (a b rank : ℕ) (path : List Step) → IsPath steps a b path → has_rank path rank ≡ true → HasStep steps (bottleneck path) rank
 step-of_least steps a b rank [] leads has = absurd (cc)
 step-of_least steps a b rank (s ∷ path) leads has =
-    let le = room_up_to-le s.room path in
-    step-of_rank steps a b (least_room (s ∷ path)) s.room rank (s ∷ path) leads (omega (arith, le)) has
+    let le = bottleneck_up_to-le s.room path in
+    step-of_rank steps a b (bottleneck (s ∷ path)) s.room rank (s ∷ path) leads (omega (arith, le)) has
 
 -- The amount fits on each arc from number `j` on whose step the path has.
 abbrev pub FitOn : ℕ → List Step → ℕ → List Arc → List ℕ → Type 0
@@ -150,9 +150,9 @@ pairs-augmented amount j path (arc ∷ arcs) (flow ∷ flows) within fit =
     let later = pairs-augmented amount (j + 1) path arcs flows within.1 fit.2 in
     λ i. first i ∷ later i
 
--- The least room fits on each arc whose step the path has.
+-- The bottleneck fits on each arc whose step the path has.
 fit-from : (all : List Arc) (every : List ℕ) (a b : ℕ) (path : List Step) (j : ℕ) (arcs : List Arc) (flows : List ℕ) → IsPath (residual_steps all every) a b path →
-    ((k : ℕ) → k < length arcs → (get_or arcs k no_arc ≡ get_or all (j + k) no_arc) × (get_or flows k 0 ≡ get_or every (j + k) 0)) → FitOn (least_room path) path (1 + j) arcs flows
+    ((k : ℕ) → k < length arcs → (get_or arcs k no_arc ≡ get_or all (j + k) no_arc) × (get_or flows k 0 ≡ get_or every (j + k) 0)) → FitOn (bottleneck path) path (1 + j) arcs flows
 fit-from all every a b path j [] flows leads same = tt
 fit-from all every a b path j (arc ∷ arcs) [] leads same = tt
 fit-from all every a b path j (arc ∷ arcs) (flow ∷ flows) leads same =
@@ -176,15 +176,15 @@ fit-from all every a b path j (arc ∷ arcs) (flow ∷ flows) leads same =
                 let index : k ≡ j = omega (arith, is.rank_is, step.rank_is) in
                 omega (arith, room, step.room, flow_is, ap (λ i. get_or every i 0) index)
           ]),
-      subst (λ n. FitOn (least_room path) path n arcs flows) (let next : 1 + (j + 1) ≡ 1 + j + 1 = omega arith in next)
+      subst (λ n. FitOn (bottleneck path) path n arcs flows) (let next : 1 + (j + 1) ≡ 1 + j + 1 = omega arith in next)
           (fit-from all every a b path (j + 1) arcs flows leads (λ k h.
           let after = same (suc k) (omega (arith, h)) in
           let one : j + suc k ≡ j + 1 + k = omega arith in
           (after.0 ∙ ap (λ i. get_or all i no_arc) one, after.1 ∙ ap (λ i. get_or every i 0) one))),
     )
 
--- The pairs of the augmented flows are the pairs of the flows, pushed along the path by the least room on it.
-pub residual_pairs-augmented : (arcs : List Arc) (flows : List ℕ) (a b : ℕ) (path : List Step) → AreWithinCapacities arcs flows → IsPath (residual_steps arcs flows) a b path → residual_pairs arcs (augmented path flows) ≡ pushed_pairs true (least_room path) path (residual_pairs arcs flows)
+-- The pairs of the augmented flows are the pairs of the flows, pushed along the path by the bottleneck on it.
+pub residual_pairs-augmented : (arcs : List Arc) (flows : List ℕ) (a b : ℕ) (path : List Step) → AreWithinCapacities arcs flows → IsPath (residual_steps arcs flows) a b path → residual_pairs arcs (augmented path flows) ≡ pushed_pairs true (bottleneck path) path (residual_pairs arcs flows)
 residual_pairs-augmented arcs flows a b path within leads =
-    pairs-augmented (least_room path) 1 path arcs flows within
+    pairs-augmented (bottleneck path) 1 path arcs flows within
     (fit-from arcs flows a b path 0 arcs flows leads (λ k h. (ap (λ i. get_or arcs i no_arc) (let zero-first : k ≡ 0 + k = omega arith in zero-first), ap (λ i. get_or flows i 0) (let zero-first : k ≡ 0 + k = omega arith in zero-first))))

@@ -12,12 +12,13 @@ use Rattle.dmf_net.specs.Arc.{no_arc, open_arc, with_cap, closed_arc, capacity_s
 use Rattle.dmf_net.specs.Network.{Network, arc_number, with_arc}
 use Rattle.dmf_net.specs.NetworkState.{NetworkState, IsState, with_idle_arc}
 use Rattle.dmf_net.specs.Totals.{KeepsTotals}
-use Rattle.dmf_net.specs.Edit.{IsOpenWith, MovesFit, moves_of, HasOneBefore}
-use Rattle.dmf_net.specs.Revert.{opposite, with_open, without_last, reverted, Stands, GivesBack}
+use Rattle.dmf_net.specs.Edit.{IsOpenWith, MovesFit, moves_of}
+use Rattle.dmf_net.specs.Revert.{opposite, with_open, without_last, reverted, Stands}
 use Rattle.dmf_net.specs.Direction.{HasIdleLast}
 use Rattle.dmf_net.proofs.IdleArc.{flow_at-idle}
 use Rattle.dmf_net.proofs.ChangedArc.{has_arc-within}
 use Rattle.dmf_net.proofs.TakenBack.{moved_back-moved, MovesFit-opposite}
+use Rattle.dmf_net.specs.Laws.{HasOneBefore, GivesBack}
 
 -- An open arc is the one with its ends and its capacity.
 open_arc-same : (a : Arc) (cap : ℕ) → a.closed ≡ false → a.cap ≡ cap → open_arc a.tail a.head cap ≡ a

@@ -8,7 +8,7 @@ use Rattle.dmf_path.specs.Node.{IsNode}
 use Rattle.dmf_net.specs.Network.{Network, IsNetwork}
 use Rattle.dmf_net.specs.Flow.{IsFlow, flow_value}
 use Rattle.dmf_net.specs.Cut.{cut_capacity, IsMinimumCut, IsInEveryMinimumCut}
-use Rattle.dmf_net.specs.Side.{CutSide, has_node, IsSmallestSide, HasOneSmallestSide}
+use Rattle.dmf_net.specs.Side.{CutSide, has_node, IsSmallestSide}
 use Rattle.dmf_path.specs.Search.{Searched}
 use Rattle.dmf_net.specs.Pairs.{residual_search, IsReachedSide}
 use Rattle.dmf_net.proofs.ResidualSearch.{reached-residual}
@@ -17,6 +17,7 @@ use Rattle.dmf_net.specs.Residual.{residual_steps}
 use Rattle.dmf_net.proofs.MaxFlowMinCut.{AreTight, tight-from_capacity, closed-from_tight, AreReached, reached-cut, reached-capacity, reached-minimum_cut}
 use Rattle.dmf_net.proofs.Reached.{path-stays}
 use Rattle.dmf_net.proofs.Ascending.{same-nodes}
+use Rattle.dmf_net.specs.Laws.{HasOneSmallestSide}
 
 -- A minimum cut is tight, where the value of the flow is the capacity of some cut, as of the nodes that are reached.
 pub minimum_cut-tight : (n : Network) (flows : List ℕ) (has other : ℕ → Bool) → IsNetwork n → IsFlow n flows → HasNoPath (residual_steps n.arcs flows) n.source n.sink → AreReached n flows has → IsMinimumCut n other → AreTight other n.arcs flows

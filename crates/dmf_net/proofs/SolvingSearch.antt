@@ -9,7 +9,7 @@ use Rattle.std.proofs.lemmas.Map.Views.{exact_unsigned_eq}
 use Rattle.std.proofs.lemmas.Slice.Zip.{AllZip-long}
 use Rattle.dmf_path.specs.declared.pair.Pair.{Pair}
 use Rattle.dmf_path.specs.Step.{Step}
-use Rattle.dmf_path.specs.Path.{has_rank, IsPath, HasNoPath, least_room, room_up_to}
+use Rattle.dmf_path.specs.Path.{has_rank, IsPath, HasNoPath, bottleneck, bottleneck_up_to}
 use Rattle.dmf_path.specs.Pair.{pair_steps, steps_from, steps_of, pushed_pairs}
 use Rattle.dmf_path.specs.Search.{Searched, Augments}
 use Rattle.dmf_path.proofs.Loops.{least-without_loops, no_path-without_loops}
@@ -91,17 +91,17 @@ kept-augmented arcs firsts flows a b path within leads kept k h loop =
     let forth = loop-unranked arcs flows a b k (2 * (1 + k)) path (has_rank path (2 * (1 + k))) within leads loop (omega arith) (omega arith) refl in
     let back = loop-unranked arcs flows a b k (2 * (1 + k) + 1) path (has_rank path (2 * (1 + k) + 1)) within leads loop (omega arith) (omega arith) refl in
     let same : get_or flows k 0 + 0 - 0 ≡ get_or flows k 0 = omega arith in
-    get_or-augmented_from 1 (least_room path) path flows k (omega (arith, h, long)) ∙ rw (forth, back) same ∙ kept k h loop
+    get_or-augmented_from 1 (bottleneck path) path flows k (omega (arith, h, long)) ∙ rw (forth, back) same ∙ kept k h loop
 
 -- the least of a number and the rooms on a path
-room_up_to-min : (a b : ℕ) (path : List Step) → min a (room_up_to b path) ≡ room_up_to (min a b) path
-room_up_to-min a b [] = refl
-room_up_to-min a b (s ∷ path) = let rest = room_up_to-min a b path in omega (arith, rest)
+bottleneck_up_to-min : (a b : ℕ) (path : List Step) → min a (bottleneck_up_to b path) ≡ bottleneck_up_to (min a b) path
+bottleneck_up_to-min a b [] = refl
+bottleneck_up_to-min a b (s ∷ path) = let rest = bottleneck_up_to-min a b path in omega (arith, rest)
 
 -- A limit of 64 bits is above each room.
-room_up_to-least : (n : Network) (flows : List ℕ) (limit : ℕ) (path : List Step) → limit + 1 ≡ 2 ^ 64 → IsNetwork n → IsFlow n flows → IsPath (residual_steps n.arcs flows) n.source n.sink path → room_up_to limit path ≡ least_room path
-room_up_to-least n flows limit [] all is flow leads = absurd (is.two_terminals leads)
-room_up_to-least n flows limit (s ∷ path) all is flow leads =
+bottleneck_up_to-least : (n : Network) (flows : List ℕ) (limit : ℕ) (path : List Step) → limit + 1 ≡ 2 ^ 64 → IsNetwork n → IsFlow n flows → IsPath (residual_steps n.arcs flows) n.source n.sink path → bottleneck_up_to limit path ≡ bottleneck path
+bottleneck_up_to-least n flows limit [] all is flow leads = absurd (is.two_terminals leads)
+bottleneck_up_to-least n flows limit (s ∷ path) all is flow leads =
     let small : s.room ≤ limit =
     elim (residual-contained 1 n.arcs flows s leads.0) [
       | along k at room some ↦ let le = get_or-le-sum_by (λ (a : Arc). a.cap) n.arcs k no_arc at.within in omega (arith, le, room, is.capacities, all)
@@ -112,7 +112,7 @@ room_up_to-least n flows limit (s ∷ path) all is flow leads =
     ]
     in
     let least : min s.room limit ≡ s.room = omega arith in
-    room_up_to-min s.room limit path ∙ ap (λ m. room_up_to m path) least
+    bottleneck_up_to-min s.room limit path ∙ ap (λ m. bottleneck_up_to m path) least
 
 -- The search is that of some flows that augmenting along least paths reaches, and the value is theirs.
 pub record IsSolving (s : NetworkState) (search : Searched) (value : ℕ) : Type 0 where
@@ -136,7 +136,7 @@ solving-more s limit amount value old new all is augments =
     let push = subst (λ o. Augments limit amount o new) is.search_is augments in
     let path = push.path in
     let least = least-without_loops (residual_steps n.arcs is.flows) (steps_of (residual_pairs n.arcs is.flows)) n.source n.sink path (residual-without_loops n.arcs is.flows state.flow.within) push.least in
-    let same = push.amount_is ∙ room_up_to-least n is.flows limit path all state.network state.flow least.leads in
+    let same = push.amount_is ∙ bottleneck_up_to-least n is.flows limit path all state.network state.flow least.leads in
     let pairs =
     ap (λ m. pushed_pairs true m path (residual_pairs n.arcs is.flows)) same
     ∙ sym (residual_pairs-augmented n.arcs is.flows n.source n.sink path state.flow.within least.leads)

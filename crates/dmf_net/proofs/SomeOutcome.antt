@@ -15,13 +15,14 @@ use Rattle.dmf_net.specs.NetworkState.{NetworkState, IsState, with_idle_arc, wit
 use Rattle.dmf_net.specs.Residual.{residual_steps, augmented}
 use Rattle.dmf_net.specs.Solve.{Solves}
 use Rattle.dmf_net.specs.Drain.{Drains}
-use Rattle.dmf_net.specs.Change.{Cap, Add, Close, Solve, plan_fault, sum_with, HasOutcome}
+use Rattle.dmf_net.specs.Change.{Cap, Add, Close, Solve, plan_fault, sum_with}
 use Rattle.dmf_net.proofs.IdleArc.{IsState-idle, IsNode-is_node}
 use Rattle.dmf_path.proofs.SomeLeast.{SomeLeast, least-or-none}
 use Rattle.dmf_net.proofs.ResidualSteps.{AreSteps-residual}
 use Rattle.dmf_net.proofs.ChangedArc.{IsNetwork-with_arc, IsFlow-with_arc, flow_value-with_arc}
 use Rattle.dmf_net.proofs.Draining.{drains-state, SomeDrained, some-drained}
 use Rattle.dmf_net.proofs.Augmenting.{room-positive, augmented-flow, augmented-value, value-le-capacities}
+use Rattle.dmf_net.specs.Laws.{HasOutcome}
 
 -- A flow at which augmenting ends, of a value no smaller.
 record Solved (n : Network) (flows : List ℕ) : Type 0 where

@@ -12,7 +12,7 @@ use Rattle.dmf_net.specs.declared.fault.PlanFault.TheVariants as plan
 use Rattle.dmf_path.specs.Node.{is_node}
 use Rattle.dmf_net.specs.Arc.{open_arc, with_cap, closed_arc, capacity_sum}
 use Rattle.dmf_net.specs.Network.{Network, arc_number, has_arc, with_arc}
-use Rattle.dmf_net.specs.NetworkState.{NetworkState, IsState, with_idle_arc}
+use Rattle.dmf_net.specs.NetworkState.{NetworkState, with_idle_arc}
 use Rattle.dmf_net.specs.Solve.{Solves}
 use Rattle.dmf_net.specs.Drain.{Drains}
 
@@ -84,17 +84,3 @@ IsEditOf (Close j) (edit.Close arc old moves) = arc ≡ j
 IsEditOf (Add tail head cap) (edit.Add from to capacity) = (from ≡ tail) × (to ≡ head) × (capacity ≡ cap)
 IsEditOf Solve (edit.Solve moves) = ⊤
 IsEditOf change other = ⊥
-
--- Any two outcomes of a change from one state are equal.
-abbrev pub HasOneOutcome : Type 0
-HasOneOutcome = (s t u : NetworkState) (change : Change) → IsState s → Becomes s change t → Becomes s change u → t ≡ u
-
--- A state that the change makes of a state.
-pub record Outcome (s : NetworkState) (change : Change) : Type 0 where
-  pub after : NetworkState
-  pub state : IsState after
-  pub becomes : Becomes s change after
-
--- Every change that is not refused has an outcome.
-abbrev pub HasOutcome : Type 0
-HasOutcome = (s : NetworkState) (change : Change) → IsState s → change_fault s change ≡ None → Outcome s change

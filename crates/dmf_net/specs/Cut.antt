@@ -3,9 +3,7 @@
 use Rattle.std.specs.Prelude.{ℕ, ◌≡◌, ◌≤◌, Bool, true, false, not, ◌&&◌, if◌then◌else◌, List, sum_by, ℤ, pos}
 use Rattle.dmf_net.specs.declared.arc.Arc.{Arc}
 use Rattle.dmf_path.specs.Node.{IsNode}
-use Rattle.dmf_net.specs.Network.{Network, IsNetwork}
-use Rattle.dmf_net.specs.Flow.{flow_value}
-use Rattle.dmf_net.specs.Greatest.{IsGreatest}
+use Rattle.dmf_net.specs.Network.{Network}
 
 -- A cut is a set of nodes that has the source and not the sink. A set is given by its test: whether it has a node.
 pub record IsCut (n : Network) (has : ℕ → Bool) : Type 0 where
@@ -37,11 +35,3 @@ pub record HasMinimumCutOf (n : Network) (value : ℤ) : Type 0 where
   pub has : ℕ → Bool
   pub least : IsMinimumCut n has
   pub capacity : pos (cut_capacity n.arcs has) ≡ value
-
--- A network has a greatest flow.
-abbrev pub HasGreatestFlow : Type 0
-HasGreatestFlow = (n : Network) → IsNetwork n → (flows : List ℕ) × IsGreatest n flows
-
--- Max-flow min-cut: the value of a greatest flow is the capacity of a minimum cut.
-abbrev pub MaxFlowMinCut : Type 0
-MaxFlowMinCut = (n : Network) (flows : List ℕ) → IsNetwork n → IsGreatest n flows → HasMinimumCutOf n (flow_value n flows)

@@ -8,7 +8,7 @@ use Rattle.dmf_net.specs.declared.arc.Arc.{Arc}
 use Rattle.dmf_path.specs.Step.{Step}
 use Rattle.dmf_net.specs.Network.{Network, arc_number}
 use Rattle.dmf_net.specs.Flow.{flow_on, outflow, inflow, IsFlow, flow_value}
-use Rattle.dmf_path.specs.Path.{IsLeastPath, has_rank, room_up_to}
+use Rattle.dmf_path.specs.Path.{IsLeastPath, has_rank, bottleneck_up_to}
 
 -- the step along arc number `j`, where some flow is on it
 abbrev pub carried : ℕ → Arc → ℕ → List Step
@@ -22,15 +22,15 @@ carried_from j (arc ∷ arcs) [] = []
 carried_from j (arc ∷ arcs) (flow ∷ flows) = carried j arc flow ++ carried_from (j + 1) arcs flows
 
 -- what the sink receives: the value of a flow, or 0 if that is below 0
-abbrev pub received : Network → List ℕ → ℕ
-received n flows = outflow n.arcs flows n.source - inflow n.arcs flows n.source
+abbrev pub value_or_zero : Network → List ℕ → ℕ
+value_or_zero n flows = outflow n.arcs flows n.source - inflow n.arcs flows n.source
 
 -- the return link, which carries what the sink receives back to the source, where that is something. It ranks after all
 -- arcs.
 abbrev pub return_link : Network → List ℕ → List Step
 return_link n flows =
-    if nat_lt 0 (received n flows) then
-    record { from = n.sink; to = n.source; rank = 2 * length n.arcs + 2; room = received n flows } ∷ []
+    if nat_lt 0 (value_or_zero n flows) then
+    record { from = n.sink; to = n.source; rank = 2 * length n.arcs + 2; room = value_or_zero n flows } ∷ []
     else []
 
 -- the carrying steps of a flow: those along the arcs, and the return link
@@ -46,7 +46,7 @@ lowered_from i j amount path (flow ∷ flows) =
 -- the flows lowered on arc number `j` and along a path, by the least of the rooms on the path and of what is on the arc
 -- above the limit
 abbrev pub lowered : ℕ → ℕ → List Step → List ℕ → List ℕ
-lowered j limit path flows = lowered_from 1 j (room_up_to (flow_on flows j - limit) path) path flows
+lowered j limit path flows = lowered_from 1 j (bottleneck_up_to (flow_on flows j - limit) path) path flows
 
 -- Lowering arc number `j` along these paths in turn, each the least path of carrying steps from its head to its tail, while
 -- more than the limit flows on it, makes `flows` into `last`.

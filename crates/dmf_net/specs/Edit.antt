@@ -67,10 +67,6 @@ pub record Fits (edit : Edit) (s : NetworkState) : Type 0 where
   pub moves : MovesFit 0 (moves_of edit) s.flows
   pub applied : IsState (applied edit s)
 
--- Two states that an edit fits, and of which it makes the same state, are the same.
-abbrev pub HasOneBefore : Type 0
-HasOneBefore = (edit : Edit) (s t : NetworkState) → Fits edit s → Fits edit t → applied edit s ≡ applied edit t → s ≡ t
-
 -- the moves of the arcs whose flow differs, ascending, the first arc of the lists being number `j`
 abbrev pub differences : ℕ → List ℕ → List ℕ → List Move
 differences j [] after = []

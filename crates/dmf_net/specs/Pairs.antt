@@ -16,7 +16,7 @@ use Rattle.dmf_net.specs.Flow.{flow_value}
 use Rattle.dmf_net.specs.NetworkState.{NetworkState, IsState, with_flows}
 use Rattle.dmf_net.specs.Solve.{Solves}
 use Rattle.dmf_net.specs.Side.{CutSide, has_node}
-use Rattle.dmf_net.specs.Drain.{received}
+use Rattle.dmf_net.specs.Drain.{value_or_zero}
 
 -- The pair of an arc for its residual steps: along it what more can flow, and against it what flows. An arc that comes back
 -- to its tail has none, nor has one on which nothing may flow.
@@ -53,8 +53,8 @@ carrying_from (arc ∷ arcs) (first ∷ firsts) (flow ∷ flows) = carrying_pair
 -- the pair of the return link, where the sink received something at first
 abbrev pub return_pair : Network → List ℕ → List ℕ → Option Pair
 return_pair n firsts flows =
-    if received n firsts == 0 then None
-    else Some (record { tail = n.sink; head = n.source; along = received n flows; against = 0 })
+    if value_or_zero n firsts == 0 then None
+    else Some (record { tail = n.sink; head = n.source; along = value_or_zero n flows; against = 0 })
 
 -- the pairs for all carrying steps of a flow that was made of another by lowering it
 abbrev pub carrying_pairs : Network → List ℕ → List ℕ → List (Option Pair)

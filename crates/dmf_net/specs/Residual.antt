@@ -4,7 +4,7 @@
 use Rattle.std.specs.Prelude.{ℕ, ◌+◌, ◌-◌, ◌*◌, if◌then◌else◌, List, [], ◌∷◌, ◌++◌, nat_lt}
 use Rattle.dmf_net.specs.declared.arc.Arc.{Arc}
 use Rattle.dmf_path.specs.Step.{Step}
-use Rattle.dmf_path.specs.Path.{has_rank, least_room}
+use Rattle.dmf_path.specs.Path.{has_rank, bottleneck}
 
 -- the step along arc number `j`, where more can flow on it
 abbrev pub forward : ℕ → Arc → ℕ → List Step
@@ -34,6 +34,6 @@ augmented_from j amount path (flow ∷ flows) =
     (flow + (if has_rank path (2 * j) then amount else 0) - (if has_rank path (2 * j + 1) then amount else 0))
     ∷ augmented_from (j + 1) amount path flows
 
--- the flows augmented along a path by the least room on it
+-- the flows augmented along a path by the bottleneck on it
 abbrev pub augmented : List Step → List ℕ → List ℕ
-augmented path flows = augmented_from 1 (least_room path) path flows
+augmented path flows = augmented_from 1 (bottleneck path) path flows

@@ -44,7 +44,3 @@ pub record Stands (edit : Edit) (t : NetworkState) : Type 0 where
   pub state : IsState before
   pub fits : Fits edit before
   pub gives : applied edit before ≡ t
-
--- Taking an edit back gives the state to which it was applied, flows included.
-abbrev pub GivesBack : Type 0
-GivesBack = (edit : Edit) (s : NetworkState) → Fits edit s → reverted edit (applied edit s) ≡ s

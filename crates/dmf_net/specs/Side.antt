@@ -23,7 +23,3 @@ pub record IsSmallestSide (n : Network) (side : CutSide) : Type 0 where
   pub in_every : (v : ℕ) → IsTrue (has_node side.ids v) ↔ (IsNode n.nodes v × IsInEveryMinimumCut n v)
   pub least : IsMinimumCut n (has_node side.ids)
   pub capacity_is : side.capacity ≡ cut_capacity n.arcs (has_node side.ids)
-
--- A network has one smallest side.
-abbrev pub HasOneSmallestSide : Type 0
-HasOneSmallestSide = (n : Network) (side other : CutSide) → IsSmallestSide n side → IsSmallestSide n other → side ≡ other

@@ -1,13 +1,8 @@
-ghost use Rattle.dmf_net.specs.Change.{HasOneOutcome, HasOutcome};
-ghost use Rattle.dmf_net.specs.Cut.{HasGreatestFlow, MaxFlowMinCut};
-ghost use Rattle.dmf_net.specs.Edit.{HasOneBefore};
-ghost use Rattle.dmf_net.specs.Laws.{HasSmallestSide, IsGreatestOrSurpassed, SolvedIsGreatest};
-ghost use Rattle.dmf_net.specs.Revert.{GivesBack};
-ghost use Rattle.dmf_net.specs.Side.{HasOneSmallestSide};
+ghost use Rattle.dmf_net.specs.Laws.{HasSmallestSide, IsGreatestOrSurpassed, SolvedIsGreatest, HasOneOutcome, HasOutcome, HasGreatestFlow, MaxFlowMinCut, HasOneBefore, GivesBack, HasOneSmallestSide};
 
 /// The law that an edit can be undone in one way alone: two states that it fits, and of which it makes the same
 /// state, are the same.
-pub fn one_state_before()
+pub fn edit_has_one_state_before()
     ensures { HasOneBefore }
 {}
 
@@ -17,13 +12,13 @@ pub fn reverting_gives_back()
 {}
 
 /// The law that a change has one outcome: any two states that it makes of one state are the same.
-pub fn one_outcome()
+pub fn change_has_one_outcome()
     ensures { HasOneOutcome }
 {}
 
 /// The law that a change which is not refused has an outcome, which is a state. So asking for the greatest flow ends on
 /// every state.
-pub fn an_outcome()
+pub fn change_has_outcome()
     ensures { HasOutcome }
 {}
 
@@ -35,17 +30,17 @@ pub fn max_flow_min_cut()
 {}
 
 /// The law that a network has one smallest side: any two lists of nodes with a capacity that are one are the same.
-pub fn one_smallest_side()
+pub fn network_has_one_smallest_side()
     ensures { HasOneSmallestSide }
 {}
 
 /// The law that a network has a smallest side.
-pub fn a_smallest_side()
+pub fn network_has_smallest_side()
     ensures { HasSmallestSide }
 {}
 
 /// The law that a flow is greatest, or some flow has a larger value.
-pub fn greatest_or_surpassed()
+pub fn flow_is_greatest_or_surpassed()
     ensures { IsGreatestOrSurpassed }
 {}
 

@@ -5,8 +5,9 @@ pub use arc::Arc;
 pub use edit::{Edit, Move};
 pub use fault::{ArcFault, CutFault, FlowFault, NetFault, NoMemory, PlanFault};
 pub use laws::{
-    a_smallest_side, an_outcome, greatest_or_surpassed, max_flow_min_cut, one_outcome,
-    one_smallest_side, one_state_before, reverting_gives_back, solved_is_greatest,
+    change_has_one_outcome, change_has_outcome, edit_has_one_state_before,
+    flow_is_greatest_or_surpassed, max_flow_min_cut, network_has_one_smallest_side,
+    network_has_smallest_side, reverting_gives_back, solved_is_greatest,
 };
 pub use limits::{MAX_ARCS, MAX_NODES};
 pub use plan::{plan_add, plan_cap, plan_close, plan_solve, plan_solve_with_side};

@@ -169,7 +169,7 @@ fn label(labels: &[Option<u32>], node: u32) -> Option<u32> {
     labels.get(node as usize).copied().flatten()
 }
 
-/// Augments the flows along a path by the least room on it.
+/// Augments the flows along a path by the bottleneck on it.
 fn augment(flows: &mut [u64], path: &[Step]) -> Result<(), Fail> {
     let amount = path
         .iter()

@@ -7,7 +7,7 @@ use Rattle.dmf_path.specs.Links.{Links, AreRooms, AreFlags, pairs_at}
 use Rattle.dmf_path.specs.Walk.{AreValid, IsWalking, end_of, bottleneck_on, pushed, CanPush}
 use Rattle.dmf_path.specs.Search.{Augments}
 use Rattle.dmf_path.specs.Searching.{IsSearch, IsUnlabelled, searched}
-use Rattle.dmf_path.proofs.Steps.{path_on, room_up_to-path_on}
+use Rattle.dmf_path.proofs.Steps.{path_on, bottleneck_up_to-path_on}
 use Rattle.dmf_path.proofs.LeastTrail.{least-trail}
 use Rattle.dmf_path.proofs.Reaching.{no_path-unlabelled}
 use Rattle.dmf_path.proofs.Pushed.{HaveRoom-least, CanPush-falls, FallsOn-trail, OpensUpwards, AreValid-opens, ArePassed-opens, IsTrail-open, IsTrail-take, opens-pushed}
@@ -86,7 +86,7 @@ pub augments-pushed : (l : Links) (takes_back : Bool) (limit amount : ℕ) (plac
 augments-pushed l takes_back limit amount places rooms flags labels current trail new_rooms queue_room trail_room start goal is end least made = record {
   path = path_on l places rooms trail;
   least = least-trail l places rooms labels current trail start goal is.links is.places_are is.start_is is.valid is.walking end;
-  amount_is = least ∙ sym (room_up_to-path_on l places rooms trail limit);
+  amount_is = least ∙ sym (bottleneck_up_to-path_on l places rooms trail limit);
   gives = ap (λ pairs. record { nodes = l.nodes; pairs = pairs; start = start; goal = goal; takes_back = takes_back })
       (ap (pairs_at l places) made ∙ pushed_pairs-pushed l takes_back places rooms labels current trail start amount is.links is.places_are is.rooms_are.0 is.start_is is.walking.trail_is);
 }

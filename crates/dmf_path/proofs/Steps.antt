@@ -1,7 +1,7 @@
 -- The step that a link gives, and its rank.
 use Rattle.std.proofs.Common.{ℕ, ◌≡◌, ◌+◌, ◌*◌, ◌==◌, if◌then◌else◌, List, [], ◌∷◌, map, min, get_or, refl, ap, slice_index}
 use Rattle.dmf_path.specs.Step.{Step}
-use Rattle.dmf_path.specs.Path.{room_up_to}
+use Rattle.dmf_path.specs.Path.{bottleneck_up_to}
 use Rattle.dmf_path.specs.Links.{Links, no_place, tail_of}
 use Rattle.dmf_path.specs.Walk.{bottleneck_on}
 
@@ -32,6 +32,6 @@ abbrev pub path_on : Links → List ℕ → List ℕ → List ℕ → List Step
 path_on l places rooms ps = map (step_on l places rooms) ps
 
 -- The bottleneck is the same on the links as on the path.
-pub room_up_to-path_on : (l : Links) (places rooms trail : List ℕ) (limit : ℕ) → room_up_to limit (path_on l places rooms trail) ≡ bottleneck_on rooms limit trail
-room_up_to-path_on l places rooms [] limit = refl
-room_up_to-path_on l places rooms (p ∷ ps) limit = ap (min (get_or rooms p 0)) (room_up_to-path_on l places rooms ps limit)
+pub bottleneck_up_to-path_on : (l : Links) (places rooms trail : List ℕ) (limit : ℕ) → bottleneck_up_to limit (path_on l places rooms trail) ≡ bottleneck_on rooms limit trail
+bottleneck_up_to-path_on l places rooms [] limit = refl
+bottleneck_up_to-path_on l places rooms (p ∷ ps) limit = ap (min (get_or rooms p 0)) (bottleneck_up_to-path_on l places rooms ps limit)

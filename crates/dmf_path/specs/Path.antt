@@ -40,11 +40,11 @@ abbrev pub has_rank : List Step → ℕ → Bool
 has_rank path rank = list_any (λ s. s.rank == rank) path
 
 -- the least of `bound` and the rooms on the path
-abbrev pub room_up_to : ℕ → List Step → ℕ
-room_up_to bound [] = bound
-room_up_to bound (s ∷ path) = min s.room (room_up_to bound path)
+abbrev pub bottleneck_up_to : ℕ → List Step → ℕ
+bottleneck_up_to bound [] = bound
+bottleneck_up_to bound (s ∷ path) = min s.room (bottleneck_up_to bound path)
 
--- the least room on a path, and 0 for the path without steps
-abbrev pub least_room : List Step → ℕ
-least_room [] = 0
-least_room (s ∷ path) = room_up_to s.room path
+-- the bottleneck on a path, and 0 for the path without steps
+abbrev pub bottleneck : List Step → ℕ
+bottleneck [] = 0
+bottleneck (s ∷ path) = bottleneck_up_to s.room path

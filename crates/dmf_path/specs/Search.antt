@@ -3,7 +3,7 @@
 use Rattle.std.specs.Prelude.{ℕ, ◌≡◌, ◌-◌, ◌≤◌, Bool, List, Option, Some, None, slice_index_or, slice_get, slice_set, option_map}
 use Rattle.dmf_path.specs.declared.pair.Pair.{Pair}
 use Rattle.dmf_path.specs.Step.{Step}
-use Rattle.dmf_path.specs.Path.{IsLeastPath, room_up_to}
+use Rattle.dmf_path.specs.Path.{IsLeastPath, bottleneck_up_to}
 use Rattle.dmf_path.specs.Pair.{steps_of, pushed_pairs}
 
 -- the number of nodes, the pairs with their present rooms, the node from which paths lead and that to which they do, and
@@ -24,7 +24,7 @@ with_pairs s pairs = record { nodes = s.nodes; pairs = pairs; start = s.start; g
 pub record Augments (limit amount : ℕ) (old new : Searched) : Type 0 where
   pub path : List Step
   pub least : IsLeastPath (steps_of old.pairs) old.start old.goal path
-  pub amount_is : amount ≡ room_up_to limit path
+  pub amount_is : amount ≡ bottleneck_up_to limit path
   pub gives : new ≡ with_pairs old (pushed_pairs old.takes_back amount path old.pairs)
 
 -- the pair at index `k`

@@ -53,3 +53,9 @@ abbrev pub RunsAreOptimal : Type 0
 RunsAreOptimal =
     (want_cut : Bool) (s : NetworkState) (given text : List ℕ) (refused : Bool) → IsState s
     → RunsAll (Answers want_cut) (start s) given text refused → RunsAll (AnswersOptimally want_cut) (start s) given text refused
+
+-- Where a run that solves a problem writes a solution, it is that of an optimal state.
+abbrev pub WrittenIsOptimal : Type 0
+WrittenIsOptimal =
+    (want_cut : Bool) (from to : Reader) (old new : Writer) (text : List ℕ) (result : Result Status EngineFault)
+    → (run : WritesSolved want_cut from to old new text result) → IsOptimal run.solved

@@ -41,9 +41,3 @@ SolveAnswered want_cut from to old new text (Err told) = ReadsProblem from to te
 abbrev pub RunsSolve : Bool → Reader → Reader → Writer → Writer → Result Status EngineFault → Type 0
 RunsSolve want_cut from to old new result =
     (text : List ℕ) × Consumes from.known to.known text × SolveAnswered want_cut from to old new text result
-
--- Where a run that solves a problem writes a solution, it is that of an optimal state.
-abbrev pub WrittenIsOptimal : Type 0
-WrittenIsOptimal =
-    (want_cut : Bool) (from to : Reader) (old new : Writer) (text : List ℕ) (result : Result Status EngineFault)
-    → (run : WritesSolved want_cut from to old new text result) → IsOptimal run.solved

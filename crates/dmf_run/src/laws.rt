@@ -1,25 +1,24 @@
-ghost use Rattle.dmf_run.specs.Laws.{HasRun, HasOneRun, StepsAreAnswers, SolvesAreOptimal, RunsAreOptimal};
-ghost use Rattle.dmf_run.specs.SolveRun.{WrittenIsOptimal};
+ghost use Rattle.dmf_run.specs.Laws.{HasRun, HasOneRun, StepsAreAnswers, SolvesAreOptimal, RunsAreOptimal, WrittenIsOptimal};
 
 use dmf_net::solved_is_greatest;
-use dmf_session::{an_answer, greatest_is_optimal, one_answer, solved_is_optimal};
+use dmf_session::{command_has_answer, greatest_is_optimal, command_has_one_answer, solved_is_optimal};
 use dmf_text::accepted_is_state;
 
 /// The law that from the start of each state each command text, of any bytes, has a run in which no command is refused
 /// memory.
-pub fn a_run()
+pub fn command_text_has_run()
     ensures { HasRun }
 {
-    an_answer();
+    command_has_answer();
 }
 
 /// The law that each command text has one such run: any two write the same text, and are the same in whether a line is
 /// refused.
-pub fn one_run()
+pub fn command_text_has_one_run()
     ensures { HasOneRun }
 {
-    an_answer();
-    one_answer();
+    command_has_answer();
+    command_has_one_answer();
 }
 
 /// The law that each such run is one of those of which the contracts of runs speak, in which a command may be refused
@@ -27,8 +26,8 @@ pub fn one_run()
 pub fn steps_are_answers()
     ensures { StepsAreAnswers }
 {
-    an_answer();
-    one_answer();
+    command_has_answer();
+    command_has_one_answer();
 }
 
 /// The law that in each run, also one that may be refused memory, a solve that is not refused leaves a present state whose
@@ -37,8 +36,8 @@ pub fn solves_are_optimal()
     ensures each { SolvesAreOptimal }
     ensures whole { RunsAreOptimal }
 {
-    an_answer();
-    one_answer();
+    command_has_answer();
+    command_has_one_answer();
     solved_is_optimal();
 }
 

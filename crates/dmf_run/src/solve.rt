@@ -4,7 +4,8 @@ ghost use Rattle.dmf_net.specs.Change.{Solve, Becomes};
 ghost use Rattle.dmf_net.specs.Edit.{applied, Fits};
 ghost use Rattle.dmf_session.specs.Step.{IsSideWanted};
 ghost use Rattle.dmf_run.specs.Streams.{reader_of, writer_of};
-ghost use Rattle.dmf_run.specs.SolveRun.{RunsSolve, WrittenIsOptimal};
+ghost use Rattle.dmf_run.specs.SolveRun.{RunsSolve};
+ghost use Rattle.dmf_run.specs.Laws.{WrittenIsOptimal};
 
 use crate::fault::{EngineFault, Status};
 use crate::laws::written_is_optimal;

@@ -9,11 +9,11 @@ use Rattle.dmf_net.specs.declared.fault.PlanFault.{PlanFault}
 use Rattle.dmf_net.specs.declared.fault.PlanFault.TheVariants as plan
 use Rattle.dmf_net.specs.Network.{Network}
 use Rattle.dmf_net.specs.NetworkState.{NetworkState, IsState}
-use Rattle.dmf_net.specs.Change.{Change, change_fault, plan_fault, HasOutcome}
+use Rattle.dmf_net.specs.Change.{Change, change_fault, plan_fault}
 use Rattle.dmf_net.specs.Change as change
 use Rattle.dmf_net.specs.Greatest.{IsGreatest, IsSurpassed}
 use Rattle.dmf_net.specs.Side.{CutSide}
-use Rattle.dmf_net.specs.Laws.{HasSmallestSide, IsGreatestOrSurpassed}
+use Rattle.dmf_net.specs.Laws.{HasSmallestSide, IsGreatestOrSurpassed, HasOutcome}
 use Rattle.dmf_session.specs.declared.command.Command.{Command}
 use Rattle.dmf_session.specs.declared.command.Command.TheVariants.{Cap, Add, Close, Solve, Undo, Redo, PrintProblem, PrintFlow, PrintCut}
 use Rattle.dmf_session.specs.declared.command.Reply.{Reply}

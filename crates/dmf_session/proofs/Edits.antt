@@ -9,10 +9,11 @@ use Rattle.dmf_net.specs.declared.edit.Edit.TheVariants.{Cap, Add, Close, Solve}
 use Rattle.dmf_net.specs.Arc.{open_arc}
 use Rattle.dmf_net.specs.NetworkState.{NetworkState, IsState}
 use Rattle.dmf_net.specs.Edit.{applied, Fits, AddsArc}
-use Rattle.dmf_net.specs.Revert.{reverted, Stands, GivesBack}
+use Rattle.dmf_net.specs.Revert.{reverted, Stands}
 use Rattle.dmf_session.specs.Timeline.{IsTimeline, IsPresent, future_of, back, forward, FitsPresent, Appends, AddsArcs}
 use Rattle.dmf_session.proofs.Appending.{one-present}
 use Rattle.dmf_session.specs.Delta.{before, after, states_from, timeline_of, AreEdits}
+use Rattle.dmf_net.specs.Laws.{GivesBack}
 
 pub length-states_from : (edits : List Edit) (s : NetworkState) → length (states_from s edits) ≡ length edits + 1
 length-states_from [] s = refl

@@ -6,8 +6,8 @@ use Rattle.dmf_net.specs.declared.fault.PlanFault.{PlanFault}
 use Rattle.dmf_net.specs.Network.{Network}
 use Rattle.dmf_net.specs.NetworkState.{NetworkState, IsState}
 use Rattle.dmf_net.specs.Greatest.{IsGreatest, IsSurpassed}
-use Rattle.dmf_net.specs.Side.{CutSide, IsSmallestSide, HasOneSmallestSide}
-use Rattle.dmf_net.specs.Change.{Change, change_fault, HasOneOutcome}
+use Rattle.dmf_net.specs.Side.{CutSide, IsSmallestSide}
+use Rattle.dmf_net.specs.Change.{Change, change_fault}
 use Rattle.dmf_net.specs.Change as change
 use Rattle.dmf_session.specs.declared.command.Command.TheVariants.{Cap, Add, Close, Solve, Undo, Redo, PrintProblem, PrintFlow, PrintCut}
 use Rattle.dmf_session.specs.declared.command.Reply.{Reply}
@@ -19,6 +19,7 @@ use Rattle.dmf_session.specs.Step.{Changes, IsChanged, IsRefused, IsMoved, IsSol
 use Rattle.dmf_session.specs.Laws.{HasStates, HasOneAnswer}
 use Rattle.dmf_session.proofs.Optimal.{not-surpassed}
 use Rattle.dmf_session.proofs.Appending.{one-present, is-state}
+use Rattle.dmf_net.specs.Laws.{HasOneSmallestSide, HasOneOutcome}
 
 -- what is so of networks
 pub record NetworkOneLaws : Type 0 where

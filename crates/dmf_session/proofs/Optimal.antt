@@ -5,11 +5,11 @@ use Rattle.std.proofs.lemmas.Option.{slice_get_within}
 use Rattle.dmf_net.specs.Network.{Network, IsNetwork}
 use Rattle.dmf_net.specs.NetworkState.{NetworkState}
 use Rattle.dmf_net.specs.Greatest.{IsGreatest, IsSurpassed}
-use Rattle.dmf_net.specs.Cut.{MaxFlowMinCut, IsMinimumCut, cut_capacity}
-use Rattle.dmf_net.specs.Laws.{SolvedIsGreatest}
+use Rattle.dmf_net.specs.Cut.{IsMinimumCut, cut_capacity}
+use Rattle.dmf_net.specs.Laws.{SolvedIsGreatest, MaxFlowMinCut}
 use Rattle.dmf_session.specs.Timeline.{Timeline, IsPresent, appended}
-use Rattle.dmf_session.specs.Optimal.{IsOptimal, HasOptimalPresent, GreatestIsOptimal}
-use Rattle.dmf_session.specs.Laws.{SolvedIsOptimal}
+use Rattle.dmf_session.specs.Optimal.{IsOptimal, HasOptimalPresent}
+use Rattle.dmf_session.specs.Laws.{SolvedIsOptimal, GreatestIsOptimal}
 use Rattle.dmf_session.proofs.Appending.{appended-present, is-state}
 
 -- All minimum cuts have one capacity.

@@ -39,3 +39,7 @@ abbrev pub SolvedIsOptimal : Type 0
 SolvedIsOptimal =
     (want_cut : Bool) (t u : Timeline) (reply : Reply) → HasStates t → Answers want_cut t Solve (Ok reply) u
     → HasOptimalPresent u
+
+-- A state of a network whose flow is greatest is optimal.
+abbrev pub GreatestIsOptimal : Type 0
+GreatestIsOptimal = (s : NetworkState) → IsNetwork s.network → IsGreatest s.network s.flows → IsOptimal s

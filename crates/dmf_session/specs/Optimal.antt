@@ -21,7 +21,3 @@ pub record HasOptimalPresent (t : Timeline) : Type 0 where
   pub state : NetworkState
   pub present : IsPresent t state
   pub optimal : IsOptimal state
-
--- A state of a network whose flow is greatest is optimal.
-abbrev pub GreatestIsOptimal : Type 0
-GreatestIsOptimal = (s : NetworkState) → IsNetwork s.network → IsGreatest s.network s.flows → IsOptimal s

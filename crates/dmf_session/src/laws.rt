@@ -1,9 +1,8 @@
-ghost use Rattle.dmf_session.specs.Laws.{HasAnswer, HasOneAnswer, SolvedIsOptimal};
-ghost use Rattle.dmf_session.specs.Optimal.{GreatestIsOptimal};
+ghost use Rattle.dmf_session.specs.Laws.{HasAnswer, HasOneAnswer, SolvedIsOptimal, GreatestIsOptimal};
 
 use dmf_net::{
-    a_smallest_side, an_outcome, greatest_or_surpassed, max_flow_min_cut, one_outcome,
-    one_smallest_side, solved_is_greatest,
+    network_has_smallest_side, change_has_outcome, flow_is_greatest_or_surpassed, max_flow_min_cut, change_has_one_outcome,
+    network_has_one_smallest_side, solved_is_greatest,
 };
 
 /// The law that a greatest flow has as its value the capacity of a minimum cut, and so that of the smallest side.
@@ -23,19 +22,19 @@ pub fn solved_is_optimal()
 }
 
 /// The law that each command has an answer which tells of no want of memory.
-pub fn an_answer()
+pub fn command_has_answer()
     ensures { HasAnswer }
 {
-    an_outcome();
-    a_smallest_side();
-    greatest_or_surpassed();
+    change_has_outcome();
+    network_has_smallest_side();
+    flow_is_greatest_or_surpassed();
 }
 
 /// The law that each command has one answer where memory is there: any two from one timeline are the same, and leave the
 /// same timeline.
-pub fn one_answer()
+pub fn command_has_one_answer()
     ensures { HasOneAnswer }
 {
-    one_outcome();
-    one_smallest_side();
+    change_has_one_outcome();
+    network_has_one_smallest_side();
 }

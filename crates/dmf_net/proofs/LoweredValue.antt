@@ -3,10 +3,10 @@
 use Rattle.std.proofs.Common.{ℕ, ◌≡◌, ◌≢◌, ◌+◌, ◌-◌, ◌*◌, ◌<◌, ◌==◌, List, [], ◌∷◌, length, true, false, cond, refl, ap, ◌∙◌, sym, arith, ⊎_elim, eq-eqb}
 use Rattle.std.proofs.lemmas.Bool.Decides.{eqb_tells}
 use Rattle.dmf_path.specs.Step.{Step}
-use Rattle.dmf_path.specs.Path.{IsLeastPath, has_rank, room_up_to}
+use Rattle.dmf_path.specs.Path.{IsLeastPath, has_rank, bottleneck_up_to}
 use Rattle.dmf_net.specs.Network.{Network, IsNetwork, arc_number, has_arc}
 use Rattle.dmf_net.specs.Flow.{flow_on, IsFlow}
-use Rattle.dmf_net.specs.Drain.{received, carrying_steps, lowered}
+use Rattle.dmf_net.specs.Drain.{value_or_zero, carrying_steps, lowered}
 use Rattle.dmf_net.proofs.Augmenting.{at_end-other}
 use Rattle.dmf_net.proofs.Lowering.{HaveOwnRanks, HaveOwnRanks-least, returned, returned-none, returned-least, balance}
 
@@ -22,10 +22,10 @@ returned-once j amount n (s ∷ path) v own = ⊎_elim
     (eqb_tells s.rank (2 * length n.arcs + 2))
 
 -- What the sink receives falls by what the return link carries.
-pub received-lowered : (n : Network) (j limit : ℕ) (flows : List ℕ) (path : List Step) → limit < flow_on flows j → has_arc n j ≡ true → IsNetwork n → IsFlow n flows → IsLeastPath (carrying_steps n flows) (arc_number n j).head (arc_number n j).tail path →
-    received n (lowered j limit path flows) ≡ received n flows - cond (has_rank path (2 * length n.arcs + 2)) (room_up_to (flow_on flows j - limit) path) 0
-received-lowered n j limit flows path above has network flow least =
-    let amount : ℕ = room_up_to (flow_on flows j - limit) path in
+pub value_or_zero-lowered : (n : Network) (j limit : ℕ) (flows : List ℕ) (path : List Step) → limit < flow_on flows j → has_arc n j ≡ true → IsNetwork n → IsFlow n flows → IsLeastPath (carrying_steps n flows) (arc_number n j).head (arc_number n j).tail path →
+    value_or_zero n (lowered j limit path flows) ≡ value_or_zero n flows - cond (has_rank path (2 * length n.arcs + 2)) (bottleneck_up_to (flow_on flows j - limit) path) 0
+value_or_zero-lowered n j limit flows path above has network flow least =
+    let amount : ℕ = bottleneck_up_to (flow_on flows j - limit) path in
     let same = balance n j limit flows path n.source above has network flow least in
     let out = returned-least n j limit flows path n.source n.source above has network least in
     let into = (returned-least n j limit flows path n.sink n.source above has network least).0 in
