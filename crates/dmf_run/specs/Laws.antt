@@ -8,9 +8,13 @@ use Rattle.dmf_session.specs.declared.command.Reply.{Reply}
 use Rattle.dmf_session.specs.declared.command.Refusal.{Refusal}
 use Rattle.dmf_session.specs.Timeline.{Timeline, start}
 use Rattle.dmf_session.specs.Step.{Steps, Answers}
-use Rattle.dmf_session.specs.Optimal.{HasOptimalPresent}
+use Rattle.dmf_session.specs.Optimal.{IsOptimal, HasOptimalPresent}
+use Rattle.dmf_run.specs.declared.fault.Status.{Status}
+use Rattle.dmf_run.specs.declared.fault.EngineFault.{EngineFault}
+use Rattle.dmf_run.specs.Streams.{Reader, Writer}
 use Rattle.dmf_run.specs.Run.{Answering, Runs}
 use Rattle.dmf_run.specs.Outcome.{RunsAll}
+use Rattle.dmf_run.specs.SolveRun.{WritesSolved}
 
 -- A run of the command text that was given, from the timeline `t`: what it writes, and whether a line is refused.
 pub record SomeRun (Gives : Answering) (t : Timeline) (given : List ℕ) : Type 0 where

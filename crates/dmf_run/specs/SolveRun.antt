@@ -6,7 +6,6 @@ use Rattle.std.specs.Io.KnownBytes.{Consumes}
 use Rattle.dmf_net.specs.NetworkState.{NetworkState}
 use Rattle.dmf_net.specs.Change.{Solve, Becomes}
 use Rattle.dmf_net.specs.Side.{CutSide}
-use Rattle.dmf_session.specs.Optimal.{IsOptimal}
 use Rattle.dmf_session.specs.Step.{IsSideWanted}
 use Rattle.dmf_text.specs.Writing.{Writes}
 use Rattle.dmf_run.specs.declared.fault.Status.{Status}

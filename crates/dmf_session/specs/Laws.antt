@@ -1,7 +1,9 @@
 -- Where memory is there each command has an answer, and one alone; and after a solve the present state is optimal.
 -- Public: a public contract says no more than this.
 use Rattle.std.specs.Prelude.{◌≡◌, ◌≢◌, ◌<◌, length, All, Bool, Result, Ok, Err}
-use Rattle.dmf_net.specs.NetworkState.{IsState}
+use Rattle.dmf_net.specs.Network.{IsNetwork}
+use Rattle.dmf_net.specs.NetworkState.{NetworkState, IsState}
+use Rattle.dmf_net.specs.Greatest.{IsGreatest}
 use Rattle.dmf_session.specs.declared.command.Command.{Command}
 use Rattle.dmf_session.specs.declared.command.Command.TheVariants.{Solve}
 use Rattle.dmf_session.specs.declared.command.Reply.{Reply}
@@ -9,7 +11,7 @@ use Rattle.dmf_session.specs.declared.command.Refusal.{Refusal}
 use Rattle.dmf_session.specs.declared.command.Refusal.TheVariants.{NoMemory}
 use Rattle.dmf_session.specs.Timeline.{Timeline}
 use Rattle.dmf_session.specs.Step.{Steps, Answers}
-use Rattle.dmf_session.specs.Optimal.{HasOptimalPresent}
+use Rattle.dmf_session.specs.Optimal.{IsOptimal, HasOptimalPresent}
 
 -- The place is in the list, and what stands in the list are states.
 pub record HasStates (t : Timeline) : Type 0 where
@@ -34,12 +36,12 @@ HasOneAnswer =
     (want_cut : Bool) (t u v : Timeline) (command : Command) (result other : Result Reply Refusal) → HasStates t
     → Steps want_cut t command result u → Steps want_cut t command other v → (result ≡ other) × (u ≡ v)
 
+-- A state of a network whose flow is greatest is optimal.
+abbrev pub GreatestIsOptimal : Type 0
+GreatestIsOptimal = (s : NetworkState) → IsNetwork s.network → IsGreatest s.network s.flows → IsOptimal s
+
 -- After a solve that was not refused the present state is optimal.
 abbrev pub SolvedIsOptimal : Type 0
 SolvedIsOptimal =
     (want_cut : Bool) (t u : Timeline) (reply : Reply) → HasStates t → Answers want_cut t Solve (Ok reply) u
     → HasOptimalPresent u
-
--- A state of a network whose flow is greatest is optimal.
-abbrev pub GreatestIsOptimal : Type 0
-GreatestIsOptimal = (s : NetworkState) → IsNetwork s.network → IsGreatest s.network s.flows → IsOptimal s
