@@ -14,7 +14,7 @@ use Rattle.dmf_net.specs.declared.edit.Edit.{Edit}
 use Rattle.dmf_net.specs.declared.edit.Edit.TheVariants.{Cap, Add, Close, Solve}
 use Rattle.dmf_net.specs.declared.edit.Move.{Move}
 use Rattle.dmf_net.specs.Arc.{no_arc, capacity_sum, with_cap, closed_arc, open_arc}
-use Rattle.dmf_net.specs.Edit.{moved, moves_of, applied, MovesFit}
+use Rattle.dmf_net.specs.Edit.{moved, applied, MovesFit}
 use Rattle.dmf_net.specs.Edited.{arc_after, added_arc}
 use Rattle.dmf_net.specs.Flow.{AreWithinCapacities, flow_value}
 use Rattle.dmf_net.specs.FlowSums.{IsNodeFlow}
@@ -62,13 +62,6 @@ put-all moves last_flows i flows long a = subst (λ ms. moved ms flows ≡ last_
 abbrev pub AddsNone : Edit → Type 0
 AddsNone edit = (tail head cap : ℕ) → edit ≡ Add tail head cap → ⊥
 
--- Then its moves make the flows after it.
-pub flows-moved : (edit : Edit) (s : NetworkState) → AddsNone edit → (applied edit s).flows ≡ moved (moves_of edit) s.flows
-flows-moved (Cap j old new moves) s none = refl
-flows-moved (Close j old moves) s none = refl
-flows-moved (Add tail head cap) s none = absurd (none tail head cap refl)
-flows-moved (Solve moves) s none = refl
-
 -- ---- arcs
 
 -- an arc that was there before
@@ -108,12 +101,6 @@ nodes-after (Cap j old new moves) s = refl
 nodes-after (Close j old moves) s = refl
 nodes-after (Add tail head cap) s = refl
 nodes-after (Solve moves) s = refl
-
-pub source-after : (edit : Edit) (s : NetworkState) → (applied edit s).network.source ≡ s.network.source
-source-after (Cap j old new moves) s = refl
-source-after (Close j old moves) s = refl
-source-after (Add tail head cap) s = refl
-source-after (Solve moves) s = refl
 
 pub sink-after : (edit : Edit) (s : NetworkState) → (applied edit s).network.sink ≡ s.network.sink
 sink-after (Cap j old new moves) s = refl

@@ -26,17 +26,6 @@ cases-set labels v u label within =
     (λ (elsewhere : ((u == v) ≡ false) × (u ≢ v)). inr (elsewhere.1, get_or-set_other labels v u label 0 elsewhere.1))
     (eqb_tells u v)
 
--- before the first link
-pub spreads-first : (heads opens labels : List ℕ) (from label : ℕ) → Spreads heads opens from from label labels labels []
-spreads-first heads opens labels from label = record {
-  kept = λ v some. refl;
-  done = λ p after before opened. absurd (omega arith);
-  listed = λ v within none some. absurd (some none);
-  labelled = λ v none. absurd (omega (arith, none.1));
-  led_to = λ v none. absurd (omega (arith, none.1));
-  counted = omega arith;
-}
-
 -- one place more from which a node is led to
 led_to-next : (heads opens : List ℕ) (from end v : ℕ) → IsLedTo heads opens from end v → IsLedTo heads opens from (end + 1) v
 led_to-next heads opens from end v led = record {

@@ -1,9 +1,8 @@
 -- Texts that are put one after the other, and flushed.
-use Rattle.std.proofs.Common.{◌≡◌, ℕ, List, [], ◌∷◌, ◌++◌, Bool, Option, Result, Ok, Err, append_assoc, append-nil, subst, sym, ap, ◌∙◌}
+use Rattle.std.proofs.Common.{◌≡◌, ℕ, List, [], ◌++◌, Bool, Option, Result, Ok, Err, append_assoc, append-nil, subst, sym, ap, ◌∙◌}
 use Rattle.std.specs.Io.KnownBytes.{Appends}
 use Rattle.std.proofs.KnownBytes.{Appends-trans}
 use Rattle.dmf_text.specs.Writing.{Writes}
-use Rattle.dmf_text.specs.Written.{written_line}
 
 -- A text that was put, and then another.
 pub Writes-more : {S V E : Type 0} (contents : S → Option (List ℕ)) (has_failed : S → Bool) (a b c : S) (outcome : Result V E) (text more : List ℕ) → Appends (contents a) (contents b) text → has_failed b ≡ has_failed a → Writes contents has_failed b c outcome more → Writes contents has_failed a c outcome (text ++ more)

@@ -1,7 +1,9 @@
 ghost use Rattle.dmf_run.specs.Laws.{HasRun, HasOneRun, StepsAreAnswers, SolvesAreOptimal, RunsAreOptimal, WrittenIsOptimal};
 
 use dmf_net::solved_is_greatest;
-use dmf_session::{command_has_answer, greatest_is_optimal, command_has_one_answer, solved_is_optimal};
+use dmf_session::{
+    command_has_answer, command_has_one_answer, greatest_is_optimal, solved_is_optimal,
+};
 use dmf_text::accepted_is_state;
 
 /// The law that from the start of each state each command text, of any bytes, has a run in which no command is refused

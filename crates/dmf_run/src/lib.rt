@@ -6,7 +6,10 @@ pub use command_text::read_command;
 pub use fault::{EngineFault, Status, status_of};
 pub use input::MAX_BYTES;
 pub use kept_line::MAX_LINE;
-pub use laws::{command_text_has_run, command_text_has_one_run, solves_are_optimal, steps_are_answers, written_is_optimal};
+pub use laws::{
+    command_text_has_one_run, command_text_has_run, solves_are_optimal, steps_are_answers,
+    written_is_optimal,
+};
 pub use refusal::refusal_text;
 pub use session::{MAX_LINES, run_commands, run_session};
 pub use solve::run_solve;

@@ -2,7 +2,6 @@
 -- Public: a public contract says no more than this.
 use Rattle.std.specs.Prelude.{◌≡◌, pos}
 use Rattle.dmf_net.specs.Flow.{flow_value}
-use Rattle.dmf_net.specs.Network.{IsNetwork}
 use Rattle.dmf_net.specs.NetworkState.{NetworkState}
 use Rattle.dmf_net.specs.Greatest.{IsGreatest}
 use Rattle.dmf_net.specs.Cut.{HasMinimumCutOf}

@@ -1,8 +1,8 @@
 ghost use Rattle.dmf_session.specs.Laws.{HasAnswer, HasOneAnswer, SolvedIsOptimal, GreatestIsOptimal};
 
 use dmf_net::{
-    network_has_smallest_side, change_has_outcome, flow_is_greatest_or_surpassed, max_flow_min_cut, change_has_one_outcome,
-    network_has_one_smallest_side, solved_is_greatest,
+    change_has_one_outcome, change_has_outcome, flow_is_greatest_or_surpassed, max_flow_min_cut,
+    network_has_one_smallest_side, network_has_smallest_side, solved_is_greatest,
 };
 
 /// The law that a greatest flow has as its value the capacity of a minimum cut, and so that of the smallest side.

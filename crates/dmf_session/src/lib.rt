@@ -4,7 +4,9 @@
 pub use command::{Command, Refusal, Reply};
 pub use delta::DeltaHistory;
 pub use history::{History, MAX_CHANGES, NothingToUndo, RedoFault};
-pub use laws::{command_has_answer, greatest_is_optimal, command_has_one_answer, solved_is_optimal};
+pub use laws::{
+    command_has_answer, command_has_one_answer, greatest_is_optimal, solved_is_optimal,
+};
 pub use session::Session;
 pub use whole::WholeHistory;
 
