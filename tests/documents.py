@@ -1,6 +1,6 @@
 """Compares what stands twice in the repository, and looks for definitions and lemmas that nothing uses:
 
-- the example of each library's README is the test that it is;
+- the examples of README.md and of each library's README are the tests that they are;
 - docs/FILES.md has each file of definitions and lemmas with its first words (--write puts them there);
 - each definition and lemma is named by the rest of its file, or by a file that names its file.
 
@@ -19,9 +19,8 @@ HEAD = re.compile(r"^(?:[a-z]+ )*([^\s:(]+)(?= *[:(])")
 WORD = re.compile(r"[^\s(){}\[\],;.`\"]+")
 
 
-def wrong_examples(library):
-    """What is wrong with the example of a library's README."""
-    page = Path(f"crates/dmf_{library}/README.md")
+def wrong_examples(library, page):
+    """What is wrong with the example on a page, which is that of a library."""
     test = Path(f"crates/dmf_rows/src/examples/{library}.rt")
     if CODE.findall(page.read_text()) != [test.read_text()]:
         yield f"the example of {page} is not {test}"
@@ -101,7 +100,8 @@ def unused():
 def main():
     if sys.argv[1:] == ["--write"]:
         FILES.write_text(files_text())
-    checks = [*([*wrong_examples(library)] for library in LIBRARIES), [*wrong_files()], [*unused()]]
+    pages = [("session", Path("README.md")), *((it, Path(f"crates/dmf_{it}/README.md")) for it in LIBRARIES)]
+    checks = [*([*wrong_examples(*page)] for page in pages), [*wrong_files()], [*unused()]]
     for found in checks:
         print(*found, sep="\n", end="\n" if found else "")
     failed = sum(map(bool, checks))
