@@ -2,7 +2,7 @@
 #![tactic(auto)]
 
 pub use arc::Arc;
-pub use edit::{Edit, Move};
+pub use edit::{Edit, Move, Shutting};
 pub use fault::{ArcFault, CutFault, FlowFault, NetFault, NoMemory, PlanFault};
 pub use laws::{
     change_has_one_outcome, change_has_outcome, edit_has_one_state_before,
@@ -10,7 +10,7 @@ pub use laws::{
     network_has_smallest_side, reverting_gives_back, solved_is_greatest,
 };
 pub use limits::{MAX_ARCS, MAX_NODES};
-pub use plan::{plan_add, plan_cap, plan_close, plan_solve, plan_solve_with_side};
+pub use plan::{plan_add, plan_cap, plan_close, plan_shut, plan_solve, plan_solve_with_side};
 pub use side::{Side, side_after, smallest_side};
 pub use side_ids::SideIds;
 pub use solve::is_greatest;
@@ -38,6 +38,7 @@ mod revert;
 mod revert_tests;
 #[cfg(test)]
 mod scanning;
+mod shut;
 mod side;
 mod side_ids;
 mod solve;

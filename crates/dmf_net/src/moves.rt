@@ -21,20 +21,22 @@ pub enum FlowLink {
 }
 
 /// The moves of the arcs on which the flow that a search has reached differs from that before, in the order of their
-/// numbers.
+/// numbers. Where an arc has no pair, `unpaired` has its flow.
 pub fn list_moves(
     alloc: Global,
     before: &[u64],
+    unpaired: &[u64],
     search: &Search,
     link: FlowLink,
 ) -> Result<Vec<Move>, AllocError>
+    requires unpaired { length unpaired.now ≡ length before.now }
     requires one_each { length before.now ≤ length search.now.pairs }
     requires at_most_arcs { length before.now ≤ 2 ^ 27 }
-    ensures { IfOk result (λ moves. moves.items ≡ differences 1 before.now (flows_read link before.now search.now.pairs)) }
+    ensures { IfOk result (λ moves. moves.items ≡ differences 1 before.now (flows_read link unpaired.now search.now.pairs)) }
 {
     let mut moves = Vec::new(alloc);
     for (i, &from) in before.iter().enumerate() {
-        let to = flow_read(search, i, link, from);
+        let to = flow_read(search, i, link, unpaired[i]);
         if from != to {
             let arc = i as u32 + 1;
             moves.push(Move { arc, from, to })?;
@@ -43,16 +45,16 @@ pub fn list_moves(
     Ok(moves)
 }
 
-/// The flow that a search has reached on the arc at index `k`: where the arc has no pair, what flowed at first.
-fn flow_read(search: &Search, k: usize, link: FlowLink, first: u64) -> u64
+/// The flow that a search has reached on the arc at index `k`: where the arc has no pair, `unpaired`.
+fn flow_read(search: &Search, k: usize, link: FlowLink, unpaired: u64) -> u64
     requires { k < length search.now.pairs }
-    ensures { result ≡ flow_read link first (pair_number search.now.pairs k) }
+    ensures { result ≡ flow_read link unpaired (pair_number search.now.pairs k) }
 {
     let room = match link {
         FlowLink::Along => search.along(k),
         FlowLink::Against => search.against(k),
     };
-    room.unwrap_or(first)
+    room.unwrap_or(unpaired)
 }
 
 /// Whether moves are made or taken back.

@@ -3,12 +3,12 @@ ghost use Rattle.std.specs.Prelude.{◌≡◌, true, ◌+◌, ◌-◌, ◌^◌, 
 ghost use Rattle.dmf_net.specs.Arc.{capacity_sum};
 ghost use Rattle.dmf_net.specs.Network.{arc_number, has_arc, with_arc};
 ghost use Rattle.dmf_net.specs.NetworkState.{IsState, with_flows};
-ghost use Rattle.dmf_net.specs.Direction.{along, HasIdleLast};
-ghost use Rattle.dmf_net.specs.Edit.{moved, applied, AddsArc, MovesFit, Fits};
-ghost use Rattle.dmf_net.specs.Revert.{without_last};
+ghost use Rattle.dmf_net.specs.Direction.{along, AreClosed, HasIdleLast};
+ghost use Rattle.dmf_net.specs.Edit.{moved, applied, with_closed, AddsArc, AreOpenWith, MovesFit, Fits};
+ghost use Rattle.dmf_net.specs.Revert.{with_opened, without_last};
 
 use crate::arc::Arc;
-use crate::edit::{Edit, Move};
+use crate::edit::{Edit, Move, Shutting};
 use crate::fault::NoMemory;
 use crate::moves::{Direction, make_moves};
 use crate::state::State;
@@ -43,6 +43,14 @@ impl State {
                 self.change_arc(j, arc, moves, Direction::Forward);
                 Ok(())
             }
+            Edit::Shut {
+                ref arcs,
+                ref moves,
+            } => {
+                self.move_flows(moves, Direction::Forward);
+                self.close_all(arcs);
+                Ok(())
+            }
             Edit::Add { tail, head, cap } => self.append(Arc::open(tail, head, cap)),
             Edit::Solve { ref moves } => {
                 self.move_flows(moves, Direction::Forward);
@@ -75,6 +83,30 @@ impl State {
         } else {
             self.set_arc(j, arc);
             self.move_flows(moves, direction);
+        }
+    }
+
+    /// Closes these arcs, on which nothing flows.
+    fn close_all(&mut self, arcs: &[Shutting])
+        requires are_open { AreOpenWith 0 arcs.now self.old.network }
+        requires state { IsState (record { network = with_closed arcs.now self.old.network; flows = self.old.flows }) }
+        ensures { self.new ≡ record { network = with_closed arcs.now self.old.network; flows = self.old.flows } }
+    {
+        for shutting in arcs {
+            let arc = self.arc(shutting.arc).close();
+            self.set_arc(shutting.arc, arc);
+        }
+    }
+
+    /// Opens these arcs, which were closed together.
+    pub(crate) fn open_all(&mut self, arcs: &[Shutting])
+        requires { AreClosed arcs.now self.old }
+        ensures { self.new ≡ record { network = with_opened arcs.now self.old.network; flows = self.old.flows } }
+    {
+        for shutting in arcs {
+            let arc = self.arc(shutting.arc);
+            let arc = Arc::open(arc.tail, arc.head, shutting.old);
+            self.set_arc(shutting.arc, arc);
         }
     }
 
