@@ -11,8 +11,8 @@ from shared import ROOT, dmf
 
 
 def main():
-    """Runs the examples of the client and of README.md, and the tests of this folder. Names what failed and what was skipped, and gives the status."""
-    suite = unittest.defaultTestLoader.loadTestsFromNames(["by_hand", "refusals", "ends", "random_sessions"])
+    """Runs the examples of the client and of README.md, and the tests of this folder. Names what failed and what was skipped."""
+    suite = unittest.defaultTestLoader.loadTestsFromNames(["by_hand", "each_refusal", "ends", "random_sessions"])
     suite.addTests(doctest.DocTestSuite(dmf))
     suite.addTests(doctest.DocFileSuite(f"{ROOT}/README.md", module_relative=False))
     result = unittest.TestResult()

@@ -5,7 +5,7 @@ import sys
 
 ROOT = os.path.dirname(os.path.dirname(os.path.dirname(os.path.abspath(__file__))))
 CLIENT = f"{ROOT}/clients/python"
-sys.path[:0] = [CLIENT, f"{ROOT}/tests"]
+sys.path[1:1] = [CLIENT, f"{ROOT}/tests"]
 
 import dmf  # noqa: E402
 
