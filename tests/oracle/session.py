@@ -13,13 +13,14 @@ FIELDS = {
     b"cap": {2},
     b"add": {3},
     b"close": {1},
+    b"shut": {1},
     b"solve": {0},
     b"undo": {0, 1},
     b"redo": {0, 1},
     b"print": {1},
 }
 PRINTED = {b"problem", b"flow", b"cut"}
-CHANGES = {"cap": changes.cap, "add": changes.add, "close": changes.close, "solve": changes.solve}
+CHANGES = {"cap": changes.cap, "add": changes.add, "close": changes.close, "shut": changes.shut, "solve": changes.solve}
 
 
 def command_of(line, is_ended):

@@ -17,6 +17,7 @@ pub mod Carrying
 pub mod CarryingSteps
 pub mod ChangedArc
 pub mod ChangedState
+pub mod ClosedTogether
 pub mod EditedState
 pub mod Lowering
 pub mod Draining

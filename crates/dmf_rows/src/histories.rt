@@ -1,7 +1,7 @@
 //! Sessions over a history of edits and over a history of whole states write the same.
 ghost use Rattle.std.specs.Prelude.{◌<◌};
 
-use crate::networks::{FULL_ARC, LENIENT, NETWORK_A, NETWORK_B, TWO_SHORTEST};
+use crate::networks::{FULL_ARC, LENIENT, NETWORK_A, NETWORK_B, PARALLEL, TWO_SHORTEST};
 use crate::streams::{hold, hold_whole};
 use std::alloc::Global;
 use std::test::Fail;
@@ -32,7 +32,7 @@ impl Draws {
 
 /// A command line. Most of them are accepted.
 fn random_command(alloc: Global, draws: &mut Draws) -> Result<String, Fail> {
-    let kind = draws.below(12);
+    let kind = draws.below(13);
     let first = draws.below(7);
     let second = draws.below(7);
     let third = draws.below(9);
@@ -43,7 +43,8 @@ fn random_command(alloc: Global, draws: &mut Draws) -> Result<String, Fail> {
         4 | 5 => format!(in alloc; "solve\n")?,
         6 | 7 => format!(in alloc; "undo {first}\n")?,
         8 | 9 => format!(in alloc; "redo {second}\n")?,
-        10 => format!(in alloc; "print flow\n")?,
+        10 => format!(in alloc; "shut {first}\n")?,
+        11 => format!(in alloc; "print flow\n")?,
         _ => format!(in alloc; "print problem\n")?,
     })
 }
@@ -60,7 +61,14 @@ fn random_script(alloc: Global, draws: &mut Draws) -> Result<Vec<u8>, Fail> {
 fn random_sessions_are_the_same_over_both_histories(rt: HostRuntime) -> Result<(), Fail> {
     let alloc = rt.alloc();
     let mut draws = Draws { seed: 20_262 };
-    for problem in [NETWORK_A, NETWORK_B, FULL_ARC, LENIENT, TWO_SHORTEST] {
+    for problem in [
+        NETWORK_A,
+        NETWORK_B,
+        FULL_ARC,
+        LENIENT,
+        TWO_SHORTEST,
+        PARALLEL,
+    ] {
         for _ in 0..SCRIPTS {
             let script = random_script(alloc, &mut draws)?;
             let mut written = Vec::new(alloc);

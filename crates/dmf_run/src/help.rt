@@ -54,6 +54,7 @@ pub const SESSION_NOTES: &str = "Commands, one a line on standard input, and the
   cap I U     arc I gets the capacity U           c cap value VALUE
   add A B U   an arc from A to B of capacity U    c add I value VALUE
   close I     nothing may flow on arc I any more  c close value VALUE
+  shut A      every open arc at node A is closed  c shut value VALUE
   solve       the flow becomes a greatest one     the solution
   undo [K]    the last change, or K, taken back   c undo value VALUE
   redo [K]    one change, or K, made again        c redo value VALUE
