@@ -46,3 +46,4 @@ pub mod DrainedInTurn
 pub mod ClosedArcs
 pub mod OpenArcs
 pub mod DrainedLoops
+pub mod ClosedStates
