@@ -43,3 +43,7 @@ pub mod LoweredValue
 pub mod CarryingPairs
 pub mod LoweredPairs
 pub mod DrainingSearch
+pub mod DrainedInTurn
+pub mod ClosedArcs
+pub mod OpenArcs
+pub mod DrainedLoops

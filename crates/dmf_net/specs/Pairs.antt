@@ -101,8 +101,8 @@ pub record Carries (s : NetworkState) (unpaired flows : List ℕ) (search : Sear
   pub takes_none_back : search.takes_back ≡ false
 
 -- The same, of the flows that are read off the search and the list.
-abbrev pub IsCarrying : NetworkState → List ℕ → Searched → Type 0
-IsCarrying s unpaired search = Carries s unpaired (flows_read Along unpaired search.pairs) search
+abbrev pub IsCarryingSearch : NetworkState → List ℕ → Searched → Type 0
+IsCarryingSearch s unpaired search = Carries s unpaired (flows_read Along unpaired search.pairs) search
 
 -- the flows that a search for augmenting paths has reached from those of the state
 abbrev pub reached_flows : NetworkState → Searched → List ℕ

@@ -4,7 +4,7 @@ ghost use Rattle.dmf_net.specs.Network.{arc_number, has_arc};
 ghost use Rattle.dmf_net.specs.Flow.{flow_on};
 ghost use Rattle.dmf_net.specs.Drain.{Drains};
 ghost use Rattle.dmf_net.specs.Moves.{AreDrainingMoves};
-ghost use Rattle.dmf_net.specs.Pairs.{IsCarrying, flows_read};
+ghost use Rattle.dmf_net.specs.Pairs.{IsCarryingSearch, flows_read};
 
 use crate::carrying_pairs::CarryingPairs;
 use crate::edit::Move;
@@ -49,7 +49,7 @@ fn loop_moves(alloc: Global, j: u32, flow: u64, limit: u64) -> Result<Vec<Move>,
 
 /// A search over the carrying steps of the state's flow, which is aimed at nothing yet.
 pub fn carrying_search(alloc: Global, state: &State) -> Result<Search, AllocError>
-    ensures carrying { IfOk result (IsCarrying state.now state.now.flows) }
+    ensures carrying { IfOk result (IsCarryingSearch state.now state.now.flows) }
     ensures flows { IfOk result (λ search. flows_read Along state.now.flows search.pairs ≡ state.now.flows) }
 {
     let pairs = CarryingPairs { state };
@@ -68,9 +68,9 @@ pub fn carrying_search(alloc: Global, state: &State) -> Result<Search, AllocErro
 pub fn drain_along(state: &State, j: u32, limit: u64, search: &mut Search)
     requires is_there { has_arc state.now.network j ≡ true }
     requires no_loop { (arc_number state.now.network j).tail ≢ (arc_number state.now.network j).head }
-    requires carrying { (unpaired : List ℕ) × IsCarrying state.now unpaired search.old }
-    ensures { (unpaired : List ℕ) → IsCarrying state.now unpaired search.old →
-        IsCarrying state.now unpaired search.new
+    requires carrying { (unpaired : List ℕ) × IsCarryingSearch state.now unpaired search.old }
+    ensures { (unpaired : List ℕ) → IsCarryingSearch state.now unpaired search.old →
+        IsCarryingSearch state.now unpaired search.new
         × Drains state.now.network j limit (flows_read Along unpaired search.old.pairs) (flows_read Along unpaired search.new.pairs) }
 {
     let arc = state.arc(j);

@@ -7,7 +7,7 @@ ghost use Rattle.dmf_net.specs.Edit.{AreOpenWith, numbers};
 ghost use Rattle.dmf_net.specs.Flow.{flow_on_all};
 ghost use Rattle.dmf_net.specs.Moves.{AreShuttingMoves};
 ghost use Rattle.dmf_net.specs.Network.{has_arc};
-ghost use Rattle.dmf_net.specs.Pairs.{IsCarrying, flows_read};
+ghost use Rattle.dmf_net.specs.Pairs.{IsCarryingSearch, flows_read};
 
 use crate::drain::{carrying_search, drain_along};
 use crate::edit::{Move, Shutting};
@@ -23,7 +23,7 @@ pub fn open_arcs_at(alloc: Global, state: &State, v: u32) -> Result<Vec<Shutting
 {
     let mut open = Vec::new(alloc);
     for (i, arc) in state.arcs().iter().enumerate() {
-        if !arc.closed && (arc.tail == v || arc.head == v) {
+        if arc.is_open_at(v) {
             open.push(Shutting {
                 arc: i as u32 + 1,
                 old: arc.cap,
@@ -43,15 +43,16 @@ pub fn shutting_moves(
     requires { AreOpenWith 0 arcs.now state.now.network }
     ensures { IfOk result (λ moves. AreShuttingMoves state.now (numbers arcs.now) moves.items) }
 {
+    let before = state.flows();
     if are_without_flow(state, arcs) {
         return Ok(Vec::new(alloc));
     }
     let mut search = carrying_search(alloc, state)?;
-    let mut unpaired = Vec::from_slice(alloc, state.flows())?;
+    let mut unpaired = Vec::from_slice(alloc, before)?;
     for shutting in arcs {
         drain_in_turn(state, shutting.arc, &mut search, &mut unpaired);
     }
-    list_moves(alloc, state.flows(), &unpaired, &search, FlowLink::Along)
+    list_moves(alloc, before, &unpaired, &search, FlowLink::Along)
 }
 
 /// Whether nothing flows on any of these arcs.
@@ -71,8 +72,8 @@ fn are_without_flow(state: &State, arcs: &[Shutting]) -> bool
 /// back to its tail, and so has no pair, the list alone.
 fn drain_in_turn(state: &State, j: u32, search: &mut Search, unpaired: &mut [u64])
     requires is_there { has_arc state.now.network j ≡ true }
-    requires carrying { IsCarrying state.now unpaired.old search.old }
-    ensures carrying { IsCarrying state.now unpaired.new search.new }
+    requires carrying { IsCarryingSearch state.now unpaired.old search.old }
+    ensures carrying { IsCarryingSearch state.now unpaired.new search.new }
     ensures drains { Drains state.now.network j 0 (flows_read Along unpaired.old search.old.pairs) (flows_read Along unpaired.new search.new.pairs) }
 {
     let arc = state.arc(j);

@@ -1,0 +1,10 @@
+use Rattle.std.proofs.Common.{List, ℕ, drop}
+use Rattle.dmf_net.specs.declared.moves.FlowLink.TheVariants.{Along}
+use Rattle.dmf_net.specs.Edit.{numbers}
+use Rattle.dmf_net.specs.Moves.{DrainsInTurn}
+use Rattle.dmf_net.specs.Pairs.{IsCarryingSearch, flows_read}
+use Rattle.dmf_net.proofs.DrainedInTurn.{AreDrainedUpTo}
+use Rattle.dmf_net.proofs.shut.shutting_moves.Given as goal
+
+abbrev pub invariant-loop-shutting : goal.invariant-loop-shutting
+invariant-loop-shutting l = AreDrainedUpTo l.state (numbers l.arcs) (numbers (drop l.shutting-index l.arcs)) l.unpaired.items l.search
