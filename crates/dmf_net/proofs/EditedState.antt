@@ -1,6 +1,7 @@
 -- A state as an edit leaves it, read through the edit.
 use Rattle.std.proofs.Common.{ℕ, ◌≡◌, ◌≢◌, ◌+◌, ◌-◌, ◌^◌, ◌<◌, ◌≤◌, ◌==◌, List, [], ◌∷◌, ◌++◌, length, get_or, set, take, drop, suc, cond, true, false, sum_by, refl, ap, sym, ◌∙◌, subst, arith, ⊎_elim, eq-eqb}
 use Rattle.std.specs.List.{zip}
+use Rattle.std.specs.List.Sorted.{IsStrictlyIncreasing}
 use Rattle.std.proofs.lemmas.Bool.{ne_eqb}
 use Rattle.std.proofs.lemmas.Bool.Decides.{eqb_tells}
 use Rattle.std.proofs.lemmas.List.{get_or-set_same, get_or-set_other, length-set, length_push, get_or_append_left, take_all}
@@ -14,14 +15,14 @@ use Rattle.dmf_net.specs.declared.edit.Edit.{Edit}
 use Rattle.dmf_net.specs.declared.edit.Edit.TheVariants.{Cap, Add, Close, Shut, Solve}
 use Rattle.dmf_net.specs.declared.edit.Move.{Move}
 use Rattle.dmf_net.specs.Arc.{no_arc, capacity_sum, with_cap, closed_arc, open_arc}
-use Rattle.dmf_net.specs.Edit.{moved, applied, with_closed, MovesFit, ArcFits}
-use Rattle.dmf_net.specs.Edited.{arc_after, added_arc}
+use Rattle.dmf_net.specs.Edit.{moved, applied, numbers, with_closed, MovesFit, ArcFits}
+use Rattle.dmf_net.specs.Edited.{arc_after, added_arc, shuttings_of}
 use Rattle.dmf_net.specs.Flow.{AreWithinCapacities, flow_value}
 use Rattle.dmf_net.specs.FlowSums.{IsNodeFlow}
-use Rattle.dmf_net.specs.Network.{arc_number}
+use Rattle.dmf_net.specs.Network.{Network, arc_number}
 use Rattle.dmf_net.specs.NetworkState.{NetworkState}
 use Rattle.dmf_net.proofs.ChangedArc.{flow_value-with_arc}
-use Rattle.dmf_net.proofs.ClosedTogether.{arc-closed, length-closed, nodes-closed, sink-closed, value-with_closed}
+use Rattle.dmf_net.proofs.ClosedTogether.{arc-closed, increasing-open, length-closed, nodes-closed, source-closed, sink-closed, value-with_closed}
 use Rattle.dmf_net.proofs.IdleArc.{flow_value-idle}
 use Rattle.dmf_net.proofs.Moving.{no_move, MovesFit-made}
 use Rattle.dmf_net.proofs.Summing.{at_node, sum-more, part-le, flows-le-capacities}
@@ -66,8 +67,8 @@ AddsNone edit = (tail head cap : ℕ) → edit ≡ Add tail head cap → ⊥
 -- ---- arcs
 
 -- an arc that was there before
-pub arc-after : (edit : Edit) (s : NetworkState) (k : ℕ) → ArcFits edit s.network → k < length s.network.arcs → get_or (applied edit s).network.arcs k no_arc ≡ arc_after edit k (get_or s.network.arcs k no_arc)
-arc-after (Cap j old new moves) s k fits h = ⊎_elim
+pub arc-after : (edit : Edit) (s : NetworkState) (k : ℕ) → IsStrictlyIncreasing (0 ∷ numbers (shuttings_of edit)) → k < length s.network.arcs → get_or (applied edit s).network.arcs k no_arc ≡ arc_after edit k (get_or s.network.arcs k no_arc)
+arc-after (Cap j old new moves) s k increasing h = ⊎_elim
     (λ (here : ((k == j - 1) ≡ true) × (k ≡ j - 1)).
     rw here.0
     (ap (λ i. get_or (set s.network.arcs (j - 1) (with_cap new (arc_number s.network j))) i no_arc) here.1
@@ -75,7 +76,7 @@ arc-after (Cap j old new moves) s k fits h = ⊎_elim
     ∙ ap (λ i. with_cap new (get_or s.network.arcs i no_arc)) (sym here.1)))
     (λ (other : ((k == j - 1) ≡ false) × (k ≢ j - 1)). rw other.0 (get_or-set_other s.network.arcs (j - 1) k (with_cap new (arc_number s.network j)) no_arc other.1))
     (eqb_tells k (j - 1))
-arc-after (Close j old moves) s k fits h = ⊎_elim
+arc-after (Close j old moves) s k increasing h = ⊎_elim
     (λ (here : ((k == j - 1) ≡ true) × (k ≡ j - 1)).
     rw here.0
     (ap (λ i. get_or (set s.network.arcs (j - 1) (closed_arc (arc_number s.network j))) i no_arc) here.1
@@ -83,9 +84,17 @@ arc-after (Close j old moves) s k fits h = ⊎_elim
     ∙ ap (λ i. closed_arc (get_or s.network.arcs i no_arc)) (sym here.1)))
     (λ (other : ((k == j - 1) ≡ false) × (k ≢ j - 1)). rw other.0 (get_or-set_other s.network.arcs (j - 1) k (closed_arc (arc_number s.network j)) no_arc other.1))
     (eqb_tells k (j - 1))
-arc-after (Add tail head cap) s k fits h = get_or_append_left s.network.arcs (open_arc tail head cap ∷ []) no_arc k h
-arc-after (Shut arcs moves) s k fits h = arc-closed 0 arcs.items s.network s.network k fits h
-arc-after (Solve moves) s k fits h = refl
+arc-after (Add tail head cap) s k increasing h = get_or_append_left s.network.arcs (open_arc tail head cap ∷ []) no_arc k h
+arc-after (Shut arcs moves) s k increasing h = arc-closed 0 arcs.items s.network k increasing h
+arc-after (Solve moves) s k increasing h = refl
+
+-- The numbers of the arcs that an edit shuts ascend where it fits.
+pub increasing-fits : (edit : Edit) (n : Network) → ArcFits edit n → IsStrictlyIncreasing (0 ∷ numbers (shuttings_of edit))
+increasing-fits (Shut arcs moves) n fits = increasing-open 0 arcs.items n fits
+increasing-fits (Cap j old new moves) n fits = λ k h. absurd (omega (arith, h))
+increasing-fits (Close j old moves) n fits = λ k h. absurd (omega (arith, h))
+increasing-fits (Add tail head cap) n fits = λ k h. absurd (omega (arith, h))
+increasing-fits (Solve moves) n fits = λ k h. absurd (omega (arith, h))
 
 -- an arc past them
 pub arc-added : (edit : Edit) (s : NetworkState) (k : ℕ) → length s.network.arcs ≤ k → k < length (applied edit s).network.arcs → get_or (applied edit s).network.arcs k no_arc ≡ added_arc edit
@@ -105,6 +114,13 @@ nodes-after (Close j old moves) s = refl
 nodes-after (Add tail head cap) s = refl
 nodes-after (Shut arcs moves) s = nodes-closed arcs.items s.network
 nodes-after (Solve moves) s = refl
+
+pub source-after : (edit : Edit) (s : NetworkState) → (applied edit s).network.source ≡ s.network.source
+source-after (Cap j old new moves) s = refl
+source-after (Close j old moves) s = refl
+source-after (Add tail head cap) s = refl
+source-after (Shut arcs moves) s = source-closed arcs.items s.network
+source-after (Solve moves) s = refl
 
 pub sink-after : (edit : Edit) (s : NetworkState) → (applied edit s).network.sink ≡ s.network.sink
 sink-after (Cap j old new moves) s = refl

@@ -18,6 +18,7 @@ pub mod CarryingSteps
 pub mod ChangedArc
 pub mod ChangedState
 pub mod ClosedTogether
+pub mod FoundArc
 pub mod EditedState
 pub mod Lowering
 pub mod Draining

@@ -1,4 +1,4 @@
-ghost use Rattle.std.specs.Prelude.{◌≡◌, ◌-◌, ◌<◌, ◌^◌, length};
+ghost use Rattle.std.specs.Prelude.{◌≡◌, ◌∷◌, ◌-◌, ◌<◌, ◌^◌, length};
 ghost use Rattle.std.specs.List.Sorted.{IsStrictlyIncreasing};
 ghost use Rattle.dmf_net.specs.Edit.{applied, numbers};
 ghost use Rattle.dmf_net.specs.Edited.{arc_after, added_arc, shuts, shuttings_of};
@@ -16,7 +16,7 @@ pub struct EditedPairs<'a> {
     pub state: &'a State,
     pub edit: &'a Edit,
     pub flows: &'a [u64],
-    ghost ascending: { IsStrictlyIncreasing (numbers (shuttings_of edit.now)) },
+    ghost ascending: { IsStrictlyIncreasing (0 ∷ numbers (shuttings_of edit.now)) },
     ghost one_each: { length flows.now ≡ length (applied edit.now state.now).network.arcs },
 }
 
