@@ -39,6 +39,8 @@ mod revert_tests;
 #[cfg(test)]
 mod scanning;
 mod shut;
+#[cfg(test)]
+mod shut_tests;
 mod side;
 mod side_ids;
 mod solve;
