@@ -25,7 +25,7 @@ list_moves-requires-clause-at_most_arcs c =
 between : (c : goal.In_ok-moves) → AreMovesBetween c.in_ok-moves.moves.items c.args.state.now.flows (reached_flows c.args.state.now c.args.solved.now.search)
 between c =
     moves-between _ _ _ (flows-long c.args.state.now _ c.flows.ensures.state c.requires.state)
-    (rw c.flows.ensures.value at c.in_ok-moves.ensures)
+    (rw (c.flows.ensures.value, c.flows-2.ensures.value) at c.in_ok-moves.ensures)
 
 pub returns-clause-edit : goal.returns-clause-edit
 returns-clause-edit c =
