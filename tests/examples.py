@@ -1,6 +1,11 @@
-"""Runs each example of README.md, of the manual page and of the program's help, and compares what it writes with what
-stands there. An example is a line that begins with '$', and what it writes are the lines behind it."""
+"""Runs each example of README.md, of the manual page and of the program's help, or of the pages that are named, and compares
+what it writes with what stands there. An example is a line that begins with '$', and what it writes are the lines behind it.
+The examples of a page under examples/ are run in its folder, and others at the root; both are copies, where `dmf` is PROGRAM.
 
+    python3 tests/examples.py [--program PROGRAM] [PAGE..]
+"""
+
+import argparse
 import os
 import re
 import shutil
@@ -50,14 +55,14 @@ def examples(lines):
     return found
 
 
-def judge(source, lines, folder):
-    """Says what is wrong with the first of a source's examples that is wrong."""
+def judge(source, lines, top, folder):
+    """Says what is wrong with the first of a source's examples that is wrong. They are run in a folder of the copy."""
     found = examples(lines)
     for command, wanted in found:
         ran = subprocess.run(
             ["sh", "-c", command],
-            cwd=folder,
-            env={**os.environ, "PATH": f"{folder}:{os.environ['PATH']}"},
+            cwd=os.path.join(top, folder),
+            env={**os.environ, "PATH": f"{top}:{top}/tools:{os.environ['PATH']}"},
             capture_output=True,
             text=True,
             timeout=20,
@@ -67,18 +72,35 @@ def judge(source, lines, folder):
     return not found and f"{source} has no example"
 
 
+def copy_to(top, program):
+    os.symlink(os.path.abspath(program), f"{top}/dmf")
+    os.symlink(os.path.abspath("tools"), f"{top}/tools")
+    shutil.copytree("examples", f"{top}/examples")
+    shutil.copy("examples/a.max", f"{top}/network.max")
+
+
+def sources(pages):
+    """Each source with its lines and the folder in which its examples are run."""
+    if pages:
+        for page in pages:
+            folder = os.path.dirname(page)
+            yield page, of_file(page), folder if folder.startswith("examples/") else ""
+        return
+    yield "README.md", of_file("README.md"), ""
+    yield "docs/dmf.1", of_manual("docs/dmf.1"), ""
+    for command in "solve", "session", "check":
+        yield f"dmf {command} --help", of_help(command), ""
+
+
 def main():
-    with tempfile.TemporaryDirectory() as folder:
-        for name in "dmf", "examples":
-            os.symlink(os.path.abspath(name), f"{folder}/{name}")
-        shutil.copy("examples/a.max", f"{folder}/network.max")
-        sources = {
-            "README.md": of_file("README.md"),
-            "docs/dmf.1": of_manual("docs/dmf.1"),
-            **{f"dmf {command} --help": of_help(command) for command in ("solve", "session", "check")},
-        }
-        for source, lines in sources.items():
-            wrong = judge(source, lines, folder)
+    parser = argparse.ArgumentParser()
+    parser.add_argument("--program", default="dmf")
+    parser.add_argument("pages", nargs="*")
+    words = parser.parse_args()
+    with tempfile.TemporaryDirectory() as top:
+        copy_to(top, words.program)
+        for source, lines, folder in sources(words.pages):
+            wrong = judge(source, lines, top, folder)
             if wrong:
                 return wrong
     return 0
