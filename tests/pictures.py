@@ -11,8 +11,8 @@ import subprocess
 import sys
 import tempfile
 
-# The problem of each picture. What is drawn is its solution with the cut.
-PICTURES = {"a": "examples/a.max", "pipes": "examples/pipes.max"}
+# What writes the problem of each picture. What is drawn is its solution with the cut.
+PICTURES = {"town": "cat examples/town.max", "water": "tools/dmf-problem Reservoir Harbour <examples/water/pipes.csv"}
 HEAD = 'digraph dmf {\n  rankdir=LR\n  node [fontname="Helvetica"]\n  edge [fontname="Helvetica", fontsize=11]\n'
 SIDE = 'style="filled", fillcolor="#d3e4f5"'
 CUT = 'color="#c62828", fontcolor="#c62828"'
@@ -148,11 +148,14 @@ def draw(folder, problem, answers, words=()):
     return subprocess.run([tool, *words, *names], cwd=folder, capture_output=True, text=True, timeout=20)
 
 
-def solved(problem):
-    """The text of the picture of a problem's solution and cut."""
-    with open(problem) as text:
-        answer = subprocess.run(["./dmf", "solve", "--cut"], stdin=text, capture_output=True, check=True, timeout=20).stdout
-    ran = subprocess.run(["tools/dmf-dot", problem, "-"], input=answer, capture_output=True, check=True, timeout=20)
+def solved(command):
+    """What `dmf` answers to the problem that a command writes, and the text of its picture."""
+    with tempfile.NamedTemporaryFile() as problem:
+        subprocess.run(command, shell=True, stdout=problem, check=True, timeout=20)
+        with open(problem.name) as text:
+            answer = subprocess.run(["./dmf", "solve", "--cut"], stdin=text, capture_output=True, check=True, timeout=20).stdout
+        words = ["tools/dmf-dot", problem.name, "-"]
+        ran = subprocess.run(words, input=answer, capture_output=True, check=True, timeout=20)
     return answer.decode(), ran.stdout
 
 
@@ -183,7 +186,7 @@ def wrong_texts():
 
 def wrong_large():
     """A problem of some thousand arcs: the arcs of its cut are drawn, and what can be told of their flows is."""
-    answer, text = solved("examples/levels.max")
+    answer, text = solved("cat examples/levels.max")
     lines = text.decode().splitlines()
     flows = [line.split(" [")[1].split('"')[1].split("/") for line in lines if "->" in line and "c62828" in line]
     carried = sum(int(flow) for flow, capacity in flows if flow == capacity)
@@ -193,16 +196,16 @@ def wrong_large():
 
 
 def wrong_pictures():
-    for name, problem in PICTURES.items():
+    for name, command in PICTURES.items():
         with open(f"docs/pictures/{name}.svg") as file:
-            yield texts(file.read()) != texts(svg(solved(problem)[1])) and f"docs/pictures/{name}.svg: --write makes it anew"
+            yield texts(file.read()) != texts(svg(solved(command)[1])) and f"docs/pictures/{name}.svg: --write makes it anew"
 
 
 def main(words):
     if words == ["--write"]:
-        for name, problem in PICTURES.items():
+        for name, command in PICTURES.items():
             with open(f"docs/pictures/{name}.svg", "w") as file:
-                file.write(svg(solved(problem)[1]))
+                file.write(svg(solved(command)[1]))
         return 0
     said = [*wrong_texts(), *wrong_large()]
     if shutil.which("dot"):
