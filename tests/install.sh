@@ -137,6 +137,9 @@ for words in wash "--prefix" "--prefix="; do
 done
 call "help" 0 "$("$root/install" -h)"$'\n' "" --help
 
+"$root/install" --prefix "$work/new" >"$work/out" 2>&1 && "$root/install" --remove --prefix "$work/new" >"$work/out" 2>&1
+same "a folder that was made is removed" "$? $(find "$work/new" 2>&1 | head -c 5)" "0 find:"
+
 # Where it puts all when no folder is named.
 printf '#!/bin/sh\necho 1000\n' >"$root/bin/id"
 chmod 755 "$root/bin/id"
@@ -157,6 +160,10 @@ same "it needs libc alone" "$(ldd "$work/real/bin/dmf" | sed -n 's/^\t\(lib[^ ]*
 
 # The completions.
 export PATH=$work/real/bin:$PATH
+if ! python3 -c 'import pty; pty.openpty()' 2>/dev/null; then
+    echo "skipped: no terminal can be had, so completions were not tried"
+    finish
+fi
 for pair in bash=bash-completion/completions/dmf zsh=zsh/site-functions/_dmf fish=fish/vendor_completions.d/dmf.fish; do
     if command -v "${pair%%=*}" >/dev/null; then
         count_script "$home/tests/completions.py" "${pair%%=*}" "$work/real/share/${pair#*=}"
