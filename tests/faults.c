@@ -1,6 +1,7 @@
 // Preloaded before the C library. It notes a program's calls to the system, and lets one of them fail.
 //
 // FAULT        the call that fails: memory, read, write, open, fcntl or statx; FAULT_AT counts these calls from 1
+// FAULT_ROW    how many of these calls fail in a row; 1 where it is not set
 // FAULT_AS     the error with which it fails, as errno has it; with 0 a read or a write gives or takes nothing
 // FAULT_PIECE  the most bytes that a read gives and a write takes; all that are asked for where it is not set
 // FAULT_CALLS  a file to which a line is added for each read and write, and for the call that failed:
@@ -26,11 +27,12 @@ static unsigned long number_in(const char *name, unsigned long otherwise) {
     return text == NULL ? otherwise : strtoul(text, NULL, 10);
 }
 
-// Whether the call of this name that is made now is the one that fails. `made` counts these calls.
+// Whether the call of this name that is made now is one that fails. `made` counts these calls.
 static int is_due(const char *name, unsigned long *made) {
     const char *fault = getenv("FAULT");
     ++*made;
-    return fault != NULL && strcmp(fault, name) == 0 && *made == number_in("FAULT_AT", 0);
+    unsigned long first = number_in("FAULT_AT", 0);
+    return fault != NULL && strcmp(fault, name) == 0 && *made >= first && *made - first < number_in("FAULT_ROW", 1);
 }
 
 static void note(const char *name, int file, long result) {

@@ -1,8 +1,9 @@
-"""Refuses each request for memory of a run in turn, by the preloaded library that the first argument names.
+"""Refuses each request for memory of a run in turn, and each two in a row, by the preloaded library that the first argument names: a
+vector that is refused room to grow asks again, for just the room that it needs.
 
-A run of which a request was refused ends in one of three ways: with status 5 and nothing written; in a session with one reply
-`c refused L no memory`, where line L is one that may want memory, and all other replies as if that line were a comment; or as
-with ample memory, since a vector that is refused room to grow asks again for just the room that it needs."""
+A run of which requests were refused ends in one of three ways: with status 5 and nothing written; in a session with at most as
+many replies `c refused L no memory`, where line L is one that may want memory, and all other replies as if that line were a
+comment; or as with ample memory."""
 
 import re
 import sys
@@ -29,15 +30,16 @@ MORE = [
 ]
 
 
-def way_of(case, run):
-    """In which of the three ways a run ended, if in one: `nothing`, the number of the refused line, or `ample`."""
+def ways_of(case, run, row):
+    """In which of the three ways a run ended of which so many requests in a row were refused, if in one: `nothing`, the numbers of
+    the refused lines, or `ample`."""
     if OUT_OF_MEMORY.allows(*run):
-        return "nothing"
+        return ["nothing"]
     lines = [int(line) for line in re.findall(rb"^c refused (\d+) no memory$", run.out, re.MULTILINE)]
     # A line that may not be refused memory is not refused by the second implementation.
-    if len(lines) > 1 or not built.wanted(case, Refusals(lines)).allows(*run):
-        return None
-    return lines[0] if lines else "ample"
+    if len(lines) > row or not built.wanted(case, Refusals(lines)).allows(*run):
+        return []
+    return lines or ["ample"]
 
 
 def searches(case):
@@ -48,18 +50,19 @@ def searches(case):
     return {line for line in asked.possible if lines[line - 1] in (b"solve", b"print cut")}
 
 
-def judge(case, library):
-    """Says what is wrong with the runs of a case."""
+def judge(item, library):
+    """Says what is wrong with the runs of a case of which so many requests in a row are refused."""
+    case, row = item
     built.put_problem(case)
     ways = set()
     for number in count(1):
-        run, calls = built.watch(case, library, CALL="memory", AT=number)
+        run, calls = built.watch(case, library, CALL="memory", AT=number, ROW=row)
         if REFUSED not in calls:
             break
-        way = way_of(case, run)
-        if way is None:
-            return f"{case.name}: with request {number} refused the run ends so: {run}"
-        ways.add(way)
+        ended = ways_of(case, run, row)
+        if not ended:
+            return f"{case.name}: with {row} requests from number {number} on refused the run ends so: {run}"
+        ways.update(ended)
     if not built.wanted(case).allows(*run):
         return f"{case.name}: with ample memory the run ends so: {run}"
     missing = {"nothing", *searches(case)} - ways
@@ -68,4 +71,5 @@ def judge(case, library):
 
 if __name__ == "__main__":
     cases = [case for case, _ in WORKED] + MORE
-    sys.exit(built.report(partial(judge, library=sys.argv[1]), cases))
+    items = [(case, row) for case in cases for row in (1, 2)]
+    sys.exit(built.report(partial(judge, library=sys.argv[1]), items))

@@ -19,6 +19,10 @@ pub record Searched : Type 0 where
 abbrev pub with_pairs : Searched → List (Option Pair) → Searched
 with_pairs s pairs = record { nodes = s.nodes; pairs = pairs; start = s.start; goal = s.goal; takes_back = s.takes_back }
 
+-- the search from another start to another goal
+abbrev pub aimed : Searched → ℕ → ℕ → Searched
+aimed s start goal = record { nodes = s.nodes; pairs = s.pairs; start = start; goal = goal; takes_back = s.takes_back }
+
 -- The amount, which is the least of the limit and the rooms on the least path from the start to the goal, is pushed along
 -- that path.
 pub record Augments (limit amount : ℕ) (old new : Searched) : Type 0 where

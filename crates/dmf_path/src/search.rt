@@ -6,7 +6,7 @@ ghost use Rattle.dmf_path.specs.Pair.{ArePairs, steps_of};
 ghost use Rattle.dmf_path.specs.Links.{AreLinks, AreRooms, AreFlags, links_of, open_flag};
 ghost use Rattle.dmf_path.specs.Labels.{is_label};
 ghost use Rattle.dmf_path.specs.Walk.{AreValid, IsWalking, end_of};
-ghost use Rattle.dmf_path.specs.Search.{Augments, HasAlong, along_at, against_at, lowered_along, with_pairs};
+ghost use Rattle.dmf_path.specs.Search.{Augments, HasAlong, along_at, against_at, aimed, lowered_along, with_pairs};
 ghost use Rattle.dmf_path.specs.Searching.{IsUnlabelled};
 
 use crate::label::{NO_LABEL, label_nodes};
@@ -165,6 +165,22 @@ impl Search {
             &mut self.flags,
         );
         keep_open(&self.rooms, &mut self.trail);
+    }
+
+    /// Makes it a search from another start to another goal, over the same links with their present rooms. Takes no memory.
+    pub fn aim(&mut self, start: u32, goal: u32)
+        requires start { IsNode self.old.nodes start }
+        requires goal { IsNode self.old.nodes goal }
+        requires apart { start ≢ goal }
+        ensures { self.new ≡ aimed self.old start goal }
+    {
+        self.start = start;
+        self.goal = goal;
+        // A label that nothing falls to ends the next walk at once.
+        self.labels[start as usize] = 0;
+        let count = self.current.len();
+        self.current.copy_from_slice(&self.table.first[..count]);
+        self.trail.clear();
     }
 
     /// Which nodes paths lead to from the start, that of node 1 first. Takes memory for a mark a node, and for a flag a link.

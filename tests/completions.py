@@ -1,0 +1,144 @@
+"""Compares what the completions of a shell offer with what the help of each command lists.
+
+    python3 tests/completions.py SHELL FILE
+
+FILE has the completions for SHELL (bash, zsh or fish), and `dmf` is found by PATH. Each case types a line and asks what is
+offered there. Prints what is wrong, and then 'N passed, M failed'."""
+
+import os
+import pty
+import re
+import select
+import shlex
+import subprocess
+import sys
+import tempfile
+import time
+
+SECONDS = 20
+PROBLEM = "an odd.max"
+# What a shell is told before it is typed to: a listing is shown at once, and whole.
+PREPARE = {
+    "bash": "bind 'set show-all-if-ambiguous on' 'set completion-query-items 0' 'set enable-bracketed-paste off'; source {file}",
+    "zsh": "fpath=({folder} $fpath); autoload -U compinit; compinit -u -D; LISTMAX=0; setopt no_auto_menu",
+}
+PLAIN = {"bash": ["bash", "--norc", "--noprofile", "-i"], "zsh": ["zsh", "-f", "-i"]}
+
+
+def help_of(*command):
+    return subprocess.run(["dmf", *command, "--help"], capture_output=True, text=True, timeout=SECONDS, check=True).stdout
+
+
+def listed(title, text):
+    """What stands in the first column of a section of a help."""
+    section = re.search(rf"^{title}:\n((?:  .*\n)*)", text, re.MULTILINE)
+    return [re.split(r"\s{2,}", line.strip())[0] for line in section[1].splitlines()] if section else []
+
+
+def options_of(text):
+    """Each option, and whether it takes a value."""
+    return {name: "<" in entry for entry in listed("Options", text) for name in re.findall(r"--?\w[-\w]*", entry)}
+
+
+def cases():
+    """Each line that is typed, with the words that are to be offered at its end, and those that are not."""
+    whole = help_of()
+    commands = set(listed("Commands", whole))
+    texts = {command: help_of(command) for command in commands - {"help"}}
+    assert {"solve", "session", "check", "help"} <= commands and "--cut" in options_of(texts["session"])
+    yield "dmf ", commands, {PROBLEM}
+    yield "dmf s", {it for it in commands if it.startswith("s")}, commands - {"solve", "session"}
+    yield "dmf -", set(options_of(whole)), commands | {"--cut"}
+    yield "dmf help ", commands - {"help"}, {PROBLEM}
+    yield "dmf solve < a", {PROBLEM}, set()
+    for command, text in texts.items():
+        options = options_of(text)
+        yield f"dmf {command} -", set(options), commands | {"--version"} - set(options)
+        yield f"dmf {command} --", {it for it in options if it.startswith("--")}, commands | {PROBLEM}
+        wants_file = bool(listed("Arguments", text))
+        offered, other = ({PROBLEM}, set()) if wants_file else (set(), {PROBLEM})
+        yield f"dmf {command} a", offered, other | commands
+        yield f"dmf {command} one.max a", set(), {PROBLEM}
+        for option, has_value in options.items():
+            if option.startswith("--"):
+                yield f"dmf {command} {option} a", *((set(), {PROBLEM}) if has_value else (offered, other))
+            if has_value:
+                yield f"dmf {command} {option} 7 a", offered, other
+
+
+class Terminal:
+    """A shell that is typed to, and what it shows."""
+
+    def __init__(self, words):
+        self.child, self.file = pty.fork()
+        if self.child == 0:
+            os.environ.update(TERM="dumb", COLUMNS="200", LINES="50")
+            os.execvp(words[0], words)
+        self.shown = ""
+
+    def type(self, text):
+        self.shown = ""
+        os.write(self.file, text.encode())
+
+    def wait(self, is_enough, seconds=SECONDS):
+        """Reads what is shown until it is enough, or so many seconds are over."""
+        end = time.monotonic() + seconds
+        while not is_enough(self.shown) and time.monotonic() < end:
+            if select.select([self.file], [], [], 0.05)[0]:
+                self.shown += os.read(self.file, 65536).decode(errors="replace")
+
+    def end(self):
+        os.close(self.file)
+        os.waitpid(self.child, 0)
+
+
+def words_shown(shown, line):
+    """The words that a terminal shows beside the line that was typed: of each line those before a description."""
+    text = shown.replace("\\", "").replace("\a", "")
+    words = {word for shown_line in text.splitlines() for word in re.split(r"\s+-- ", shown_line)[0].split()}
+    return words - set(line.split()) | ({PROBLEM} if PROBLEM in text else set())
+
+
+def offered_at_terminal(shell, file, line, wanted):
+    """What is offered where a line is typed, and tab twice."""
+    terminal = Terminal(PLAIN[shell])
+    prepare = PREPARE[shell].format(file=shlex.quote(file), folder=shlex.quote(os.path.dirname(file)))
+    terminal.type(f"{prepare}; PS1=; echo rea''dy\n")
+    terminal.wait(lambda shown: "ready\r\n" in shown)
+    terminal.type(f"{line}\t\t")
+    terminal.wait(lambda shown: wanted and wanted <= words_shown(shown, line), SECONDS if wanted else 0.5)
+    terminal.end()
+    return words_shown(terminal.shown, line)
+
+
+def offered_by_fish(file, line):
+    command = f"source {shlex.quote(file)}; complete -C {shlex.quote(line)}"
+    ran = subprocess.run(["fish", "--no-config", "-c", command], capture_output=True, text=True, timeout=SECONDS)
+    return {offer.split("\t")[0] for offer in ran.stdout.splitlines()}
+
+
+def judge(shell, file, line, wanted, others):
+    """What is wrong with what is offered at the end of a line."""
+    offered = offered_by_fish(file, line) if shell == "fish" else offered_at_terminal(shell, file, line, wanted)
+    missing, wrong = wanted - offered, others & offered
+    if missing or wrong:
+        return f"{shell}: {line!r}: not offered: {sorted(missing)}, offered: {sorted(wrong)}"
+    return None
+
+
+def main(shell, file):
+    file = os.path.abspath(file)
+    with tempfile.TemporaryDirectory() as folder:
+        os.chdir(folder)
+        for name in PROBLEM, "one.max":
+            open(name, "w").close()
+        said = [judge(shell, file, *case) for case in cases()]
+    failed = [wrong for wrong in said if wrong]
+    for wrong in failed:
+        print(f"failed: {wrong}")
+    print(f"{len(said) - len(failed)} passed, {len(failed)} failed")
+    return len(failed) > 0
+
+
+if __name__ == "__main__":
+    sys.exit(main(*sys.argv[1:]))
