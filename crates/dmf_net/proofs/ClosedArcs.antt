@@ -1,6 +1,6 @@
 -- Arcs closed in turn: the ends stay, so an arc of the one network is drained as that of the other.
 use Rattle.std.proofs.Common.{ℕ, ◌≡◌, ◌≢◌, ◌+◌, ◌-◌, ◌*◌, ◌<◌, ◌≤◌, true, false, List, [], ◌∷◌, ◌++◌, length, get_or, set, drop, zero, suc, map, refl, ap, sym, ◌∙◌, subst, arith}
-use Rattle.std.proofs.lemmas.List.{length-set, get_or-set_other, set_comm}
+use Rattle.std.proofs.lemmas.List.{length-set, get_or-set_same, get_or-set_other, set_comm}
 use Rattle.std.proofs.Math.ListN.{drop_of_length-le}
 use Rattle.std.proofs.Math.Seq.{drop-cons}
 use Rattle.dmf_path.specs.Step.{Step}
@@ -11,11 +11,12 @@ use Rattle.dmf_net.specs.Arc.{no_arc, closed_arc}
 use Rattle.dmf_net.specs.Change.{Closes}
 use Rattle.dmf_net.specs.Drain.{carried, carried_from, value_or_zero, return_link, carrying_steps, lowered, Lowers, Drains}
 use Rattle.dmf_net.specs.Edit.{AreOpenWith, IsOpenWith, numbers, with_closed}
+use Rattle.dmf_net.specs.Flow.{flow_on}
 use Rattle.dmf_net.specs.Moves.{DrainsInTurn}
 use Rattle.dmf_net.specs.Network.{Network, IsNetwork, arc_number, has_arc, with_arc}
 use Rattle.dmf_net.specs.NetworkState.{NetworkState, IsState}
-use Rattle.dmf_net.proofs.ChangedArc.{flow_at-replaced, has_arc-within, IsNetwork-with_arc}
-use Rattle.dmf_net.proofs.ChangedState.{IsState-closed, IsState-with_arc_back}
+use Rattle.dmf_net.proofs.ChangedArc.{flow_at-replaced, has_arc-within}
+use Rattle.dmf_net.proofs.ChangedState.{IsState-closed}
 use Rattle.dmf_net.proofs.DrainedInTurn.{HasArcs, AreWithoutFlow}
 
 -- the network with arc number `j` closed
@@ -90,11 +91,14 @@ open-at last [] n i are h = absurd (omega (arith, h))
 open-at last (a ∷ arcs) n zero are h = are.1
 open-at last (a ∷ arcs) n (suc i) are h = open-at a.arc arcs n i are.2 (omega (arith, h))
 
--- The numbers of those that are left, the next one first.
-pub numbers-next : (arcs : List Shutting) (i : ℕ) → i < length arcs → numbers (drop i arcs) ≡ (get_or arcs i no_shutting).arc ∷ numbers (drop (i + 1) arcs)
-numbers-next arcs i h =
+-- Those that are left, the next one first.
+pub left-next : (arcs : List Shutting) (i : ℕ) → i < length arcs → drop i arcs ≡ get_or arcs i no_shutting ∷ drop (i + 1) arcs
+left-next arcs i h =
     let next : suc i ≡ i + 1 = omega arith in
-    ap numbers (subst (λ k. drop i arcs ≡ get_or arcs i no_shutting ∷ drop k arcs) next (drop-cons arcs i no_shutting h))
+    subst (λ k. drop i arcs ≡ get_or arcs i no_shutting ∷ drop k arcs) next (drop-cons arcs i no_shutting h)
+
+pub numbers-next : (arcs : List Shutting) (i : ℕ) → i < length arcs → numbers (drop i arcs) ≡ (get_or arcs i no_shutting).arc ∷ numbers (drop (i + 1) arcs)
+numbers-next arcs i h = ap numbers (left-next arcs i h)
 
 pub numbers-end : (arcs : List Shutting) (i : ℕ) → length arcs ≤ i → numbers (drop i arcs) ≡ []
 numbers-end arcs i long = ap numbers (drop_of_length-le arcs long)
@@ -118,10 +122,6 @@ open-past last j (a ∷ arcs) n from_one past are =
 -- Once the first of them is closed, the others are open.
 pub open-rest : (last : ℕ) (a : Shutting) (arcs : List Shutting) (n : Network) → AreOpenWith last (a ∷ arcs) n → AreOpenWith a.arc arcs (closed_at n a.arc)
 open-rest last a arcs n are = open-past a.arc a.arc arcs n (omega (arith, are.0)) (omega arith) are.2
-
--- A network with an arc closed is one.
-pub IsNetwork-closed : (n : Network) (j : ℕ) → IsNetwork n → has_arc n j ≡ true → IsNetwork (closed_at n j)
-IsNetwork-closed n j network has = IsNetwork-with_arc n j (closed_arc (arc_number n j)) network has refl refl (λ closed. refl) (omega (arith, network.capacities))
 
 -- ---- states
 

@@ -139,7 +139,7 @@ open-apart n b j cap apart =
     λ i. record { nodes = n.nodes; source = n.source; sink = n.sink; arcs = arcs i }
 
 -- And so with several that are closed past it.
-open-before : (last : ℕ) (arcs : List Shutting) (m n : Network) (j cap : ℕ) → 1 ≤ j → j ≤ last → AreOpenWith last arcs m → with_open (with_closed arcs n) j cap ≡ with_closed arcs (with_open n j cap)
+pub open-before : (last : ℕ) (arcs : List Shutting) (m n : Network) (j cap : ℕ) → 1 ≤ j → j ≤ last → AreOpenWith last arcs m → with_open (with_closed arcs n) j cap ≡ with_closed arcs (with_open n j cap)
 open-before last [] m n j cap first le are = refl
 open-before last (b ∷ arcs) m n j cap first le are =
     let past : j < b.arc = omega (arith, le, are.0) in

@@ -47,3 +47,4 @@ pub mod DrainedInTurn
 pub mod ClosedArcs
 pub mod OpenArcs
 pub mod DrainedLoops
+pub mod ClosedStates

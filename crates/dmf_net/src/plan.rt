@@ -187,12 +187,7 @@ fn solve_edit(alloc: Global, state: &State, solved: &Solved) -> Result<Edit, Pla
     ensures edit { IfOk result (PlansSolve state.now) }
     ensures flows { IfOk result (λ edit. (applied edit state.now).flows ≡ reached_flows state.now solved.now.search) }
 {
-    let moves = list_moves(
-        alloc,
-        state.flows(),
-        state.flows(),
-        &solved.search,
-        FlowLink::Against,
-    )?;
+    let before = state.flows();
+    let moves = list_moves(alloc, before, before, &solved.search, FlowLink::Against)?;
     Ok(Edit::Solve { moves })
 }

@@ -127,7 +127,7 @@ impl State {
     /// Makes the moves, or takes them back.
     pub(crate) fn move_flows(&mut self, moves: &[Move], direction: Direction)
         requires fit { MovesFit 0 (along direction moves.now) self.old.flows }
-        requires state { IsState (with_flows self.old (moved (along direction moves.now) self.old.flows)) }
+        requires state { IsState self.old → IsState (with_flows self.old (moved (along direction moves.now) self.old.flows)) }
         ensures { self.new ≡ with_flows self.old (moved (along direction moves.now) self.old.flows) }
     {
         make_moves(

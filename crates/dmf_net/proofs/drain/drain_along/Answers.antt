@@ -1,11 +1,6 @@
-use Rattle.std.proofs.Common.{List, ℕ, ◌≡◌, ◌-◌, ap, sym, ◌∙◌, subst, arith, length, Option}
+use Rattle.std.proofs.Common.{List, ℕ, ◌-◌, ap, sym, ◌∙◌, arith}
 use Rattle.std.specs.Option.{unwrap_or}
-use Rattle.std.proofs.lemmas.Slice.Zip.{AllZip-long}
-use Rattle.dmf_path.specs.declared.pair.Pair.{Pair}
-use Rattle.dmf_path.specs.Search.{Searched, aimed}
 use Rattle.dmf_net.specs.declared.moves.FlowLink.TheVariants.{Along}
-use Rattle.dmf_net.specs.Flow.{flow_on}
-use Rattle.dmf_net.specs.Network.{arc_number}
 use Rattle.dmf_net.specs.Pairs.{IsCarryingSearch, flows_read}
 use Rattle.dmf_net.proofs.ChangedArc.{has_arc-within}
 use Rattle.dmf_net.proofs.DrainingSearch.{DrainsOnce, draining-begun, draining-has_path, draining-once, draining-done, carries-along, length-carries}

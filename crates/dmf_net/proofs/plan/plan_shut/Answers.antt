@@ -1,7 +1,6 @@
-use Rattle.std.proofs.Common.{subst, sym}
+use Rattle.std.proofs.Common.{subst}
 use Rattle.dmf_net.specs.declared.edit.Edit.TheVariants as edit
 use Rattle.dmf_net.specs.Change.{Closes}
-use Rattle.dmf_net.specs.NetworkState.{with_flows}
 use Rattle.dmf_net.specs.Edit.{applied, moved, numbers}
 use Rattle.dmf_net.specs.Drain.{TakesOff}
 use Rattle.dmf_net.specs.Flow.{flow_on_all}

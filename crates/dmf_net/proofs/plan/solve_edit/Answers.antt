@@ -13,19 +13,19 @@ use Rattle.dmf_net.proofs.plan.solve_edit.Goals as goal
 
 pub list_moves-requires-clause-one_each : goal.list_moves-requires-clause-one_each
 list_moves-requires-clause-one_each c =
-    let long = solved-long c.args.state.now c.args.solved.now.search c.args.solved.now.value c.flows.ensures.state c.requires in
-    rw c.flows.ensures.value (omega (arith, long))
+    let long = solved-long c.args.state.now c.args.solved.now.search c.args.solved.now.value c.flows-before.ensures.state c.requires in
+    rw c.flows-before.ensures.value (omega (arith, long))
 
 pub list_moves-requires-clause-at_most_arcs : goal.list_moves-requires-clause-at_most_arcs
 list_moves-requires-clause-at_most_arcs c =
-    let state = c.flows.ensures.state in
+    let state = c.flows-before.ensures.state in
     let long = AllZip-long _ c.args.state.now.network.arcs c.args.state.now.flows state.flow.within in
-    rw c.flows.ensures.value (omega (arith, long, state.network.at_most_arcs))
+    rw c.flows-before.ensures.value (omega (arith, long, state.network.at_most_arcs))
 
 between : (c : goal.In_ok-moves) → AreMovesBetween c.in_ok-moves.moves.items c.args.state.now.flows (reached_flows c.args.state.now c.args.solved.now.search)
 between c =
-    moves-between _ _ _ (flows-long c.args.state.now _ c.flows.ensures.state c.requires.state)
-    (rw (c.flows.ensures.value, c.flows-2.ensures.value) at c.in_ok-moves.ensures)
+    moves-between _ _ _ (flows-long c.args.state.now _ c.flows-before.ensures.state c.requires.state)
+    (rw c.flows-before.ensures.value at c.in_ok-moves.ensures)
 
 pub returns-clause-edit : goal.returns-clause-edit
 returns-clause-edit c =

@@ -1,5 +1,4 @@
-use Rattle.std.proofs.Common.{ap}
-use Rattle.dmf_net.proofs.DrainedLoops.{IsDrainedLoop, drained-by_list}
+use Rattle.dmf_net.proofs.DrainedLoops.{drained-by_list}
 use Rattle.dmf_net.proofs.shut.drain_in_turn.Goals as goal
 
 pub returns-then-arc-clause-carrying : goal.returns-then-arc-clause-carrying

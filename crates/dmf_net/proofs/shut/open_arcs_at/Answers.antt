@@ -1,7 +1,6 @@
-use Rattle.std.proofs.Common.{◌≡◌, ◌+◌, [], ◌∷◌, ◌++◌, get_or, ap, sym, ◌∙◌, take_all}
-use Rattle.dmf_net.specs.Arc.{no_arc, is_open_at}
-use Rattle.dmf_net.specs.Edit.{AreOpenWith, numbers}
-use Rattle.dmf_net.proofs.OpenArcs.{listed_from, listed-push, listed-pass, numbers-listed, open-listed}
+use Rattle.std.proofs.Common.{◌+◌, [], ◌∷◌, ◌++◌, get_or, ap, sym, ◌∙◌, take_all}
+use Rattle.dmf_net.specs.Arc.{no_arc}
+use Rattle.dmf_net.proofs.OpenArcs.{listed-push, listed-pass, numbers-listed, open-listed}
 use Rattle.dmf_net.proofs.shut.open_arcs_at.Goals.{then-is_open_at+in_ok-push, else-is_open_at}
 use Rattle.dmf_net.proofs.shut.open_arcs_at.Goals as goal
 

@@ -1,10 +1,10 @@
-use Rattle.std.proofs.Common.{ℕ, List, ◌≡◌, ◌+◌, arith, ap, sym, ◌∙◌, get_or, drop, length, Vec, Global}
+use Rattle.std.proofs.Common.{◌+◌, sym, ◌∙◌, get_or, drop, Vec, Global}
 use Rattle.std.proofs.lemmas.List.{with_items_is}
 use Rattle.std.proofs.lemmas.Result.{IfOk-weaker}
 use Rattle.std.proofs.lemmas.Slice.Zip.{AllZip-long}
 use Rattle.dmf_net.specs.declared.edit.Move.{Move}
 use Rattle.dmf_net.specs.declared.moves.FlowLink.TheVariants.{Along}
-use Rattle.dmf_net.specs.Edit.{numbers, differences}
+use Rattle.dmf_net.specs.Edit.{numbers}
 use Rattle.dmf_net.specs.Pairs.{flows_read}
 use Rattle.dmf_net.proofs.ClosedArcs.{no_shutting, open-at, numbers-next, numbers-end, HasArcs-open}
 use Rattle.dmf_net.proofs.DrainedInTurn.{drained-none_in_turn, drained-next_arc, drained-every_arc, shutting-moves}

@@ -1,8 +1,5 @@
-use Rattle.std.proofs.Common.{List, ℕ, drop}
-use Rattle.dmf_net.specs.declared.moves.FlowLink.TheVariants.{Along}
+use Rattle.std.proofs.Common.{drop}
 use Rattle.dmf_net.specs.Edit.{numbers}
-use Rattle.dmf_net.specs.Moves.{DrainsInTurn}
-use Rattle.dmf_net.specs.Pairs.{IsCarryingSearch, flows_read}
 use Rattle.dmf_net.proofs.DrainedInTurn.{AreDrainedUpTo}
 use Rattle.dmf_net.proofs.shut.shutting_moves.Given as goal
 
