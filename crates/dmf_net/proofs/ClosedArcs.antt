@@ -1,21 +1,19 @@
 -- Arcs closed in turn: the ends stay, so an arc of the one network is drained as that of the other.
-use Rattle.std.proofs.Common.{ℕ, ◌≡◌, ◌≢◌, ◌+◌, ◌-◌, ◌*◌, ◌<◌, ◌≤◌, true, false, List, [], ◌∷◌, ◌++◌, length, get_or, set, drop, zero, suc, map, refl, ap, sym, ◌∙◌, subst, arith}
-use Rattle.std.proofs.lemmas.List.{length-set, get_or-set_same, get_or-set_other, set_comm}
+use Rattle.std.proofs.Common.{ℕ, ◌≡◌, ◌≢◌, ◌+◌, ◌-◌, ◌<◌, ◌≤◌, true, List, [], ◌∷◌, ◌++◌, length, get_or, set, drop, zero, suc, refl, ap, ◌∙◌, subst, arith}
+use Rattle.std.proofs.lemmas.List.{length-set, get_or-set_other}
 use Rattle.std.proofs.Math.ListN.{drop_of_length-le}
 use Rattle.std.proofs.Math.Seq.{drop-cons}
 use Rattle.dmf_path.specs.Step.{Step}
-use Rattle.dmf_path.specs.Path.{IsLeastPath}
 use Rattle.dmf_net.specs.declared.arc.Arc.{Arc}
 use Rattle.dmf_net.specs.declared.edit.Shutting.{Shutting}
 use Rattle.dmf_net.specs.Arc.{no_arc, closed_arc}
 use Rattle.dmf_net.specs.Change.{Closes}
 use Rattle.dmf_net.specs.Drain.{carried, carried_from, value_or_zero, return_link, carrying_steps, lowered, Lowers, Drains}
 use Rattle.dmf_net.specs.Edit.{AreOpenWith, IsOpenWith, numbers, with_closed}
-use Rattle.dmf_net.specs.Flow.{flow_on}
 use Rattle.dmf_net.specs.Moves.{DrainsInTurn}
-use Rattle.dmf_net.specs.Network.{Network, IsNetwork, arc_number, has_arc, with_arc}
-use Rattle.dmf_net.specs.NetworkState.{NetworkState, IsState}
-use Rattle.dmf_net.proofs.ChangedArc.{flow_at-replaced, has_arc-within}
+use Rattle.dmf_net.specs.Network.{Network, arc_number, has_arc, with_arc}
+use Rattle.dmf_net.specs.NetworkState.{IsState}
+use Rattle.dmf_net.proofs.ChangedArc.{flow_at-replaced}
 use Rattle.dmf_net.proofs.ChangedState.{IsState-closed}
 use Rattle.dmf_net.proofs.DrainedInTurn.{HasArcs, AreWithoutFlow}
 

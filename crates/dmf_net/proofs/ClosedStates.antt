@@ -5,7 +5,7 @@ use Rattle.dmf_net.specs.declared.arc.Arc.{Arc}
 use Rattle.dmf_net.specs.declared.edit.Edit.TheVariants.{Shut}
 use Rattle.dmf_net.specs.declared.edit.Move.{Move}
 use Rattle.dmf_net.specs.declared.edit.Shutting.{Shutting}
-use Rattle.dmf_net.specs.Arc.{no_arc, closed_arc, open_arc}
+use Rattle.dmf_net.specs.Arc.{no_arc, closed_arc}
 use Rattle.dmf_net.specs.Direction.{AreClosed}
 use Rattle.dmf_net.specs.Edit.{AreOpenWith, moved, numbers, with_closed}
 use Rattle.dmf_net.specs.Flow.{flow_on}

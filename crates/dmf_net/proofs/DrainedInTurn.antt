@@ -1,7 +1,6 @@
 -- Arcs drained to 0 in turn: what is left is a flow that is 0 on each of them, and its value is less by at most what was on
 -- them.
-use Rattle.std.proofs.Common.{ℕ, ◌≡◌, ◌+◌, ◌-◌, ◌<◌, ◌≤◌, true, List, [], ◌∷◌, length, get_or, zero, suc, sum_by, refl, ap, sym, ◌∙◌, subst, arith, ⊎_elim, pos, ◌≤ℤ◌}
-use Rattle.std.proofs.lemmas.Bool.{cases_lt}
+use Rattle.std.proofs.Common.{ℕ, ◌≡◌, ◌-◌, ◌≤◌, true, List, [], ◌∷◌, get_or, zero, suc, refl, ◌∙◌, subst, arith, pos, ◌≤ℤ◌}
 use Rattle.std.proofs.lemmas.Int.{ints}
 use Rattle.std.proofs.lemmas.List.Sums.{sum_by-cons}
 use Rattle.std.proofs.lemmas.Slice.Zip.{AllZip-long}
@@ -10,11 +9,11 @@ use Rattle.dmf_net.specs.declared.edit.Move.{Move}
 use Rattle.dmf_net.specs.declared.moves.FlowLink.TheVariants.{Along}
 use Rattle.dmf_net.specs.Pairs.{IsCarryingSearch, flows_read}
 use Rattle.dmf_net.specs.Drain.{Drains, TakesOff}
-use Rattle.dmf_net.specs.Edit.{moved, differences}
+use Rattle.dmf_net.specs.Edit.{differences}
 use Rattle.dmf_net.specs.Flow.{flow_on, flow_on_all, IsFlow, flow_value}
 use Rattle.dmf_net.specs.Moves.{DrainsInTurn, AreShuttingMoves}
 use Rattle.dmf_net.specs.Network.{Network, IsNetwork, has_arc}
-use Rattle.dmf_net.specs.NetworkState.{NetworkState, IsState, with_flows}
+use Rattle.dmf_net.specs.NetworkState.{NetworkState, IsState}
 use Rattle.dmf_net.proofs.Draining.{IsNoMore, no_more-in_turn, TakesOff-none, drains-state}
 use Rattle.dmf_net.proofs.Moving.{moves-between}
 

@@ -1,9 +1,8 @@
 -- Draining an arc that comes back to its tail leaves the pairs of the other arcs, and so the search over them.
-use Rattle.std.proofs.Common.{ℕ, ◌≡◌, ◌≢◌, ◌-◌, ◌<◌, ◌≤◌, ◌==◌, true, List, [], ◌∷◌, ◌++◌, length, get_or, set, zero, suc, refl, ap, sym, ◌∙◌, subst, arith, ⊎_elim, eq-eqb, Option}
+use Rattle.std.proofs.Common.{ℕ, ◌≡◌, ◌≢◌, ◌-◌, ◌<◌, ◌≤◌, true, List, [], ◌∷◌, ◌++◌, length, get_or, set, zero, suc, refl, ap, sym, ◌∙◌, subst, arith, ⊎_elim, eq-eqb}
 use Rattle.std.proofs.lemmas.Bool.{cases_lt, cases_eq}
 use Rattle.std.proofs.lemmas.List.{get_or-set_same, get_or-set_other, set-get_or}
 use Rattle.std.proofs.lemmas.Slice.Zip.{AllZip-long}
-use Rattle.dmf_path.specs.declared.pair.Pair.{Pair}
 use Rattle.dmf_path.specs.Search.{Searched}
 use Rattle.dmf_net.specs.declared.arc.Arc.{Arc}
 use Rattle.dmf_net.specs.declared.moves.FlowLink.TheVariants.{Along}
@@ -12,7 +11,7 @@ use Rattle.dmf_net.specs.Drain.{value_or_zero, Drains}
 use Rattle.dmf_net.specs.Flow.{flow_on}
 use Rattle.dmf_net.specs.Network.{Network, arc_number, has_arc}
 use Rattle.dmf_net.specs.NetworkState.{NetworkState}
-use Rattle.dmf_net.specs.Pairs.{AreNoMore, Carries, IsCarryingSearch, carrying_pair, carrying_from, return_pair, carrying_pairs, flows_read}
+use Rattle.dmf_net.specs.Pairs.{Carries, IsCarryingSearch, carrying_pair, carrying_from, return_pair, flows_read}
 use Rattle.dmf_net.proofs.ChangedArc.{has_arc-within}
 use Rattle.dmf_net.proofs.Changing.{flow_at-set}
 use Rattle.dmf_net.proofs.DrainedLoop.{drained-loop}

@@ -1,6 +1,6 @@
 -- Draining an arc by a search over the pairs of links that stand for carrying steps, and reading the flows off it.
 use Rattle.std.proofs.Common.{ℕ, ◌≡◌, ◌≢◌, ◌+◌, ◌-◌, ◌*◌, ◌<◌, ◌≤◌, Bool, true, false, cond, List, [], ◌∷◌, ◌++◌, length, get_or, zero, suc, refl, ap, sym, ◌∙◌, subst, arith, ⊎_elim, add-zero, Option, Some, None}
-use Rattle.std.specs.List.{slice_get, AllZip}
+use Rattle.std.specs.List.{slice_get}
 use Rattle.std.specs.Option.{option_map, unwrap_or}
 use Rattle.std.proofs.lemmas.Bool.{ne_eqb, cases_Bool}
 use Rattle.std.proofs.lemmas.List.Elements.{AllZip-get_or}

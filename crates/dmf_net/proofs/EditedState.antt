@@ -15,7 +15,7 @@ use Rattle.dmf_net.specs.declared.edit.Edit.{Edit}
 use Rattle.dmf_net.specs.declared.edit.Edit.TheVariants.{Cap, Add, Close, Shut, Solve}
 use Rattle.dmf_net.specs.declared.edit.Move.{Move}
 use Rattle.dmf_net.specs.Arc.{no_arc, capacity_sum, with_cap, closed_arc, open_arc}
-use Rattle.dmf_net.specs.Edit.{moved, applied, numbers, with_closed, MovesFit, ArcFits}
+use Rattle.dmf_net.specs.Edit.{moved, applied, numbers, MovesFit, ArcFits}
 use Rattle.dmf_net.specs.Edited.{arc_after, added_arc, shuttings_of}
 use Rattle.dmf_net.specs.Flow.{AreWithinCapacities, flow_value}
 use Rattle.dmf_net.specs.FlowSums.{IsNodeFlow}

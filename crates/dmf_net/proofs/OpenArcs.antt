@@ -1,11 +1,11 @@
 -- The open arcs at a node, listed in one walk over the arcs.
-use Rattle.std.proofs.Common.{ℕ, ◌≡◌, ◌+◌, ◌-◌, ◌<◌, ◌≤◌, ◌==◌, ◌&&◌, ◌||◌, not, Bool, true, false, cond, List, [], ◌∷◌, ◌++◌, length, get_or, take, drop, map, zero, suc, refl, ap, sym, ◌∙◌, subst, arith, append_assoc, add-zero, append-nil}
+use Rattle.std.proofs.Common.{ℕ, ◌≡◌, ◌+◌, ◌-◌, ◌<◌, ◌==◌, ◌&&◌, ◌||◌, not, Bool, true, false, cond, List, [], ◌∷◌, ◌++◌, length, get_or, take, zero, suc, refl, ap, sym, ◌∙◌, subst, arith, append_assoc, add-zero, append-nil}
 use Rattle.std.proofs.lemmas.Bool.{both_ways}
 use Rattle.std.proofs.lemmas.Bool.Decides.{nat_tests}
 use Rattle.dmf_net.specs.declared.arc.Arc.{Arc}
 use Rattle.dmf_net.specs.declared.edit.Shutting.{Shutting}
 use Rattle.dmf_net.specs.Arc.{no_arc, is_open_at, open_arcs_at}
-use Rattle.dmf_net.specs.Edit.{AreOpenWith, IsOpenWith, numbers}
+use Rattle.dmf_net.specs.Edit.{AreOpenWith, numbers}
 use Rattle.dmf_net.specs.Network.{Network, arc_number, has_arc}
 
 -- the arc of number `j`, where it is open and at the node

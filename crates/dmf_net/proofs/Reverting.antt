@@ -1,6 +1,6 @@
 -- What taking an edit back makes of the state that the edit made.
-use Rattle.std.proofs.Common.{ℕ, ◌≡◌, ◌-◌, ◌+◌, ◌≤◌, List, [], ◌∷◌, ◌++◌, length, take, map, get_or, set, false, refl, ap, ◌∙◌, sym, subst, arith}
-use Rattle.std.proofs.lemmas.List.{take_at, length_push, get_or_push, get_or-set_same, set-set, set-get_or}
+use Rattle.std.proofs.Common.{ℕ, ◌≡◌, ◌-◌, ◌+◌, ◌≤◌, List, [], ◌∷◌, ◌++◌, length, take, map, get_or, false, refl, ap, ◌∙◌, sym, subst, arith}
+use Rattle.std.proofs.lemmas.List.{take_at, length_push, get_or_push}
 use Rattle.std.proofs.lemmas.List.Sums.{sum_by_push}
 use Rattle.std.proofs.lemmas.Slice.Zip.{AllZip-long}
 use Rattle.dmf_net.specs.declared.arc.Arc.{Arc}
@@ -9,11 +9,11 @@ use Rattle.dmf_net.specs.declared.edit.Edit.TheVariants.{Cap, Add, Close, Shut, 
 use Rattle.dmf_net.specs.declared.edit.Move.{Move}
 use Rattle.dmf_net.specs.declared.flow_sums.NodeFlow.{NodeFlow}
 use Rattle.dmf_net.specs.Arc.{no_arc, open_arc, with_cap, closed_arc, capacity_sum, open_count}
-use Rattle.dmf_net.specs.Network.{Network, arc_number, with_arc}
+use Rattle.dmf_net.specs.Network.{arc_number}
 use Rattle.dmf_net.specs.NetworkState.{NetworkState, IsState, with_idle_arc}
 use Rattle.dmf_net.specs.Totals.{KeepsTotals}
-use Rattle.dmf_net.specs.Edit.{IsOpenWith, MovesFit, moves_of}
-use Rattle.dmf_net.specs.Revert.{opposite, with_open, without_last, reverted, Stands}
+use Rattle.dmf_net.specs.Edit.{MovesFit, moves_of}
+use Rattle.dmf_net.specs.Revert.{opposite, without_last, reverted, Stands}
 use Rattle.dmf_net.specs.Direction.{HasIdleLast}
 use Rattle.dmf_net.proofs.IdleArc.{flow_at-idle}
 use Rattle.dmf_net.proofs.ClosedTogether.{with_open-replaced, with_opened-closed}
