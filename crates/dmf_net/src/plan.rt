@@ -14,6 +14,7 @@ ghost use Rattle.dmf_net.specs.Side.{IsSmallestSide};
 use crate::drain::drain;
 use crate::edit::Edit;
 use crate::fault::PlanFault;
+use crate::shut::{open_arcs_at, shutting_moves};
 use crate::side::{Side, solved_side};
 use crate::solve::{Solved, solve};
 use crate::solved_moves::{into_flows, list_differences};
