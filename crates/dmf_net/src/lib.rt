@@ -48,6 +48,7 @@ mod shut_tests;
 mod side;
 mod side_ids;
 mod solve;
+mod solved_moves;
 mod state;
 #[cfg(test)]
 mod tests;
