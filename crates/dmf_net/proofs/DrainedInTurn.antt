@@ -100,12 +100,6 @@ pub record AreDrainedUpTo (s : NetworkState) (all left unpaired : List ℕ) (sea
   pub carrying : IsCarryingSearch s unpaired search
   pub onward : (last : List ℕ) → DrainsInTurn s.network left (flows_read Along unpaired search.pairs) last → DrainsInTurn s.network all s.flows last
 
-pub drained-no_arc : (s : NetworkState) (all left unpaired : List ℕ) (search : Searched) → left ≡ all → flows_read Along unpaired search.pairs ≡ s.flows → IsCarryingSearch s unpaired search → AreDrainedUpTo s all left unpaired search
-drained-no_arc s all left unpaired search whole first carrying = record {
-  carrying = carrying;
-  onward = λ last drains. subst (λ xs. DrainsInTurn s.network all xs last) first (subst (λ js. DrainsInTurn s.network js (flows_read Along unpaired search.pairs) last) whole drains);
-}
-
 pub drained-next_arc : (s : NetworkState) (all left unpaired next_unpaired : List ℕ) (j : ℕ) (rest : List ℕ) (search next : Searched) → left ≡ j ∷ rest → IsCarryingSearch s next_unpaired next → Drains s.network j 0 (flows_read Along unpaired search.pairs) (flows_read Along next_unpaired next.pairs) → AreDrainedUpTo s all left unpaired search → AreDrainedUpTo s all rest next_unpaired next
 drained-next_arc s all left unpaired next_unpaired j rest search next is carrying drains up_to = record {
   carrying = carrying;

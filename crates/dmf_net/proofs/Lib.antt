@@ -46,5 +46,5 @@ pub mod DrainingSearch
 pub mod DrainedInTurn
 pub mod ClosedArcs
 pub mod OpenArcs
-pub mod DrainedLoops
+pub mod UnpairedLoop
 pub mod ClosedStates

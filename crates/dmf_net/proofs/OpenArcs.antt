@@ -26,19 +26,12 @@ listed-next v j (suc i) (arc ∷ arcs) h =
     ap (λ rest. listed v j arc ++ rest) (listed-next v (j + 1) i arcs (omega (arith, h)) ∙ ap (λ k. listed_from v (j + 1) (take i arcs) ++ listed v k (get_or arcs i no_arc)) place)
     ∙ sym (append_assoc (listed v j arc) (listed_from v (j + 1) (take i arcs)) (listed v (j + suc i) (get_or arcs i no_arc)))
 
-listed-more : (v i : ℕ) (arcs : List Arc) → i < length arcs → listed_from v 1 (take (i + 1) arcs) ≡ listed_from v 1 (take i arcs) ++ listed v (i + 1) (get_or arcs i no_arc)
+pub listed-more : (v i : ℕ) (arcs : List Arc) → i < length arcs → listed_from v 1 (take (i + 1) arcs) ≡ listed_from v 1 (take i arcs) ++ listed v (i + 1) (get_or arcs i no_arc)
 listed-more v i arcs h =
     let next : suc i ≡ i + 1 = omega arith in
     let place : 1 + i ≡ i + 1 = omega arith in
     subst (λ k. listed_from v 1 (take k arcs) ≡ listed_from v 1 (take i arcs) ++ listed v (i + 1) (get_or arcs i no_arc)) next
     (listed-next v 1 i arcs h ∙ ap (λ k. listed_from v 1 (take i arcs) ++ listed v k (get_or arcs i no_arc)) place)
-
--- The next arc is listed, or is passed over.
-pub listed-push : (v i : ℕ) (arcs : List Arc) (is : List Shutting) → i < length arcs → is_open_at v (get_or arcs i no_arc) ≡ true → is ≡ listed_from v 1 (take i arcs) → is ++ record { arc = i + 1; old = (get_or arcs i no_arc).cap } ∷ [] ≡ listed_from v 1 (take (i + 1) arcs)
-listed-push v i arcs is h there so_far = rw (listed-more v i arcs h, there) (ap (λ xs. xs ++ record { arc = i + 1; old = (get_or arcs i no_arc).cap } ∷ []) so_far)
-
-pub listed-pass : (v i : ℕ) (arcs : List Arc) (is : List Shutting) → i < length arcs → is_open_at v (get_or arcs i no_arc) ≡ false → is ≡ listed_from v 1 (take i arcs) → is ≡ listed_from v 1 (take (i + 1) arcs)
-listed-pass v i arcs is h none so_far = rw (listed-more v i arcs h, none) (so_far ∙ sym (append-nil (listed_from v 1 (take i arcs))))
 
 -- Their numbers are those of the open arcs at the node.
 numbers-step : (v j : ℕ) (arc : Arc) (rest : List Shutting) (js : List ℕ) (is_listed : Bool) → is_open_at v arc ≡ is_listed → numbers rest ≡ js → numbers (listed v j arc ++ rest) ≡ cond (is_open_at v arc) (j ∷ js) js

@@ -64,7 +64,7 @@ pub fn carrying_search(alloc: Global, state: &State) -> Result<Search, AllocErro
 }
 
 /// Drains arc number `j`, which leads from a node to another, to the limit: takes flow off along the paths that a search
-/// over carrying steps finds. What flows on the arcs without a pair does not matter.
+/// over carrying steps finds. Where no more than that flows on it, the search is not aimed at it.
 pub fn drain_along(state: &State, j: u32, limit: u64, search: &mut Search)
     requires is_there { has_arc state.now.network j ≡ true }
     requires no_loop { (arc_number state.now.network j).tail ≢ (arc_number state.now.network j).head }
@@ -73,10 +73,13 @@ pub fn drain_along(state: &State, j: u32, limit: u64, search: &mut Search)
         IsCarryingSearch state.now unpaired search.new
         × Drains state.now.network j limit (flows_read Along unpaired search.old.pairs) (flows_read Along unpaired search.new.pairs) }
 {
-    let arc = state.arc(j);
-    search.aim(arc.head, arc.tail);
     let i = j as usize - 1;
     let mut left = search.along(i).unwrap_or(0).saturating_sub(limit);
+    if left == 0 {
+        return;
+    }
+    let arc = state.arc(j);
+    search.aim(arc.head, arc.tail);
     while 0 < left {
         match search.augment(left) {
             Some(amount) => {

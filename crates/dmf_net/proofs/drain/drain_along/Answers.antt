@@ -1,9 +1,12 @@
-use Rattle.std.proofs.Common.{List, ℕ, ◌-◌, ap, sym, ◌∙◌, arith}
+use Rattle.std.proofs.Common.{List, ℕ, ◌-◌, ◌≤◌, ap, sym, ◌∙◌, arith}
 use Rattle.std.specs.Option.{unwrap_or}
 use Rattle.dmf_net.specs.declared.moves.FlowLink.TheVariants.{Along}
+use Rattle.dmf_net.specs.Flow.{flow_on}
+use Rattle.dmf_net.specs.NetworkState.{with_flows}
 use Rattle.dmf_net.specs.Pairs.{IsCarryingSearch, flows_read}
 use Rattle.dmf_net.proofs.ChangedArc.{has_arc-within}
 use Rattle.dmf_net.proofs.DrainingSearch.{DrainsOnce, draining-begun, draining-has_path, draining-once, draining-done, carries-along, length-carries}
+use Rattle.dmf_net.proofs.DrainingWalk.{drained-none, drained-all}
 use Rattle.dmf_net.proofs.drain.drain_along.Goals as goal
 
 pub along-requires : goal.along-requires
@@ -12,15 +15,24 @@ along-requires c =
     let carries = c.requires.carrying.1 in
     let at = has_arc-within s.network c.args.j c.requires.is_there in
     let long = length-carries s c.requires.carrying.0 _ c.args.search.now carries in
-    rw c.aim.ensures (omega (arith, at.1, carries.no_more.one_each, long))
+    omega (arith, at.1, carries.no_more.one_each, long)
 
 pub loop-left-init : goal.loop-left-init
 loop-left-init c = λ unpaired carries.
     let s = c.args.state.now in
     let differ = c.requires.no_loop in
-    let told = rw c.aim.ensures at c.along.ensures in
     let along = carries-along s unpaired _ c.args.search.now c.args.j c.requires.is_there (λ e. differ (sym e)) carries in
-    rw (c.aim.ensures, c.arc-arc.ensures.value) (draining-begun s unpaired (flows_read Along unpaired c.args.search.now.pairs) c.args.j c.args.limit _ c.args.search.now (c.saturating_sub-left.ensures ∙ ap (λ x. x - c.args.limit) (c.unwrap_or.ensures ∙ ap (λ o. unwrap_or o 0) told ∙ along)) carries)
+    rw (c.aim.ensures, c.arc-arc.ensures.value) (draining-begun s unpaired (flows_read Along unpaired c.args.search.now.pairs) c.args.j c.args.limit _ c.args.search.now (c.saturating_sub-left.ensures ∙ ap (λ x. x - c.args.limit) (c.unwrap_or.ensures ∙ ap (λ o. unwrap_or o 0) c.along.ensures ∙ along)) carries)
+
+pub returns-then-left-eq0 : goal.returns-then-left-eq0
+returns-then-left-eq0 c = λ unpaired carries.
+    let s = c.args.state.now in
+    let differ = c.requires.no_loop in
+    let flows = flows_read Along unpaired c.args.search.now.pairs in
+    let along = carries-along s unpaired flows c.args.search.now c.args.j c.requires.is_there (λ e. differ (sym e)) carries in
+    let left = c.saturating_sub-left.ensures ∙ ap (λ x. x - c.args.limit) (c.unwrap_or.ensures ∙ ap (λ o. unwrap_or o 0) c.along.ensures ∙ along) in
+    let within : flow_on flows c.args.j ≤ c.args.limit = omega (arith, left, c.if-left-eq0.true) in
+    (carries, drained-all (with_flows s flows) c.args.j c.args.limit flows within (drained-none (with_flows s flows) c.args.j c.args.limit carries.state))
 
 -- what one path more does
 once : (c : goal.After-lower) (unpaired : List ℕ) → IsCarryingSearch c.args.state.now unpaired c.args.search.now → DrainsOnce c.args.state.now unpaired (flows_read Along unpaired c.args.search.now.pairs) c.args.j c.args.limit c.loop-left.left c.in-Some.amount c.augment.new.self

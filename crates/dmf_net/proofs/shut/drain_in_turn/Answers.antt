@@ -1,4 +1,4 @@
-use Rattle.dmf_net.proofs.DrainedLoops.{drained-by_list}
+use Rattle.dmf_net.proofs.UnpairedLoop.{drained-by_list}
 use Rattle.dmf_net.proofs.shut.drain_in_turn.Goals as goal
 
 pub returns-then-arc-clause-carrying : goal.returns-then-arc-clause-carrying

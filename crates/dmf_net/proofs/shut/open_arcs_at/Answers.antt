@@ -1,23 +1,18 @@
-use Rattle.std.proofs.Common.{◌+◌, [], ◌∷◌, ◌++◌, get_or, ap, sym, ◌∙◌, take_all}
+use Rattle.std.proofs.Common.{◌≡◌, get_or, ap, take_all, append-nil, take, length, arith, ◌<◌}
+use Rattle.std.proofs.lemmas.Grind.{common_steps}
 use Rattle.dmf_net.specs.Arc.{no_arc}
-use Rattle.dmf_net.proofs.OpenArcs.{listed-push, listed-pass, numbers-listed, open-listed}
-use Rattle.dmf_net.proofs.shut.open_arcs_at.Goals.{then-is_open_at+in_ok-push, else-is_open_at}
+use Rattle.dmf_net.proofs.OpenArcs.{listed_from, listed-more, numbers-listed, open-listed}
 use Rattle.dmf_net.proofs.shut.open_arcs_at.Goals as goal
 
 pub loop-i-preserved : goal.loop-i-preserved
 loop-i-preserved c =
     let v = c.args.v in
     let arcs = c.args.state.now.network.arcs in
-    let within = rw c.arcs-arc-items.ensures.value at c.loop-i-test.true in
-    let is = rw c.arcs-arc-items.ensures.value at c.is_open_at.ensures in
-    elim c.if-is_open_at.branch [
-      | then-is_open_at+in_ok-push w ↦
-          rw w.open-is (w.in_ok-push.ensures.items
-          ∙ ap (λ xs. c.loop-i.open.items ++ record { arc = c.loop-i.i + 1; old = (get_or xs c.loop-i.i no_arc).cap } ∷ []) c.arcs-arc-items.ensures.value
-          ∙ listed-push v c.loop-i.i arcs c.loop-i.open.items within (sym is ∙ w.if-is_open_at.true) c.loop-i.invariant)
-      | else-is_open_at w ↦
-          rw w.open-is (listed-pass v c.loop-i.i arcs c.loop-i.open.items within (sym is ∙ w.if-is_open_at.false) c.loop-i.invariant)
-    ]
+    let within : c.loop-i.i < length arcs = rw c.arcs-arc-items.ensures.value at c.loop-i-test.true in
+    let here : get_or c.arcs-arc-items.result.now c.loop-i.i no_arc ≡ get_or arcs c.loop-i.i no_arc = ap (λ xs. get_or xs c.loop-i.i no_arc) c.arcs-arc-items.ensures.value in
+    let more = listed-more v c.loop-i.i arcs within in
+    let nothing = append-nil (listed_from v 1 (take c.loop-i.i arcs)) in
+    grind (arith, common_steps, more, nothing, here)
 
 pub returns-clause-are_open : goal.returns-clause-are_open
 returns-clause-are_open c =
