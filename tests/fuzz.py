@@ -20,7 +20,7 @@ from random import Random
 
 import built
 from random_cases import random_case
-from refusals import REFUSED, way_of
+from refusals import REFUSED, ways_of
 
 CASES = 6000
 # Texts of the documents, each of which so many cases are to meet: all but want of memory and the limits of size.
@@ -48,7 +48,7 @@ def judge(number, seed, library):
         refused = int(10 ** random.uniform(0.5, 3))
         run, calls = built.watch(case, library, CALL="memory", AT=refused)
         met += ["no memory"] * (REFUSED in calls)
-        if way_of(case, run) is None:
+        if not ways_of(case, run, 1):
             return kept(case, run, wanted, f"LD_PRELOAD={library} FAULT=memory FAULT_AT={refused} "), met
     return None, met
 
