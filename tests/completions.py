@@ -2,8 +2,8 @@
 
     python3 tests/completions.py SHELL FILE
 
-FILE has the completions for SHELL (bash, zsh or fish), and `dmf` is found by PATH. Each case types a line and asks what is offered
-there. Prints what is wrong, and then 'N passed, M failed'."""
+FILE has the completions for SHELL (bash, zsh or fish), and `dmf` is found by PATH. Each case types a line and asks what is
+offered there. Prints what is wrong, and then 'N passed, M failed'."""
 
 import os
 import pty

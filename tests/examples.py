@@ -1,6 +1,11 @@
-"""Runs each example of README.md, of the manual page and of the program's help, and compares what it writes with what
-stands there. An example is a line that begins with '$', and what it writes are the lines behind it."""
+"""Runs each example of README.md, of the manual page and of the program's help, or of the pages that are named, and compares
+what it writes with what stands there. An example is a line that begins with '$', and what it writes are the lines behind it.
+They are run in a folder that has PROGRAM as `dmf`, and the tools and examples of the root.
 
+    python3 tests/examples.py [--program PROGRAM] [PAGE..]
+"""
+
+import argparse
 import os
 import re
 import shutil
@@ -8,6 +13,8 @@ import subprocess
 import sys
 import tempfile
 
+# What is written behind each example.
+END = "\x1e"
 ROFF = {"\\[aq]": "'", "\\[rs]": "\\", "\\-": "-", "\\fB": "", "\\fP": ""}
 
 
@@ -50,37 +57,55 @@ def examples(lines):
     return found
 
 
-def judge(source, lines, folder):
-    """Says what is wrong with the first of a source's examples that is wrong."""
+def judge(source, lines, top):
+    """Says what is wrong with the first of a source's examples that is wrong. One shell runs them all, one after the other."""
     found = examples(lines)
-    for command, wanted in found:
-        ran = subprocess.run(
-            ["sh", "-c", command],
-            cwd=folder,
-            env={**os.environ, "PATH": f"{folder}:{os.environ['PATH']}"},
-            capture_output=True,
-            text=True,
-            timeout=20,
-        )
-        if (ran.stdout, ran.stderr) != (wanted, ""):
-            return f"{source}: {command}\nwrites:\n{ran.stdout}{ran.stderr}and not:\n{wanted}"
+    ran = subprocess.run(
+        ["sh", "-c", "".join(f"{command}\nprintf '{END}'\n" for command, _ in found)],
+        cwd=top,
+        env={**os.environ, "PATH": f"{top}:{os.environ['PATH']}"},
+        stdin=subprocess.DEVNULL,
+        capture_output=True,
+        text=True,
+        timeout=60,
+    )
+    for (command, wanted), written in zip(found, ran.stdout.split(END)):
+        if written != wanted:
+            return f"{source}: {command}\nwrites:\n{written}{ran.stderr}and not:\n{wanted}"
+    if ran.stderr or ran.stdout.count(END) != len(found):
+        return f"{source}: its examples end with {ran.returncode} and tell:\n{ran.stderr}"
     return not found and f"{source} has no example"
 
 
+def copy_to(top, program):
+    os.symlink(os.path.abspath(program), f"{top}/dmf")
+    os.symlink(os.path.abspath("tools"), f"{top}/tools")
+    shutil.copytree("examples", f"{top}/examples")
+    shutil.copy("examples/a.max", f"{top}/network.max")
+
+
+def sources(pages):
+    """Each source with its lines."""
+    if pages:
+        yield from ((page, of_file(page)) for page in pages)
+        return
+    yield "README.md", of_file("README.md")
+    yield "docs/dmf.1", of_manual("docs/dmf.1")
+    for command in "solve", "session", "check":
+        yield f"dmf {command} --help", of_help(command)
+
+
 def main():
-    with tempfile.TemporaryDirectory() as folder:
-        for name in "dmf", "examples":
-            os.symlink(os.path.abspath(name), f"{folder}/{name}")
-        shutil.copy("examples/a.max", f"{folder}/network.max")
-        sources = {
-            "README.md": of_file("README.md"),
-            "docs/dmf.1": of_manual("docs/dmf.1"),
-            **{f"dmf {command} --help": of_help(command) for command in ("solve", "session", "check")},
-        }
-        for source, lines in sources.items():
-            wrong = judge(source, lines, folder)
-            if wrong:
-                return wrong
+    parser = argparse.ArgumentParser()
+    parser.add_argument("--program", default="dmf")
+    parser.add_argument("pages", nargs="*")
+    words = parser.parse_args()
+    for source, lines in sources(words.pages):
+        with tempfile.TemporaryDirectory() as top:
+            copy_to(top, words.program)
+            wrong = judge(source, lines, top)
+        if wrong:
+            return wrong
     return 0
 
 

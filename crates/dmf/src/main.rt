@@ -2,16 +2,18 @@
 #![tactic(auto)]
 
 mod fault;
+mod progress;
 mod words;
 
 use dmf_run::{
     EngineFault, MAX_BYTES, Mode, Status, WordsFault, read_words, run_check, run_session,
-    run_solve, status_of,
+    run_solve, run_solve_watched, status_of,
 };
 use dmf_text::{StdSink, StdSource};
 use fault::Fault;
+use progress::{Progress, WatchedSink, WatchedSolve, WatchedSource};
 use std::fs::File;
-use std::io::BufWriter;
+use std::io::{BufWriter, IsTerminal};
 use std::process::ExitCode;
 use std::rt::Stdout;
 
@@ -35,12 +37,32 @@ fn run(rt: &HostRuntime) -> Result<Status, Fault> {
     }
 }
 
-/// Solves the problem on standard input, and tells the cut where it is wanted.
+/// Solves the problem on standard input, and tells the cut where it is wanted. Where standard error is a terminal, it tells
+/// there how far the solve is.
 #[inline(never)]
 fn solve(rt: &HostRuntime, want_cut: bool) -> Result<Status, Fault> {
+    if rt.stderr().is_terminal() {
+        let progress = Progress::new(rt, false);
+        let outcome = solve_watched(rt, want_cut, &progress);
+        progress.erase();
+        return outcome;
+    }
     let mut out = output(rt)?;
     let mut problem = StdSource::new(rt.stdin());
     run_solve(rt.alloc(), &mut problem, &mut out, want_cut).map_err(Fault::Run)
+}
+
+/// Does the same, and tells how far it is.
+#[inline(never)]
+fn solve_watched(
+    rt: &HostRuntime,
+    want_cut: bool,
+    progress: &Progress<'_>,
+) -> Result<Status, Fault> {
+    let mut out = WatchedSink::new(output(rt)?, progress);
+    let mut problem = WatchedSource::new(StdSource::new(rt.stdin()), progress);
+    let mut solve = WatchedSolve::new(progress);
+    run_solve_watched(rt.alloc(), &mut problem, &mut out, want_cut, &mut solve).map_err(Fault::Run)
 }
 
 /// Holds a session on the problem in the file at the path, with the commands from standard input, and tells the cut of

@@ -10,11 +10,15 @@ pub use laws::{
     network_has_smallest_side, reverting_gives_back, solved_is_greatest,
 };
 pub use limits::{MAX_ARCS, MAX_NODES};
-pub use plan::{plan_add, plan_cap, plan_close, plan_solve, plan_solve_with_side};
+pub use plan::{
+    plan_add, plan_cap, plan_close, plan_solve, plan_solve_watched, plan_solve_with_side,
+    plan_solve_with_side_watched,
+};
 pub use side::{Side, side_after, smallest_side};
 pub use side_ids::SideIds;
 pub use solve::is_greatest;
 pub use state::State;
+pub use watch::{Unwatched, Watch};
 
 #[cfg(test)]
 mod agreement;
@@ -44,3 +48,4 @@ mod solve;
 mod state;
 #[cfg(test)]
 mod tests;
+mod watch;

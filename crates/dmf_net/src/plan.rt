@@ -17,6 +17,7 @@ use crate::moves::{FlowLink, list_moves};
 use crate::side::{Side, solved_side};
 use crate::solve::{Solved, solve};
 use crate::state::State;
+use crate::watch::{Unwatched, Watch};
 use std::alloc::Global;
 
 /// Plans capacity `cap` for arc number `j`, without changing the state. Where more flows on the arc than that, it is
@@ -105,7 +106,19 @@ pub fn plan_solve(alloc: Global, state: &State) -> Result<Edit, PlanFault>
     ensures greatest { IfOk result (λ edit. IsGreatest state.now.network (applied edit state.now).flows) }
     ensures cut { IfOk result (λ edit. HasCutOf state.now.network (flow_value state.now.network (applied edit state.now).flows)) }
 {
-    let solved = solve(alloc, state)?;
+    plan_solve_watched(alloc, state, &mut Unwatched)
+}
+
+/// Plans the same greatest flow, and tells the watch of each path on the way.
+pub fn plan_solve_watched<W: Watch>(
+    alloc: Global,
+    state: &State,
+    watch: &mut W,
+) -> Result<Edit, PlanFault>
+    ensures refused { IsOkUnless result PlanFault.NoMemory }
+    ensures edit { IfOk result (PlansSolve state.now) }
+{
+    let solved = solve(alloc, state, watch)?;
     solve_edit(alloc, state, &solved)
 }
 
@@ -119,7 +132,21 @@ pub fn plan_solve_with_side(alloc: Global, state: &State) -> Result<(Edit, Side)
     ensures side { IfOk result (λ planned. IsSmallestSide state.now.network planned.1) }
     ensures value { IfOk result (λ planned. pos planned.1.capacity ≡ flow_value state.now.network (applied planned.0 state.now).flows) }
 {
-    let solved = solve(alloc, state)?;
+    plan_solve_with_side_watched(alloc, state, &mut Unwatched)
+}
+
+/// Plans the same, and tells the watch of each path on the way.
+pub fn plan_solve_with_side_watched<W: Watch>(
+    alloc: Global,
+    state: &State,
+    watch: &mut W,
+) -> Result<(Edit, Side), PlanFault>
+    ensures refused { IsOkUnless result PlanFault.NoMemory }
+    ensures edit { IfOk result (λ planned. PlansSolve state.now planned.0) }
+    ensures side { IfOk result (λ planned. IsSmallestSide state.now.network planned.1) }
+    ensures value { IfOk result (λ planned. pos planned.1.capacity ≡ flow_value state.now.network (applied planned.0 state.now).flows) }
+{
+    let solved = solve(alloc, state, watch)?;
     let edit = solve_edit(alloc, state, &solved)?;
     let side = solved_side(alloc, state, &solved)?;
     Ok((edit, side))

@@ -5,6 +5,7 @@ ghost use Rattle.dmf_net.specs.Pairs.{IsSolved};
 use crate::fault::NoMemory;
 use crate::residual::residual_search;
 use crate::state::State;
+use crate::watch::Watch;
 use dmf_path::Search;
 use std::alloc::{AllocError, Global};
 
@@ -15,14 +16,15 @@ pub struct Solved {
     pub value: u64,
 }
 
-/// Augments along least paths, from the flow of the state on, until none is left.
-pub fn solve(alloc: Global, state: &State) -> Result<Solved, AllocError>
+/// Augments along least paths, from the flow of the state on, until none is left; the watch is told of each.
+pub fn solve<W: Watch>(alloc: Global, state: &State, watch: &mut W) -> Result<Solved, AllocError>
     ensures { IfOk result (λ solved. IsSolved state.now solved.search solved.value) }
 {
     let mut search = residual_search(alloc, state)?;
     let mut value = state.value();
     while let Some(amount) = search.augment(u64::MAX) {
         value += amount;
+        watch.augmented(value);
     }
     Ok(Solved { search, value })
 }

@@ -12,7 +12,7 @@ pub use laws::{
 };
 pub use refusal::refusal_text;
 pub use session::{MAX_LINES, run_commands, run_session};
-pub use solve::run_solve;
+pub use solve::{run_solve, run_solve_watched};
 pub use words::{Mode, WordsFault, read_words};
 
 mod check;

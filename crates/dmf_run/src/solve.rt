@@ -11,7 +11,10 @@ use crate::fault::{EngineFault, Status};
 use crate::laws::written_is_optimal;
 use crate::problem::read_state;
 use crate::reply::put_solved;
-use dmf_net::{Edit, NoMemory, PlanFault, Side, State, plan_solve, plan_solve_with_side};
+use dmf_net::{
+    Edit, NoMemory, PlanFault, Side, State, Unwatched, Watch, plan_solve_watched,
+    plan_solve_with_side_watched,
+};
 use dmf_text::{Sink, Source};
 use std::alloc::Global;
 
@@ -33,9 +36,26 @@ pub fn run_solve<P: Source, W: Sink>(
         result }
     ensures optimal { WrittenIsOptimal }
 {
+    run_solve_watched(alloc, problem, out, want_cut, &mut Unwatched)
+}
+
+/// Does the same, and tells the watch of each path along which the flow is augmented.
+pub fn run_solve_watched<P: Source, W: Sink, V: Watch>(
+    alloc: Global,
+    problem: &mut P,
+    out: &mut W,
+    want_cut: bool,
+    watch: &mut V,
+) -> Result<Status, EngineFault>
+    ensures run { RunsSolve want_cut
+        (reader_of P.remaining P.has_failed problem.old) (reader_of P.remaining P.has_failed problem.new)
+        (writer_of W.contents W.has_failed out.old) (writer_of W.contents W.has_failed out.new)
+        result }
+    ensures optimal { WrittenIsOptimal }
+{
     written_is_optimal();
     let state = read_state(alloc, problem)?;
-    let solved = solve(alloc, state, want_cut)?;
+    let solved = solve(alloc, state, want_cut, watch)?;
     put_solved(&solved.state, &solved.side, out)?;
     Ok(Status::Well)
 }
@@ -49,11 +69,16 @@ struct Solved {
 
 /// The state with the greatest flow that augmenting reaches from its own, and the smallest side of its network, where it is
 /// wanted. The state is dropped where memory is refused.
-fn solve(alloc: Global, mut state: State, want_cut: bool) -> Result<Solved, NoMemory>
+fn solve<V: Watch>(
+    alloc: Global,
+    mut state: State,
+    want_cut: bool,
+    watch: &mut V,
+) -> Result<Solved, NoMemory>
     ensures becomes { IfOk result (λ solved. Becomes state Solve solved.state) }
     ensures side { IfOk result (λ solved. IsSideWanted want_cut solved.state.network solved.side) }
 {
-    let Ok((edit, side)) = plan(alloc, &state, want_cut) else {
+    let Ok((edit, side)) = plan(alloc, &state, want_cut, watch) else {
         return Err(NoMemory);
     };
     state.apply(&edit)?;
@@ -61,14 +86,19 @@ fn solve(alloc: Global, mut state: State, want_cut: bool) -> Result<Solved, NoMe
 }
 
 /// The edit that solves the state, and the smallest side of its network, where it is wanted.
-fn plan(alloc: Global, state: &State, want_cut: bool) -> Result<(Edit, Option<Side>), PlanFault>
+fn plan<V: Watch>(
+    alloc: Global,
+    state: &State,
+    want_cut: bool,
+    watch: &mut V,
+) -> Result<(Edit, Option<Side>), PlanFault>
     ensures fits { IfOk result (λ planned. Fits planned.0 state.now) }
     ensures becomes { IfOk result (λ planned. Becomes state.now Solve (applied planned.0 state.now)) }
     ensures side { IfOk result (λ planned. IsSideWanted want_cut state.now.network planned.1) }
 {
     if want_cut {
-        let (edit, side) = plan_solve_with_side(alloc, state)?;
+        let (edit, side) = plan_solve_with_side_watched(alloc, state, watch)?;
         return Ok((edit, Some(side)));
     }
-    Ok((plan_solve(alloc, state)?, None))
+    Ok((plan_solve_watched(alloc, state, watch)?, None))
 }

@@ -1,21 +1,24 @@
 use Rattle.std.proofs.Common.{◌+◌, refl}
 use Rattle.dmf_net.proofs.SolvingSearch.{IsNext, solving-more, solving-done}
+use Rattle.dmf_net.proofs.solve.solve.Given.{Over}
 use Rattle.dmf_net.proofs.solve.solve.Goals as goal
 
 -- one path more
-next : (c : goal.In-Some) → IsNext c.args.state.now c.loop-amount.search c.augment.new.self (c.loop-amount.value + c.in-Some.amount)
-next c = solving-more c.args.state.now _ c.in-Some.amount c.loop-amount.value c.loop-amount.search c.augment.new.self refl c.loop-amount.invariant c.in-Some.ensures
+next : (g : Over) (c : goal.After-augmented g) → IsNext c.args.state.now c.loop-amount.search c.augment.new.self (c.loop-amount.value + c.in-Some.amount)
+next g c = solving-more c.args.state.now _ c.in-Some.amount c.loop-amount.value c.loop-amount.search c.augment.new.self refl c.loop-amount.invariant c.in-Some.ensures
 
 pub overflow_add-value : goal.overflow_add-value
-overflow_add-value c = record { fits = (next c).small }
+overflow_add-value g c = record {
+  fits = (solving-more c.args.state.now _ c.in-Some.amount c.loop-amount.value c.loop-amount.search c.augment.new.self refl c.loop-amount.invariant c.in-Some.ensures).small;
+}
 
 pub loop-amount-smaller : goal.loop-amount-smaller
-loop-amount-smaller c = (next c).falls
+loop-amount-smaller g c = (next g c).falls
 
 pub loop-amount-preserved : goal.loop-amount-preserved
-loop-amount-preserved c = (next c).solving
+loop-amount-preserved g c = (next g c).solving
 
 pub returns : goal.returns
-returns c =
+returns g c =
     let none = c.in_default.ensures in
     solving-done c.args.state.now c.loop-amount.value c.loop-amount.search c.augment.new.self c.value-value.ensures.state c.loop-amount.invariant none.0 none.1

@@ -1,5 +1,5 @@
 use Rattle.std.proofs.lemmas.Result.{err_from_is_err_and}
-use Rattle.dmf_run.proofs.solve.run_solve.Goals as goal
+use Rattle.dmf_run.proofs.solve.run_solve_watched.Goals as goal
 
 -- the writer failed
 pub returns-in_err-put_solved-clause-run : goal.returns-in_err-put_solved-clause-run

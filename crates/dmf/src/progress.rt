@@ -1,0 +1,177 @@
+//! How far a solve is, told on standard error: one line, which each next word replaces and which is erased before the
+//! solution comes. Nothing else depends on it, and where it cannot be told, the run goes on.
+ghost use Rattle.std.specs.Prelude.{◌≡◌};
+
+use dmf_net::Watch;
+use dmf_text::{Failed, Sink, Source};
+use std::cell::Cell;
+use std::io::IsTerminal;
+use std::rt::HostRuntime;
+use std::time::{Duration, Instant};
+
+/// How long a run is silent at first, where nobody asked for progress, in milliseconds.
+const PATIENCE: u64 = 500;
+
+/// The least time between two words, in milliseconds.
+const PAUSE: u64 = 250;
+
+/// So many calls go by for each look at the clock.
+const CALLS: u64 = 64;
+
+const MEGABYTE: u64 = 1_000_000;
+
+/// The line on standard error.
+#[derive(Drop)]
+pub struct Progress<'a> {
+    rt: &'a HostRuntime,
+    /// When the next word may come.
+    due: Cell<Option<Instant>>,
+    is_shown: Cell<bool>,
+}
+
+impl<'a> Progress<'a> {
+    /// A line that is still empty. It comes at once where it was asked for, and else after a while.
+    pub fn new(rt: &'a HostRuntime, is_asked_for: bool) -> Self {
+        let wait = if is_asked_for { 0 } else { PATIENCE };
+        Progress {
+            rt,
+            due: Cell::new(after(rt, wait)),
+            is_shown: Cell::new(false),
+        }
+    }
+
+    /// Whether it is time for a word. If so, the next may come after a pause.
+    fn is_due(&self) -> bool {
+        let Some(due) = self.due.get() else {
+            return false;
+        };
+        let Ok(now) = Instant::now(self.rt) else {
+            return false;
+        };
+        if now < due {
+            return false;
+        }
+        self.due.set(after(self.rt, PAUSE));
+        self.is_shown.set(true);
+        true
+    }
+
+    /// Erases the line, if there is one.
+    pub fn erase(&self) {
+        if self.is_shown.get() {
+            self.is_shown.set(false);
+            let _ = eprint!(self.rt; "\r\x1b[K");
+        }
+    }
+}
+
+/// The time that it is so many milliseconds later, if the clock tells.
+fn after(rt: &HostRuntime, wait: u64) -> Option<Instant> {
+    Instant::now(rt)
+        .ok()?
+        .checked_add(Duration::from_millis(wait))
+}
+
+/// A source whose reads are told.
+#[derive(Drop)]
+pub struct WatchedSource<'a, S> {
+    source: S,
+    progress: &'a Progress<'a>,
+    bytes: u64,
+}
+
+impl<'a, S: Source> WatchedSource<'a, S> {
+    pub fn new(source: S, progress: &'a Progress<'a>) -> Self {
+        WatchedSource {
+            source,
+            progress,
+            bytes: 0,
+        }
+    }
+}
+
+impl<S: Source> Source for WatchedSource<'_, S> {
+    ghost remaining = { λ s. S.remaining s.source };
+
+    ghost has_failed = { λ s. S.has_failed s.source };
+
+    fn read(&mut self, buffer: &mut [u8]) -> Result<usize, Failed> {
+        let given = self.source.read(buffer)?;
+        self.bytes = self.bytes.saturating_add(given as u64);
+        if given > 0 && self.progress.is_due() {
+            let _ = eprint!(self.progress.rt; "\r\x1b[Kdmf: reading, {} MB", self.bytes / MEGABYTE);
+        }
+        Ok(given)
+    }
+}
+
+/// A solve whose paths are told.
+#[derive(Drop)]
+pub struct WatchedSolve<'a> {
+    progress: &'a Progress<'a>,
+    paths: u64,
+}
+
+impl<'a> WatchedSolve<'a> {
+    pub fn new(progress: &'a Progress<'a>) -> Self {
+        WatchedSolve { progress, paths: 0 }
+    }
+}
+
+impl Watch for WatchedSolve<'_> {
+    fn augmented(&mut self, value: u64) {
+        self.paths = self.paths.saturating_add(1);
+        if self.paths % CALLS == 1 && self.progress.is_due() {
+            let _ = eprint!(self.progress.rt;
+                "\r\x1b[Kdmf: solving, value {value}, {} augmenting paths",
+                self.paths
+            );
+        }
+    }
+}
+
+/// A sink before whose first byte the line is erased. What is written then is told where it does not go to the terminal.
+#[derive(Drop)]
+pub struct WatchedSink<'a, W> {
+    sink: W,
+    progress: &'a Progress<'a>,
+    is_told: bool,
+    bytes: u64,
+    puts: u64,
+}
+
+impl<'a, W: Sink> WatchedSink<'a, W> {
+    pub fn new(sink: W, progress: &'a Progress<'a>) -> Self {
+        WatchedSink {
+            sink,
+            progress,
+            is_told: !progress.rt.stdout().is_terminal(),
+            bytes: 0,
+            puts: 0,
+        }
+    }
+}
+
+impl<W: Sink> Sink for WatchedSink<'_, W> {
+    ghost contents = { λ s. W.contents s.sink };
+
+    ghost has_failed = { λ s. W.has_failed s.sink };
+
+    fn put(&mut self, bytes: &[u8]) -> Result<usize, Failed> {
+        if self.puts == 0 {
+            self.progress.erase();
+        }
+        self.puts = self.puts.saturating_add(1);
+        let taken = self.sink.put(bytes)?;
+        self.bytes = self.bytes.saturating_add(taken as u64);
+        if self.is_told && self.puts % CALLS == 0 && self.progress.is_due() {
+            let _ = eprint!(self.progress.rt; "\r\x1b[Kdmf: writing, {} MB", self.bytes / MEGABYTE);
+        }
+        Ok(taken)
+    }
+
+    fn flush(&mut self) -> Result<(), Failed> {
+        self.progress.erase();
+        self.sink.flush()
+    }
+}

@@ -1,0 +1,31 @@
+"""Makes a table of arcs of a rota: hours flow from the staff to the people, to their days, to shifts, and to the rota.
+
+    python3 arcs.py <rota.csv | dmf-problem Staff Rota >rota.max
+"""
+
+import csv
+import sys
+
+# Hours in a shift. Nobody works more than one shift a day.
+SHIFT = 8
+
+
+def arcs(shifts, needed, people):
+    for person in people:
+        yield "Staff", person["name"], person["hours"], "hours"
+    for person in people:
+        may_work = [shift for shift in shifts if person[shift] == "x"]
+        for day in dict.fromkeys(shift.split()[0] for shift in may_work):
+            yield person["name"], f"{person['name']} on {day}", SHIFT, ""
+        for shift in may_work:
+            yield f"{person['name']} on {shift.split()[0]}", shift, SHIFT, ""
+    for shift in shifts:
+        yield shift, "Rota", SHIFT * int(needed[shift]), "needed"
+
+
+rota = csv.DictReader(sys.stdin)
+shifts = rota.fieldnames[2:]
+needed, *people = rota
+table = csv.writer(sys.stdout)
+table.writerow(["from", "to", "hours", "arc"])
+table.writerows(arcs(shifts, needed, people))

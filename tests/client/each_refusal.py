@@ -1,0 +1,109 @@
+"""Each refusal has an exception of its own, and changes nothing."""
+
+import re
+import tempfile
+import unittest
+
+from shared import PIPES, ROOT, dmf, pipes
+
+LARGEST = 2**64 - 1
+
+
+class Refusals(unittest.TestCase):
+    def test_texts_are_those_of_the_formats(self):
+        with open(f"{ROOT}/docs/FORMATS.md") as text:
+            page = text.read()
+        problem = re.search(r"^1\. its kind: .*?(?=^Fields|^## )", page, re.MULTILINE | re.DOTALL)[0]
+        session = re.search(r"^\| TEXT \| When \|\n.*?\n\n", page, re.MULTILINE | re.DOTALL)[0]
+        for text in dmf.Refused.kinds:
+            self.assertIn(text, " ".join((problem + session).split()))
+        told = re.findall(r"^\| ([a-z0-9 ,]+) \|", session, re.MULTILINE)
+        self.assertGreaterEqual(set(dmf.Refused.kinds), {text for row in told for text in row.split(", ")})
+        self.assertEqual(len(dmf.Refused.kinds), 25)
+
+    def refuse(self, kind, call, *arguments):
+        """A call is refused, and changes nothing."""
+        with self.assertRaises(dmf.Error) as caught:
+            call(*arguments)
+        self.assertIs(type(caught.exception), kind)
+        return str(caught.exception)
+
+    def test_commands(self):
+        with pipes() as network:
+            before = network.problem()
+            self.assertEqual(self.refuse(dmf.NoSuchArc, network.cap, ("lake", "sea"), 1), "no such arc: ('lake', 'sea')")
+            with pipes() as other:
+                self.refuse(dmf.NoSuchArc, network.close, other.arcs[0])
+            self.refuse(dmf.NoSuchNode, network.add, "lake", "see", 1)
+            self.refuse(dmf.NotANumber, network.cap, ("lake", "mill"), -1)
+            self.refuse(dmf.NotANumber, network.cap, ("lake", "mill"), 0.5)
+            self.refuse(dmf.NotANumber, network.cap, ("lake", "mill"), "3")
+            self.refuse(dmf.NumberTooLarge, network.cap, ("lake", "mill"), LARGEST + 1)
+            self.refuse(dmf.NumberTooLarge, network.add, "lake", "mill", 10**5000)
+            self.refuse(dmf.CapacitiesPast64Bits, network.add, "lake", "mill", LARGEST)
+            self.refuse(dmf.CapacitiesPast64Bits, network.cap, ("lake", "mill"), LARGEST)
+            self.refuse(dmf.NothingToUndo, network.undo)
+            self.refuse(dmf.NothingToRedo, network.redo, 2)
+            self.refuse(dmf.FlowIsNotGreatest, network.cut)
+            self.assertEqual((network.problem(), network.undo(0)), (before, 0))
+            network.close(("lake", "mill"))
+            message = self.refuse(dmf.ArcIsClosed, network.cap, ("lake", "mill"), 1)
+            self.assertEqual(message, "arc is closed: <Arc 1: 'lake' to 'mill'>")
+            self.refuse(dmf.ArcIsClosed, network.close, ("lake", "mill"))
+
+    def test_lines(self):
+        """Refusals of lines that no method sends, and of numbers that are judged before they are sent."""
+        lines = {
+            dmf.UnknownCommand: "wash",
+            dmf.WrongNumberOfFields: "solve 1",
+            dmf.LineTooLong: "solve" + " " * 4092,
+            dmf.NotANumber: "cap 1 -1",
+            dmf.NumberTooLarge: f"cap 1 {LARGEST + 1}",
+            dmf.NoSuchArc: "close 6",
+            dmf.NoSuchNode: "add 5 1 1",
+        }
+        with pipes() as network:
+            for kind, line in lines.items():
+                self.refuse(kind, network._answered, line)
+            self.assertEqual(network.solve().value, 5)
+
+    def test_networks(self):
+        self.refuse(dmf.SourceAndSinkAreTheSame, dmf.Network, PIPES, "lake", "lake")
+        self.refuse(dmf.CountOutOfRange, dmf.Network, [("a", "a", 1)], "a", "a")
+        message = self.refuse(dmf.CapacitiesPast64Bits, dmf.Network, [("a", "b", 1), ("b", "a", LARGEST)], "a", "b")
+        self.assertEqual(message, "capacities past 64 bits: <Arc 2: 'b' to 'a'>")
+        message = self.refuse(dmf.NotANumber, dmf.Network, [("a", "b", 1.5)], "a", "b")
+        self.assertEqual(message, "not a number: 1.5 in ('a', 'b', 1.5)")
+        self.refuse(dmf.NoSuchNode, dmf.Network, PIPES, "lake", "see")
+
+    def test_files(self):
+        head = "p max 2 1\nn 1 s\nn 2 t\n"
+        texts = {
+            dmf.ProblemLineExpected: ("c nothing\n", 2),
+            dmf.SecondProblemLine: ("p max 2 0\np max 2 0\n", 2),
+            dmf.UnknownLine: (head + "b 1 2 3\n", 4),
+            dmf.NotAMaxProblem: ("p min 2 1\n", 1),
+            dmf.WrongNumberOfFields: (head + "a 1 2\n", 4),
+            dmf.NotANumber: (head + "a 1 2 x\n", 4),
+            dmf.NumberTooLarge: (head + f"a 1 2 {LARGEST + 1}\n", 4),
+            dmf.CountOutOfRange: ("p max 1 0\n", 1),
+            dmf.NoSuchNode: (head + "a 1 3 1\n", 4),
+            dmf.NeitherSourceNorSink: ("p max 2 1\nn 1 x\n", 2),
+            dmf.TerminalNamedTwice: ("p max 2 1\nn 1 s\nn 2 s\n", 3),
+            dmf.SourceAndSinkAreTheSame: ("p max 2 1\nn 1 s\nn 1 t\n", 3),
+            dmf.ArcBeforeSourceAndSink: ("p max 2 1\nn 1 s\na 1 2 3\n", 3),
+            dmf.TooManyArcs: (head + "a 1 2 3\n" * 2, 5),
+            dmf.TooFewArcs: (head, 4),
+            dmf.SourceOrSinkMissing: ("p max 2 0\nn 2 t\n", 3),
+            dmf.CapacitiesPast64Bits: (head.replace("1\n", "2\n", 1) + f"a 1 2 {LARGEST}\na 1 2 1\n", 5),
+        }
+        with tempfile.TemporaryDirectory() as folder:
+            path = f"{folder}/problem.max"
+            for kind, (text, line) in texts.items():
+                with open(path, "w") as file:
+                    file.write(text)
+                with self.assertRaises(dmf.Refused) as caught:
+                    dmf.read(path)
+                self.assertEqual((type(caught.exception), caught.exception.line), (kind, line))
+                self.assertIn(f"line {line}", str(caught.exception))
+            self.assertRaises(FileNotFoundError, dmf.read, f"{folder}/missing.max")

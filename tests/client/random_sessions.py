@@ -1,0 +1,122 @@
+"""Random sessions and graphs, compared with the second implementation and with networkx."""
+
+import unittest
+from random import Random
+
+from shared import KNOWS_SHUT, PIPES, dmf
+from oracle.network import is_greatest, smallest_side
+from oracle.problem import problem_text
+from oracle.session import Session
+from oracle.texts import LARGEST, Fault
+from random_cases import network as random_network
+
+try:
+    import networkx
+except ImportError:
+    networkx = None
+
+SESSIONS = 150
+
+
+class RandomSessions(unittest.TestCase):
+    def test_sessions(self):
+        for seed in range(SESSIONS):
+            with self.subTest(seed=seed):
+                self.hold(Random(f"client {seed}"))
+
+    def hold(self, random):
+        state = random_network(random, 20)
+        if state.capacity_sum() > LARGEST:
+            return
+        model = Session(state, False)
+        rows = [(f"n{arc.tail}", f"n{arc.head}", arc.cap) for arc in state.arcs]
+        nodes = [f"n{node}" for node in range(1, state.nodes + 1)]
+        with dmf.Network(rows, f"n{state.source}", f"n{state.sink}", nodes=nodes) as network:
+            for _ in range(random.choice([3, 10, 30])):
+                self.step(model, network, random)
+                self.compare(model.present(), network)
+
+    def step(self, model, network, random):
+        """One random command to both. They agree, also where it is refused."""
+        words = ["solve", "cap", "cap", "close", "add", "undo", "undo", "redo", "redo"]
+        word = random.choice([*words, "shut"] if KNOWS_SHUT else words)
+        arc, count = random.randint(1, max(1, len(network._arcs))), random.choice([0, 1, 1, 2, 3])
+        tail, head, node = (random.randint(1, model.present().nodes) for _ in range(3))
+        amount = random.choice([0, 1, 2, 5, 9, 2**63])
+        if word in ("cap", "close") and not network._arcs:
+            return
+        handle = network._arcs[arc - 1] if network._arcs else None
+        numbers, call = {
+            "solve": ([], lambda: network.solve().value),
+            "cap": ([arc, amount], lambda: network.cap(handle, amount)),
+            "close": ([arc], lambda: network.close(handle)),
+            "add": ([tail, head, amount], lambda: (network.add(f"n{tail}", f"n{head}", amount), network.value)[1]),
+            "undo": ([count], lambda: network.undo(count)),
+            "redo": ([count], lambda: network.redo(count)),
+            "shut": ([node], lambda: network.shut(f"n{node}")),
+        }[word]
+        try:
+            model.reply(word, *numbers)
+        except Fault as fault:
+            with self.assertRaises(dmf.Refused) as caught:
+                call()
+            self.assertEqual(caught.exception.text, str(fault))
+        else:
+            self.assertEqual(call(), model.present().value())
+
+    def compare(self, state, network):
+        opened = state.open_arcs()
+        self.assertEqual(list(network.flow().values()), [flow for _, flow in opened])
+        self.assertEqual([(arc.tail, arc.head) for arc in network.arcs], [(f"n{arc.tail}", f"n{arc.head}") for arc, _ in opened])
+        self.assertEqual([network.capacity(arc) for arc in network.arcs], [arc.cap for arc, _ in opened])
+        self.assertEqual((network.value, network.flow().value), (state.value(), state.value()))
+        text = "".join(line for line in network.problem().splitlines(True) if not line.startswith("c"))
+        self.assertEqual(text.encode(), problem_text(state))
+        if is_greatest(state):
+            side, capacity = smallest_side(state)
+            cut = network.cut()
+            self.assertEqual((cut.capacity, cut.side), (capacity, {f"n{node}" for node in side}))
+            self.assertEqual(sum(map(network.capacity, cut.arcs)), capacity)
+        else:
+            self.assertRaises(dmf.FlowIsNotGreatest, network.cut)
+
+
+@unittest.skipUnless(networkx, "networkx is not there, so no network was made from a graph of it")
+class Networkx(unittest.TestCase):
+    def test_worked(self):
+        graph = networkx.DiGraph()
+        graph.add_weighted_edges_from(PIPES, weight="litres")
+        with dmf.from_networkx(graph, "lake", "sea", capacity="litres") as network:
+            self.assertEqual((network.solve().value, network.cap(("town", "sea"), 1)), (5, 3))
+
+    def test_undirected(self):
+        graph = networkx.Graph()
+        graph.add_edge("a", "b", capacity=3)
+        graph.add_edge("c", "b", capacity=2)
+        graph.add_edge("b", "b", capacity=9)
+        with dmf.from_networkx(graph, "a", "c") as network:
+            self.assertEqual((network.solve()["b", "c"], len(network.arcs)), (2, 5))
+
+    def test_multigraph(self):
+        graph = networkx.MultiDiGraph()
+        graph.add_edge("a", "b", key="old", capacity=3)
+        graph.add_edge("a", "b", key="new", capacity=4)
+        with dmf.from_networkx(graph, "a", "b") as network:
+            self.assertEqual((network.solve().value, network.close(("a", "b", "old"))), (7, 4))
+
+    def test_refused(self):
+        graph = networkx.DiGraph([("a", "b")])
+        self.assertRaisesRegex(dmf.NotANumber, "None in .'a', 'b', None", dmf.from_networkx, graph, "a", "b")
+        graph["a"]["b"]["capacity"] = float("inf")
+        self.assertRaises(dmf.NotANumber, dmf.from_networkx, graph, "a", "b")
+        graph["a"]["b"]["capacity"] = 5
+        self.assertRaises(dmf.NoSuchNode, dmf.from_networkx, graph, "a", "x")
+
+    def test_values(self):
+        random = Random("networkx")
+        for _ in range(20):
+            graph = networkx.gnp_random_graph(12, 0.3, seed=random.randrange(10**6), directed=random.random() < 0.5)
+            for _, _, data in graph.edges(data=True):
+                data["capacity"] = random.randrange(20)
+            with dmf.from_networkx(graph, 0, 11) as network:
+                self.assertEqual(network.solve().value, networkx.maximum_flow_value(graph, 0, 11))
