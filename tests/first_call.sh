@@ -61,4 +61,12 @@ dmf: 1 of 2: low
 no proof
 "
 
+mkdir "$work/bin"
+for tool in sh dirname readlink find head; do
+    ln -s "$(command -v "$tool")" "$work/bin"
+done
+PATH=$work/bin "$root/dmf" --help >"$work/out" 2>"$work/err" </dev/null
+judge "a first call without rt" "$?" 70 "" \
+    $'dmf: rt, which proves and builds the program, is not in PATH.\n'
+
 finish

@@ -157,6 +157,10 @@ same "it needs libc alone" "$(ldd "$work/real/bin/dmf" | sed -n 's/^\t\(lib[^ ]*
 
 # The completions.
 export PATH=$work/real/bin:$PATH
+if ! python3 -c 'import pty; pty.openpty()' 2>/dev/null; then
+    echo "skipped: no terminal can be had, so completions were not tried"
+    finish
+fi
 for pair in bash=bash-completion/completions/dmf zsh=zsh/site-functions/_dmf fish=fish/vendor_completions.d/dmf.fish; do
     if command -v "${pair%%=*}" >/dev/null; then
         count_script "$home/tests/completions.py" "${pair%%=*}" "$work/real/share/${pair#*=}"

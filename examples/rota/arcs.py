@@ -12,7 +12,7 @@ SHIFT = 8
 
 def arcs(shifts, needed, people):
     for person in people:
-        yield "Staff", person["name"], person["hours"], "hours"
+        yield "Staff", person["name"], person["hours"], f"hours of {person['name']}"
     for person in people:
         may_work = [shift for shift in shifts if person[shift] == "x"]
         for day in dict.fromkeys(shift.split()[0] for shift in may_work):
@@ -20,7 +20,7 @@ def arcs(shifts, needed, people):
         for shift in may_work:
             yield f"{person['name']} on {shift.split()[0]}", shift, SHIFT, ""
     for shift in shifts:
-        yield shift, "Rota", SHIFT * int(needed[shift]), "needed"
+        yield shift, "Rota", SHIFT * int(needed[shift]), f"need of {shift}"
 
 
 rota = csv.DictReader(sys.stdin)
