@@ -1,23 +1,13 @@
 -- What `==` computes of arcs, of networks and of states tells whether the two are equal.
-use Rattle.std.proofs.Common.{◌≡◌, ◌==◌, ℕ, Bool, true, List, ap}
-use Rattle.std.specs.Bool.{Decides, beq}
+use Rattle.std.proofs.Common.{◌≡◌, Bool}
+use Rattle.std.specs.Bool.{Decides}
 use Rattle.std.specs.Cmp.{booleans_Decides}
-use Rattle.std.specs.Cmp.Lexicographic.{pointwise, pointwise_decides}
+use Rattle.std.specs.Cmp.Lexicographic.{pointwise_decides}
 use Rattle.std.proofs.lemmas.Bool.Decides.{Decides-and, Decides-eqb}
 use Rattle.dmf_net.specs.declared.arc.Arc.{Arc}
 use Rattle.dmf_net.specs.Network.{Network}
 use Rattle.dmf_net.specs.NetworkState.{NetworkState}
 use Rattle.dmf_net.specs.Equality.{same_arc, same_network, same_state}
-
--- records by their fields
-abbrev arc_of : ℕ → ℕ → ℕ → Bool → Arc
-arc_of tail head cap closed = record { tail = tail; head = head; cap = cap; closed = closed }
-
-abbrev network_of : ℕ → ℕ → ℕ → List Arc → Network
-network_of nodes source sink arcs = record { nodes = nodes; source = source; sink = sink; arcs = arcs }
-
-abbrev state_of : Network → List ℕ → NetworkState
-state_of network flows = record { network = network; flows = flows }
 
 -- A test decides a statement where it decides one that says the same.
 Decides-same : {P Q : Type 0} (r : Bool) → Decides r P → (P → Q) → (Q → P) → Decides r Q
@@ -27,20 +17,19 @@ same_arc-Decides : (a b : Arc) → Decides (same_arc a b) (a ≡ b)
 same_arc-Decides a b =
     Decides-same _ (Decides-and _ _ (Decides-eqb a.tail b.tail) (Decides-and _ _ (Decides-eqb a.head b.head)
     (Decides-and _ _ (Decides-eqb a.cap b.cap) (booleans_Decides a.closed b.closed))))
-    (λ h. let e : arc_of a.tail a.head a.cap a.closed ≡ arc_of b.tail b.head b.cap b.closed = cc in e)
-    (λ e. (ap (λ (arc : Arc). arc.tail) e, (ap (λ (arc : Arc). arc.head) e, (ap (λ (arc : Arc). arc.cap) e, ap (λ (arc : Arc). arc.closed) e))))
+    (λ h i. record { tail = h.0 i; head = h.1.0 i; cap = h.1.1.0 i; closed = h.1.1.1 i })
+    (λ e. (λ i. (e i).tail, (λ i. (e i).head, (λ i. (e i).cap, λ i. (e i).closed))))
 
 same_network-Decides : (a b : Network) → Decides (same_network a b) (a ≡ b)
 same_network-Decides a b =
     Decides-same _ (Decides-and _ _ (Decides-eqb a.nodes b.nodes) (Decides-and _ _ (Decides-eqb a.source b.source)
     (Decides-and _ _ (Decides-eqb a.sink b.sink) (pointwise_decides same_arc-Decides a.arcs b.arcs))))
-    (λ h. let e : network_of a.nodes a.source a.sink a.arcs ≡ network_of b.nodes b.source b.sink b.arcs = cc in e)
-    (λ e. (ap (λ (n : Network). n.nodes) e, (ap (λ (n : Network). n.source) e, (ap (λ (n : Network). n.sink) e, ap (λ (n : Network). n.arcs) e))))
+    (λ h i. record { nodes = h.0 i; source = h.1.0 i; sink = h.1.1.0 i; arcs = h.1.1.1 i })
+    (λ e. (λ i. (e i).nodes, (λ i. (e i).source, (λ i. (e i).sink, λ i. (e i).arcs))))
 
 -- A bool that is what `==` computes of two states tells whether they are equal.
 pub same_state-Decides : (a b : NetworkState) (r : Bool) → r ≡ same_state a b → Decides r (a ≡ b)
 same_state-Decides a b r is =
-    let decides : Decides (same_state a b) (a ≡ b) =
-    Decides-same _ (Decides-and _ _ (same_network-Decides a.network b.network) (pointwise_decides Decides-eqb a.flows b.flows))
-    (λ h. let e : state_of a.network a.flows ≡ state_of b.network b.flows = cc in e) (λ e. (ap (λ (s : NetworkState). s.network) e, ap (λ (s : NetworkState). s.flows) e)) in
-    rw is decides
+    rw is (Decides-same _ (Decides-and _ _ (same_network-Decides a.network b.network) (pointwise_decides Decides-eqb a.flows b.flows))
+    (λ h i. record { network = h.0 i; flows = h.1 i })
+    (λ e. (λ i. (e i).network, λ i. (e i).flows)))

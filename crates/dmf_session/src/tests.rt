@@ -155,34 +155,18 @@ fn tells_cut(answer: Result<Reply, Refusal>, ids: &[u32], capacity: u64) -> bool
 #[test]
 fn cuts_are_told_of_greatest_flows(rt: HostRuntime) -> Result<(), Fail> {
     let mut session = example(rt.alloc())?;
-    assert!(rt;
-        matches!(
-            answer(&rt, rt.alloc(), &mut session, Command::PrintCut),
-            Err(Refusal::NotGreatest)
-        )
-    );
+    let refused = [(Command::PrintCut, Err(Refusal::NotGreatest))];
+    expect(&rt, rt.alloc(), &mut session, &refused);
     assert!(rt; !session.is_full());
     let solved = session.step(rt.alloc(), Command::Solve, true);
     assert!(rt; tells_cut(solved, &[1], 5));
-    assert!(rt;
-        tells_cut(
-            answer(&rt, rt.alloc(), &mut session, Command::PrintCut),
-            &[1],
-            5
-        )
-    );
-    assert!(rt;
-        matches!(
-            answer(&rt, rt.alloc(), &mut session, Command::Undo(1)),
-            Ok(Reply::Value(0))
-        )
-    );
-    assert!(rt;
-        matches!(
-            answer(&rt, rt.alloc(), &mut session, Command::PrintCut),
-            Err(Refusal::NotGreatest)
-        )
-    );
+    let printed = answer(&rt, rt.alloc(), &mut session, Command::PrintCut);
+    assert!(rt; tells_cut(printed, &[1], 5));
+    let undone = [
+        (Command::Undo(1), Ok(Reply::Value(0))),
+        (Command::PrintCut, Err(Refusal::NotGreatest)),
+    ];
+    expect(&rt, rt.alloc(), &mut session, &undone);
     assert_eq!(rt; (session.past(), session.future()), (0, 1));
     Ok(())
 }
