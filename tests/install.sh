@@ -137,6 +137,9 @@ for words in wash "--prefix" "--prefix="; do
 done
 call "help" 0 "$("$root/install" -h)"$'\n' "" --help
 
+"$root/install" --prefix "$work/new" >"$work/out" 2>&1 && "$root/install" --remove --prefix "$work/new" >"$work/out" 2>&1
+same "a folder that was made is removed" "$? $(find "$work/new" 2>&1 | head -c 5)" "0 find:"
+
 # Where it puts all when no folder is named.
 printf '#!/bin/sh\necho 1000\n' >"$root/bin/id"
 chmod 755 "$root/bin/id"

@@ -12,3 +12,4 @@ pub mod OptimalRuns
 pub mod Table
 pub mod Reading
 pub mod CommandLemmas
+pub mod NeverForgotten

@@ -92,6 +92,6 @@ one-text some one want_cut t given text other refused also has a b =
 
 -- Each command text has one run from the start of each state.
 pub has-one-run : HasAnswer → HasOneAnswer → HasOneRun
-has-one-run some one want_cut s given text other refused also state a b =
-    let same = one-text some one want_cut (start s) given text other refused also (HasStates-start s state) a b in
+has-one-run some one want_cut bound s given text other refused also state a b =
+    let same = one-text some one want_cut (start bound s) given text other refused also (HasStates-start bound s state) a b in
     (same.same_text, same.same_refused)

@@ -1,5 +1,5 @@
 -- A run of command lines, up to some line, and how it ends.
-use Rattle.std.proofs.Common.{ℕ, ◌≡◌, ◌+◌, ◌<◌, ◌≤◌, List, [], ◌∷◌, ◌++◌, length, Bool, true, false, ◌||◌, Option, Result, Ok, refl, sym, ap, ◌∙◌, subst, arith, append-nil}
+use Rattle.std.proofs.Common.{ℕ, ◌≡◌, ◌+◌, List, [], ◌∷◌, ◌++◌, length, Bool, true, false, ◌||◌, Option, Result, Ok, refl, sym, ap, ◌∙◌, subst, arith, append-nil}
 use Rattle.std.specs.List.{All}
 use Rattle.std.specs.Io.KnownBytes.{Appends}
 use Rattle.std.proofs.KnownBytes.{Consumes-nil, Appends-nil, Appends-trans}
@@ -17,7 +17,7 @@ use Rattle.dmf_run.specs.Line.{HasNoLineFeed, with_line_feeds, line_meaning}
 use Rattle.dmf_run.specs.Run.{LineRuns, Runs}
 use Rattle.dmf_run.specs.Input.{InputState, Takes, GivesLine, left}
 use Rattle.dmf_run.proofs.TakingLemmas.{Takes-trans}
-use Rattle.dmf_run.proofs.LineLemmas.{LineRuns-grows, Runs-push}
+use Rattle.dmf_run.proofs.LineLemmas.{Runs-push}
 
 -- the reader of an input, and a writer
 abbrev pub streams : InputState → Writer → Streams
@@ -40,11 +40,9 @@ pub record Progress (want_cut : Bool) (t : Timeline) (before now : InputState) (
   pub appends : Appends held.contents holds.contents written
   pub writer : holds.has_failed ≡ held.has_failed
   pub runs : Runs (Answers want_cut) 1 t lines written is_refused u
-  pub place : u.place < length u.states
-  pub at_most : length u.states ≤ number
 
-pub Progress-none : (want_cut : Bool) (t : Timeline) (input : InputState) (held : Writer) → IsFresh input → t.place ≡ 0 → length t.states ≡ 1 → Progress want_cut t input input held held 1 t false
-Progress-none want_cut t input held fresh first one = record {
+pub Progress-none : (want_cut : Bool) (t : Timeline) (input : InputState) (held : Writer) → IsFresh input → Progress want_cut t input input held held 1 t false
+Progress-none want_cut t input held fresh = record {
   fresh = fresh;
   lines = [];
   each = All-nil HasNoLineFeed;
@@ -55,8 +53,6 @@ Progress-none want_cut t input held fresh first one = record {
   appends = Appends-nil held.contents;
   writer = refl;
   runs = (refl, refl, refl);
-  place = omega arith;
-  at_most = omega arith;
 }
 
 pub with_line_feeds-push : (lines : List (List ℕ)) (line : List ℕ) → with_line_feeds (lines ++ line ∷ []) ≡ with_line_feeds lines ++ (line ++ 10 ∷ [])
@@ -76,7 +72,6 @@ Progress-more want_cut t before now then held holds next number u is_refused mea
     let line : List ℕ = gave.0 in
     let place : 1 + length p.lines ≡ number = omega (arith, p.counted) in
     let runs = subst (λ m. LineRuns (Answers want_cut) number u m c.text refused v) (means gave.0 gave.3) c.runs in
-    let grows = LineRuns-grows want_cut number u meaning c.text refused v p.place c.runs in
     record {
       fresh = p.fresh;
       lines = p.lines ++ line ∷ [];
@@ -88,6 +83,4 @@ Progress-more want_cut t before now then held holds next number u is_refused mea
       appends = Appends-trans _ _ _ p.written c.text p.appends c.appends;
       writer = c.writer ∙ p.writer;
       runs = Runs-push want_cut 1 t p.lines p.written is_refused u line c.text refused v p.runs (subst (λ n. LineRuns (Answers want_cut) n u (line_meaning true line) c.text refused v) (sym place) runs);
-      place = grows.place;
-      at_most = omega (arith, grows.at_most, p.at_most);
     }

@@ -17,8 +17,8 @@ use Rattle.dmf_run.specs.Laws.{HasRun, StepsAreAnswers}
 use Rattle.dmf_run.proofs.Splitting.{some-split}
 
 -- The start of a state has states.
-pub HasStates-start : (s : NetworkState) → IsState s → HasStates (start s)
-HasStates-start s state = record { place = omega arith; states = All-cons IsState s [] state (All-nil IsState) }
+pub HasStates-start : (bound : ℕ) (s : NetworkState) → IsState s → HasStates (start bound s)
+HasStates-start bound s state = record { place = omega arith; states = All-cons IsState s [] state (All-nil IsState) }
 
 -- Where the place is in the list there is a present state.
 some-present : (t : Timeline) → t.place < length t.states → (s : NetworkState) × IsPresent t s
@@ -111,9 +111,9 @@ some-rest answer want_cut number t (byte ∷ rest) has =
 
 -- Each command text has a run from the start of each state.
 pub has-run : HasAnswer → HasRun
-has-run answer want_cut s given state =
+has-run answer want_cut bound s given state =
     let some = some-split given in
-    let first = some-lines answer want_cut 1 (start s) some.lines (HasStates-start s state) in
+    let first = some-lines answer want_cut 1 (start bound s) some.lines (HasStates-start bound s state) in
     let last = some-rest answer want_cut (length some.lines + 1) first.after some.rest first.has_states in
     record {
       text = first.text ++ last.text;
@@ -222,5 +222,5 @@ step-is-answer some one want_cut t u command result has steps =
 
 -- A run in which no command is refused memory is one in which a command may be refused it.
 pub steps-are-answers : HasAnswer → HasOneAnswer → StepsAreAnswers
-steps-are-answers some one want_cut s given text refused state all =
-    RunsAll-implied (Steps want_cut) (Answers want_cut) (Steps-keeps some one want_cut) (step-is-answer some one want_cut) (start s) given text refused (HasStates-start s state) all
+steps-are-answers some one want_cut bound s given text refused state all =
+    RunsAll-implied (Steps want_cut) (Answers want_cut) (Steps-keeps some one want_cut) (step-is-answer some one want_cut) (start bound s) given text refused (HasStates-start bound s state) all

@@ -54,22 +54,23 @@ abbrev pub Untouched : Streams → Streams → Type 0
 Untouched old new = new ≡ old
 
 -- The problem was read, and its command lines were run.
-pub record RunsOn (want_cut : Bool) (from to : Reader) (old new : Streams) (text : List ℕ) (result : Result Status EngineFault) : Type 0 where
+pub record RunsOn (want_cut : Bool) (bound : ℕ) (from to : Reader) (old new : Streams) (text : List ℕ) (result : Result Status EngineFault) : Type 0 where
   pub state : NetworkState
   pub problem : ReadsProblem from to text (Ok state)
-  pub runs : RunsCommands want_cut (start state) old new result
+  pub runs : RunsCommands want_cut (start bound state) old new result
 
 -- What a session answers that was given this much of the problem's text. What it answers without having run a line it
 -- answers with nothing written and no command byte taken.
-abbrev pub SessionAnswered : Bool → Reader → Reader → Streams → Streams → List ℕ → Result Status EngineFault → Type 0
-SessionAnswered want_cut from to old new text (Ok status) = RunsOn want_cut from to old new text (Ok status)
-SessionAnswered want_cut from to old new text (Err fault.Write) = RunsOn want_cut from to old new text (Err fault.Write)
-SessionAnswered want_cut from to old new text (Err fault.NoMemory) = Untouched old new × (to.has_failed ≡ from.has_failed)
-SessionAnswered want_cut from to old new text (Err told) =
-    (ReadsProblem from to text (Err told) × Untouched old new) ⊎ RunsOn want_cut from to old new text (Err told)
+abbrev pub SessionAnswered : Bool → ℕ → Reader → Reader → Streams → Streams → List ℕ → Result Status EngineFault → Type 0
+SessionAnswered want_cut bound from to old new text (Ok status) = RunsOn want_cut bound from to old new text (Ok status)
+SessionAnswered want_cut bound from to old new text (Err fault.Write) = RunsOn want_cut bound from to old new text (Err fault.Write)
+SessionAnswered want_cut bound from to old new text (Err fault.NoMemory) = Untouched old new × (to.has_failed ≡ from.has_failed)
+SessionAnswered want_cut bound from to old new text (Err told) =
+    (ReadsProblem from to text (Err told) × Untouched old new) ⊎ RunsOn want_cut bound from to old new text (Err told)
 
 -- A session, from the bytes that its two readers gave to those that its writer took. `want_cut` says whether a cut is
--- wanted after each solution that answers `solve`.
-abbrev pub RunsSession : Bool → Reader → Reader → Streams → Streams → Result Status EngineFault → Type 0
-RunsSession want_cut from to old new result =
-    (text : List ℕ) × Consumes from.known to.known text × SessionAnswered want_cut from to old new text result
+-- wanted after each solution that answers `solve`; the bound is the largest number of states that are kept before the present
+-- one.
+abbrev pub RunsSession : Bool → ℕ → Reader → Reader → Streams → Streams → Result Status EngineFault → Type 0
+RunsSession want_cut bound from to old new result =
+    (text : List ℕ) × Consumes from.known to.known text × SessionAnswered want_cut bound from to old new text result

@@ -1,4 +1,4 @@
-ghost use Rattle.dmf_run.specs.Laws.{HasRun, HasOneRun, StepsAreAnswers, SolvesAreOptimal, RunsAreOptimal, WrittenIsOptimal};
+ghost use Rattle.dmf_run.specs.Laws.{HasRun, HasOneRun, StepsAreAnswers, SolvesAreOptimal, RunsAreOptimal, WrittenIsOptimal, MillionIsNeverForgotten};
 
 use dmf_net::solved_is_greatest;
 use dmf_session::{
@@ -42,6 +42,12 @@ pub fn solves_are_optimal()
     command_has_one_answer();
     solved_is_optimal();
 }
+
+/// The law that with the bound 1,000,000, the largest, no run of a command text of at most 1,000,000 lines forgets a state: to
+/// what stands up to the present state all is appended as if there were no bound.
+pub fn million_is_never_forgotten()
+    ensures { MillionIsNeverForgotten }
+{}
 
 /// The law that the solution which a solving run writes has the greatest value of all flows, and that this is the capacity of
 /// the smallest minimum cut.

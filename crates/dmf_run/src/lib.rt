@@ -7,11 +7,11 @@ pub use fault::{EngineFault, Status, status_of};
 pub use input::MAX_BYTES;
 pub use kept_line::MAX_LINE;
 pub use laws::{
-    command_text_has_one_run, command_text_has_run, solves_are_optimal, steps_are_answers,
-    written_is_optimal,
+    command_text_has_one_run, command_text_has_run, million_is_never_forgotten, solves_are_optimal,
+    steps_are_answers, written_is_optimal,
 };
 pub use refusal::refusal_text;
-pub use session::{MAX_LINES, run_commands, run_session};
+pub use session::{MAX_LINES, run_commands, run_session, run_session_bounded};
 pub use solve::{run_solve, run_solve_watched};
 pub use words::{Mode, WordsFault, read_words};
 

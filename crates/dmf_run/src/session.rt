@@ -1,5 +1,5 @@
 //! A session from bytes to bytes.
-ghost use Rattle.std.specs.Prelude.{◌≡◌, ◌<◌, Ok, Some, length};
+ghost use Rattle.std.specs.Prelude.{◌≡◌, ◌≤◌, Ok, Some, length};
 ghost use Rattle.dmf_run.specs.Streams.{reader_of, writer_of, streams_of};
 ghost use Rattle.dmf_run.specs.Outcome.{RunsCommands, status_if};
 ghost use Rattle.dmf_run.specs.Session.{RunsSession};
@@ -11,7 +11,7 @@ use crate::input::{Input, Next};
 use crate::kept_line::KeptLine;
 use crate::problem::read_state;
 use crate::reply::{Answer, refuse, show};
-use dmf_session::{Command, DeltaHistory, History, Session};
+use dmf_session::{Command, DeltaHistory, History, MAX_BOUND, Session};
 use dmf_text::{Sink, Source, WriteFault};
 use std::alloc::Global;
 
@@ -63,10 +63,8 @@ pub fn run_commands<H: History + Drop, C: Source, W: Sink>(
     Ok(status(is_refused))
 }
 
-/// Reads the problem, and then carries out command lines on it, as [`run_commands`] does.
-///
-/// Stopped before the first command byte by [`EngineFault::Problem`], where the problem text has a fault, and by
-/// [`EngineFault::Read`], [`EngineFault::TooMuchInput`] and [`EngineFault::NoMemory`] in reading it; nothing is written then.
+/// Runs a session as [`run_session_bounded`] does, with the largest bound, [`MAX_BOUND`]. A session has no more lines than
+/// that, so no state is ever forgotten.
 pub fn run_session<P: Source, C: Source, W: Sink>(
     alloc: Global,
     problem: &mut P,
@@ -74,14 +72,37 @@ pub fn run_session<P: Source, C: Source, W: Sink>(
     out: &mut W,
     want_cut: bool,
 ) -> Result<Status, EngineFault>
-    ensures { RunsSession want_cut
+    ensures { RunsSession want_cut 1000000
+        (reader_of P.remaining P.has_failed problem.old) (reader_of P.remaining P.has_failed problem.new)
+        (streams_of (reader_of C.remaining C.has_failed commands.old) (writer_of W.contents W.has_failed out.old))
+        (streams_of (reader_of C.remaining C.has_failed commands.new) (writer_of W.contents W.has_failed out.new))
+        result }
+{
+    run_session_bounded(alloc, problem, commands, out, want_cut, MAX_BOUND)
+}
+
+/// Reads the problem, and then carries out command lines on it, as [`run_commands`] does, over a history with this bound,
+/// which is at most [`MAX_BOUND`]: the largest number of states that are kept before the present one.
+///
+/// Stopped before the first command byte by [`EngineFault::Problem`], where the problem text has a fault, and by
+/// [`EngineFault::Read`], [`EngineFault::TooMuchInput`] and [`EngineFault::NoMemory`] in reading it; nothing is written then.
+pub fn run_session_bounded<P: Source, C: Source, W: Sink>(
+    alloc: Global,
+    problem: &mut P,
+    commands: &mut C,
+    out: &mut W,
+    want_cut: bool,
+    bound: u32,
+) -> Result<Status, EngineFault>
+    requires { bound ≤ 1000000 }
+    ensures { RunsSession want_cut bound
         (reader_of P.remaining P.has_failed problem.old) (reader_of P.remaining P.has_failed problem.new)
         (streams_of (reader_of C.remaining C.has_failed commands.old) (writer_of W.contents W.has_failed out.old))
         (streams_of (reader_of C.remaining C.has_failed commands.new) (writer_of W.contents W.has_failed out.new))
         result }
 {
     let state = read_state(alloc, problem)?;
-    let history = DeltaHistory::new(alloc, state);
+    let history = DeltaHistory::with_bound(alloc, state, bound);
     run_commands(alloc, Session::new(history), commands, out, want_cut)
 }
 
@@ -104,7 +125,6 @@ fn answer<H: History, W: Sink>(
     out: &mut W,
     want_cut: bool,
 ) -> Result<Answer, WriteFault>
-    requires not_full { (H.timeline session.old).place < 1000000 }
     ensures { WritesLine want_cut W.contents W.has_failed out.old out.new number
         (H.timeline session.old) meaning (H.timeline session.new) result }
 {
@@ -123,7 +143,6 @@ fn answer_command<H: History, W: Sink>(
     out: &mut W,
     want_cut: bool,
 ) -> Result<Answer, WriteFault>
-    requires not_full { (H.timeline session.old).place < 1000000 }
     ensures { WritesLine want_cut W.contents W.has_failed out.old out.new number
         (H.timeline session.old) (Ok (Some command)) (H.timeline session.new) result }
 {

@@ -1,8 +1,8 @@
 -- Each command has an answer.
-use Rattle.std.proofs.Common.{ℕ, ◌≡◌, ◌≢◌, ◌+◌, ◌≤◌, List, length, take, Bool, true, false, cond, Option, Some, None, is_none, option_map, Result, Ok, Err, nat_le, refl, ap, ◌∙◌, arith, ⊎_elim}
+use Rattle.std.proofs.Common.{ℕ, ◌≡◌, ◌≢◌, ◌+◌, ◌<◌, ◌≤◌, List, length, take, Bool, true, false, cond, Option, Some, None, is_none, option_map, Result, Ok, Err, nat_le, refl, ap, ◌∙◌, arith, ⊎_elim}
 use Rattle.std.proofs.lemmas.Bool.{leb-true}
-use Rattle.std.proofs.lemmas.List.{length_push, length-take-le}
-use Rattle.std.proofs.lemmas.List.Elements.{All-take, All-push}
+use Rattle.std.proofs.lemmas.List.{length_push, length-take-le, length-drop}
+use Rattle.std.proofs.lemmas.List.Elements.{All-take, All-push, All-drop}
 use Rattle.dmf_net.specs.declared.fault.ArcFault.{ArcFault}
 use Rattle.dmf_net.specs.declared.fault.ArcFault.TheVariants as arc
 use Rattle.dmf_net.specs.declared.fault.PlanFault.{PlanFault}
@@ -20,10 +20,10 @@ use Rattle.dmf_session.specs.declared.command.Reply.{Reply}
 use Rattle.dmf_session.specs.declared.command.Reply.TheVariants.{Value, Added, Solution, Problem, Flow, Cut}
 use Rattle.dmf_session.specs.declared.command.Refusal.{Refusal}
 use Rattle.dmf_session.specs.declared.command.Refusal.TheVariants.{NothingToUndo, NothingToRedo, NotGreatest, NoMemory}
-use Rattle.dmf_session.specs.Timeline.{Timeline, IsPresent, future_of, appended, back, forward}
+use Rattle.dmf_session.specs.Timeline.{Timeline, IsPresent, future_of, extended, forgotten, appended, back, forward}
 use Rattle.dmf_session.specs.Step.{Steps, Changes, IsChanged, IsRefused, IsMoved, IsSolved, IsSideWanted, refusal_of, value_of}
 use Rattle.dmf_session.specs.Laws.{HasStates, Answered, HasAnswer}
-use Rattle.dmf_session.proofs.Appending.{some-present}
+use Rattle.dmf_session.proofs.Appending.{some-present, within_bound-keeps}
 
 -- what is so of networks
 pub record NetworkLaws : Type 0 where
@@ -34,13 +34,22 @@ pub record NetworkLaws : Type 0 where
 -- ---- timelines
 
 -- A state may be appended.
-HasStates-appended : (t : Timeline) (s : NetworkState) → HasStates t → IsState s → HasStates (appended t s)
-HasStates-appended t s has state =
+HasStates-extended : (t : Timeline) (s : NetworkState) → HasStates t → IsState s → HasStates (extended t s)
+HasStates-extended t s has state =
     let front : List NetworkState = take (t.place + 1) t.states in
     record {
       place = omega (arith, has.place, length_push front s, length-take-le (t.place + 1) t.states);
       states = All-push IsState front s (All-take IsState (t.place + 1) t.states has.states) state;
     }
+
+HasStates-forgotten : (t : Timeline) → HasStates t → 0 < t.place → HasStates (forgotten t)
+HasStates-forgotten t has past =
+    record { place = omega (arith, has.place, past, length-drop 1 t.states); states = All-drop IsState 1 t.states has.states }
+
+HasStates-appended : (t : Timeline) (s : NetworkState) → HasStates t → IsState s → HasStates (appended t s)
+HasStates-appended t s has state =
+    let all = HasStates-extended t s has state in
+    within_bound-keeps HasStates (extended t s) all (λ past. HasStates-forgotten (extended t s) all (omega (arith, past)))
 
 -- The place may be moved to another in the list.
 HasStates-back : (t : Timeline) (steps : ℕ) → HasStates t → HasStates (back t steps)

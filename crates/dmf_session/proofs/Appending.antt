@@ -1,8 +1,11 @@
--- The present state, and that it is what a change appended.
-use Rattle.std.proofs.Common.{ℕ, ◌≡◌, ◌+◌, ◌<◌, List, ◌∷◌, [], ◌++◌, length, take, Option, Some, None, Result, Ok, Err, MatchOption, IsOkUnless, pos, nat_abs, arith, sym, ap, ◌∙◌, subst, ⊎_elim}
-use Rattle.std.proofs.lemmas.List.{get_or_at, length_push, length-take-le}
+-- The present state, that it is what a change appended, and what is kept of the states before it.
+use Rattle.std.proofs.Common.{ℕ, ◌≡◌, ◌+◌, ◌-◌, ◌<◌, ◌≤◌, List, ◌∷◌, [], ◌++◌, length, get_or, take, drop, Option, Some, None, Result, Ok, Err, MatchOption, IsOkUnless, pos, nat_abs, arith, sym, ap, ◌∙◌, subst, ⊎_elim}
+use Rattle.std.proofs.lemmas.Bool.{cases_lt}
+use Rattle.std.proofs.lemmas.Bool.Decides.{nat_tests}
+use Rattle.std.proofs.lemmas.List.{get_or_at, get_or_append_left, get_or-take, get_or-drop, length_push, length-take-le, length-drop}
 use Rattle.std.proofs.lemmas.List.Elements.{All-get_or}
-use Rattle.std.proofs.lemmas.Option.{get_or_from_slice_get, slice_get-get_or, slice_get_cases}
+use Rattle.std.proofs.lemmas.Option.{get_or_from_slice_get, slice_get-get_or, slice_get_cases, slice_get_within}
+use Rattle.std.specs.List.{slice_get}
 use Rattle.dmf_net.specs.declared.edit.Edit.{Edit}
 use Rattle.dmf_net.specs.declared.fault.PlanFault.{PlanFault}
 use Rattle.dmf_net.specs.declared.fault.PlanFault.TheVariants.{NoMemory}
@@ -13,7 +16,7 @@ use Rattle.dmf_net.specs.Edit.{applied}
 use Rattle.dmf_session.specs.declared.command.Reply.{Reply}
 use Rattle.dmf_session.specs.declared.command.Reply.TheVariants.{Value, Added}
 use Rattle.dmf_session.specs.declared.command.Refusal.{Refusal}
-use Rattle.dmf_session.specs.Timeline.{Timeline, IsPresent, appended, Appends}
+use Rattle.dmf_session.specs.Timeline.{Timeline, IsPresent, extended, forgotten, within_bound, back, appended, Appends}
 use Rattle.dmf_session.specs.Step.{Changes, IsChanged, IsRefused, refusal_of, value_of}
 use Rattle.dmf_session.specs.Laws.{HasStates}
 
@@ -38,26 +41,79 @@ some-present t has = ⊎_elim
 pub is-state : (t : Timeline) (s : NetworkState) → HasStates t → IsPresent t s → IsState s
 is-state t s has present = let some = some-present t has in subst IsState (one-present t some.state s some.present present) some.is
 
--- After a change what was appended is the present one.
-present-appended : (t : Timeline) (s p : NetworkState) → t.place < length t.states → IsPresent (appended t s) p → p ≡ s
-present-appended t s p within is =
+-- ---- what is kept within the bound
+
+-- Within the bound nothing is forgotten.
+pub within_bound-all : (t : Timeline) → t.place ≤ t.bound → within_bound t ≡ t
+within_bound-all t within = grind (arith, nat_tests)
+
+-- Past it the oldest state is forgotten.
+pub within_bound-past : (t : Timeline) → t.bound < t.place → within_bound t ≡ forgotten t
+within_bound-past t past = grind (arith, nat_tests)
+
+-- What is so of a timeline is so of it within the bound, where it stays so when the oldest state is forgotten.
+pub within_bound-keeps : (P : Timeline → Type 0) (t : Timeline) → P t → (t.bound < t.place → P (forgotten t)) → P (within_bound t)
+within_bound-keeps P t whole rest = ⊎_elim
+    (λ past. subst P (sym (within_bound-past t past)) (rest past))
+    (λ within. subst P (sym (within_bound-all t within)) whole)
+    (cases_lt t.bound t.place)
+
+-- The present state stays present where the oldest one is forgotten.
+pub forgotten-present : (t : Timeline) (s : NetworkState) → IsPresent t s → 0 < t.place → IsPresent (forgotten t) s
+forgotten-present t s present past =
+    let within : t.place < length t.states = slice_get_within t.states t.place s present in
+    let same : 1 + (t.place - 1) ≡ t.place = omega (arith, past) in
+    slice_get-get_or (drop 1 t.states) (t.place - 1) s (omega (arith, within, past, length-drop 1 t.states))
+    ∙ ap (λ x. Some x) (get_or-drop 1 t.states (t.place - 1) s ∙ ap (λ n. get_or t.states n s) same ∙ get_or_from_slice_get t.states t.place s s present)
+
+-- ---- what was appended
+
+extended-present : (t : Timeline) (s : NetworkState) → t.place < length t.states → IsPresent (extended t s) s
+extended-present t s within =
     let front : List NetworkState = take (t.place + 1) t.states in
     let long : length front ≡ t.place + 1 = length-take-le (t.place + 1) t.states (omega arith) in
-    sym (get_or_from_slice_get (front ++ s ∷ []) (t.place + 1) p s is) ∙ get_or_at front s [] s (t.place + 1) long
+    slice_get-get_or (front ++ s ∷ []) (t.place + 1) s (omega (arith, length_push front s, long)) ∙ ap (λ x. Some x) (get_or_at front s [] s (t.place + 1) long)
+
+-- One step back from it the state is present that was present before.
+pub before-extended : (t : Timeline) (s new : NetworkState) → IsPresent t s → IsPresent (back (extended t new) 1) s
+before-extended t s new present =
+    let front : List NetworkState = take (t.place + 1) t.states in
+    let within : t.place < length t.states = slice_get_within t.states t.place s present in
+    let long : length front ≡ t.place + 1 = length-take-le (t.place + 1) t.states (omega arith) in
+    let same : t.place ≡ t.place + 1 - 1 = omega arith in
+    subst (λ k. slice_get (front ++ new ∷ []) k ≡ Some s) same
+    (slice_get-get_or (front ++ new ∷ []) t.place s (omega (arith, length_push front new, long))
+    ∙ ap (λ x. Some x) (get_or_append_left front (new ∷ []) s t.place (omega (arith, long)) ∙ get_or-take (t.place + 1) t.states t.place s (omega arith) ∙ get_or_from_slice_get t.states t.place s s present))
 
 -- What was appended is present.
 pub appended-present : (t : Timeline) (s : NetworkState) → t.place < length t.states → IsPresent (appended t s) s
 appended-present t s within =
-    let front : List NetworkState = take (t.place + 1) t.states in
-    let long : length front ≡ t.place + 1 = length-take-le (t.place + 1) t.states (omega arith) in
-    slice_get-get_or (front ++ s ∷ []) (t.place + 1) s (omega (arith, length_push front s, long)) ∙ ap (λ x. Some x) (get_or_at front s [] s (t.place + 1) long)
+    let last = extended-present t s within in
+    within_bound-keeps (λ u. IsPresent u s) (extended t s) last (λ past. forgotten-present (extended t s) s last (omega (arith, past)))
+
+-- What an edit makes is appended where the bound leaves room for the present state.
+pub appends-all : (edit : Edit) (t : Timeline) (s : NetworkState) → IsPresent t s → t.place < t.bound → Appends edit t (extended t (applied edit s))
+appends-all edit t s present room =
+    record { state = s; present = present; gives = sym (within_bound-all (extended t (applied edit s)) (omega (arith, room))) }
+
+-- And where it leaves none, the oldest state is forgotten, and the place stays.
+pub appends-past : (edit : Edit) (t : Timeline) (s : NetworkState) → IsPresent t s → t.bound ≤ t.place → Appends edit t (record { states = drop 1 (take (t.place + 1) t.states ++ applied edit s ∷ []); place = t.place; bound = t.bound })
+appends-past edit t s present full =
+    let same : t.place ≡ t.place + 1 - 1 = omega arith in
+    record {
+      state = s;
+      present = present;
+      gives =
+          (λ i. record { states = drop 1 (take (t.place + 1) t.states ++ applied edit s ∷ []); place = same i; bound = t.bound })
+          ∙ sym (within_bound-past (extended t (applied edit s)) (omega (arith, full)));
+    }
 
 -- A change that was planned on the present state and appended; the reply tells of the state that is present then.
 IsChanged-told : (t u : Timeline) (s p : NetworkState) (edit : Edit) (change : Change) (reply : NetworkState → Reply) (told : Reply) → t.place < length t.states → IsPresent t s → Becomes s change (applied edit s) → Appends edit t u → IsPresent u p → told ≡ reply p → IsChanged t s change reply (Ok told) u
 IsChanged-told t u s p edit change reply told within present becomes appends shown tells =
     let same : appends.state ≡ s = one-present t appends.state s appends.present present in
     let gives : u ≡ appended t (applied edit s) = appends.gives ∙ ap (λ x. appended t (applied edit x)) same in
-    let new : p ≡ applied edit s = present-appended t (applied edit s) p within (subst (λ v. IsPresent v p) gives shown) in
+    let new : p ≡ applied edit s = one-present (appended t (applied edit s)) p (applied edit s) (subst (λ v. IsPresent v p) gives shown) (appended-present t (applied edit s) within) in
     record {
       new = applied edit s;
       becomes = becomes;

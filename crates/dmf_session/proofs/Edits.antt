@@ -1,7 +1,7 @@
 -- Histories of edits: the timeline that they stand for, and steps on it.
-use Rattle.std.proofs.Common.{ℕ, ◌≡◌, ◌+◌, ◌-◌, ◌<◌, ◌≤◌, List, [], ◌∷◌, ◌++◌, length, take, get_or, suc, zero, Some, refl, ap, ◌∙◌, sym, subst, arith, ⊎_elim}
+use Rattle.std.proofs.Common.{ℕ, ◌≡◌, ◌+◌, ◌-◌, ◌<◌, ◌≤◌, List, [], ◌∷◌, ◌++◌, length, take, drop, get_or, suc, zero, Some, refl, ap, ◌∙◌, sym, subst, arith, ⊎_elim}
 use Rattle.std.specs.List.{slice_get}
-use Rattle.std.proofs.lemmas.List.{length_push, length-take-le, take-append-le, take_all, take-take, get_or_append_left, get_or_push, get_or-take, take_more}
+use Rattle.std.proofs.lemmas.List.{length_push, length-drop, length-take-le, take-append-le, take_all, take-take, get_or_append_left, get_or_push, get_or-take, take_more}
 use Rattle.std.proofs.lemmas.Bool.{cases_lt}
 use Rattle.std.proofs.lemmas.Option.{get_or_from_slice_get, slice_get-get_or, slice_get_within, slice_get_cases}
 use Rattle.dmf_net.specs.declared.edit.Edit.{Edit}
@@ -10,9 +10,9 @@ use Rattle.dmf_net.specs.Arc.{open_arc}
 use Rattle.dmf_net.specs.NetworkState.{NetworkState, IsState}
 use Rattle.dmf_net.specs.Edit.{applied, Fits, AddsArc}
 use Rattle.dmf_net.specs.Revert.{reverted, Stands}
-use Rattle.dmf_session.specs.Timeline.{IsTimeline, IsPresent, future_of, back, forward, FitsPresent, Appends, AddsArcs}
-use Rattle.dmf_session.proofs.Appending.{one-present}
-use Rattle.dmf_session.specs.Delta.{before, after, states_from, timeline_of, AreEdits}
+use Rattle.dmf_session.specs.Timeline.{IsTimeline, IsPresent, future_of, extended, forgotten, back, forward, FitsPresent, Appends, AddsArcs}
+use Rattle.dmf_session.proofs.Appending.{one-present, within_bound-past, appends-all}
+use Rattle.dmf_session.specs.Delta.{before, after, states_from, timeline_of, AreEdits, AreWithinBound}
 use Rattle.dmf_net.specs.Laws.{GivesBack}
 
 pub length-states_from : (edits : List Edit) (s : NetworkState) → length (states_from s edits) ≡ length edits + 1
@@ -86,20 +86,64 @@ more-arcs (Close j old moves) s adds = absurd adds
 more-arcs (Add tail head cap) s adds = omega (arith, length_push s.network.arcs (open_arc tail head cap))
 more-arcs (Solve moves) s adds = absurd adds
 
-module _ (present : NetworkState) (edits : List Edit) (place : ℕ) (are : AreEdits present edits place) where
+-- ---- the oldest edit is dropped
+
+-- Edits that fit are taken back to where they began.
+before-after : GivesBack → (edits : List Edit) (s : NetworkState) (k : ℕ) → ((j : ℕ) (edit : Edit) → slice_get edits j ≡ Some edit → Fits edit (after (take j edits) s)) → before (take k edits) (after (take k edits) s) ≡ s
+before-after law [] s zero fit = refl
+before-after law [] s (suc k) fit = refl
+before-after law (edit ∷ edits) s zero fit = refl
+before-after law (edit ∷ edits) s (suc k) fit =
+    ap (reverted edit) (before-after law edits (applied edit s) k (λ j e is. fit (suc j) e is)) ∙ law edit s (fit zero edit refl)
+
+-- The edits behind the oldest one are taken back to what it makes of the first state.
+forgotten-first : GivesBack → (present : NetworkState) (place : ℕ) (edit : Edit) (edits : List Edit) (are : AreEdits present (edit ∷ edits) (suc place)) → before (take place edits) present ≡ applied edit are.first
+forgotten-first law present place edit edits are =
+    ap (before (take place edits)) (sym are.present_is) ∙ before-after law edits (applied edit are.first) place (λ j e is. are.fit (suc j) e is)
+
+forgotten-next : GivesBack → (present : NetworkState) (place : ℕ) (edits : List Edit) → AreEdits present edits (suc place) → AreEdits present (drop 1 edits) place
+forgotten-next law present place [] are = absurd (omega (arith, are.within))
+forgotten-next law present place (edit ∷ edits) are =
+    record {
+      within = omega (arith, are.within);
+      first = applied edit are.first;
+      state = (are.fit zero edit refl).applied;
+      first_is = forgotten-first law present place edit edits are;
+      fit = λ j e is. are.fit (suc j) e is;
+      present_is = are.present_is;
+    }
+
+-- What the edits behind the oldest one are.
+forgotten-edits : GivesBack → (present : NetworkState) (place : ℕ) (edits : List Edit) (next : ℕ) → next ≡ suc place → AreEdits present edits next → AreEdits present (drop 1 edits) place
+forgotten-edits law present place edits next is are = forgotten-next law present place edits (subst (AreEdits present edits) is are)
+
+forgotten-rest : GivesBack → (present : NetworkState) (place bound : ℕ) (edits : List Edit) → AreEdits present edits (suc place) → timeline_of present (drop 1 edits) place bound ≡ forgotten (timeline_of present edits (suc place) bound)
+forgotten-rest law present place bound [] are = absurd (omega (arith, are.within))
+forgotten-rest law present place bound (edit ∷ edits) are =
+    let first : before (take place edits) present ≡ applied edit (reverted edit (before (take place edits) present)) =
+    forgotten-first law present place edit edits are ∙ ap (applied edit) (sym are.first_is) in
+    let fewer : place ≡ suc place - 1 = omega arith in
+    λ i. record { states = states_from (first i) edits; place = fewer i; bound = bound }
+
+forgotten-timeline : GivesBack → (present : NetworkState) (place bound : ℕ) (edits : List Edit) (next : ℕ) → next ≡ suc place → AreEdits present edits next → timeline_of present (drop 1 edits) place bound ≡ forgotten (timeline_of present edits next bound)
+forgotten-timeline law present place bound edits next is are =
+    forgotten-rest law present place bound edits (subst (AreEdits present edits) is are)
+    ∙ ap (λ n. forgotten (timeline_of present edits n bound)) (sym is)
+
+module _ (present : NetworkState) (edits : List Edit) (place bound : ℕ) (are : AreEdits present edits place) where
   -- the timeline from the first state on
-  from-first : timeline_of present edits place ≡ record { states = states_from are.first edits; place = place }
-  from-first = ap (λ s. record { states = states_from s edits; place = place }) are.first_is
+  from-first : timeline_of present edits place bound ≡ record { states = states_from are.first edits; place = place; bound = bound }
+  from-first = ap (λ s. record { states = states_from s edits; place = place; bound = bound }) are.first_is
 
-  pub is-timeline : IsTimeline (timeline_of present edits place)
-  is-timeline =
+  pub is-timeline : length edits ≤ bound → bound ≤ 1000000 → IsTimeline (timeline_of present edits place bound)
+  is-timeline at_most limit =
       let long = length-states_from edits (before (take place edits) present) in
-      record { place = omega (arith, long, are.within); at_most = omega (arith, long, are.at_most) }
+      record { place = omega (arith, long, are.within); at_most = omega (arith, long, at_most); bound = limit }
 
-  pub future-is : future_of (timeline_of present edits place) ≡ length edits - place
+  pub future-is : future_of (timeline_of present edits place bound) ≡ length edits - place
   future-is = omega (arith, length-states_from edits (before (take place edits) present))
 
-  pub is-present : IsPresent (timeline_of present edits place) present
+  pub is-present : IsPresent (timeline_of present edits place bound) present
   is-present =
       subst (λ t. IsPresent t present) (sym from-first)
       (states_from-at edits are.first place are.within ∙ ap (λ s. Some s) are.present_is)
@@ -135,7 +179,6 @@ module _ (present : NetworkState) (edits : List Edit) (place : ℕ) (are : AreEd
 
     pub undone : GivesBack → AreEdits (reverted edit present) edits k
     undone law = record {
-      at_most = are.at_most;
       within = omega (arith, last, are.within);
       first = are.first;
       state = are.state;
@@ -144,10 +187,10 @@ module _ (present : NetworkState) (edits : List Edit) (place : ℕ) (are : AreEd
       present_is = sym (law edit (after (take k edits) are.first) (are.fit k edit is)) ∙ ap (reverted edit) made;
     }
 
-    pub undone-back : timeline_of (reverted edit present) edits k ≡ back (timeline_of present edits place) 1
+    pub undone-back : timeline_of (reverted edit present) edits k bound ≡ back (timeline_of present edits place bound) 1
     undone-back =
         let fewer : k ≡ place - 1 = omega (arith, last) in
-        λ i. record { states = states_from (sym same-first i) edits; place = fewer i }
+        λ i. record { states = states_from (sym same-first i) edits; place = fewer i; bound = bound }
 
   -- ---- one step forward
 
@@ -161,7 +204,6 @@ module _ (present : NetworkState) (edits : List Edit) (place : ℕ) (are : AreEd
 
     pub redone : GivesBack → AreEdits (applied edit present) edits (place + 1)
     redone law = record {
-      at_most = are.at_most;
       within = omega (arith, slice_get_within edits place edit is);
       first = are.first;
       state = are.state;
@@ -170,10 +212,10 @@ module _ (present : NetworkState) (edits : List Edit) (place : ℕ) (are : AreEd
       present_is = after-next edits are.first place edit is ∙ ap (applied edit) are.present_is;
     }
 
-    pub redone-forward : GivesBack → timeline_of (applied edit present) edits (place + 1) ≡ forward (timeline_of present edits place) 1
-    redone-forward law = λ i. record { states = states_from (same-first-forward law i) edits; place = place + 1 }
+    pub redone-forward : GivesBack → timeline_of (applied edit present) edits (place + 1) bound ≡ forward (timeline_of present edits place bound) 1
+    redone-forward law = λ i. record { states = states_from (same-first-forward law i) edits; place = place + 1; bound = bound }
 
-    pub adds-arcs : AddsArc edit → AddsArcs (timeline_of present edits place) place
+    pub adds-arcs : AddsArc edit → AddsArcs (timeline_of present edits place bound) place
     adds-arcs adds =
         record {
           before = present;
@@ -188,9 +230,9 @@ module _ (present : NetworkState) (edits : List Edit) (place : ℕ) (are : AreEd
 
   -- ---- an edit in the place of those past the present state
 
-  module _ (edit : Edit) (accepted : FitsPresent edit (timeline_of present edits place)) where
+  module _ (edit : Edit) (accepted : FitsPresent edit (timeline_of present edits place bound)) where
     pub fits-present : Fits edit present
-    fits-present = subst (Fits edit) (one-present (timeline_of present edits place) accepted.state present accepted.present is-present) accepted.fits
+    fits-present = subst (Fits edit) (one-present (timeline_of present edits place bound) accepted.state present accepted.present is-present) accepted.fits
 
     abbrev pub put : List Edit
     put = take place edits ++ edit ∷ []
@@ -201,9 +243,8 @@ module _ (present : NetworkState) (edits : List Edit) (place : ℕ) (are : AreEd
         ∙ before-push (take place edits) edit (applied edit present)
         ∙ ap (before (take place edits)) (law edit present fits-present)
 
-    pub put-edits : GivesBack → place < 1000000 → AreEdits (applied edit present) put (place + 1)
-    put-edits law room = record {
-      at_most = omega (arith, length-put edits place edit are.within, room);
+    put-edits : GivesBack → AreEdits (applied edit present) put (place + 1)
+    put-edits law = record {
       within = omega (arith, length-put edits place edit are.within);
       first = are.first;
       state = are.state;
@@ -214,8 +255,22 @@ module _ (present : NetworkState) (edits : List Edit) (place : ℕ) (are : AreEd
           ∙ after-push (take place edits) edit are.first ∙ ap (applied edit) are.present_is;
     }
 
-    pub put-appends : GivesBack → Appends edit (timeline_of present edits place) (timeline_of (applied edit present) put (place + 1))
-    put-appends law =
+    pub put-within_bound : GivesBack → place < bound → bound ≤ 1000000 → AreWithinBound (applied edit present) put (place + 1) bound
+    put-within_bound law room limit = record {
+      are = put-edits law;
+      at_most = omega (arith, length-put edits place edit are.within, room);
+      limit = limit;
+    }
+
+    pub put-forgets-within_bound : GivesBack → length edits ≤ bound → bound ≤ 1000000 → AreWithinBound (applied edit present) (drop 1 put) place bound
+    put-forgets-within_bound law at_most limit = record {
+      are = forgotten-edits law (applied edit present) place put (place + 1) (omega arith) (put-edits law);
+      at_most = omega (arith, length-put edits place edit are.within, length-drop 1 put, are.within, at_most);
+      limit = limit;
+    }
+
+    put-extends : GivesBack → timeline_of (applied edit present) put (place + 1) bound ≡ extended (timeline_of present edits place bound) (applied edit present)
+    put-extends law =
         let next_place : suc place ≡ place + 1 = omega arith in
         let states : states_from are.first put ≡ take (place + 1) (states_from are.first edits) ++ applied edit present ∷ [] =
         states_from-put edits are.first place edit are.within
@@ -225,8 +280,21 @@ module _ (present : NetworkState) (edits : List Edit) (place : ℕ) (are : AreEd
         let gives : states_from (before (take (place + 1) put) (applied edit present)) put ≡ take (place + 1) (states_from (before (take place edits) present) edits) ++ applied edit present ∷ [] =
         ap (λ s. states_from s put) first ∙ states
         ∙ ap (λ s. take (place + 1) (states_from s edits) ++ applied edit present ∷ []) (sym are.first_is) in
-        record {
-          state = present;
-          present = is-present;
-          gives = λ i. record { states = gives i; place = place + 1 };
-        }
+        λ i. record { states = gives i; place = place + 1; bound = bound }
+
+    -- It is appended where the bound leaves room for the present state.
+    pub put-appends : GivesBack → place < bound → Appends edit (timeline_of present edits place bound) (timeline_of (applied edit present) put (place + 1) bound)
+    put-appends law room =
+        subst (Appends edit (timeline_of present edits place bound)) (sym (put-extends law))
+        (appends-all edit (timeline_of present edits place bound) present is-present room)
+
+    -- And where it leaves none, the oldest edit is dropped.
+    pub put-forgets : GivesBack → bound ≤ place → Appends edit (timeline_of present edits place bound) (timeline_of (applied edit present) (drop 1 put) place bound)
+    put-forgets law full = record {
+      state = present;
+      present = is-present;
+      gives =
+          forgotten-timeline law (applied edit present) place bound put (place + 1) (omega arith) (put-edits law)
+          ∙ ap forgotten (put-extends law)
+          ∙ sym (within_bound-past (extended (timeline_of present edits place bound) (applied edit present)) (omega (arith, full)));
+    }

@@ -3,3 +3,4 @@ pub mod Optimal
 pub mod Answering
 pub mod OneAnswer
 pub mod Edits
+pub mod Undoing

@@ -4,13 +4,17 @@ use Rattle.std.proofs.lemmas.Int.{ints}
 use Rattle.std.proofs.lemmas.Option.{slice_get_within}
 use Rattle.dmf_net.specs.Network.{Network, IsNetwork}
 use Rattle.dmf_net.specs.NetworkState.{NetworkState}
+use Rattle.dmf_net.specs.declared.edit.Edit.{Edit}
+use Rattle.dmf_net.specs.Change.{Becomes}
+use Rattle.dmf_net.specs.Change as change
+use Rattle.dmf_net.specs.Edit.{applied, Fits}
 use Rattle.dmf_net.specs.Greatest.{IsGreatest, IsSurpassed}
 use Rattle.dmf_net.specs.Cut.{IsMinimumCut, cut_capacity}
 use Rattle.dmf_net.specs.Laws.{SolvedIsGreatest, MaxFlowMinCut}
-use Rattle.dmf_session.specs.Timeline.{Timeline, IsPresent, appended}
+use Rattle.dmf_session.specs.Timeline.{Timeline, IsPresent, appended, Appends}
 use Rattle.dmf_session.specs.Optimal.{IsOptimal, HasOptimalPresent}
 use Rattle.dmf_session.specs.Laws.{SolvedIsOptimal, GreatestIsOptimal}
-use Rattle.dmf_session.proofs.Appending.{appended-present, is-state}
+use Rattle.dmf_session.proofs.Appending.{appended-present, is-state, one-present}
 
 -- All minimum cuts have one capacity.
 one-capacity : (n : Network) (has other : ℕ → Bool) → IsMinimumCut n has → IsMinimumCut n other → cut_capacity n.arcs has ≡ cut_capacity n.arcs other
@@ -37,6 +41,13 @@ HasOptimalPresent-appended t u s new present appends optimal = record {
   present = subst (λ v. IsPresent v new) (sym appends) (appended-present t new (slice_get_within t.states t.place s present));
   optimal = optimal;
 }
+
+-- What was planned on the present state as a greatest flow, and appended, is optimal.
+pub planned-optimal : GreatestIsOptimal → (t u : Timeline) (s : NetworkState) (edit : Edit) → IsPresent t s → Fits edit s → Becomes s change.Solve (applied edit s) → IsGreatest s.network (applied edit s).flows → Appends edit t u → HasOptimalPresent u
+planned-optimal law t u s edit present fits becomes greatest appends =
+    let gives : u ≡ appended t (applied edit s) = appends.gives ∙ ap (λ x. appended t (applied edit x)) (one-present t appends.state s appends.present present) in
+    HasOptimalPresent-appended t u s (applied edit s) present gives
+    (law (applied edit s) fits.applied.network (subst (λ n. IsGreatest n (applied edit s).flows) (sym becomes.0) greatest))
 
 -- After a solve that was not refused the present state is optimal.
 pub solved-optimal : SolvedIsGreatest → GreatestIsOptimal → SolvedIsOptimal

@@ -22,19 +22,24 @@ abbrev pub states_from : NetworkState → List Edit → List NetworkState
 states_from s [] = s ∷ []
 states_from s (edit ∷ edits) = s ∷ states_from (applied edit s) edits
 
--- the timeline of a present state and the edits before and after it: taking back those before the place leads to the first
--- state
-abbrev pub timeline_of : NetworkState → List Edit → ℕ → Timeline
-timeline_of present edits place =
-    record { states = states_from (before (take place edits) present) edits; place = place }
+-- the timeline of a present state and the edits before and after it: taking back those before the place leads to the oldest
+-- state that is kept
+abbrev pub timeline_of : NetworkState → List Edit → ℕ → ℕ → Timeline
+timeline_of present edits place bound =
+    record { states = states_from (before (take place edits) present) edits; place = place; bound = bound }
 
--- At most 1,000,000 edits lead from a first state on, each fits the state that those before it make of the first, and the
--- present state is what those before the place make of it.
+-- The edits lead from a first state on, each fits the state that those before it make of the first, and the present state is
+-- what those before the place make of it.
 pub record AreEdits (present : NetworkState) (edits : List Edit) (place : ℕ) : Type 0 where
-  pub at_most : length edits ≤ 1000000
   pub within : place ≤ length edits
   pub first : NetworkState
   pub state : IsState first
   pub first_is : before (take place edits) present ≡ first
   pub fit : (k : ℕ) (edit : Edit) → slice_get edits k ≡ Some edit → Fits edit (after (take k edits) first)
   pub present_is : after (take place edits) first ≡ present
+
+-- They are such edits, and no more than the bound, which is at most 1,000,000.
+pub record AreWithinBound (present : NetworkState) (edits : List Edit) (place bound : ℕ) : Type 0 where
+  pub are : AreEdits present edits place
+  pub at_most : length edits ≤ bound
+  pub limit : bound ≤ 1000000

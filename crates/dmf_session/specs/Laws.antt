@@ -1,16 +1,18 @@
--- Where memory is there each command has an answer, and one alone; and after a solve the present state is optimal.
+-- Where memory is there each command has an answer, and one alone; after a solve the present state is optimal; and a change
+-- is undone.
 -- Public: a public contract says no more than this.
-use Rattle.std.specs.Prelude.{◌≡◌, ◌≢◌, ◌<◌, length, All, Bool, Result, Ok, Err}
+use Rattle.std.specs.Prelude.{ℕ, ◌≡◌, ◌≢◌, ◌<◌, length, All, Bool, Result, Ok, Err}
 use Rattle.dmf_net.specs.Network.{IsNetwork}
 use Rattle.dmf_net.specs.NetworkState.{NetworkState, IsState}
 use Rattle.dmf_net.specs.Greatest.{IsGreatest}
 use Rattle.dmf_session.specs.declared.command.Command.{Command}
-use Rattle.dmf_session.specs.declared.command.Command.TheVariants.{Solve}
+use Rattle.dmf_session.specs.declared.command.Command.TheVariants.{Solve, Undo}
 use Rattle.dmf_session.specs.declared.command.Reply.{Reply}
+use Rattle.dmf_session.specs.declared.command.Reply.TheVariants.{Value}
 use Rattle.dmf_session.specs.declared.command.Refusal.{Refusal}
-use Rattle.dmf_session.specs.declared.command.Refusal.TheVariants.{NoMemory}
-use Rattle.dmf_session.specs.Timeline.{Timeline}
-use Rattle.dmf_session.specs.Step.{Steps, Answers}
+use Rattle.dmf_session.specs.declared.command.Refusal.TheVariants.{NothingToUndo, NoMemory}
+use Rattle.dmf_session.specs.Timeline.{Timeline, IsTimeline, IsPresent}
+use Rattle.dmf_session.specs.Step.{Steps, Answers, IsChange, value_of}
 use Rattle.dmf_session.specs.Optimal.{IsOptimal, HasOptimalPresent}
 
 -- The place is in the list, and what stands in the list are states.
@@ -45,3 +47,17 @@ abbrev pub SolvedIsOptimal : Type 0
 SolvedIsOptimal =
     (want_cut : Bool) (t u : Timeline) (reply : Reply) → HasStates t → Answers want_cut t Solve (Ok reply) u
     → HasOptimalPresent u
+
+-- What one step back after an accepted change answers and leaves: where a state is kept before the present one, the step is
+-- accepted, and the state before the change is present again; where none is kept, it is refused.
+pub record UndoesChange (bound : ℕ) (before : NetworkState) (result : Result Reply Refusal) (u : Timeline) : Type 0 where
+  pub kept : 0 < bound → (result ≡ Ok (Value (value_of before))) × IsPresent u before
+  pub forgotten : bound ≡ 0 → result ≡ Err NothingToUndo
+
+-- One step back right after an accepted change is accepted exactly where the bound is at least 1, and gives back the state
+-- before the change.
+abbrev pub ChangeIsUndone : Type 0
+ChangeIsUndone =
+    (want_cut : Bool) (t u v : Timeline) (command : Command) (reply : Reply) (result : Result Reply Refusal) (s : NetworkState)
+    → IsTimeline t → IsPresent t s → IsChange command → Answers want_cut t command (Ok reply) u → Steps want_cut u (Undo 1) result v
+    → UndoesChange t.bound s result v

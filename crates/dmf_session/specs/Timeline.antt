@@ -1,19 +1,22 @@
--- What a session keeps: a list of whole states, and the place of the present one.
+-- What a session keeps: a list of whole states, the place of the present one, and how many are kept before it.
 -- Public: a public contract says no more than this.
-use Rattle.std.specs.Prelude.{ℕ, ◌≡◌, ◌+◌, ◌-◌, ◌<◌, ◌≤◌, List, [], ◌∷◌, ◌++◌, length, take, slice_get, Some}
+use Rattle.std.specs.Prelude.{ℕ, ◌≡◌, ◌+◌, ◌-◌, ◌<◌, ◌≤◌, List, [], ◌∷◌, ◌++◌, length, take, drop, slice_get, Some, nat_lt, if◌then◌else◌}
 use Rattle.dmf_net.specs.declared.edit.Edit.{Edit}
 use Rattle.dmf_net.specs.NetworkState.{NetworkState}
 use Rattle.dmf_net.specs.Edit.{applied, Fits}
 
--- the states, the oldest first, and the place of the present one, counted from 0
+-- the states, the oldest first; the place of the present one, counted from 0; and the bound, which is the largest number of
+-- states that are kept before the present one
 pub record Timeline : Type 0 where
   pub states : List NetworkState
   pub place : ℕ
+  pub bound : ℕ
 
--- The place is in the list, and the list has the first state and at most 1,000,000 more.
+-- The place is in the list, and beside one state the list has no more than the bound, which is at most 1,000,000.
 pub record IsTimeline (t : Timeline) : Type 0 where
   pub place : t.place < length t.states
-  pub at_most : length t.states ≤ 1000000 + 1
+  pub at_most : length t.states ≤ t.bound + 1
+  pub bound : t.bound ≤ 1000000
 
 -- `s` is the state at the place.
 abbrev pub IsPresent : Timeline → NetworkState → Type 0
@@ -24,20 +27,33 @@ abbrev pub future_of : Timeline → ℕ
 future_of t = length t.states - (t.place + 1)
 
 -- one state, which is the present one
-abbrev pub start : NetworkState → Timeline
-start s = record { states = s ∷ []; place = 0 }
+abbrev pub start : ℕ → NetworkState → Timeline
+start bound s = record { states = s ∷ []; place = 0; bound = bound }
 
--- The states past the place are dropped, and the new one is appended and is the present one.
+-- The states past the place are dropped, and the new one is put behind the others and is the present one.
+abbrev pub extended : Timeline → NetworkState → Timeline
+extended t s = record { states = take (t.place + 1) t.states ++ s ∷ []; place = t.place + 1; bound = t.bound }
+
+-- The oldest state is forgotten.
+abbrev pub forgotten : Timeline → Timeline
+forgotten t = record { states = drop 1 t.states; place = t.place - 1; bound = t.bound }
+
+-- Where more states than the bound stand before the present one, the oldest is forgotten.
+abbrev pub within_bound : Timeline → Timeline
+within_bound t = if nat_lt t.bound t.place then forgotten t else t
+
+-- The states past the place are dropped, and the new one is appended and is the present one; no more than the bound are
+-- kept before it.
 abbrev pub appended : Timeline → NetworkState → Timeline
-appended t s = record { states = take (t.place + 1) t.states ++ s ∷ []; place = t.place + 1 }
+appended t s = within_bound (extended t s)
 
 -- so many steps back
 abbrev pub back : Timeline → ℕ → Timeline
-back t steps = record { states = t.states; place = t.place - steps }
+back t steps = record { states = t.states; place = t.place - steps; bound = t.bound }
 
 -- so many steps forward
 abbrev pub forward : Timeline → ℕ → Timeline
-forward t steps = record { states = t.states; place = t.place + steps }
+forward t steps = record { states = t.states; place = t.place + steps; bound = t.bound }
 
 -- The edit fits the present state.
 pub record FitsPresent (edit : Edit) (t : Timeline) : Type 0 where

@@ -1,42 +1,54 @@
-ghost use Rattle.std.specs.Prelude.{◌≡◌};
+ghost use Rattle.std.specs.Prelude.{◌≡◌, ◌≤◌};
 ghost use Rattle.dmf_session.specs.Timeline.{start};
 
-use crate::history::{History, NothingToUndo, RedoFault};
+use crate::history::{History, MAX_BOUND, NothingToUndo, RedoFault, forget_oldest};
 use dmf_net::{Edit, NoMemory, State, reverting_gives_back};
 use std::alloc::Global;
+use std::collections::VecDeque;
 use std::marker::Model;
 
 /// A history that keeps the present state alone, and the edits that lead from each state to the next.
 ///
-/// A step back or forward looks at the arcs that its edit names, and at no others.
+/// A step back or forward looks at the arcs that its edit names, and at no others. Forgetting drops one edit, in constant
+/// time.
 #[derive(Drop)]
 pub struct DeltaHistory {
     present: State,
-    edits: Vec<Edit>,
+    edits: VecDeque<Edit>,
     place: usize,
+    bound: u32,
 }
 
 impl Model for DeltaHistory {
     ghost use Rattle.dmf_session.specs.Timeline.{Timeline};
-    ghost use Rattle.dmf_session.specs.Delta.{timeline_of, AreEdits};
+    ghost use Rattle.dmf_session.specs.Delta.{timeline_of, AreWithinBound};
 
     ghost Value = { Timeline };
 
-    ghost view = { λ a. timeline_of a.present a.edits.items a.place };
+    ghost view = { λ a. timeline_of a.present a.edits.items a.place a.bound };
 
-    ghost invariant = { λ a. AreEdits a.present a.edits.items a.place };
+    ghost invariant = { λ a. AreWithinBound a.present a.edits.items a.place a.bound };
 }
 
 impl DeltaHistory {
-    /// A history of one state, which is the present one. Takes no memory.
+    /// A history of one state, which is the present one, with the largest bound, [`MAX_BOUND`]. Takes no memory.
     pub fn new(alloc: Global, state: State) -> Self
-        ensures { result ≡ start state }
+        ensures { result ≡ start 1000000 state }
+    {
+        DeltaHistory::with_bound(alloc, state, MAX_BOUND)
+    }
+
+    /// A history of one state, which is the present one, with this bound, which is at most [`MAX_BOUND`]. Takes no memory.
+    pub fn with_bound(alloc: Global, state: State, bound: u32) -> Self
+        requires { bound ≤ 1000000 }
+        ensures { result ≡ start bound state }
     {
         let _nodes = state.nodes();
         DeltaHistory {
             present: state,
-            edits: Vec::new(alloc),
+            edits: VecDeque::new(alloc),
             place: 0,
+            bound,
         }
     }
 }
@@ -56,14 +68,22 @@ impl History for DeltaHistory {
         (self.edits.len() - self.place) as u32
     }
 
-    // Both growths, that of the edits and that of an addition, come before an undone edit is dropped.
+    fn bound(&self) -> u32 {
+        self.bound
+    }
+
+    // Both growths, that of the edits and that of an addition, come before an edit is dropped or forgotten.
     fn append(&mut self, edit: Edit) -> Result<(), NoMemory> {
         reverting_gives_back();
         self.edits.reserve(1)?;
         self.present.apply(&edit)?;
         self.edits.truncate(self.place);
-        self.edits.push_reserved(edit);
-        self.place += 1;
+        self.edits.push_back_reserved(edit);
+        if self.place < self.bound as usize {
+            self.place += 1;
+        } else {
+            forget_oldest(&mut self.edits);
+        }
         Ok(())
     }
 

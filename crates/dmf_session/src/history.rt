@@ -1,8 +1,12 @@
+ghost use Rattle.std.specs.Prelude.{◌≡◌, drop};
+
 use dmf_net::{Edit, NoMemory, State};
+use std::alloc::Allocator;
+use std::collections::VecDeque;
 use thiserror::Error;
 
-/// The largest number of changes that a history keeps.
-pub const MAX_CHANGES: u32 = 1_000_000;
+/// The largest bound of a history: the largest number of states before the present one that any history keeps.
+pub const MAX_BOUND: u32 = 1_000_000;
 
 /// There is no change before the present state.
 #[derive(Clone, Copy, Debug, PartialEq, Eq, Error)]
@@ -20,7 +24,8 @@ pub enum RedoFault {
     NoMemory,
 }
 
-/// A list of states and the place of the present one, however they are kept.
+/// A list of states and the place of the present one, however they are kept. A history has a bound, which nothing alters: no
+/// more states than that are kept before the present one.
 pub trait History {
     ghost use Rattle.std.specs.Prelude.{◌≡◌, ◌<◌, ◌↔◌, Ok, Err, OnOk, OnErr, IsOk};
     ghost use Rattle.dmf_session.specs.declared.history.RedoFault.TheVariants as redo;
@@ -44,13 +49,18 @@ pub trait History {
         ensures count { result ≡ future_of (timeline self.now) }
         ensures timeline { IsTimeline (timeline self.now) };
 
-    /// Drops the states past the present one, and appends what the edit makes of it as the present one. The edit fits the
-    /// present state, as one that was planned on it does, and fewer than [`MAX_CHANGES`] states stand before it.
+    /// The largest number of states that are kept before the present one. Takes no memory.
+    fn bound(&self) -> u32
+        ensures count { result ≡ (timeline self.now).bound }
+        ensures timeline { IsTimeline (timeline self.now) };
+
+    /// Drops the states past the present one, and appends what the edit makes of it as the present one. Where more states
+    /// than the bound would then stand before it, the oldest is forgotten. The edit fits the present state, as one that was
+    /// planned on it does.
     ///
-    /// Fails only where memory is refused; then nothing has changed.
+    /// Fails only where memory is refused; then nothing has changed. Forgetting takes no memory.
     fn append(&mut self, edit: Edit) -> Result<(), NoMemory>
         requires fits { FitsPresent edit (timeline self.old) }
-        requires room { (timeline self.old).place < 1000000 }
         ensures ok { OnOk result (Appends edit (timeline self.old) (timeline self.new)) }
         ensures err { OnErr result (timeline self.new ≡ timeline self.old) };
 
@@ -67,4 +77,11 @@ pub trait History {
         ensures memory { result ≡ Err redo.NoMemory → AddsArcs (timeline self.old) (timeline self.old).place }
         ensures ok { OnOk result (timeline self.new ≡ forward (timeline self.old) 1) }
         ensures err { OnErr result (timeline self.new ≡ timeline self.old) };
+}
+
+/// Drops what was put in first. Takes no memory, and constant time.
+pub(crate) fn forget_oldest<T: Drop, A: Allocator>(kept: &mut VecDeque<T, A>)
+    ensures { kept.new.items ≡ drop 1 kept.old.items }
+{
+    let _oldest = kept.pop_front();
 }

@@ -1,4 +1,4 @@
-ghost use Rattle.dmf_session.specs.Laws.{HasAnswer, HasOneAnswer, SolvedIsOptimal, GreatestIsOptimal};
+ghost use Rattle.dmf_session.specs.Laws.{HasAnswer, HasOneAnswer, SolvedIsOptimal, GreatestIsOptimal, ChangeIsUndone};
 
 use dmf_net::{
     change_has_one_outcome, change_has_outcome, flow_is_greatest_or_surpassed, max_flow_min_cut,
@@ -38,3 +38,9 @@ pub fn command_has_one_answer()
     change_has_one_outcome();
     network_has_one_smallest_side();
 }
+
+/// The law that one step back right after an accepted change is accepted exactly where the bound is at least 1, and gives back
+/// the state before the change.
+pub fn change_is_undone()
+    ensures { ChangeIsUndone }
+{}

@@ -3,9 +3,10 @@
 
 pub use command::{Command, Refusal, Reply};
 pub use delta::DeltaHistory;
-pub use history::{History, MAX_CHANGES, NothingToUndo, RedoFault};
+pub use history::{History, MAX_BOUND, NothingToUndo, RedoFault};
 pub use laws::{
-    command_has_answer, command_has_one_answer, greatest_is_optimal, solved_is_optimal,
+    change_is_undone, command_has_answer, command_has_one_answer, greatest_is_optimal,
+    solved_is_optimal,
 };
 pub use session::Session;
 pub use whole::WholeHistory;

@@ -1,11 +1,11 @@
-ghost use Rattle.std.specs.Prelude.{◌≡◌, ◌<◌, ◌≤◌, ◌↔◌, Bool, IsTrue, OnOk};
+ghost use Rattle.std.specs.Prelude.{◌≡◌, ◌≤◌, Bool, OnOk};
 ghost use Rattle.dmf_session.specs.declared.command.Command.TheVariants.{Cap, Add, Close, Solve, Undo, Redo, PrintCut};
 ghost use Rattle.dmf_session.specs.Timeline.{IsTimeline, IsPresent, future_of, back};
-ghost use Rattle.dmf_session.specs.Step.{Answers, IsChange};
+ghost use Rattle.dmf_session.specs.Step.{Answers};
 ghost use Rattle.dmf_session.specs.Optimal.{HasOptimalPresent};
 
 use crate::command::{Command, Refusal, Reply};
-use crate::history::{History, MAX_CHANGES, RedoFault};
+use crate::history::{History, RedoFault};
 use crate::laws::greatest_is_optimal;
 use dmf_net::{
     State, plan_add, plan_cap, plan_close, plan_solve, plan_solve_with_side, smallest_side,
@@ -57,16 +57,16 @@ impl<H: History> Session<H> {
         self.history.future()
     }
 
-    /// Whether the present state stands behind as many changes as a history keeps: no change may be asked for then.
-    pub fn is_full(&self) -> bool
-        ensures full { IsTrue result ↔ ((H.timeline self.now).place ≡ 1000000) }
+    /// The largest number of states that are kept before the present one. No command alters it.
+    pub fn bound(&self) -> u32
+        ensures count { result ≡ (H.timeline self.now).bound }
         ensures timeline { IsTimeline (H.timeline self.now) }
     {
-        self.history.past() == MAX_CHANGES
+        self.history.bound()
     }
 
-    /// Carries out a command. A change needs room in the history: fewer than [`crate::MAX_CHANGES`] states before the present one,
-    /// which [`Session::is_full`] tells.
+    /// Carries out a command. A change after which more states than the bound would stand before the present one makes the
+    /// history forget the oldest.
     ///
     /// A command that is refused changes nothing. Only a change, a step forward over an added arc and a cut take memory.
     /// After a solve the value of the present flow is the greatest of all flows, and the capacity of the smallest minimum
@@ -77,7 +77,6 @@ impl<H: History> Session<H> {
         command: Command,
         want_cut: bool,
     ) -> Result<Reply, Refusal>
-        requires room { IsChange command → (H.timeline self.old).place < 1000000 }
         ensures answer { Answers want_cut (H.timeline self.old) command result (H.timeline self.new) }
         ensures optimal { command ≡ Solve → OnOk result (HasOptimalPresent (H.timeline self.new)) }
     {
@@ -95,7 +94,6 @@ impl<H: History> Session<H> {
     }
 
     fn cap(&mut self, alloc: Global, arc: u64, cap: u64) -> Result<Reply, Refusal>
-        requires room { (H.timeline self.old).place < 1000000 }
         ensures { (want_cut : Bool) → Answers want_cut (H.timeline self.old) (Cap arc cap) result (H.timeline self.new) }
     {
         let edit = plan_cap(alloc, self.history.present(), arc, cap)?;
@@ -104,7 +102,6 @@ impl<H: History> Session<H> {
     }
 
     fn add(&mut self, tail: u64, head: u64, cap: u64) -> Result<Reply, Refusal>
-        requires room { (H.timeline self.old).place < 1000000 }
         ensures { (want_cut : Bool) → Answers want_cut (H.timeline self.old) (Add tail head cap) result (H.timeline self.new) }
     {
         let edit = plan_add(self.history.present(), tail, head, cap)?;
@@ -114,7 +111,6 @@ impl<H: History> Session<H> {
     }
 
     fn close(&mut self, alloc: Global, arc: u64) -> Result<Reply, Refusal>
-        requires room { (H.timeline self.old).place < 1000000 }
         ensures { (want_cut : Bool) → Answers want_cut (H.timeline self.old) (Close arc) result (H.timeline self.new) }
     {
         let edit = plan_close(alloc, self.history.present(), arc)?;
@@ -124,7 +120,6 @@ impl<H: History> Session<H> {
 
     // A side that is wanted is made before the solve is recorded: where memory is refused for it, nothing has changed.
     fn solve(&mut self, alloc: Global, want_cut: bool) -> Result<Reply, Refusal>
-        requires room { (H.timeline self.old).place < 1000000 }
         ensures answer { Answers want_cut (H.timeline self.old) Solve result (H.timeline self.new) }
         ensures optimal { OnOk result (HasOptimalPresent (H.timeline self.new)) }
     {

@@ -16,7 +16,7 @@ loop-number-init g c =
     let held = writer_of g.W.Sink.contents g.W.Sink.has_failed c.args.out.now in
     let t = g.H.History.timeline c.args.session in
     subst (λ pending. Progress c.args.want_cut t input (input_over pending reader) held held 1 t false) (sym c.new-input.ensures)
-    (Progress-none c.args.want_cut t input held (record { none_pending = refl; none_taken = refl }) c.requires.at_first c.requires.one_state)
+    (Progress-none c.args.want_cut t input held (record { none_pending = refl; none_taken = refl }))
 
 pub returns-in_err-next_line : goal.returns-in_err-next_line
 returns-in_err-next_line g c =

@@ -1,0 +1,76 @@
+-- A change that was accepted is undone by one step back, where a state is kept before the present one.
+use Rattle.std.proofs.Common.{◌≡◌, ◌<◌, ◌≤◌, length, Bool, Option, Some, None, Result, Ok, MatchOption, nat_le, arith, sym, ap, ◌∙◌, subst}
+use Rattle.std.specs.Bool.{MatchBool}
+use Rattle.std.proofs.lemmas.Bool.{le-leb, lt-leb}
+use Rattle.std.proofs.lemmas.Bool.Decides.{when_true, when_false}
+use Rattle.dmf_net.specs.declared.fault.PlanFault.{PlanFault}
+use Rattle.dmf_net.specs.NetworkState.{NetworkState}
+use Rattle.dmf_net.specs.Change.{Change, change_fault}
+use Rattle.dmf_net.specs.Change as change
+use Rattle.dmf_session.specs.declared.command.Command.{Command}
+use Rattle.dmf_session.specs.declared.command.Command.TheVariants.{Cap, Add, Close, Solve, Undo, Redo, PrintProblem, PrintFlow, PrintCut}
+use Rattle.dmf_session.specs.declared.command.Reply.{Reply}
+use Rattle.dmf_session.specs.declared.command.Reply.TheVariants.{Value, Added}
+use Rattle.dmf_session.specs.declared.command.Refusal.{Refusal}
+use Rattle.dmf_session.specs.declared.command.Refusal.TheVariants.{NothingToUndo}
+use Rattle.dmf_session.specs.Timeline.{Timeline, IsTimeline, IsPresent, extended, appended, back}
+use Rattle.dmf_session.specs.Step.{Answers, IsChange, IsChanged, IsRefused, IsMoved, refusal_of, value_of}
+use Rattle.dmf_session.specs.Laws.{UndoesChange, ChangeIsUndone}
+use Rattle.dmf_session.proofs.Appending.{one-present, before-extended, within_bound-keeps, within_bound-past, forgotten-present}
+
+-- ---- what a change appended
+
+changed-by : (t u : Timeline) (s : NetworkState) (asked : Change) (told : NetworkState → Reply) (reply : Reply) (fault : Option PlanFault) → MatchOption fault (IsChanged t s asked told (Ok reply) u) (λ f. IsRefused t (refusal_of f) (Ok reply) u) → (new : NetworkState) × (u ≡ appended t new)
+changed-by t u s asked told reply None m = (m.new, m.appends)
+changed-by t u s asked told reply (Some f) m = let refused = m.told in absurd (cc)
+
+change-appends : (want_cut : Bool) (t u : Timeline) (command : Command) (reply : Reply) → IsChange command → Answers want_cut t command (Ok reply) u → (new : NetworkState) × (u ≡ appended t new)
+change-appends want_cut t u (Cap arc cap) reply is a =
+    changed-by t u a.0 (change.Cap arc cap) (λ new. Value (value_of new)) reply (change_fault a.0 (change.Cap arc cap)) a.2
+change-appends want_cut t u (Add tail head cap) reply is a =
+    changed-by t u a.0 (change.Add tail head cap) (λ new. Added (length new.network.arcs) (value_of new)) reply (change_fault a.0 (change.Add tail head cap)) a.2
+change-appends want_cut t u (Close arc) reply is a =
+    changed-by t u a.0 (change.Close arc) (λ new. Value (value_of new)) reply (change_fault a.0 (change.Close arc)) a.2
+change-appends want_cut t u Solve reply is a = (a.2.new, a.2.appends)
+change-appends want_cut t u (Undo steps) reply is a = absurd is
+change-appends want_cut t u (Redo steps) reply is a = absurd is
+change-appends want_cut t u PrintProblem reply is a = absurd is
+change-appends want_cut t u PrintFlow reply is a = absurd is
+change-appends want_cut t u PrintCut reply is a = absurd is
+
+-- ---- one step back from it
+
+-- The state before it is present again.
+before-appended : (t : Timeline) (s new : NetworkState) → IsPresent t s → 0 < t.bound → IsPresent (back (appended t new) 1) s
+before-appended t s new present some =
+    let before = before-extended t s new present in
+    within_bound-keeps (λ u. IsPresent (back u 1) s) (extended t new) before
+    (λ past. forgotten-present (back (extended t new) 1) s before (omega (arith, past, some)))
+
+steps-back : (t : Timeline) (new : NetworkState) → 0 < t.bound → 1 ≤ (appended t new).place
+steps-back t new some = within_bound-keeps (λ u. 1 ≤ u.place) (extended t new) (omega arith) (λ past. omega (arith, past, some))
+
+nothing-before : (t : Timeline) (new : NetworkState) → t.place ≡ 0 → t.bound ≡ 0 → (appended t new).place ≡ 0
+nothing-before t new first none =
+    ap (λ u. u.place) (within_bound-past (extended t new) (omega (arith, none))) ∙ omega (arith, first)
+
+undone : (t v : Timeline) (s new : NetworkState) (result : Result Reply Refusal) → IsTimeline t → IsPresent t s
+    → MatchBool (nat_le 1 (appended t new).place) (IsMoved (back (appended t new) 1) result v) (IsRefused (appended t new) NothingToUndo result v) → UndoesChange t.bound s result v
+undone t v s new result is present m =
+    let u : Timeline = appended t new in
+    record {
+      kept = λ some.
+          let moved : IsMoved (back u 1) result v = when_true _ _ (le-leb 1 u.place (steps-back t new some)) m in
+          let same : moved.state ≡ s = one-present (back u 1) moved.state s moved.present (before-appended t s new present some) in
+          (moved.told ∙ ap (λ x. Ok (Value (value_of x))) same, subst (λ w. IsPresent w s) (sym moved.moves) (before-appended t s new present some));
+      forgotten = λ none.
+          let zero_place : u.place ≡ 0 = nothing-before t new (omega (arith, is.place, is.at_most, none)) none in
+          let refused : IsRefused u NothingToUndo result v = when_false _ _ (lt-leb 1 u.place (omega (arith, zero_place))) m in
+          refused.told;
+    }
+
+pub change-undone : ChangeIsUndone
+change-undone want_cut t u v command reply result s is present asked answers steps =
+    let appends = change-appends want_cut t u command reply asked answers in
+    undone t v s appends.0 result is present
+    (subst (λ w. MatchBool (nat_le 1 w.place) (IsMoved (back w 1) result v) (IsRefused w NothingToUndo result v)) appends.1 steps)
