@@ -20,12 +20,15 @@ def ends(arcs):
     return [(arc.tail, arc.head) for arc in arcs]
 
 
-def knows_shut():
-    with pipes() as network:
-        try:
-            return network.shut("mill") == 0
-        except dmf.UnknownCommand:
-            return False
+def can(use, **options):
+    """Whether the program knows what a use of a network needs."""
+    try:
+        with pipes(**options) as network:
+            use(network)
+    except (dmf.UnknownCommand, dmf.SessionEnded):
+        return False
+    return True
 
 
-KNOWS_SHUT = knows_shut()
+KNOWS_SHUT = can(lambda network: network.shut("mill"))
+KNOWS_HISTORY = can(lambda network: network.undo(0), history=1)
