@@ -19,7 +19,7 @@ use Rattle.dmf_text.specs.declared.digits.NumberFault.{NumberFault}
 use Rattle.dmf_text.specs.declared.fault.ProblemFaultKind.TheVariants.{ProblemLineExpected, SecondProblemLine, NotMax, FieldCount, NodeOutOfRange, NotSourceOrSink, SecondTerminal, SameTerminals, ArcBeforeTerminals, TooManyArcs, TooFewArcs, TerminalMissing, SumTooLarge}
 use Rattle.dmf_text.specs.Fields.{fields}
 use Rattle.dmf_text.specs.Number.{number_of}
-use Rattle.dmf_text.specs.Judging.{Line, field, number_at, ◌>>=◌, ◌>>◌, expect, map_fault, at_line, outcome_after}
+use Rattle.dmf_text.specs.Judging.{Line, field, number_at, map_fault, outcome_after}
 use Rattle.dmf_text.specs.Problem.{Facts, Counts, facts_of, node_count, arc_count, number_fault, number_in, counts_named, judged_problem, node_named, own, other, differs, judged_node, judged_arc, judged, ended, state_of, problem_fault, problem_after, problem_of}
 use Rattle.dmf_text.specs.Reading.{with_line}
 use Rattle.dmf_text.proofs.PassedJudgements.{passed, held, passed-value, at-line, at-line-then}
