@@ -9,6 +9,9 @@ sys.path[1:1] = [CLIENT, f"{ROOT}/tests"]
 
 import dmf  # noqa: E402
 
+# The program that is tested, whichever else is installed.
+BUILT = f"{ROOT}/crates/dmf/out/dmf"
+os.environ["DMF"] = BUILT
 PIPES = [("lake", "mill", 3), ("lake", "town", 2), ("mill", "town", 5), ("mill", "sea", 2), ("town", "sea", 3)]
 
 
