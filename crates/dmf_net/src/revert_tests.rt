@@ -32,10 +32,8 @@ fn revert(rt: &impl Abort, state: &mut State, edit: &Edit, before: &State)
     ensures { state.new ≡ before.now }
 {
     reverting_gives_back();
-    let arcs = before.arcs();
     state.revert(edit);
-    assert!(rt; state.arcs() == arcs);
-    assert!(rt; state.flows() == before.flows());
+    assert!(rt; *state == *before);
     assert_eq!(rt; state.value(), before.value());
     assert_eq!(rt; state.open_count(), before.open_count());
 }
