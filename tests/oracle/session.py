@@ -7,6 +7,8 @@ from .solution import cut_text, solution_text
 from .texts import Fault, fields_of, number_of, written
 
 MOST_LINES = 1_000_000
+# How many states before the present one are kept, where nobody says another number.
+MOST_KEPT = 1_000_000
 LONGEST_LINE = 4_096
 # How many fields may stand behind each command's word.
 FIELDS = {
@@ -49,12 +51,13 @@ def cut_of(state):
 
 
 class Session:
-    """The states of a session, and the place of the present one."""
+    """The states of a session, the place of the present one, and how many are kept before it."""
 
-    def __init__(self, state, want_cut):
+    def __init__(self, state, want_cut, bound=MOST_KEPT):
         self.states = [state]
         self.place = 0
         self.want_cut = want_cut
+        self.bound = bound
 
     def present(self):
         return self.states[self.place]
@@ -72,6 +75,9 @@ class Session:
         state = CHANGES[word](self.present(), *rest)
         self.states = self.states[: self.place + 1] + [state]
         self.place += 1
+        if self.place > self.bound:
+            del self.states[0]
+            self.place -= 1
         if word == "solve":
             return solution_text(state) + (cut_of(state) if self.want_cut else b"")
         number = [len(state.arcs)] if word == "add" else []

@@ -178,7 +178,6 @@ pub pair-idle : (n : Network) (firsts flows : List ℕ) (k : ℕ) → k < length
 pair-idle n firsts flows k within long same none =
     pair-of_arc n firsts flows k within long same ∙ ap Some (idle-none (get_or n.arcs k no_arc) (get_or firsts k 0) (get_or flows k 0) none)
 
-
 pub pair-of_return : (n : Network) (firsts flows : List ℕ) (k : ℕ) → k ≡ length n.arcs → length firsts ≡ length n.arcs → length flows ≡ length n.arcs → slice_get (carrying_pairs n firsts flows) k ≡ Some (return_pair n firsts flows)
 pair-of_return n firsts flows k past long same = rw past (last-at n.arcs firsts flows (return_pair n firsts flows) long same)
 
