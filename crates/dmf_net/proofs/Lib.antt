@@ -48,3 +48,4 @@ pub mod ClosedArcs
 pub mod OpenArcs
 pub mod UnpairedLoop
 pub mod ClosedStates
+pub mod Equality
