@@ -7,6 +7,7 @@ from .solution import cut_text, solution_text
 from .texts import Fault, fields_of, number_of, written
 
 MOST_LINES = 1_000_000
+MOST_KEPT = 1_000_000
 LONGEST_LINE = 4_096
 # How many fields may stand behind each command's word.
 FIELDS = {
@@ -49,12 +50,13 @@ def cut_of(state):
 
 
 class Session:
-    """The states of a session, and the place of the present one."""
+    """The states of a session, and the place of the present one. No more states than the bound are kept before it."""
 
-    def __init__(self, state, want_cut):
+    def __init__(self, state, want_cut, bound=MOST_KEPT):
         self.states = [state]
         self.place = 0
         self.want_cut = want_cut
+        self.bound = bound
 
     def present(self):
         return self.states[self.place]
@@ -72,6 +74,9 @@ class Session:
         state = CHANGES[word](self.present(), *rest)
         self.states = self.states[: self.place + 1] + [state]
         self.place += 1
+        if self.place > self.bound:
+            del self.states[0]
+            self.place -= 1
         if word == "solve":
             return solution_text(state) + (cut_of(state) if self.want_cut else b"")
         number = [len(state.arcs)] if word == "add" else []
@@ -123,10 +128,10 @@ class Refusals:
                 raise Fault("no memory")
 
 
-def run_lines(state, text, want_cut, refusals):
+def run_lines(state, text, want_cut, refusals, bound=MOST_KEPT):
     """What the lines of a command text write, one reply a line, and whether one of them is refused. An empty rest behind the
     last line feed is no line. Lines past the limit are left out."""
-    session = Session(state, want_cut)
+    session = Session(state, want_cut, bound)
     replies = []
     some_refused = False
     *ended, rest = text.split(b"\n")
