@@ -78,6 +78,26 @@ DRAWN = {
   2 -> 3 [label="3/4"]
 """,
     ),
+    # There is a line for each arc in order, but the first arc cannot carry what its line says.
+    "lines in the order of the arcs, of which one is too much for its arc": (
+        PARALLEL,
+        ["s 3\nf 1 2 3\nf 1 2 0\nf 2 2 0\nf 2 3 3\n"],
+        [],
+        f"""  1 [label="1", peripheries=2]
+  2 [label="2"]
+  3 [label="3", peripheries=2]
+  1 -> 2 [label="2/2", penwidth=2.5]
+  1 -> 2 [label="1/3"]
+  2 -> 2 [label="0/9", {UNUSED}]
+  2 -> 3 [label="3/4"]
+""",
+    ),
+    "nodes without arcs, more than are drawn": (
+        "p max 16777216 1\nn 1 s\nn 2 t\na 5 2 3\n",
+        [],
+        [],
+        '  1 [label="1", peripheries=2]\n  2 [label="2", peripheries=2]\n  5 [label="5"]\n  5 -> 2 [label="3"]\n',
+    ),
     # The cut is the arc from 2 to 3. Arcs of the nodes 1 and 4 are left out.
     "what lies around the cut": (
         CHAIN,
@@ -106,10 +126,12 @@ FAULTS = [
     ("p min 2 1\n", "", "problem: line 1: not a max problem"),
     ("p max 2 x\n", "", "problem: line 1: not a number: x"),
     ("p max 2 18446744073709551616\n", "", "problem: line 1: number too large: 18446744073709551616"),
+    ("p max 16777217 0\n", "", "problem: line 1: count out of range"),
     ("p max 2 1 1\n", "", "problem: line 1: wrong number of fields"),
     (TWO + TWO, "", "problem: line 4: second problem line"),
     (TWO + "b 1 2 3\n", "", "problem: line 4: unknown line: b"),
     (TWO + "a 1 3 1\n", "", "problem: line 4: no such node: 3"),
+    (TWO.replace("1", "2", 1) + "a 1 2 18446744073709551615\na 1 2 1\n", "", "problem: line 5: capacities past 64 bits"),
     (TWO + "a 1 2 1\na 1 2 1\n", "", "problem: line 5: too many arcs"),
     (TWO + "c end\n", "", "problem: line 5: too few arcs"),
     ("p max 2 1\nn 1 s\na 1 2 1\n", "", "problem: line 3: arc before source and sink"),

@@ -14,7 +14,7 @@ from itertools import count
 
 from oracle import changes
 from oracle.network import Arc, State
-from oracle.session import Session
+from oracle.session import MOST_KEPT, Session
 from oracle.texts import Fault
 
 ROOT = os.path.dirname(os.path.dirname(os.path.abspath(__file__)))
@@ -30,8 +30,9 @@ COMMANDS = (
 ).split(" / ")
 ADDITIONS = [f"add 1 4 {cap}" for cap in range(1, 8)]
 REFUSED = "refused no memory"
+SESSIONS = [(name, bound) for bound in (MOST_KEPT, 1, 0) for name in ("whole", "delta")]
 # The calls of which some run has to be refused memory, by the part of the program's text and the word.
-GROWING = {(history, word) for history in ("whole", "delta") for word in ("add", "cap", "close", "solve")} | {
+GROWING = {(*session, word) for session in SESSIONS for word in ("add", "cap", "close", "solve")} | {
     ("state", "add"),
     ("state", "copy"),
 }
@@ -64,10 +65,10 @@ def answer(session, command, is_refused):
     return "accepted"
 
 
-def told_session(name, refused):
-    """What is told of a session over the history of this name, of which these commands are refused memory."""
-    session = Session(START, want_cut=False)
-    lines = [f"history {name}", *told_place(session)]
+def told_session(name, bound, refused):
+    """What is told of a session over the history of this name and bound, of which these commands are refused memory."""
+    session = Session(START, False, bound)
+    lines = [f"history {name} {bound}", *told_place(session)]
     for number, text in enumerate(COMMANDS):
         lines += [f"command {text}", answer(session, command_of(text), number in refused), *told_place(session)]
     return lines
@@ -97,24 +98,25 @@ def refused_in(part):
 
 
 def parts_of(lines):
-    """The three parts of the program's text, each with its first line."""
+    """The parts of the program's text, each with its first line."""
     starts = [number for number, line in enumerate(lines) if line.startswith(("history ", "state", "no history", "no state"))]
     return [lines[start:end] for start, end in zip(starts, starts[1:] + [len(lines)])]
 
 
 def wanted(lines):
-    """The parts of the text that are wanted where these were written, and what was refused memory."""
-    told, refusals = [], set()
+    """The text that is wanted where these lines were written, and what was refused memory."""
     parts = parts_of(lines)
-    for name, part in zip(("whole", "delta", "state"), parts):
-        if part[0].startswith("no "):
-            told.append([part[0] if part == [f"no {'state' if name == 'state' else 'history'}"] else "a part of the text"])
-            continue
-        refused, not_copied = refused_in(part)
-        texts = ADDITIONS if name == "state" else COMMANDS
-        told.append(told_edits(refused, not_copied) if name == "state" else told_session(name, refused))
-        refusals |= {(name, texts[number].split()[0]) for number in refused} | {(name, "copy") for _ in not_copied}
-    return [line for part in told for line in part], refusals if len(parts) == 3 else {"fewer than three parts"}
+    if len(parts) != len(SESSIONS) + 1:
+        return [], {"not all parts"}
+    told, refusals = [], set()
+    for session, part in zip(SESSIONS, parts):
+        refused, _ = refused_in(part)
+        told += part if part == ["no history"] else told_session(*session, refused)
+        refusals |= {(*session, COMMANDS[number].split()[0]) for number in refused}
+    refused, not_copied = refused_in(parts[-1])
+    told += parts[-1] if parts[-1] == ["no state"] else told_edits(refused, not_copied)
+    refusals |= {("state", "add") for _ in refused} | {("state", "copy") for _ in not_copied}
+    return told, refusals
 
 
 def run(library, at, row, *words):
@@ -143,7 +145,8 @@ def judge(library, row):
 
 
 def ample():
-    return "".join(f"{line}\n" for line in told_session("whole", ()) + told_session("delta", ()) + told_edits((), ()))
+    lines = [line for session in SESSIONS for line in told_session(*session, ())] + told_edits((), ())
+    return "".join(f"{line}\n" for line in lines)
 
 
 def judge_many(library):

@@ -39,7 +39,9 @@ try dmf-names 0 \
 try dmf-names 0 \
     $'c close value 4\nvalue 4\n  A -> B b: 4\nlimit 4\n  source\'s side: A\n  A -> B b: 4\n' "" "$work/problem.max" \
     <<<$'c close value 4\ns 4\nf 1 2 4\np max 2 1\nn 1 s\nn 2 t\na 1 2 4\nc cut 4\nc side 1'
-try dmf-names 1 "" $'dmf-names: not a number\n' "$work/problem.max" <<<$'f 1 2 x'
+try dmf-names 1 $'value 1\n' $'dmf-names: line 2 of the answer: not a number\n' "$work/problem.max" <<<$'s 1\nf 1 2 x'
+printf 'p max 2 1\na 1 2\n' >"$work/faulty.max"
+try dmf-names 1 "" $'dmf-names: line 2 of the problem: wrong number of fields\n' "$work/faulty.max" </dev/null
 try dmf-names 1 "" "dmf-names: [Errno 2] No such file or directory: '$work/missing'"$'\n' "$work/missing" </dev/null
 try dmf-names 2 "" "$(tools/dmf-names --help)"$'\n' </dev/null
 

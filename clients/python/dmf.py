@@ -98,6 +98,12 @@ class Refused(Error):
         """What was refused."""
         super().__init__(f"{self.text}: {what}" if what else self.text)
 
+    @staticmethod
+    def of(text: str, what: str) -> Refused:
+        """The exception for a text. One that this module does not know is a plain `Refused`."""
+        kind = Refused.kinds.get(text)
+        return kind(what) if kind else Refused(f"{text}: {what}")
+
     # That of a KeyError puts quotation marks around the message.
     __str__ = Exception.__str__
 
@@ -292,11 +298,17 @@ class _Child:
             raise
         except (BrokenPipeError, EOFError):
             raise self.fault() from None
+        except (ValueError, IndexError) as error:
+            self.kill(f"the session was ended, since what dmf answered to `{lines}` was not understood")
+            raise SessionEnded(self.why_ended) from error
         except BaseException:
-            self.why_ended = f"the session was ended when `{lines}` was broken off"
-            self.process.kill()
-            self.end()
+            self.kill(f"the session was ended when `{lines}` was broken off")
             raise
+
+    def kill(self, why: str) -> None:
+        self.why_ended = why
+        self.process.kill()
+        self.end()
 
     def line(self) -> list[bytes]:
         """The fields of the next line."""
@@ -313,8 +325,8 @@ class _Child:
         ended = f"by the signal {signal.Signals(-status).name}" if status < 0 else f"with status {status}"
         self.why_ended = f"dmf ended {ended}{': ' if told else ''}{told}"
         found = re.fullmatch(r"dmf: (?:line (\d+): )?(.*)", told)
-        if found and found[2] in Refused.kinds:
-            refused = Refused.kinds[found[2]](f"line {found[1]} of the problem" if found[1] else "")
+        if found and (found[1] or found[2] in Refused.kinds):
+            refused = Refused.of(found[2], f"line {found[1]} of the problem" if found[1] else "")
             refused.line = int(found[1]) if found[1] else None
             return refused
         return SessionEnded(self.why_ended)
@@ -565,7 +577,7 @@ class Network:
         """The fields of the first line of a reply."""
         fields = self._child.line()
         if fields[:2] == [b"c", b"refused"]:
-            raise Refused.kinds[b" ".join(fields[3:]).decode()](line if at is None else repr(at))
+            raise Refused.of(b" ".join(fields[3:]).decode(), line if at is None else repr(at))
         return fields
 
     def _answered(self, line: str, at: object = None) -> int:

@@ -20,7 +20,7 @@ def main():
     failures = result.failures + result.errors
     for test, told in failures:
         print(f"failed: {test.id()}: {told}")
-    for _, why in result.skipped:
+    for why in dict.fromkeys(why for _, why in result.skipped):
         print(f"skipped: {why}")
     failed = len({test.id().split()[0] for test, _ in failures})
     print(f"{result.testsRun - len(result.skipped) - failed} passed, {failed} failed")

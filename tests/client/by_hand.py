@@ -3,7 +3,7 @@
 import tempfile
 import unittest
 
-from shared import KNOWS_SHUT, PIPES, dmf, ends, pipes
+from shared import KNOWS_HISTORY, KNOWS_SHUT, PIPES, dmf, ends, pipes
 
 LARGEST = 2**64 - 1
 
@@ -125,3 +125,19 @@ class Worked(unittest.TestCase):
             self.assertEqual((network.redo(), network.undo()), (2, 5))
             self.assertEqual((network.shut("town"), flows(network.flow())), (2, [2, 2]))
             self.assertRaises(dmf.NoSuchNode, network.shut, "Mill")
+
+    @unittest.skipUnless(KNOWS_HISTORY, "the program does not know the option --history")
+    def test_history(self):
+        with pipes(history=1) as network:
+            network.cap(("lake", "mill"), 4)
+            network.close(("lake", "town"))
+            self.assertRaises(dmf.NothingToUndo, network.undo, 2)
+            self.assertEqual((network.undo(), len(network.arcs)), (0, 5))
+            self.assertRaises(dmf.NothingToUndo, network.undo)
+            self.assertEqual((network.redo(), len(network.arcs)), (0, 4))
+            # The oldest change is forgotten, and stays.
+            self.assertEqual(network.capacity(("lake", "mill")), 4)
+        with pipes(history=0) as network:
+            network.solve()
+            self.assertRaises(dmf.NothingToUndo, network.undo)
+            self.assertEqual(network.flow().value, 5)

@@ -1,5 +1,6 @@
 """Each refusal has an exception of its own, and changes nothing."""
 
+import os
 import re
 import tempfile
 import unittest
@@ -107,3 +108,53 @@ class Refusals(unittest.TestCase):
                 self.assertEqual((type(caught.exception), caught.exception.line), (kind, line))
                 self.assertIn(f"line {line}", str(caught.exception))
             self.assertRaises(FileNotFoundError, dmf.read, f"{folder}/missing.max")
+
+
+class Answers(unittest.TestCase):
+    """What a program answers that stands in for dmf: the problem was read, and then one answer to each command."""
+
+    def hold(self, answer, call):
+        with tempfile.TemporaryDirectory() as folder:
+            program = f"{folder}/dmf"
+            with open(program, "w") as file:
+                file.write(f"#!/bin/sh\nread line\necho c undo value 0\nwhile read line; do\n{answer}\ndone\n")
+            os.chmod(program, 0o700)
+            with pipes(program=program) as network:
+                return call(network)
+
+    def test_each_text(self):
+        for text, kind in dmf.Refused.kinds.items():
+            answer = f"case $line in solve) echo 'c refused 2 {text}';; *) echo c undo value 7;; esac"
+
+            def call(network):
+                with self.assertRaises(dmf.Refused) as caught:
+                    network.solve()
+                self.assertIs(type(caught.exception), kind)
+                # The session goes on.
+                self.assertEqual(network.undo(0), 7)
+
+            self.hold(answer, call)
+
+    def test_a_text_that_came_later(self):
+        def call(network):
+            with self.assertRaisesRegex(dmf.Refused, "^refused: too windy: solve$"):
+                network.solve()
+
+        self.hold("echo c refused 2 too windy", call)
+
+    def test_no_answer_that_is_understood(self):
+        for answer in "echo hello", "echo s five", "echo c undo", "echo", "echo s 5; echo f 1":
+
+            def call(network):
+                for _ in range(2):
+                    self.assertRaisesRegex(dmf.SessionEnded, "`solve` was not understood", network.solve)
+
+            self.hold(answer, call)
+
+    def test_no_memory_for_the_problem(self):
+        with tempfile.TemporaryDirectory() as folder:
+            program = f"{folder}/dmf"
+            with open(program, "w") as file:
+                file.write("#!/bin/sh\necho dmf: no memory >&2\nexit 5\n")
+            os.chmod(program, 0o700)
+            self.assertRaisesRegex(dmf.NoMemory, "^no memory$", pipes, program=program)

@@ -11,7 +11,7 @@ import threading
 import time
 import unittest
 
-from shared import CLIENT, PIPES, ROOT, dmf, pipes
+from shared import BUILT, CLIENT, PIPES, ROOT, dmf, pipes
 
 SECONDS = 20
 
@@ -116,12 +116,15 @@ class Programs(unittest.TestCase):
         with tempfile.TemporaryDirectory() as folder:
             os.symlink(f"{ROOT}/dmf", f"{folder}/dmf")
             script = "import dmf, sys; network = dmf.Network([('a', 'b', 1)], 'a', 'b'); print(network._child.process.args[0])"
-            plain = {name: value for name, value in os.environ.items() if name != "DMF"}
+            without = [path for path in os.environ["PATH"].split(":") if not os.path.exists(f"{path}/dmf")]
+            plain = {**os.environ, "PYTHONPATH": CLIENT, "PATH": ":".join(without)}
+            del plain["DMF"]
             on_path = {**plain, "PATH": f"{folder}:{plain['PATH']}"}
-            named = {**on_path, "DMF": f"{ROOT}/crates/dmf/out/dmf"}
-            wanted = {f"{ROOT}/dmf": plain, f"{folder}/dmf": on_path, named["DMF"]: named}
-            for program, environment in wanted.items():
-                environment["PYTHONPATH"] = CLIENT
+            for program, environment in (
+                (f"{ROOT}/dmf", plain),
+                (f"{folder}/dmf", on_path),
+                (BUILT, {**on_path, "DMF": BUILT}),
+            ):
                 words = [sys.executable, "-c", script]
                 ran = subprocess.run(words, env=environment, capture_output=True, text=True, timeout=SECONDS)
                 self.assertEqual((ran.stdout.strip(), ran.stderr), (program, ""))
@@ -134,7 +137,7 @@ class Programs(unittest.TestCase):
             self.assertIn("FileNotFoundError: there is no program dmf", ran.stderr)
 
     def test_an_argument_names_the_program(self):
-        with pipes(program=f"{ROOT}/crates/dmf/out/dmf") as network:
+        with pipes(program=BUILT) as network:
             self.assertEqual(network.solve().value, 5)
         self.assertRaises(FileNotFoundError, pipes, program="/nowhere/dmf")
         self.assertRaisesRegex(dmf.SessionEnded, "^dmf ended with status 1$", pipes, program=shutil.which("false"))

@@ -9,6 +9,9 @@ sys.path[1:1] = [CLIENT, f"{ROOT}/tests"]
 
 import dmf  # noqa: E402
 
+# The program that is tested, whichever else is installed.
+BUILT = f"{ROOT}/crates/dmf/out/dmf"
+os.environ["DMF"] = BUILT
 PIPES = [("lake", "mill", 3), ("lake", "town", 2), ("mill", "town", 5), ("mill", "sea", 2), ("town", "sea", 3)]
 
 
@@ -20,12 +23,15 @@ def ends(arcs):
     return [(arc.tail, arc.head) for arc in arcs]
 
 
-def knows_shut():
-    with pipes() as network:
-        try:
-            return network.shut("mill") == 0
-        except dmf.UnknownCommand:
-            return False
+def can(use, **options):
+    """Whether the program knows what a use of a network needs."""
+    try:
+        with pipes(**options) as network:
+            use(network)
+    except (dmf.UnknownCommand, dmf.SessionEnded):
+        return False
+    return True
 
 
-KNOWS_SHUT = knows_shut()
+KNOWS_SHUT = can(lambda network: network.shut("mill"))
+KNOWS_HISTORY = can(lambda network: network.undo(0), history=1)

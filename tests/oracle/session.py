@@ -7,6 +7,7 @@ from .solution import cut_text, solution_text
 from .texts import Fault, fields_of, number_of, written
 
 MOST_LINES = 1_000_000
+# How many states before the present one are kept, where nobody says another number.
 MOST_KEPT = 1_000_000
 LONGEST_LINE = 4_096
 # How many fields may stand behind each command's word.
@@ -50,7 +51,7 @@ def cut_of(state):
 
 
 class Session:
-    """The states of a session, and the place of the present one. No more states than the bound are kept before it."""
+    """The states of a session, the place of the present one, and how many are kept before it."""
 
     def __init__(self, state, want_cut, bound=MOST_KEPT):
         self.states = [state]

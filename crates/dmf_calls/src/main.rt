@@ -3,8 +3,10 @@
 //! are kept: a test counts the requests.
 #![tactic(auto)]
 
+ghost use Rattle.std.specs.Prelude.{◌≤◌};
+
 use dmf_net::{NetFault, State, plan_add, plan_cap};
-use dmf_session::{Command, DeltaHistory, History, MAX_CHANGES, Session, WholeHistory};
+use dmf_session::{Command, DeltaHistory, History, MAX_BOUND, Session, WholeHistory};
 use std::process::ExitCode;
 use std::{env, io};
 
@@ -62,9 +64,6 @@ fn alter_nothing(rt: &HostRuntime) -> io::Result<()> {
     };
     let mut history = DeltaHistory::new(rt.alloc(), state);
     for _ in 0..200 {
-        if history.past() == MAX_CHANGES {
-            return Ok(());
-        }
         let Ok(edit) = plan_cap(rt.alloc(), history.present(), 1, 3) else {
             return println!(rt; "no plan");
         };
@@ -76,18 +75,36 @@ fn alter_nothing(rt: &HostRuntime) -> io::Result<()> {
 }
 
 fn run(rt: &HostRuntime) -> io::Result<()> {
-    let alloc = rt.alloc();
-    match example(rt).map(|state| WholeHistory::new(alloc, state)) {
-        Ok(Ok(history)) => hold(rt, "whole", Session::new(history))?,
-        _ => println!(rt; "no history")?,
-    }
-    match example(rt) {
-        Ok(state) => hold(rt, "delta", Session::new(DeltaHistory::new(alloc, state)))?,
-        Err(_) => println!(rt; "no history")?,
+    for bound in [MAX_BOUND, 1, 0] {
+        hold_whole(rt, bound)?;
+        hold_delta(rt, bound)?;
     }
     match example(rt) {
         Ok(state) => edit(rt, state),
         Err(_) => println!(rt; "no state"),
+    }
+}
+
+/// Holds a session over a history of whole states.
+fn hold_whole(rt: &HostRuntime, bound: u32) -> io::Result<()>
+    requires { bound ≤ 1000000 }
+{
+    match example(rt).map(|state| WholeHistory::with_bound(rt.alloc(), state, bound)) {
+        Ok(Ok(history)) => hold(rt, "whole", Session::new(history)),
+        _ => println!(rt; "no history"),
+    }
+}
+
+/// Holds a session over a history of edits.
+fn hold_delta(rt: &HostRuntime, bound: u32) -> io::Result<()>
+    requires { bound ≤ 1000000 }
+{
+    match example(rt) {
+        Ok(state) => {
+            let history = DeltaHistory::with_bound(rt.alloc(), state, bound);
+            hold(rt, "delta", Session::new(history))
+        }
+        Err(_) => println!(rt; "no history"),
     }
 }
 
@@ -103,12 +120,9 @@ fn example(rt: &HostRuntime) -> Result<State, NetFault> {
 /// Gives the session all commands, one after the other.
 fn hold<H: History + Drop>(rt: &HostRuntime, name: &str, session: Session<H>) -> io::Result<()> {
     let mut session = session;
-    println!(rt; "history {name}")?;
+    println!(rt; "history {name} {}", session.bound())?;
     tell_session(rt, &session)?;
     for command in commands() {
-        if session.is_full() {
-            return Ok(());
-        }
         let answer = session.step(rt.alloc(), command, false);
         tell_command(rt, command)?;
         match answer {

@@ -168,6 +168,16 @@ last-at (arc ∷ arcs) (first ∷ firsts) (flow ∷ flows) last long same = last
 pub pair-of_arc : (n : Network) (firsts flows : List ℕ) (k : ℕ) → k < length n.arcs → length firsts ≡ length n.arcs → length flows ≡ length n.arcs → slice_get (carrying_pairs n firsts flows) k ≡ Some (carrying_pair (get_or n.arcs k no_arc) (get_or firsts k 0) (get_or flows k 0))
 pair-of_arc n firsts flows k within long same = arc-at n.arcs firsts flows (return_pair n firsts flows) k within long same
 
+-- An arc on which nothing flowed at first has none.
+idle-none : (arc : Arc) (first flow : ℕ) → first ≡ 0 → carrying_pair arc first flow ≡ None
+idle-none arc first flow none =
+    let idle : is_idle arc first ≡ true = grind (arith, nat_tests) in
+    rw idle refl
+
+pub pair-idle : (n : Network) (firsts flows : List ℕ) (k : ℕ) → k < length n.arcs → length firsts ≡ length n.arcs → length flows ≡ length n.arcs → get_or firsts k 0 ≡ 0 → slice_get (carrying_pairs n firsts flows) k ≡ Some None
+pair-idle n firsts flows k within long same none =
+    pair-of_arc n firsts flows k within long same ∙ ap Some (idle-none (get_or n.arcs k no_arc) (get_or firsts k 0) (get_or flows k 0) none)
+
 pub pair-of_return : (n : Network) (firsts flows : List ℕ) (k : ℕ) → k ≡ length n.arcs → length firsts ≡ length n.arcs → length flows ≡ length n.arcs → slice_get (carrying_pairs n firsts flows) k ≡ Some (return_pair n firsts flows)
 pair-of_return n firsts flows k past long same = rw past (last-at n.arcs firsts flows (return_pair n firsts flows) long same)
 

@@ -25,8 +25,13 @@ impl Pairs for CarryingPairs<'_> {
         if k == arcs.len() {
             return carrying_pair(state.sink(), state.source(), state.value());
         }
+        let flow = state.flows()[k];
+        // The ends of an arc that carries nothing are not looked at.
+        if flow == 0 {
+            return None;
+        }
         let arc = arcs[k];
-        carrying_pair(arc.tail, arc.head, state.flows()[k])
+        carrying_pair(arc.tail, arc.head, flow)
     }
 }
 

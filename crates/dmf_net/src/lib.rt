@@ -45,6 +45,7 @@ mod scanning;
 mod side;
 mod side_ids;
 mod solve;
+mod solved_moves;
 mod state;
 #[cfg(test)]
 mod tests;

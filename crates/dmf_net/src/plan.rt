@@ -13,9 +13,9 @@ ghost use Rattle.dmf_net.specs.Side.{IsSmallestSide};
 use crate::drain::drain;
 use crate::edit::Edit;
 use crate::fault::PlanFault;
-use crate::moves::{FlowLink, list_moves};
 use crate::side::{Side, solved_side};
 use crate::solve::{Solved, solve};
+use crate::solved_moves::{into_flows, list_differences};
 use crate::state::State;
 use crate::watch::{Unwatched, Watch};
 use std::alloc::Global;
@@ -119,7 +119,7 @@ pub fn plan_solve_watched<W: Watch>(
     ensures edit { IfOk result (PlansSolve state.now) }
 {
     let solved = solve(alloc, state, watch)?;
-    solve_edit(alloc, state, &solved)
+    solve_edit(alloc, state, solved)
 }
 
 /// Plans the same greatest flow, and tells the smallest side of the network, which does not change by it. One search finds
@@ -147,18 +147,21 @@ pub fn plan_solve_with_side_watched<W: Watch>(
     ensures value { IfOk result (λ planned. pos planned.1.capacity ≡ flow_value state.now.network (applied planned.0 state.now).flows) }
 {
     let solved = solve(alloc, state, watch)?;
-    let edit = solve_edit(alloc, state, &solved)?;
     let side = solved_side(alloc, state, &solved)?;
+    let edit = solve_edit(alloc, state, solved)?;
     Ok((edit, side))
 }
 
 /// The edit that gives each arc of the state the flow that solving has reached.
-fn solve_edit(alloc: Global, state: &State, solved: &Solved) -> Result<Edit, PlanFault>
-    requires { IsSolved state.now solved.now.search solved.now.value }
+fn solve_edit(alloc: Global, state: &State, solved: Solved) -> Result<Edit, PlanFault>
+    requires { IsSolved state.now solved.search solved.value }
     ensures refused { IsOkUnless result PlanFault.NoMemory }
     ensures edit { IfOk result (PlansSolve state.now) }
-    ensures flows { IfOk result (λ edit. (applied edit state.now).flows ≡ reached_flows state.now solved.now.search) }
+    ensures flows { IfOk result (λ edit. (applied edit state.now).flows ≡ reached_flows state.now solved.search) }
 {
-    let moves = list_moves(alloc, state.flows(), &solved.search, FlowLink::Against)?;
+    let before = state.flows();
+    let Solved { search, .. } = solved;
+    let after = into_flows(alloc, before, search)?;
+    let moves = list_differences(alloc, before, &after)?;
     Ok(Edit::Solve { moves })
 }

@@ -22,6 +22,7 @@ pub mod Labelled
 pub mod Marks
 pub mod Counting
 pub mod CountingLinks
+pub mod Listed
 pub mod Sums
 pub mod Starts
 pub mod Putting

@@ -34,25 +34,25 @@ pub fn run_check<P: Source, C: Source, W: Sink>(
         result }
 {
     let state = read_state(alloc, problem)?;
-    let solved = read_solved(alloc, &state, solution)?;
+    let solved = read_solved(alloc, state, solution)?;
     let greatest = verdict_of(alloc, &solved)?;
     put_verdict(&solved, greatest, out)?;
     Ok(status_of_verdict(greatest))
 }
 
-/// Reads a solution text of a state's network, and judges it.
+/// Reads a solution text of a state's network, and judges it. The state is let go then.
 fn read_solved<C: Source>(
     alloc: Global,
-    state: &State,
+    state: State,
     source: &mut C,
 ) -> Result<State, EngineFault>
     ensures { (text : List ℕ) × Consumes (C.remaining source.old) (C.remaining source.new) text
-        × ReadsSolution state.now
+        × ReadsSolution state
         (reader_of C.remaining C.has_failed source.old) (reader_of C.remaining C.has_failed source.new)
         text result }
 {
     let text = read_all(alloc, source)?;
-    match read_solution(alloc, &text, state) {
+    match read_solution(alloc, &text, &state) {
         Ok(solved) => Ok(solved),
         Err(fault) => match fault.kind {
             SolutionFaultKind::NoMemory => Err(EngineFault::NoMemory),

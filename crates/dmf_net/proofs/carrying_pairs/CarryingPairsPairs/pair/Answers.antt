@@ -1,7 +1,7 @@
-use Rattle.std.proofs.Common.{ap, sym, ◌∙◌, arith, length}
+use Rattle.std.proofs.Common.{◌≡◌, get_or, ap, sym, ◌∙◌, arith, length}
 use Rattle.std.proofs.lemmas.Int.{ints}
 use Rattle.std.proofs.lemmas.Slice.Zip.{AllZip-long}
-use Rattle.dmf_net.proofs.CarryingPairs.{pair-of_arc, pair-of_return, arc-index, return_pair-is}
+use Rattle.dmf_net.proofs.CarryingPairs.{pair-of_arc, pair-idle, pair-of_return, arc-index, return_pair-is}
 use Rattle.dmf_net.proofs.carrying_pairs.CarryingPairsPairs.pair.Goals as goal
 
 pub returns-then-k-arcs : goal.returns-then-k-arcs
@@ -36,6 +36,15 @@ offset_bounds-flows-k c =
     let index = arc-index c.args.self.now.state.now c.args.k state c.requires (λ e. c.if-k-arcs.false (e ∙ sym (ap length c.arcs-arcs.ensures.value))) in
     let small = state.network.at_most_arcs in
     omega (arith, index.0, small)
+
+pub returns-then-flow-eq0 : goal.returns-then-flow-eq0
+returns-then-flow-eq0 c =
+    let s = c.args.self.now.state.now in
+    let state = c.arcs-arcs.ensures.state in
+    let long = AllZip-long _ s.network.arcs s.flows state.flow.within in
+    let index = arc-index s c.args.k state c.requires (λ e. c.if-k-arcs.false (e ∙ sym (ap length c.arcs-arcs.ensures.value))) in
+    let none : get_or s.flows c.args.k 0 ≡ 0 = ap (λ flows. get_or flows c.args.k 0) (sym c.flows.ensures.value) ∙ c.if-flow-eq0.true in
+    pair-idle s.network s.flows s.flows c.args.k index.0 long long none
 
 pub returns : goal.returns
 returns c =
