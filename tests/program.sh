@@ -48,8 +48,6 @@ refuse_words "a cut of a check" check --cut examples/a.max
 refuse_words "a history alone" --history 1
 refuse_words "a history of a solve" solve --history 1
 refuse_words "a history of a check" check --history 1 examples/a.max
-refuse_words "a history past the most" session --history 1000001 examples/a.max
-refuse_words "a history that is no number" session --history x examples/a.max
 refuse_words "a history below 0" session --history -1 examples/a.max
 refuse_words "two histories" session --history 1 --history 1 examples/a.max
 help_words "help" --help

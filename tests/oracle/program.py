@@ -47,6 +47,7 @@ TOO_MUCH = told("too much input")
 OUT_OF_MEMORY = Outcome(NO_MEMORY, b"", told("no memory"))
 VERSION = Outcome(WELL, b"dmf 0.1.0\n")
 REFUSED_WORDS = Outcome(USAGE, b"", re.compile(rb"error: .*\nUsage: dmf.*\n", re.DOTALL))
+REFUSED_VALUE = Outcome(USAGE, b"", re.compile(rb"error: .*\n", re.DOTALL))
 NO_TEXT = Outcome(USAGE, b"", told("a word is not UTF-8"))
 COMMANDS = ("solve", "session", "check")
 
@@ -143,7 +144,7 @@ def asked_of(command, words):
         if are_flags and command == "session" and bound is None and (word == "--history" or word.startswith("--history=")):
             bound = bound_of(word.removeprefix("--history=") if "=" in word else next(words, ""))
             if bound is None:
-                return REFUSED_WORDS
+                return REFUSED_VALUE
         elif are_flags and word in ("-h", "--help"):
             return help_on([command])
         elif are_flags and word == "--":

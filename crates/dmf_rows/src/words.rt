@@ -90,14 +90,6 @@ fn words_are_refused_with_a_text(rt: HostRuntime) -> Result<(), Fail> {
         ),
         ("solve --version", "unexpected argument '--version' found"),
         (
-            "session --history 1000001 P",
-            "invalid value '1000001' for '--history <N>'",
-        ),
-        (
-            "session --history x P",
-            "invalid value 'x' for '--history <N>'",
-        ),
-        (
             "session --history 1 --history 1 P",
             "cannot be used multiple times",
         ),
@@ -113,6 +105,27 @@ fn words_are_refused_with_a_text(rt: HostRuntime) -> Result<(), Fail> {
         };
         assert!(rt; text.as_str().contains(part), "{line}: {text}");
         assert!(rt; text.as_str().contains("Usage: dmf"), "{line}: {text}");
+    }
+    Ok(())
+}
+
+#[test]
+fn bounds_are_refused_with_a_text(rt: HostRuntime) -> Result<(), Fail> {
+    let alloc = rt.alloc();
+    for (line, part) in [
+        (
+            "session --history 1000001 P",
+            "invalid value '1000001' for '--history <N>'",
+        ),
+        (
+            "session --history x P",
+            "invalid value 'x' for '--history <N>'",
+        ),
+    ] {
+        let Err(WordsFault::Usage(text)) = read(alloc, line)? else {
+            return Err(Fail::from(line));
+        };
+        assert!(rt; text.as_str().contains(part), "{line}: {text}");
     }
     Ok(())
 }
@@ -200,7 +213,11 @@ fn help_is_told(rt: HostRuntime) -> Result<(), Fail> {
         ("session --help", session),
         (
             "session --help",
-            "--cut   Write the smallest minimum cut after each solution\n",
+            "--cut          Write the smallest minimum cut after each solution\n",
+        ),
+        (
+            "session --help",
+            "--history <N>  Keep at most N changes for undo [default: 1000000]\n",
         ),
         ("session --help", "\n  undo [K]    "),
         ("session --help", "  c undo value VALUE\n"),

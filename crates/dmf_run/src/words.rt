@@ -155,7 +155,7 @@ fn history<'a>(alloc: Global) -> Arg<'a>
         .value_name("N")
         .default_value("1000000")
         .value_parser(value_parser!(u32).range(0..=1_000_000))
-        .help("Keep at most N changes to be undone, from 0 to 1000000")
+        .help("Keep at most N changes for undo")
 }
 
 /// The word that names the problem's file.
