@@ -41,3 +41,4 @@ pub mod LoweredValue
 pub mod CarryingPairs
 pub mod LoweredPairs
 pub mod DrainingSearch
+pub mod Equality

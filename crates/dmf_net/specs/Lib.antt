@@ -13,6 +13,7 @@ pub mod Solve
 pub mod Drain
 pub mod Change
 pub mod Edit
+pub mod Equality
 pub mod Revert
 pub mod Direction
 pub mod Laws

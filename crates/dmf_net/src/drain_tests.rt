@@ -1,7 +1,16 @@
 //! Tests of draining.
 use crate::{Arc, Edit, Move, NetFault, PlanFault, State, plan_cap, plan_close};
-use std::alloc::Global;
+use std::alloc::{AllocError, Global};
 use std::test::Fail;
+
+/// Moves, each given by the number of its arc and the flow before and after.
+pub fn listed(alloc: Global, moves: &[(u32, u64, u64)]) -> Result<Vec<Move>, AllocError> {
+    let mut listed = Vec::new(alloc);
+    for &(arc, from, to) in moves {
+        listed.push(Move { arc, from, to })?;
+    }
+    Ok(listed)
+}
 
 #[test]
 fn a_self_loop_is_drained(rt: HostRuntime) -> Result<(), Fail> {
@@ -9,13 +18,7 @@ fn a_self_loop_is_drained(rt: HostRuntime) -> Result<(), Fail> {
     state.push_arc(1, 1, 5)?;
     let mut flowing = state.with_flows(rt.alloc(), vec![in rt.alloc(); 3]?)?;
     let edit = plan_cap(rt.alloc(), &flowing, 1, 2)?;
-    let moves = vec![in rt.alloc();
-        Move {
-            arc: 1,
-            from: 3,
-            to: 2
-        },
-    ]?;
+    let moves = listed(rt.alloc(), &[(1, 3, 2)])?;
     assert_eq!(rt;
         edit,
         Edit::Cap {
@@ -39,18 +42,7 @@ fn a_flow_that_goes_round_is_drained(rt: HostRuntime) -> Result<(), Fail> {
     state.push_arc(4, 3, 5)?;
     let mut flowing = state.with_flows(rt.alloc(), vec![in rt.alloc(); 4, 4]?)?;
     let edit = plan_cap(rt.alloc(), &flowing, 1, 1)?;
-    let moves = vec![in rt.alloc();
-        Move {
-            arc: 1,
-            from: 4,
-            to: 1
-        },
-        Move {
-            arc: 2,
-            from: 4,
-            to: 1
-        },
-    ]?;
+    let moves = listed(rt.alloc(), &[(1, 4, 1), (2, 4, 1)])?;
     assert_eq!(rt;
         edit,
         Edit::Cap {
@@ -83,23 +75,7 @@ fn the_return_link_ranks_after_the_arcs(rt: HostRuntime) -> Result<(), Fail> {
     let mut state = coming_back(rt.alloc())?;
     assert_eq!(rt; state.value(), 2);
     let edit = plan_cap(rt.alloc(), &state, 2, 1)?;
-    let moves = vec![in rt.alloc();
-        Move {
-            arc: 1,
-            from: 3,
-            to: 1
-        },
-        Move {
-            arc: 2,
-            from: 3,
-            to: 1
-        },
-        Move {
-            arc: 3,
-            from: 1,
-            to: 0
-        },
-    ]?;
+    let moves = listed(rt.alloc(), &[(1, 3, 1), (2, 3, 1), (3, 1, 0)])?;
     assert_eq!(rt;
         edit,
         Edit::Cap {
@@ -118,23 +94,7 @@ fn the_return_link_ranks_after_the_arcs(rt: HostRuntime) -> Result<(), Fail> {
 fn an_arc_is_closed(rt: HostRuntime) -> Result<(), Fail> {
     let mut state = coming_back(rt.alloc())?;
     let edit = plan_close(rt.alloc(), &state, 2)?;
-    let moves = vec![in rt.alloc();
-        Move {
-            arc: 1,
-            from: 3,
-            to: 0
-        },
-        Move {
-            arc: 2,
-            from: 3,
-            to: 0
-        },
-        Move {
-            arc: 3,
-            from: 1,
-            to: 0
-        },
-    ]?;
+    let moves = listed(rt.alloc(), &[(1, 3, 0), (2, 3, 0), (3, 1, 0)])?;
     assert_eq!(rt;
         edit,
         Edit::Close {
@@ -166,7 +126,7 @@ fn an_arc_is_closed(rt: HostRuntime) -> Result<(), Fail> {
 #[test]
 fn a_capacity_is_raised(rt: HostRuntime) -> Result<(), Fail> {
     let mut state = coming_back(rt.alloc())?;
-    let room = u64::MAX - 10;
+    let largest = u64::MAX - 10;
     assert_eq!(rt;
         plan_cap(rt.alloc(), &state, 0, 1),
         Err(PlanFault::NoSuchArc)
@@ -176,21 +136,21 @@ fn a_capacity_is_raised(rt: HostRuntime) -> Result<(), Fail> {
         Err(PlanFault::NoSuchArc)
     );
     assert_eq!(rt;
-        plan_cap(rt.alloc(), &state, 1, room + 1),
+        plan_cap(rt.alloc(), &state, 1, largest + 1),
         Err(PlanFault::SumTooLarge)
     );
-    let edit = plan_cap(rt.alloc(), &state, 1, room)?;
+    let edit = plan_cap(rt.alloc(), &state, 1, largest)?;
     assert_eq!(rt;
         edit,
         Edit::Cap {
             arc: 1,
             old: 5,
-            new: room,
+            new: largest,
             moves: Vec::new(rt.alloc())
         }
     );
     state.apply(&edit)?;
-    assert_eq!(rt; state.arcs()[0].cap, room);
+    assert_eq!(rt; state.arcs()[0].cap, largest);
     assert_eq!(rt; state.value(), 2);
     assert_eq!(rt; state.push_arc(1, 2, 1), Err(NetFault::SumTooLarge));
     Ok(())

@@ -19,7 +19,7 @@ impl From<AllocError> for NoMemory {
     }
 }
 
-/// Why a network cannot take an arc.
+/// Why a network cannot take an arc: [`NetFault`] and [`PlanFault`] are made from it.
 #[derive(Clone, Copy, Debug, PartialEq, Eq, Hash, Error)]
 pub enum ArcFault {
     /// An end is 0 or past the last node.

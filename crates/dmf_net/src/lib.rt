@@ -3,7 +3,7 @@
 
 pub use arc::Arc;
 pub use edit::{Edit, Move};
-pub use fault::{ArcFault, CutFault, FlowFault, NetFault, NoMemory, PlanFault};
+pub use fault::{CutFault, FlowFault, NetFault, NoMemory, PlanFault};
 pub use laws::{
     change_has_one_outcome, change_has_outcome, edit_has_one_state_before,
     flow_is_greatest_or_surpassed, max_flow_min_cut, network_has_one_smallest_side,

@@ -1,4 +1,5 @@
 ghost use Rattle.std.specs.Prelude.{◌≡◌, ◌-◌, ◌≤◌, ◌↔◌, ℕ, false, length, pos, IfErr, IfOk, IsTrue, OnOk, ◌^◌};
+ghost use Rattle.std.specs.Bool.{Decides};
 ghost use Rattle.std.specs.List.{slice_index_or};
 ghost use Rattle.std.specs.List.Sorted.{IsStrictlyIncreasing};
 ghost use Rattle.dmf_path.specs.Node.{IsNode};
@@ -37,6 +38,30 @@ impl Model for Side {
     ghost view = { λ a. record { ids = a.ids.items; capacity = a.capacity } };
 
     ghost invariant = { λ a. IsStrictlyIncreasing a.ids.items };
+}
+
+impl PartialEq for Side {
+    ghost use Rattle.std.proofs.Common.{rules};
+    ghost use Rattle.std.specs.Cmp.Rules.{comparing};
+    ghost use Rattle.dmf_net.specs.Equality.{same_side};
+
+    ghost eq = { same_side };
+
+    ghost laws = { Prim.search (comparing, rules) };
+
+    fn eq(&self, other: &Side) -> bool
+        ensures told { result ≡ same_side self.now other.now }
+        ensures same { Decides result (self.now ≡ other.now) }
+    {
+        self.ids.as_slice() == other.ids.as_slice() && self.capacity == other.capacity
+    }
+}
+
+impl Eq for Side {
+    ghost use Rattle.std.proofs.Common.{rules};
+    ghost use Rattle.std.specs.Cmp.Rules.{comparing};
+
+    ghost laws = { Prim.search (comparing, rules) };
 }
 
 impl Side {

@@ -16,6 +16,7 @@ use std::marker::Model;
 
 mod building;
 mod editing;
+mod equality;
 
 /// A network with a flow on it.
 ///

@@ -1,6 +1,7 @@
+use crate::drain_tests::listed;
 use crate::{
-    Arc, CutFault, Edit, FlowFault, Move, NetFault, PlanFault, State, is_greatest, plan_add,
-    plan_solve, plan_solve_with_side, side_after, smallest_side,
+    Arc, CutFault, Edit, FlowFault, NetFault, PlanFault, State, is_greatest, plan_add, plan_solve,
+    plan_solve_with_side, side_after, smallest_side,
 };
 use std::alloc::Global;
 use std::test::Fail;
@@ -58,9 +59,9 @@ fn a_flow_is_taken(rt: HostRuntime) -> Result<(), Fail> {
     let flowing = state.with_flows(rt.alloc(), vec![in rt.alloc(); 3, 2, 1, 2, 3]?)?;
     assert_eq!(rt; flowing.value(), 5);
     let copy = flowing.copy(rt.alloc())?;
+    assert_eq!(rt; copy, flowing);
+    assert!(rt; copy != example(rt.alloc())?);
     assert_eq!(rt; copy.value(), 5);
-    assert_eq!(rt; copy.arcs(), flowing.arcs());
-    assert_eq!(rt; copy.arcs().len(), 5);
     assert_eq!(rt; copy.flow(4), 2);
     Ok(())
 }
@@ -117,17 +118,17 @@ fn an_arc_is_planned_and_added(rt: HostRuntime) -> Result<(), Fail> {
     assert_eq!(rt; state.flow(6), 0);
     assert_eq!(rt; state.open_count(), 6);
     assert_eq!(rt; plan_add(&state, 1, 5, 1), Err(PlanFault::NoSuchNode));
-    let room = u64::MAX - 22;
+    let largest = u64::MAX - 22;
     assert_eq!(rt;
-        plan_add(&state, 1, 1, room + 1),
+        plan_add(&state, 1, 1, largest + 1),
         Err(PlanFault::SumTooLarge)
     );
     assert_eq!(rt;
-        plan_add(&state, 1, 1, room),
+        plan_add(&state, 1, 1, largest),
         Ok(Edit::Add {
             tail: 1,
             head: 1,
-            cap: room
+            cap: largest
         })
     );
     Ok(())
@@ -165,23 +166,7 @@ fn a_backward_step_goes_by_its_rank(rt: HostRuntime) -> Result<(), Fail> {
     }
     assert_eq!(rt; state.arcs().len(), 7);
     let flowing = state.with_flows(rt.alloc(), vec![in rt.alloc(); 1, 1, 1, 0, 0, 0, 0]?)?;
-    let moves = vec![in rt.alloc();
-        Move {
-            arc: 1,
-            from: 1,
-            to: 0
-        },
-        Move {
-            arc: 4,
-            from: 0,
-            to: 1
-        },
-        Move {
-            arc: 5,
-            from: 0,
-            to: 1
-        },
-    ]?;
+    let moves = listed(rt.alloc(), &[(1, 1, 0), (4, 0, 1), (5, 0, 1)])?;
     assert_eq!(rt; plan_solve(rt.alloc(), &flowing)?, Edit::Solve { moves });
     Ok(())
 }
@@ -198,16 +183,15 @@ fn the_smallest_side_is_told(rt: HostRuntime) -> Result<(), Fail> {
     assert_eq!(rt; after.capacity(), 5);
     let (again, planned) = plan_solve_with_side(rt.alloc(), &state)?;
     assert_eq!(rt; again, edit);
-    assert!(rt; planned.ids().eq([1]));
-    assert_eq!(rt; planned.capacity(), 5);
+    assert_eq!(rt; planned, after);
     assert_eq!(rt; state.value(), 0);
     assert_eq!(rt; state.flow(1), 0);
     state.apply(&edit)?;
     assert_eq!(rt; is_greatest(rt.alloc(), &state)?, true);
     assert_eq!(rt; state.flows(), [3, 2, 1, 2, 3].as_slice());
     let side = smallest_side(rt.alloc(), &state)?;
-    assert!(rt; side.ids().eq([1]));
-    assert_eq!(rt; side.capacity(), 5);
+    assert_eq!(rt; side, after);
+    assert!(rt; side != smallest_side(rt.alloc(), &State::new(rt.alloc(), 2, 1, 2))?);
     assert_eq!(rt; side.contains(1), true);
     assert_eq!(rt; side.contains(2), false);
     assert_eq!(rt; side.contains(0), false);

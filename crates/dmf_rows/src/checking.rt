@@ -22,52 +22,50 @@ struct Row {
     status: u8,
 }
 
-fn rows() -> [Row; 6] {
-    [
-        Row {
-            about: "a greatest flow, its lines in any order",
-            problem: NETWORK_A,
-            solution: b"f 3 4 3\ns 5\nf 1 2 3\nf 2 4 2\nf 1 3 2\nf 2 3 1\n",
-            written: b"c greatest 5\n",
-            status: 0,
-        },
-        Row {
-            about: "a flow that is not greatest",
-            problem: NETWORK_A,
-            solution: FLOW_OF_3,
-            written: b"c flow 3\n",
-            status: 1,
-        },
-        Row {
-            about: "no flow",
-            problem: NETWORK_A,
-            solution: b"s 0",
-            written: b"c flow 0\n",
-            status: 1,
-        },
-        Row {
-            about: "one line for parallel arcs",
-            problem: LENIENT,
-            solution: b"s 9\nf 1 2 9\nf 2 3 9\n",
-            written: b"c greatest 9\n",
-            status: 0,
-        },
-        Row {
-            about: "nothing can flow out of the source",
-            problem: BACKWARDS,
-            solution: b"s 0\n",
-            written: b"c greatest 0\n",
-            status: 0,
-        },
-        Row {
-            about: "no arcs",
-            problem: b"p max 2 0\nn 1 s\nn 2 t\n",
-            solution: b"s 0\n",
-            written: b"c greatest 0\n",
-            status: 0,
-        },
-    ]
-}
+const ROWS: [Row; 6] = [
+    Row {
+        about: "a greatest flow, its lines in any order",
+        problem: NETWORK_A,
+        solution: b"f 3 4 3\ns 5\nf 1 2 3\nf 2 4 2\nf 1 3 2\nf 2 3 1\n",
+        written: b"c greatest 5\n",
+        status: 0,
+    },
+    Row {
+        about: "a flow that is not greatest",
+        problem: NETWORK_A,
+        solution: FLOW_OF_3,
+        written: b"c flow 3\n",
+        status: 1,
+    },
+    Row {
+        about: "no flow",
+        problem: NETWORK_A,
+        solution: b"s 0",
+        written: b"c flow 0\n",
+        status: 1,
+    },
+    Row {
+        about: "one line for parallel arcs",
+        problem: LENIENT,
+        solution: b"s 9\nf 1 2 9\nf 2 3 9\n",
+        written: b"c greatest 9\n",
+        status: 0,
+    },
+    Row {
+        about: "nothing can flow out of the source",
+        problem: BACKWARDS,
+        solution: b"s 0\n",
+        written: b"c greatest 0\n",
+        status: 0,
+    },
+    Row {
+        about: "no arcs",
+        problem: b"p max 2 0\nn 1 s\nn 2 t\n",
+        solution: b"s 0\n",
+        written: b"c greatest 0\n",
+        status: 0,
+    },
+];
 
 /// Whether the run ended as the row says, and wrote just its line.
 fn is_told(outcome: Outcome, written: &Vec<u8>, row: Row) -> bool {
@@ -76,7 +74,7 @@ fn is_told(outcome: Outcome, written: &Vec<u8>, row: Row) -> bool {
 
 #[test]
 fn flows_are_judged(rt: HostRuntime) -> Result<(), Fail> {
-    for row in rows() {
+    for row in ROWS {
         let about = row.about;
         let mut written = Vec::new(rt.alloc());
         let outcome = check(rt.alloc(), row.problem, row.solution, &mut written);
@@ -87,7 +85,7 @@ fn flows_are_judged(rt: HostRuntime) -> Result<(), Fail> {
 
 #[test]
 fn bytes_of_a_checked_solution_may_come_one_by_one(rt: HostRuntime) -> Result<(), Fail> {
-    for row in rows() {
+    for row in ROWS {
         let about = row.about;
         let mut written = Vec::new(rt.alloc());
         let outcome = check_over(
@@ -181,11 +179,11 @@ fn a_failed_read_of_either_text_leaves_nothing_written(rt: HostRuntime) -> Resul
 }
 
 /// The answer of a run on [`FLOW_OF_3`] whose writer takes one byte a call and holds so many.
-fn check_into(alloc: Global, written: &mut Vec<u8>, room: usize, flush_fails: bool) -> Outcome {
+fn check_into(alloc: Global, written: &mut Vec<u8>, limit: usize, flush_fails: bool) -> Outcome {
     let writer = SlowWriter {
         held: written,
         most: 1,
-        room,
+        limit,
         flush_fails,
     };
     check_over(alloc, NETWORK_A, FLOW_OF_3, writer)
@@ -193,13 +191,13 @@ fn check_into(alloc: Global, written: &mut Vec<u8>, room: usize, flush_fails: bo
 
 #[test]
 fn a_failed_write_leaves_a_front_of_the_verdict(rt: HostRuntime) -> Result<(), Fail> {
-    // The writer's room, whether its flushes fail, and how many bytes are held.
-    for (room, flush_fails, held) in [(0, false, 0), (4, false, 4), (99, true, 9)] {
+    // The writer's limit, whether its flushes fail, and how many bytes are held.
+    for (limit, flush_fails, held) in [(0, false, 0), (4, false, 4), (99, true, 9)] {
         let mut written = Vec::new(rt.alloc());
-        let outcome = check_into(rt.alloc(), &mut written, room, flush_fails);
-        assert_eq!(rt; outcome, Err(EngineFault::Write), "room for {room}");
-        assert_eq!(rt; written.len(), held, "room for {room}");
-        assert!(rt; b"c flow 3\n".starts_with(&written), "room for {room}");
+        let outcome = check_into(rt.alloc(), &mut written, limit, flush_fails);
+        assert_eq!(rt; outcome, Err(EngineFault::Write), "a limit of {limit}");
+        assert_eq!(rt; written.len(), held, "a limit of {limit}");
+        assert!(rt; b"c flow 3\n".starts_with(&written), "a limit of {limit}");
     }
     Ok(())
 }

@@ -55,8 +55,8 @@ fn the_end_of_the_commands_ends_their_last_line(rt: HostRuntime) -> Result<(), F
 #[test]
 fn a_failed_write_leaves_a_front_of_the_replies(rt: HostRuntime) -> Result<(), Fail> {
     let replies = b"c add 6 value 0\nc undo value 0\n";
-    // What the writer is like, its bytes a call, its room, whether its flushes fail, and how many bytes are held.
-    for (about, most, room, flush_fails, held) in [
+    // What the writer is like, its bytes a call, its limit, whether its flushes fail, and how many bytes are held.
+    for (about, most, limit, flush_fails, held) in [
         ("it takes 7 bytes and then fails", 1, 7, false, 7),
         ("it takes a reply and then fails", 99, 16, false, 16),
         ("its flush fails", 99, 99, true, 16),
@@ -67,7 +67,7 @@ fn a_failed_write_leaves_a_front_of_the_replies(rt: HostRuntime) -> Result<(), F
         let writer = SlowWriter {
             held: &mut written,
             most,
-            room,
+            limit,
             flush_fails,
         };
         let outcome = hold_over(

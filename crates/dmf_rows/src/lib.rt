@@ -14,6 +14,8 @@ mod examples;
 #[cfg(test)]
 mod failures;
 #[cfg(test)]
+mod faulty;
+#[cfg(test)]
 mod histories;
 #[cfg(test)]
 mod limits;

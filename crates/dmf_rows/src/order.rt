@@ -41,8 +41,8 @@ impl<'a> Read for WatchedReader<'a> {
             self.watch.misused.set(true);
         }
         match (self.text.split_first(), buffer.first_mut()) {
-            (Some((first, rest)), Some(room)) => {
-                *room = *first;
+            (Some((first, rest)), Some(place)) => {
+                *place = *first;
                 self.text = rest;
                 Ok(1)
             }
@@ -51,20 +51,20 @@ impl<'a> Read for WatchedReader<'a> {
     }
 }
 
-/// Takes all bytes of a call, and fails where there is no room for them.
+/// Takes all bytes of a call, and fails where they pass its limit.
 #[derive(Drop)]
 struct WatchedWriter<'a> {
-    room: usize,
+    limit: usize,
     watch: &'a Watch,
 }
 
 impl<'a> Write for WatchedWriter<'a> {
     fn write(&mut self, bytes: &[u8]) -> io::Result<usize> {
-        if bytes.len() > self.room {
+        if bytes.len() > self.limit {
             self.watch.failed.set(true);
             return Err(io::Error::from(ErrorKind::StorageFull));
         }
-        self.room -= bytes.len();
+        self.limit -= bytes.len();
         self.watch.unflushed.set(true);
         Ok(bytes.len())
     }
@@ -86,7 +86,7 @@ fn a_reply_is_flushed_before_more_is_read(rt: HostRuntime) -> Result<(), Fail> {
             watch: &watch,
         },
         WatchedWriter {
-            room: 1000,
+            limit: 1000,
             watch: &watch,
         },
         false,
@@ -107,7 +107,7 @@ fn nothing_is_read_once_a_write_failed(rt: HostRuntime) -> Result<(), Fail> {
             watch: &watch,
         },
         WatchedWriter {
-            room: 20,
+            limit: 20,
             watch: &watch,
         },
         false,

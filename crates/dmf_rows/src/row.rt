@@ -1,6 +1,7 @@
 //! Worked sessions over memory, as rows of a table.
 use crate::streams::{ByteReader, Outcome, SlowWriter, hold, hold_over, hold_whole};
 use std::alloc::Global;
+use std::process::Abort;
 
 /// A worked session: its two texts, what it writes, and how it ends.
 #[derive(Clone, Copy)]
@@ -10,6 +11,15 @@ pub struct Row {
     pub commands: &'static [u8],
     pub written: &'static [u8],
     pub outcome: Outcome,
+}
+
+/// Each row's session is to end and to write as the row says, also where its bytes come and go one by one.
+pub fn expect_held(rt: &impl Abort, alloc: Global, rows: &[Row]) {
+    for row in rows {
+        let about = row.about;
+        assert!(rt; is_held(alloc, *row), "{about}");
+        assert!(rt; is_held_byte_by_byte(alloc, *row), "{about}, byte by byte");
+    }
 }
 
 /// Whether a session on the row's texts ends and writes as the row says, over a history of edits and over one of whole

@@ -1,8 +1,8 @@
 //! Solved problems: what is written, and how the run ends.
+use crate::faulty::FAULTY;
 use crate::networks::{FULL_ARC, LENIENT, NETWORK_A, SOLUTION_A, TWO_SHORTEST};
 use crate::streams::{ByteReader, FlushMarker, Outcome, SlowWriter, solve, solve_over};
 use dmf_run::{EngineFault, Status};
-use dmf_text::{ProblemFault, ProblemFaultKind};
 use std::alloc::Global;
 use std::test::Fail;
 
@@ -14,35 +14,33 @@ struct Row {
     written: &'static [u8],
 }
 
-fn rows() -> [Row; 5] {
-    [
-        Row {
-            about: "three augmentations: two short ones, and a long one over the arc between them",
-            problem: NETWORK_A,
-            written: SOLUTION_A,
-        },
-        Row {
-            about: "the largest value that there is",
-            problem: FULL_ARC,
-            written: b"s 18446744073709551615\nf 1 2 18446744073709551615\n",
-        },
-        Row {
-            about: "a lenient text, with parallel arcs, a self loop and an arc into the source",
-            problem: LENIENT,
-            written: b"s 9\nf 1 2 4\nf 2 2 0\nf 1 2 5\nf 2 1 0\nf 2 3 9\n",
-        },
-        Row {
-            about: "of two shortest paths the one whose arcs have the smaller numbers, and not the smaller nodes",
-            problem: TWO_SHORTEST,
-            written: b"s 1\nf 1 3 1\nf 1 2 0\nf 2 4 0\nf 3 4 1\nf 4 5 1\n",
-        },
-        Row {
-            about: "no arcs",
-            problem: b"p max 2 0\nn 1 s\nn 2 t\n",
-            written: b"s 0\n",
-        },
-    ]
-}
+const ROWS: [Row; 5] = [
+    Row {
+        about: "three augmentations: two short ones, and a long one over the arc between them",
+        problem: NETWORK_A,
+        written: SOLUTION_A,
+    },
+    Row {
+        about: "the largest value that there is",
+        problem: FULL_ARC,
+        written: b"s 18446744073709551615\nf 1 2 18446744073709551615\n",
+    },
+    Row {
+        about: "a lenient text, with parallel arcs, a self loop and an arc into the source",
+        problem: LENIENT,
+        written: b"s 9\nf 1 2 4\nf 2 2 0\nf 1 2 5\nf 2 1 0\nf 2 3 9\n",
+    },
+    Row {
+        about: "of two shortest paths the one whose arcs have the smaller numbers, and not the smaller nodes",
+        problem: TWO_SHORTEST,
+        written: b"s 1\nf 1 3 1\nf 1 2 0\nf 2 4 0\nf 3 4 1\nf 4 5 1\n",
+    },
+    Row {
+        about: "no arcs",
+        problem: b"p max 2 0\nn 1 s\nn 2 t\n",
+        written: b"s 0\n",
+    },
+];
 
 /// Whether the run ended well and wrote just the row's solution.
 fn is_solved(outcome: Outcome, written: &Vec<u8>, row: Row) -> bool {
@@ -51,7 +49,7 @@ fn is_solved(outcome: Outcome, written: &Vec<u8>, row: Row) -> bool {
 
 #[test]
 fn problems_are_solved(rt: HostRuntime) -> Result<(), Fail> {
-    for row in rows() {
+    for row in ROWS {
         let about = row.about;
         let mut written = Vec::new(rt.alloc());
         let outcome = solve(rt.alloc(), row.problem, &mut written);
@@ -62,7 +60,7 @@ fn problems_are_solved(rt: HostRuntime) -> Result<(), Fail> {
 
 #[test]
 fn bytes_may_come_and_go_one_by_one(rt: HostRuntime) -> Result<(), Fail> {
-    for row in rows() {
+    for row in ROWS {
         let about = row.about;
         let mut written = Vec::new(rt.alloc());
         let outcome = solve_over(
@@ -78,28 +76,9 @@ fn bytes_may_come_and_go_one_by_one(rt: HostRuntime) -> Result<(), Fail> {
 
 #[test]
 fn a_faulty_problem_is_told_and_nothing_is_written(rt: HostRuntime) -> Result<(), Fail> {
-    let table: [(&[u8], u64, ProblemFaultKind); 4] = [
-        (
-            b"p max 2 2\nn 1 s\nn 2 t\na 1 2 18446744073709551615\na 1 2 1\n",
-            5,
-            ProblemFaultKind::SumTooLarge,
-        ),
-        (
-            b"p max 4 5\nn 1 s\nn 4 t\na 1 2 3\na 1 3 2\na 2 3 5\na 2 4 2\n",
-            8,
-            ProblemFaultKind::TooFewArcs,
-        ),
-        (
-            b"p max 4 5\nn 1 s\nn 4 t\na 1 2 0 3 5\na 1 3 2\na 2 3 5\na 2 4 2\na 3 4 3\n",
-            4,
-            ProblemFaultKind::FieldCount,
-        ),
-        (b"", 1, ProblemFaultKind::ProblemLineExpected),
-    ];
-    for (problem, line, kind) in table {
+    for (problem, fault) in FAULTY {
         let mut written = Vec::new(rt.alloc());
         let outcome = solve(rt.alloc(), problem, &mut written);
-        let fault = ProblemFault { line, kind };
         assert_eq!(rt; outcome, Err(EngineFault::Problem(fault)), "{fault}");
         assert!(rt; written.is_empty(), "{fault}");
     }
@@ -140,13 +119,13 @@ fn solve_into(
     alloc: Global,
     written: &mut Vec<u8>,
     most: usize,
-    room: usize,
+    limit: usize,
     flush_fails: bool,
 ) -> Outcome {
     let writer = SlowWriter {
         held: written,
         most,
-        room,
+        limit,
         flush_fails,
     };
     solve_over(alloc, NETWORK_A, writer, false)
@@ -154,8 +133,8 @@ fn solve_into(
 
 #[test]
 fn a_failed_write_leaves_a_front_of_the_solution(rt: HostRuntime) -> Result<(), Fail> {
-    // What the writer is like, its bytes a call, its room, whether its flushes fail, and how many bytes are held.
-    for (about, most, room, flush_fails, held) in [
+    // What the writer is like, its bytes a call, its limit, whether its flushes fail, and how many bytes are held.
+    for (about, most, limit, flush_fails, held) in [
         ("it takes 7 bytes and then fails", 1, 7, false, 7),
         ("it takes a line and then fails", 99, 4, false, 4),
         ("its flush fails", 99, 99, true, 44),
@@ -163,7 +142,7 @@ fn a_failed_write_leaves_a_front_of_the_solution(rt: HostRuntime) -> Result<(), 
         ("it fails at once", 99, 0, false, 0),
     ] {
         let mut written = Vec::new(rt.alloc());
-        let outcome = solve_into(rt.alloc(), &mut written, most, room, flush_fails);
+        let outcome = solve_into(rt.alloc(), &mut written, most, limit, flush_fails);
         assert_eq!(rt; outcome, Err(EngineFault::Write), "{about}");
         assert_eq!(rt; written.len(), held, "{about}");
         assert!(rt; SOLUTION_A.starts_with(&written), "{about}");

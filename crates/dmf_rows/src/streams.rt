@@ -124,8 +124,8 @@ impl<'a> Read for ByteReader<'a> {
             return Err(io::Error::from(ErrorKind::Interrupted));
         }
         match (self.text.split_first(), buffer.first_mut()) {
-            (Some((first, rest)), Some(room)) => {
-                *room = *first;
+            (Some((first, rest)), Some(place)) => {
+                *place = *first;
                 self.text = rest;
                 Ok(1)
             }
@@ -134,12 +134,12 @@ impl<'a> Read for ByteReader<'a> {
     }
 }
 
-/// Takes at most `most` bytes a call, and fails once it holds `room` of them. Each of its flushes fails, or none.
+/// Takes at most `most` bytes a call, and fails once it holds `limit` of them. Each of its flushes fails, or none.
 #[derive(Drop)]
 pub struct SlowWriter<'a> {
     pub held: &'a mut Vec<u8>,
     pub most: usize,
-    pub room: usize,
+    pub limit: usize,
     pub flush_fails: bool,
 }
 
@@ -149,7 +149,7 @@ impl<'a> SlowWriter<'a> {
         SlowWriter {
             held,
             most: 1,
-            room: usize::MAX,
+            limit: usize::MAX,
             flush_fails: false,
         }
     }
@@ -157,7 +157,7 @@ impl<'a> SlowWriter<'a> {
 
 impl<'a> Write for SlowWriter<'a> {
     fn write(&mut self, bytes: &[u8]) -> io::Result<usize> {
-        if self.held.len() >= self.room {
+        if self.held.len() >= self.limit {
             return Err(io::Error::from(ErrorKind::StorageFull));
         }
         let n = bytes.len().min(self.most);

@@ -41,11 +41,7 @@ pub fn run_check<P: Source, C: Source, W: Sink>(
 }
 
 /// Reads a solution text of a state's network, and judges it. The state is let go then.
-fn read_solved<C: Source>(
-    alloc: Global,
-    state: State,
-    source: &mut C,
-) -> Result<State, EngineFault>
+fn read_solved<C: Source>(alloc: Global, state: State, source: &mut C) -> Result<State, EngineFault>
     ensures { (text : List ℕ) × Consumes (C.remaining source.old) (C.remaining source.new) text
         × ReadsSolution state
         (reader_of C.remaining C.has_failed source.old) (reader_of C.remaining C.has_failed source.new)

@@ -40,7 +40,7 @@ pub enum Command {
 }
 
 /// What a session answers to a command that it accepts.
-#[derive(Debug, Drop)]
+#[derive(Debug, PartialEq, Eq, Drop)]
 pub enum Reply {
     /// The value of the present flow.
     Value(u64),

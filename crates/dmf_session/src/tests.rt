@@ -13,15 +13,6 @@ fn example(alloc: Global) -> Result<Session<WholeHistory>, NetFault> {
     Ok(Session::new(WholeHistory::new(alloc, state)?))
 }
 
-fn answer<H: History>(
-    rt: &impl Abort,
-    alloc: Global,
-    session: &mut Session<H>,
-    command: Command,
-) -> Result<Reply, Refusal> {
-    session.step(alloc, command, false)
-}
-
 fn add(cap: u64) -> Command {
     Command::Add {
         tail: 1,
@@ -30,47 +21,36 @@ fn add(cap: u64) -> Command {
     }
 }
 
+/// Gives a session these commands, one after the other, each of which must be answered by what stands beside it.
+fn expect<H: History>(
+    rt: &impl Abort,
+    alloc: Global,
+    session: &mut Session<H>,
+    answers: &[(Command, Result<Reply, Refusal>)],
+) {
+    for (command, expected) in answers {
+        let answer = session.step(alloc, *command, false);
+        assert!(rt; answer == *expected, "{command:?}: {answer:?}");
+    }
+}
+
 #[test]
 fn changes_are_undone_and_redone(rt: HostRuntime) -> Result<(), Fail> {
     let mut session = example(rt.alloc())?;
-    assert!(rt;
-        matches!(
-            answer(&rt, rt.alloc(), &mut session, add(1)),
-            Ok(Reply::Added(6, 0))
-        )
-    );
-    assert!(rt;
-        matches!(
-            answer(&rt, rt.alloc(), &mut session, add(2)),
-            Ok(Reply::Added(7, 0))
-        )
-    );
-    assert!(rt;
-        matches!(
-            answer(&rt, rt.alloc(), &mut session, Command::Undo(2)),
-            Ok(Reply::Value(0))
-        )
-    );
+    let undone = [
+        (add(1), Ok(Reply::Added(6, 0))),
+        (add(2), Ok(Reply::Added(7, 0))),
+        (Command::Undo(2), Ok(Reply::Value(0))),
+    ];
+    expect(&rt, rt.alloc(), &mut session, &undone);
     assert_eq!(rt; (session.past(), session.future()), (0, 2));
     assert_eq!(rt; session.present().arcs().len(), 5);
-    assert!(rt;
-        matches!(
-            answer(&rt, rt.alloc(), &mut session, Command::Redo(3)),
-            Err(Refusal::NothingToRedo)
-        )
-    );
-    assert!(rt;
-        matches!(
-            answer(&rt, rt.alloc(), &mut session, Command::Redo(2)),
-            Ok(Reply::Value(0))
-        )
-    );
-    assert!(rt;
-        matches!(
-            answer(&rt, rt.alloc(), &mut session, Command::PrintProblem),
-            Ok(Reply::Problem)
-        )
-    );
+    let redone = [
+        (Command::Redo(3), Err(Refusal::NothingToRedo)),
+        (Command::Redo(2), Ok(Reply::Value(0))),
+        (Command::PrintProblem, Ok(Reply::Problem)),
+    ];
+    expect(&rt, rt.alloc(), &mut session, &redone);
     assert_eq!(rt; (session.past(), session.future()), (2, 0));
     assert_eq!(rt; session.present().arcs().len(), 7);
     Ok(())
@@ -79,43 +59,16 @@ fn changes_are_undone_and_redone(rt: HostRuntime) -> Result<(), Fail> {
 #[test]
 fn a_change_drops_what_was_undone(rt: HostRuntime) -> Result<(), Fail> {
     let mut session = example(rt.alloc())?;
-    assert!(rt;
-        matches!(
-            answer(&rt, rt.alloc(), &mut session, add(4)),
-            Ok(Reply::Added(6, 0))
-        )
-    );
-    assert!(rt;
-        matches!(
-            answer(&rt, rt.alloc(), &mut session, Command::Undo(1)),
-            Ok(Reply::Value(0))
-        )
-    );
-    assert!(rt;
-        matches!(
-            answer(&rt, rt.alloc(), &mut session, add(7)),
-            Ok(Reply::Added(6, 0))
-        )
-    );
-    assert!(rt;
-        matches!(
-            answer(&rt, rt.alloc(), &mut session, Command::Redo(1)),
-            Err(Refusal::NothingToRedo)
-        )
-    );
-    assert!(rt;
-        matches!(
-            answer(&rt, rt.alloc(), &mut session, Command::Undo(2)),
-            Err(Refusal::NothingToUndo)
-        )
-    );
+    let answers = [
+        (add(4), Ok(Reply::Added(6, 0))),
+        (Command::Undo(1), Ok(Reply::Value(0))),
+        (add(7), Ok(Reply::Added(6, 0))),
+        (Command::Redo(1), Err(Refusal::NothingToRedo)),
+        (Command::Undo(2), Err(Refusal::NothingToUndo)),
+        (Command::Undo(0), Ok(Reply::Value(0))),
+    ];
+    expect(&rt, rt.alloc(), &mut session, &answers);
     assert_eq!(rt; (session.past(), session.future()), (1, 0));
-    assert!(rt;
-        matches!(
-            answer(&rt, rt.alloc(), &mut session, Command::Undo(0)),
-            Ok(Reply::Value(0))
-        )
-    );
     Ok(())
 }
 
@@ -127,18 +80,11 @@ fn a_refused_change_is_no_state(rt: HostRuntime) -> Result<(), Fail> {
         head: 5,
         cap: 1,
     };
-    assert!(rt;
-        matches!(
-            answer(&rt, rt.alloc(), &mut session, to_nowhere),
-            Err(Refusal::NoSuchNode)
-        )
-    );
-    assert!(rt;
-        matches!(
-            answer(&rt, rt.alloc(), &mut session, add(u64::MAX)),
-            Err(Refusal::SumTooLarge)
-        )
-    );
+    let answers = [
+        (to_nowhere, Err(Refusal::NoSuchNode)),
+        (add(u64::MAX), Err(Refusal::SumTooLarge)),
+    ];
+    expect(&rt, rt.alloc(), &mut session, &answers);
     assert_eq!(rt; (session.past(), session.future()), (0, 0));
     Ok(())
 }
@@ -147,73 +93,40 @@ fn a_refused_change_is_no_state(rt: HostRuntime) -> Result<(), Fail> {
 fn a_solve_is_a_change_also_of_a_greatest_flow(rt: HostRuntime) -> Result<(), Fail> {
     let mut session = example(rt.alloc())?;
     for past in [1, 2] {
-        assert!(rt;
-            matches!(
-                answer(&rt, rt.alloc(), &mut session, Command::Solve),
-                Ok(Reply::Solution(None))
-            )
-        );
+        let solved = [(Command::Solve, Ok(Reply::Solution(None)))];
+        expect(&rt, rt.alloc(), &mut session, &solved);
         assert_eq!(rt; (session.past(), session.present().value()), (past, 5));
     }
-    assert!(rt;
-        matches!(
-            answer(&rt, rt.alloc(), &mut session, Command::Undo(1)),
-            Ok(Reply::Value(5))
-        )
-    );
-    assert!(rt;
-        matches!(
-            answer(&rt, rt.alloc(), &mut session, Command::PrintFlow),
-            Ok(Reply::Flow)
-        )
-    );
-    assert!(rt;
-        matches!(
-            answer(&rt, rt.alloc(), &mut session, Command::Undo(1)),
-            Ok(Reply::Value(0))
-        )
-    );
+    let answers = [
+        (Command::Undo(1), Ok(Reply::Value(5))),
+        (Command::PrintFlow, Ok(Reply::Flow)),
+        (Command::Undo(1), Ok(Reply::Value(0))),
+    ];
+    expect(&rt, rt.alloc(), &mut session, &answers);
     assert_eq!(rt; (session.past(), session.future()), (0, 2));
     Ok(())
-}
-
-/// The value that a reply tells, if it tells one.
-fn value_of(answer: Result<Reply, Refusal>) -> Result<Option<u64>, Refusal> {
-    match answer {
-        Ok(Reply::Value(value)) => Ok(Some(value)),
-        Ok(_) => Ok(None),
-        Err(refusal) => Err(refusal),
-    }
 }
 
 #[test]
 fn capacities_are_changed_and_arcs_closed(rt: HostRuntime) -> Result<(), Fail> {
     let mut session = example(rt.alloc())?;
-    let table = [
-        (Command::Solve, Ok(None)),
-        (Command::Cap { arc: 5, cap: 1 }, Ok(Some(3))),
-        (Command::Close { arc: 1 }, Ok(Some(0))),
+    let too_large = Command::Cap {
+        arc: 2,
+        cap: u64::MAX,
+    };
+    let answers = [
+        (Command::Solve, Ok(Reply::Solution(None))),
+        (Command::Cap { arc: 5, cap: 1 }, Ok(Reply::Value(3))),
+        (Command::Close { arc: 1 }, Ok(Reply::Value(0))),
         (Command::Close { arc: 1 }, Err(Refusal::Closed)),
         (Command::Cap { arc: 1, cap: 1 }, Err(Refusal::Closed)),
         (Command::Cap { arc: 6, cap: 1 }, Err(Refusal::NoSuchArc)),
         (Command::Close { arc: 0 }, Err(Refusal::NoSuchArc)),
-        (
-            Command::Cap {
-                arc: 2,
-                cap: u64::MAX,
-            },
-            Err(Refusal::SumTooLarge),
-        ),
-        (Command::Undo(2), Ok(Some(5))),
-        (Command::Redo(1), Ok(Some(3))),
+        (too_large, Err(Refusal::SumTooLarge)),
+        (Command::Undo(2), Ok(Reply::Value(5))),
+        (Command::Redo(1), Ok(Reply::Value(3))),
     ];
-    for (command, value) in table {
-        assert_eq!(rt;
-            value_of(answer(&rt, rt.alloc(), &mut session, command)),
-            value,
-            "{command:?}"
-        );
-    }
+    expect(&rt, rt.alloc(), &mut session, &answers);
     assert_eq!(rt; (session.past(), session.future()), (2, 1));
     assert_eq!(rt; session.present().arcs().last(), Some(&Arc::open(3, 4, 1)));
     Ok(())
@@ -232,33 +145,17 @@ fn tells_cut(answer: Result<Reply, Refusal>, ids: &[u32], capacity: u64) -> bool
 #[test]
 fn cuts_are_told_of_greatest_flows(rt: HostRuntime) -> Result<(), Fail> {
     let mut session = example(rt.alloc())?;
-    assert!(rt;
-        matches!(
-            answer(&rt, rt.alloc(), &mut session, Command::PrintCut),
-            Err(Refusal::NotGreatest)
-        )
-    );
+    let refused = [(Command::PrintCut, Err(Refusal::NotGreatest))];
+    expect(&rt, rt.alloc(), &mut session, &refused);
     let solved = session.step(rt.alloc(), Command::Solve, true);
     assert!(rt; tells_cut(solved, &[1], 5));
-    assert!(rt;
-        tells_cut(
-            answer(&rt, rt.alloc(), &mut session, Command::PrintCut),
-            &[1],
-            5
-        )
-    );
-    assert!(rt;
-        matches!(
-            answer(&rt, rt.alloc(), &mut session, Command::Undo(1)),
-            Ok(Reply::Value(0))
-        )
-    );
-    assert!(rt;
-        matches!(
-            answer(&rt, rt.alloc(), &mut session, Command::PrintCut),
-            Err(Refusal::NotGreatest)
-        )
-    );
+    let printed = session.step(rt.alloc(), Command::PrintCut, false);
+    assert!(rt; tells_cut(printed, &[1], 5));
+    let undone = [
+        (Command::Undo(1), Ok(Reply::Value(0))),
+        (Command::PrintCut, Err(Refusal::NotGreatest)),
+    ];
+    expect(&rt, rt.alloc(), &mut session, &undone);
     assert_eq!(rt; (session.past(), session.future()), (0, 1));
     Ok(())
 }

@@ -19,32 +19,14 @@ use Rattle.dmf_text.specs.declared.digits.NumberFault.{NumberFault}
 use Rattle.dmf_text.specs.declared.fault.ProblemFaultKind.TheVariants.{ProblemLineExpected, SecondProblemLine, NotMax, FieldCount, NodeOutOfRange, NotSourceOrSink, SecondTerminal, SameTerminals, ArcBeforeTerminals, TooManyArcs, TooFewArcs, TerminalMissing, SumTooLarge}
 use Rattle.dmf_text.specs.Fields.{fields}
 use Rattle.dmf_text.specs.Number.{number_of}
-use Rattle.dmf_text.specs.Judging.{Line, field, number_at, ◌>>=◌, ◌>>◌, expect, map_fault, at_line, outcome_after}
+use Rattle.dmf_text.specs.Judging.{Line, field, number_at, map_fault, outcome_after}
 use Rattle.dmf_text.specs.Problem.{Facts, Counts, facts_of, node_count, arc_count, number_fault, number_in, counts_named, judged_problem, node_named, own, other, differs, judged_node, judged_arc, judged, ended, state_of, problem_fault, problem_after, problem_of}
 use Rattle.dmf_text.specs.Reading.{with_line}
+use Rattle.dmf_text.proofs.PassedJudgements.{passed, held, passed-value, at-line, at-line-then}
 use Rattle.dmf_text.proofs.ProblemLemmas.{facts_of-push}
 use Rattle.dmf_text.proofs.ReadingLemmas.{node-from}
 
--- ---- what a judgement without a fault has passed
-
--- the test held, and what comes behind it has no fault
-passed : {A Kind : Type 0} (test : Bool) (kind : Kind) (next : Result A Kind) (x : A) → (expect test kind >> next) ≡ Ok x → (test ≡ true) × (next ≡ Ok x)
-passed true kind next x good = (refl, good)
-passed false kind next x good = absurd (let no : ⊥ = cc in no)
-
-held : {Kind : Type 0} (test : Bool) (kind : Kind) → expect test kind ≡ Ok tt → test ≡ true
-held true kind good = refl
-held false kind good = absurd (let no : ⊥ = cc in no)
-
--- there was a value, of which what comes behind it has no fault
-record IsPassed {A B Kind : Type 0} (first : Result A Kind) (next : A → Result B Kind) (x : B) : Type 0 where
-  value : A
-  is : first ≡ Ok value
-  rest : next value ≡ Ok x
-
-passed-value : {A B Kind : Type 0} (first : Result A Kind) (next : A → Result B Kind) (x : B) → (first >>= next) ≡ Ok x → IsPassed first next x
-passed-value (Ok value) next x good = record { value = value; is = refl; rest = good }
-passed-value (Err kind) next x good = absurd (let no : ⊥ = cc in no)
+-- ---- what good fields and absent values are
 
 -- the field spells the number
 spelled : (behind : List (List ℕ)) (i n : ℕ) → number_in i behind ≡ Ok n → number_at i behind ≡ n
@@ -344,15 +326,6 @@ ended-state facts s sound good =
     subst IsState is (sound-state facts sound counted.0 terminals.0 terminals.1)
 
 -- ---- the whole text
-
-at-line : {A Kind Fault : Type 0} (fault : ℕ → Kind → Fault) (n : ℕ) (judgement : Result A Kind) (x : A) → at_line fault n judgement ≡ Ok x → judgement ≡ Ok x
-at-line fault n (Ok y) x good = (let same : y ≡ x = cc in ap (λ z. Ok z) same)
-at-line fault n (Err kind) x good = absurd (let no : ⊥ = cc in no)
-
-at-line-then : {A Kind Fault : Type 0} (fault : ℕ → Kind → Fault) (n : ℕ) (judgement : Result (Unit {0}) Kind) (next : Result A Fault) (x : A)
-    → (at_line fault n judgement >> next) ≡ Ok x → (judgement ≡ Ok tt) × (next ≡ Ok x)
-at-line-then fault n (Ok y) next x good = (refl, good)
-at-line-then fault n (Err kind) next x good = absurd (let no : ⊥ = cc in no)
 
 accepted-after : (before more : List Line) (s : NetworkState) → Sound (facts_of before) → problem_after before more ≡ Ok s → IsState s
 unfolding outcome_after

@@ -15,8 +15,8 @@ pub enum NumberFault {
     TooLarge,
 }
 
-// A number up to this one has room for one more digit.
-const ROOM: u64 = (u64::MAX - 9) / 10;
+// With any one more digit a number up to this one is still below 2^64.
+const MAX_FRONT: u64 = (u64::MAX - 9) / 10;
 
 /// The number that a field spells in decimal digits, of which there may be any number. It takes no memory.
 pub fn number(field: &[u8]) -> Result<u64, NumberFault>
@@ -31,7 +31,7 @@ pub fn number(field: &[u8]) -> Result<u64, NumberFault>
         if !byte.is_ascii_digit() {
             return Err(NumberFault::NotANumber);
         }
-        if value > ROOM {
+        if value > MAX_FRONT {
             return long_number(field);
         }
         value = value * 10 + u64::from(byte - b'0');

@@ -16,47 +16,49 @@ fn fault_in(alloc: Global, text: &[u8]) -> (u64, u8) {
     }
 }
 
+/// Problem texts, each with the line and the number of its fault.
+const FAULTY_PROBLEMS: [(&[u8], u64, u8); 28] = [
+    (b"", 1, 1),
+    (b"n 1 s", 1, 1),
+    (b"x", 1, 3),
+    (b"p min 4 5", 1, 4),
+    (b"p max 4", 1, 5),
+    (b"p max 4 +5", 1, 6),
+    (b"p max 1 0", 1, 8),
+    (b"p max 2 1\nn 3 s", 2, 9),
+    (b"p max 2 1\nn 1 x", 2, 10),
+    (b"p max 2 1\nn 1 s\nn 2 s", 3, 11),
+    (b"p max 2 1\nn 1 s\nn 1 t", 3, 12),
+    (b"p max 2 1\nn 1 s\na 1 2 1", 3, 13),
+    (b"p max 2 0\nn 1 s", 3, 16),
+    (b"p max 2 0\nn 1 s\nn 2 t\na 1 2 1", 4, 14),
+    (b"p max 2 1\nn 1 s\nn 2 t\na 1 2 18446744073709551616", 4, 7),
+    (b"p max 2 1\nn 1 s\nn 2 t\na 1 2 1.5", 4, 6),
+    (b"p max 2 0\np max 2 0", 2, 2),
+    (b"p max 1 x", 1, 6),
+    (b"p min 4", 1, 5),
+    (b"a 9", 1, 1),
+    (b"p max 16777216 134217728", 2, 16),
+    (b"p max 16777217 0", 1, 8),
+    (b"p max 2 134217729", 1, 8),
+    (b"p max 2 1\nn 0 x", 2, 10),
+    (b"p max 2 0\na 1 2 1", 2, 13),
+    (
+        b"p max 2 2\nn 1 s\nn 2 t\na 1 2 9223372036854775808\na 1 2 9223372036854775808",
+        5,
+        17,
+    ),
+    (
+        b"p max 2 2\nn 1 s\nn 2 t\na 1 2 18446744073709551615\na 1 2 1\n",
+        5,
+        17,
+    ),
+    (b"p max 4 5\nn 1 s\nn 4 t\na 1 2 0 3 5\n", 4, 5),
+];
+
 #[test]
 fn faults_are_told(rt: HostRuntime) -> Result<(), Fail> {
-    let table: [(&[u8], u64, u8); 28] = [
-        (b"", 1, 1),
-        (b"n 1 s", 1, 1),
-        (b"x", 1, 3),
-        (b"p min 4 5", 1, 4),
-        (b"p max 4", 1, 5),
-        (b"p max 4 +5", 1, 6),
-        (b"p max 1 0", 1, 8),
-        (b"p max 2 1\nn 3 s", 2, 9),
-        (b"p max 2 1\nn 1 x", 2, 10),
-        (b"p max 2 1\nn 1 s\nn 2 s", 3, 11),
-        (b"p max 2 1\nn 1 s\nn 1 t", 3, 12),
-        (b"p max 2 1\nn 1 s\na 1 2 1", 3, 13),
-        (b"p max 2 0\nn 1 s", 3, 16),
-        (b"p max 2 0\nn 1 s\nn 2 t\na 1 2 1", 4, 14),
-        (b"p max 2 1\nn 1 s\nn 2 t\na 1 2 18446744073709551616", 4, 7),
-        (b"p max 2 1\nn 1 s\nn 2 t\na 1 2 1.5", 4, 6),
-        (b"p max 2 0\np max 2 0", 2, 2),
-        (b"p max 1 x", 1, 6),
-        (b"p min 4", 1, 5),
-        (b"a 9", 1, 1),
-        (b"p max 16777216 134217728", 2, 16),
-        (b"p max 16777217 0", 1, 8),
-        (b"p max 2 134217729", 1, 8),
-        (b"p max 2 1\nn 0 x", 2, 10),
-        (b"p max 2 0\na 1 2 1", 2, 13),
-        (
-            b"p max 2 2\nn 1 s\nn 2 t\na 1 2 9223372036854775808\na 1 2 9223372036854775808",
-            5,
-            17,
-        ),
-        (
-            b"p max 2 2\nn 1 s\nn 2 t\na 1 2 18446744073709551615\na 1 2 1\n",
-            5,
-            17,
-        ),
-        (b"p max 4 5\nn 1 s\nn 4 t\na 1 2 0 3 5\n", 4, 5),
-    ];
-    for (text, line, number) in table {
+    for (text, line, number) in FAULTY_PROBLEMS {
         assert_eq!(rt; fault_in(rt.alloc(), text), (line, number), "{text:?}");
     }
     Ok(())
@@ -110,7 +112,7 @@ fn a_lenient_text_is_read(rt: HostRuntime) -> Result<(), Fail> {
 fn a_problem_is_written(rt: HostRuntime) -> Result<(), Fail> {
     let state = read_problem(rt.alloc(), LENIENT)?;
     let text = b"p max 3 5\nn 1 s\nn 3 t\na 1 2 4\na 2 2 9\na 1 2 7\na 2 1 6\na 2 3 9\n";
-    // Bytes a call, the room, what is answered, and how many bytes are held then.
+    // Bytes a call, the limit, what is answered, and how many bytes are held then.
     for (most, full, answer, held) in [
         (99, 999, Ok(()), 62),
         (1, 999, Ok(()), 62),
@@ -126,12 +128,12 @@ fn a_problem_is_written(rt: HostRuntime) -> Result<(), Fail> {
         assert_eq!(rt;
             write_problem(&state, &mut sink),
             answer,
-            "{most} a call, room for {full}"
+            "{most} a call, a limit of {full}"
         );
-        assert_eq!(rt; written.len(), held, "{most} a call, room for {full}");
+        assert_eq!(rt; written.len(), held, "{most} a call, a limit of {full}");
         assert!(rt;
             text.starts_with(&written),
-            "{most} a call, room for {full}"
+            "{most} a call, a limit of {full}"
         );
     }
     Ok(())

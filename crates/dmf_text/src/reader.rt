@@ -19,7 +19,7 @@ pub trait Source {
     // The mark: whether a read has failed.
     ghost has_failed: { Self → Bool };
 
-    /// Reads some bytes into the front of the buffer, and answers how many. No bytes into room is the end.
+    /// Reads some bytes into the front of the buffer, and answers how many. No bytes into a buffer of some length is the end.
     /// `Failed` takes no byte.
     fn read(&mut self, buffer: &mut [u8]) -> Result<usize, Failed>
         ensures bound { IfOk result (λ n. n ≤ length buffer.new) }

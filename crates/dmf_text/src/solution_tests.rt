@@ -48,61 +48,63 @@ fn gives(alloc: Global, state: &State, solution: &[u8], flows: &[u64], value: u6
     true
 }
 
+/// Solution texts of [`A`], each with what is told of it.
+const FAULTY_SOLUTIONS: [(&[u8], &str); 38] = [
+    (b"", "line 1: value line missing"),
+    (b"c\n\n", "line 3: value line missing"),
+    (b"x", "line 1: unknown line"),
+    (b"a 1 2 3", "line 1: unknown line"),
+    (b"S 5", "line 1: unknown line"),
+    (b"sx 5", "line 1: unknown line"),
+    (b"s", "line 1: wrong number of fields"),
+    (b"s 1 2", "line 1: wrong number of fields"),
+    (b"f 1 2", "line 1: wrong number of fields"),
+    (b"f 1 2 3 4", "line 1: wrong number of fields"),
+    (b"s -1", "line 1: not a number"),
+    (b"s 1.5", "line 1: not a number"),
+    (b"s 18446744073709551616", "line 1: number too large"),
+    (b"f 1 2 18446744073709551616", "line 1: number too large"),
+    (b"f 1 x 3", "line 1: not a number"),
+    (b"f 4 1 0", "line 1: no such arc"),
+    (b"f 2 1 1", "line 1: no such arc"),
+    (b"f 0 2 1", "line 1: no such arc"),
+    (b"f 1 5 0", "line 1: no such arc"),
+    (b"f 4294967297 2 1", "line 1: no such arc"),
+    (b"f 1 2 4", "line 1: over capacity"),
+    (b"f 1 2 18446744073709551615", "line 1: over capacity"),
+    (b"s 0\ns 0", "line 2: second value line"),
+    (b"s 3\nf 1 2 3", "line 3: flow not conserved at node 2"),
+    (
+        b"s 3\nf 1 3 2\nf 2 4 2\n",
+        "line 4: flow not conserved at node 2",
+    ),
+    (b"s 2\nf 1 3 2\n", "line 3: flow not conserved at node 3"),
+    (
+        b"s 4\nf 1 2 3\nf 2 3 1\nf 2 4 2\nf 3 4 1",
+        "line 6: value differs",
+    ),
+    (
+        b"s 2\nf 1 2 3\nf 2 3 1\nf 2 4 2\nf 3 4 1\n",
+        "line 6: value differs",
+    ),
+    // The order in which a line is judged.
+    (b"s 0\ns x y", "line 2: second value line"),
+    (b"f x y", "line 1: wrong number of fields"),
+    (b"f 4 1 x", "line 1: not a number"),
+    (b"f 18446744073709551616 x 1", "line 1: number too large"),
+    (b"f x 18446744073709551616 1", "line 1: not a number"),
+    (b"f 4 1 9", "line 1: no such arc"),
+    // The first bad line is told, and a fault of a line before one of the end.
+    (b"f 1 2 2\nf 1 2 2\ns x", "line 2: over capacity"),
+    (b"f 1 2 18446744073709551616\nx", "line 1: number too large"),
+    (b"f 1 2 3\n\nc\nx", "line 4: unknown line"),
+    (b"f 1 2 3", "line 2: value line missing"),
+];
+
 #[test]
 fn faults_of_solutions_are_told(rt: HostRuntime) -> Result<(), Fail> {
     let state = state(&rt, A)?;
-    let table: [(&[u8], &str); 38] = [
-        (b"", "line 1: value line missing"),
-        (b"c\n\n", "line 3: value line missing"),
-        (b"x", "line 1: unknown line"),
-        (b"a 1 2 3", "line 1: unknown line"),
-        (b"S 5", "line 1: unknown line"),
-        (b"sx 5", "line 1: unknown line"),
-        (b"s", "line 1: wrong number of fields"),
-        (b"s 1 2", "line 1: wrong number of fields"),
-        (b"f 1 2", "line 1: wrong number of fields"),
-        (b"f 1 2 3 4", "line 1: wrong number of fields"),
-        (b"s -1", "line 1: not a number"),
-        (b"s 1.5", "line 1: not a number"),
-        (b"s 18446744073709551616", "line 1: number too large"),
-        (b"f 1 2 18446744073709551616", "line 1: number too large"),
-        (b"f 1 x 3", "line 1: not a number"),
-        (b"f 4 1 0", "line 1: no such arc"),
-        (b"f 2 1 1", "line 1: no such arc"),
-        (b"f 0 2 1", "line 1: no such arc"),
-        (b"f 1 5 0", "line 1: no such arc"),
-        (b"f 4294967297 2 1", "line 1: no such arc"),
-        (b"f 1 2 4", "line 1: over capacity"),
-        (b"f 1 2 18446744073709551615", "line 1: over capacity"),
-        (b"s 0\ns 0", "line 2: second value line"),
-        (b"s 3\nf 1 2 3", "line 3: flow not conserved at node 2"),
-        (
-            b"s 3\nf 1 3 2\nf 2 4 2\n",
-            "line 4: flow not conserved at node 2",
-        ),
-        (b"s 2\nf 1 3 2\n", "line 3: flow not conserved at node 3"),
-        (
-            b"s 4\nf 1 2 3\nf 2 3 1\nf 2 4 2\nf 3 4 1",
-            "line 6: value differs",
-        ),
-        (
-            b"s 2\nf 1 2 3\nf 2 3 1\nf 2 4 2\nf 3 4 1\n",
-            "line 6: value differs",
-        ),
-        // The order in which a line is judged.
-        (b"s 0\ns x y", "line 2: second value line"),
-        (b"f x y", "line 1: wrong number of fields"),
-        (b"f 4 1 x", "line 1: not a number"),
-        (b"f 18446744073709551616 x 1", "line 1: number too large"),
-        (b"f x 18446744073709551616 1", "line 1: not a number"),
-        (b"f 4 1 9", "line 1: no such arc"),
-        // The first bad line is told, and a fault of a line before one of the end.
-        (b"f 1 2 2\nf 1 2 2\ns x", "line 2: over capacity"),
-        (b"f 1 2 18446744073709551616\nx", "line 1: number too large"),
-        (b"f 1 2 3\n\nc\nx", "line 4: unknown line"),
-        (b"f 1 2 3", "line 2: value line missing"),
-    ];
-    for (solution, wanted) in table {
+    for (solution, wanted) in FAULTY_SOLUTIONS {
         let told = told(rt.alloc(), &state, solution)?;
         assert_eq!(rt; told.as_str(), wanted, "{solution:?}");
     }

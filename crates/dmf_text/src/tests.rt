@@ -21,8 +21,8 @@ impl Read for SlowReader {
             return Err(io::Error::from(ErrorKind::Interrupted));
         }
         match (self.text.split_first(), buffer.first_mut()) {
-            (Some((first, rest)), Some(room)) => {
-                *room = *first;
+            (Some((first, rest)), Some(place)) => {
+                *place = *first;
                 self.text = rest;
                 Ok(1)
             }
@@ -138,7 +138,7 @@ fn a_source_gives_bytes_and_failures(rt: HostRuntime) -> Result<(), Fail> {
 #[test]
 fn a_text_is_put_in_pieces(rt: HostRuntime) -> Result<(), Fail> {
     let text = b"p max 4 5\n";
-    // Bytes a call, the room, what is answered, and how many bytes are held then.
+    // Bytes a call, the limit, what is answered, and how many bytes are held then.
     for (most, full, answer, held) in [
         (1, 99, Ok(()), 10),
         (99, 99, Ok(()), 10),
@@ -155,13 +155,13 @@ fn a_text_is_put_in_pieces(rt: HostRuntime) -> Result<(), Fail> {
         assert_eq!(rt;
             put_all(&mut sink, text),
             answer,
-            "{most} a call, room for {full}"
+            "{most} a call, a limit of {full}"
         );
         assert!(rt; sink.flush().is_err());
-        assert_eq!(rt; written.len(), held, "{most} a call, room for {full}");
+        assert_eq!(rt; written.len(), held, "{most} a call, a limit of {full}");
         assert!(rt;
             text.starts_with(&written),
-            "{most} a call, room for {full}"
+            "{most} a call, a limit of {full}"
         );
     }
     Ok(())

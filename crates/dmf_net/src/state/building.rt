@@ -99,7 +99,7 @@ impl State {
         1 <= v && v <= u64::from(self.nodes)
     }
 
-    /// Appends an open arc without flow: both vectors make room before either changes.
+    /// Appends an open arc without flow: both vectors grow before either gets an element.
     pub(super) fn append(&mut self, arc: Arc) -> Result<(), NoMemory>
         requires open { arc.closed ≡ false }
         requires fits { IsState (with_idle_arc self.old arc) }

@@ -15,11 +15,8 @@ fn a_change_is_taken_back(rt: HostRuntime) -> Result<(), Fail> {
     assert_eq!(rt; session.present().value(), 3);
     assert_eq!(rt; (session.past(), session.future()), (2, 0));
     // Undo gives back exactly the state that was there, its flow included.
-    let Ok(Reply::Value(value)) = session.step(alloc, Command::Undo(1), false) else {
-        assert!(rt; false);
-        return Ok(());
-    };
-    assert_eq!(rt; value, 7);
+    let undone = session.step(alloc, Command::Undo(1), false);
+    assert_eq!(rt; undone, Ok(Reply::Value(7)));
     assert_eq!(rt; session.present().flow(1), 7);
     Ok(())
 }

@@ -24,12 +24,12 @@ module _ (fields : List LineField) (i n : ℕ) (d : LineField) (is : n ≡ i + 1
       (same ∙ stands ∙ ap (λ k. written_line (map field_bytes (drop k fields))) is ∙ ap (λ l. written_line (map field_bytes l)) (drop_all (i + 1) fields last) ∙ line-none)
       ∙ sym (line-last field_bytes fields i d below last)
 
-  has-room : length line + most_line_bytes (take n fields) ≤ 80 → length new ≤ most_bytes (get_or fields i d) + length next → length next ≤ length line + 1
+  within : length line + most_line_bytes (take n fields) ≤ 80 → length new ≤ most_bytes (get_or fields i d) + length next → length next ≤ length line + 1
       → length new + most_line_bytes (take i fields) ≤ 80
-  has-room room few short =
+  within fits few short =
       let sum = sum_by_more (λ (f : LineField). most_bytes f + 1) fields i d below in
       let same = ap (λ k. most_line_bytes (take k fields)) is in
-      omega (arith, sum, same, room, few, short)
+      omega (arith, sum, same, fits, few, short)
 
 pub loop-i-init : goal.loop-i-init
 loop-i-init c =
@@ -38,7 +38,7 @@ loop-i-init c =
     let all = ap most_line_bytes (take_all n fields (omega arith)) in
     record {
       text = c.new-line.ensures ∙ sym (ap (λ l. written_line (map field_bytes l)) (drop_all n fields (omega arith)) ∙ line-none);
-      room = (let one = ap length c.new-line.ensures in omega (arith, one, all, c.requires));
+      fits = (let one = ap length c.new-line.ensures in omega (arith, one, all, c.requires));
     }
 
 pub loop-i-preserved : goal.loop-i-preserved
@@ -55,12 +55,12 @@ loop-i-preserved c =
           let longer = ap length space in
           record {
             text = after-space fields i n _ is below c.loop-i.line c.if-i-fields.line c.add.new.self before.text c.add.ensures.text (omega (arith, w.if-i-fields.true)) space;
-            room = has-room fields i n _ is below c.loop-i.line c.if-i-fields.line c.add.new.self before.text c.add.ensures.text before.room c.add.ensures.len (omega (arith, longer));
+            fits = within fields i n _ is below c.loop-i.line c.if-i-fields.line c.add.new.self before.text c.add.ensures.text before.fits c.add.ensures.len (omega (arith, longer));
           })
       | else-i-fields w ↦ (
           let long = ap length w.line-is in
           record {
             text = at-end fields i n _ is below c.loop-i.line c.if-i-fields.line c.add.new.self before.text c.add.ensures.text (omega (arith, w.if-i-fields.false)) w.line-is;
-            room = has-room fields i n _ is below c.loop-i.line c.if-i-fields.line c.add.new.self before.text c.add.ensures.text before.room c.add.ensures.len (omega (arith, long));
+            fits = within fields i n _ is below c.loop-i.line c.if-i-fields.line c.add.new.self before.text c.add.ensures.text before.fits c.add.ensures.len (omega (arith, long));
           })
     ]

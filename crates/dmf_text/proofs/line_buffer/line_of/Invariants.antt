@@ -3,9 +3,9 @@ use Rattle.dmf_text.specs.LineField.{field_bytes, most_line_bytes}
 use Rattle.dmf_text.specs.Written.{written_line}
 use Rattle.dmf_text.proofs.line_buffer.line_of.Given as goal
 
--- the line of the fields from this one on stands, and those before it have room
+-- the line of the fields from this one on stands, and those before it fit in front of it
 abbrev pub invariant-loop-i : goal.invariant-loop-i
 invariant-loop-i l = record {
   text : l.line ≡ written_line (map field_bytes (drop l.i l.fields));
-  room : length l.line + most_line_bytes (take l.i l.fields) ≤ 80;
+  fits : length l.line + most_line_bytes (take l.i l.fields) ≤ 80;
 }
