@@ -26,6 +26,8 @@ MORE = [
     Case("arcs are added, taken back and added again", (b"session", PROBLEM), text(CROSSED), text(ADDING)),
     Case("nodes are shut", (b"session", PROBLEM), text(CROSSED), text(SHUTTING)),
     Case("cuts are printed", (b"session", b"--cut", PROBLEM), text(CROSSED), text(CUTTING)),
+    Case("no state is kept", (b"session", b"--history", b"0", PROBLEM), text(CROSSED), text(ADDING)),
+    Case("one state is kept", (b"session", b"--history", b"1", PROBLEM), text(CROSSED), text(ADDING)),
     Case("the help", (b"--help",), b"", b""),
     Case("the help of a command", (b"help", b"session"), b"", b""),
     Case("the version", (b"--version",), b"", b""),

@@ -362,7 +362,35 @@ FAULTS = [
         "line 5: capacities past 64 bits",
     ),
 ]
-WORKED = SOLVES + SESSIONS + CHECKS + FAULTS
+HISTORIES = [
+    held(
+        "one state is kept",
+        CROSSED,
+        "cap 1 4 / close 2 / undo 2 / undo / redo / print problem",
+        "c cap value 0 / c close value 0 / c refused 3 nothing to undo / c undo value 0 / c redo value 0"
+        " / p max 4 4 / n 1 s / n 4 t / a 1 2 4 / a 2 3 5 / a 2 4 2 / a 3 4 3",
+        b"--history",
+        b"1",
+    ),
+    held(
+        "no state is kept",
+        CROSSED,
+        "solve / undo / print flow",
+        f"{CROSSED_FLOW} / c refused 2 nothing to undo / {CROSSED_FLOW}",
+        b"--history",
+        b"0",
+    ),
+    held(
+        "two states are kept, and a change drops what was undone",
+        CROSSED,
+        "cap 1 4 / cap 1 5 / cap 1 6 / undo 2 / undo / cap 1 7 / cap 1 8 / undo 3 / undo 2 / redo 2 / redo",
+        "c cap value 0 / c cap value 0 / c cap value 0 / c undo value 0 / c refused 5 nothing to undo / c cap value 0 / c cap value 0"
+        " / c refused 8 nothing to undo / c undo value 0 / c redo value 0 / c refused 11 nothing to redo",
+        b"--history",
+        b"2",
+    ),
+]
+WORKED = SOLVES + SESSIONS + HISTORIES + CHECKS + FAULTS
 # As many command lines as a session takes, and one more.
 LIMITS = [
     held("a million command lines", CROSSED, b"undo\n" + b"\n" * 999_999, "c refused 1 nothing to undo"),

@@ -130,10 +130,10 @@ class Refusals:
                 raise Fault("no memory")
 
 
-def run_lines(state, text, want_cut, refusals):
+def run_lines(state, text, want_cut, refusals, bound=MOST_KEPT):
     """What the lines of a command text write, one reply a line, and whether one of them is refused. An empty rest behind the
     last line feed is no line. Lines past the limit are left out."""
-    session = Session(state, want_cut)
+    session = Session(state, want_cut, bound)
     replies = []
     some_refused = False
     *ended, rest = text.split(b"\n")

@@ -5,14 +5,14 @@ pub const VERSION: &str = "0.1.0";
 
 /// How the program is used.
 pub const USAGE: &str = "dmf [solve [--cut]] <FILE
-       dmf session [--cut] PROBLEM
+       dmf session [--cut] [--history N] PROBLEM
        dmf check PROBLEM <SOLUTION";
 
 /// How `dmf solve` is used.
 pub const SOLVE_USAGE: &str = "dmf solve [--cut] <FILE";
 
 /// How `dmf session` is used.
-pub const SESSION_USAGE: &str = "dmf session [--cut] PROBLEM";
+pub const SESSION_USAGE: &str = "dmf session [--cut] [--history N] PROBLEM";
 
 /// How `dmf check` is used.
 pub const CHECK_USAGE: &str = "dmf check PROBLEM <SOLUTION";

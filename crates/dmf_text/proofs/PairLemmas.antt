@@ -1,17 +1,19 @@
 -- Lemmas on the pairs of arcs, and on what a map keeps of them.
-use Rattle.std.proofs.Common.{◌≡◌, ℕ, suc, ◌+◌, ◌-◌, ◌<◌, ◌≤◌, min, List, [], ◌∷◌, ◌++◌, length, take, drop, get_or, Bool, true, false, ◌||◌, if◌then◌else◌, Option, Some, None, is_some, Ok, Err, refl, sym, ap, ◌∙◌, subst, ⊎_elim, arith, drop-cons}
+use Rattle.std.proofs.Common.{◌≡◌, ℕ, suc, ◌+◌, ◌-◌, ◌<◌, ◌≤◌, ◌^◌, ◌⊎◌, min, List, [], ◌∷◌, ◌++◌, length, take, drop, get_or, Bool, true, false, ◌||◌, if◌then◌else◌, Option, Some, None, is_some, Ok, Err, refl, sym, ap, ◌∙◌, subst, ⊎_elim, arith, drop-cons}
 use Rattle.std.proofs.lemmas.Bool.{cases_Bool, cond-true, cond-false, and_parts, and_from, eqb-true, eq-eqb, le-leb, lt-leb}
 use Rattle.std.proofs.lemmas.List.{take_more}
+use Rattle.std.proofs.lemmas.List.Elements.{All-weaker}
 use Rattle.std.proofs.lemmas.List.Folds.{list_any-append}
 use Rattle.std.proofs.lemmas.List.Sums.{sum_by-append, sum_by-cons, sum_by_more_le_part}
 use Rattle.std.specs.HashMap.{HashMap, get, IsEmpty, Updates}
 use Rattle.dmf_net.specs.declared.arc.Arc.{Arc}
-use Rattle.dmf_net.specs.Arc.{no_arc, capacity_sum}
+use Rattle.std.specs.List.{All}
+use Rattle.dmf_net.specs.Arc.{IsArc, no_arc, capacity_sum}
 use Rattle.dmf_net.specs.Flow.{AreWithinCapacities}
 use Rattle.dmf_text.specs.declared.fault.SolutionFaultKind.{SolutionFaultKind}
 use Rattle.dmf_text.specs.declared.pairs.PairFlow.{PairFlow}
 use Rattle.dmf_text.specs.Solution.{Pair, same_pair, ends, has_pair, pair_capacity, pair_flow, Facts, flow_fits, put_behind}
-use Rattle.dmf_text.specs.SolutionReading.{cap_of, flow_of, KeepsPairs, AddsFlow, CannotAdd}
+use Rattle.dmf_text.specs.SolutionReading.{cap_of, flow_of, HasSmallEnds, KeepsPairs, AddsFlow, CannotAdd}
 
 -- ---- pairs
 
@@ -28,6 +30,37 @@ or-last false = refl
 or-none : (b : Bool) → (b || (false || false)) ≡ b
 or-none true = refl
 or-none false = refl
+
+-- no arc has a pair with a number that is too large for its ends
+none-same : (arc : Arc) (pair : Pair) → HasSmallEnds arc → (2 ^ 32 ≤ pair.0) ⊎ (2 ^ 32 ≤ pair.1) → same_pair (ends arc) pair ≡ false
+none-same arc pair small large =
+    ⊎_elim
+    (λ (same : same_pair (ends arc) pair ≡ true).
+    let is = same-is (ends arc) pair same in
+    let tail : arc.tail ≡ pair.0 = ap (λ (p : Pair). p.0) is in
+    let head : arc.head ≡ pair.1 = ap (λ (p : Pair). p.1) is in
+    let tail_small : arc.tail < 2 ^ 32 = small.0 in
+    let head_small : arc.head < 2 ^ 32 = small.1 in
+    ⊎_elim
+    (λ (h : 2 ^ 32 ≤ pair.0). absurd (omega (arith, tail, tail_small, h)))
+    (λ (h : 2 ^ 32 ≤ pair.1). absurd (omega (arith, head, head_small, h)))
+    large)
+    (λ (other : same_pair (ends arc) pair ≡ false). other)
+    (cases_Bool (same_pair (ends arc) pair))
+
+pub none-large : (arcs : List Arc) (pair : Pair) → All HasSmallEnds arcs → (2 ^ 32 ≤ pair.0) ⊎ (2 ^ 32 ≤ pair.1) → has_pair arcs pair ≡ false
+none-large [] pair small large = refl
+none-large (arc ∷ arcs) pair small large =
+    let here = none-same arc pair (small 0 arc (omega arith)) large in
+    let later = none-large arcs pair (λ k d h. small (suc k) d (omega (arith, h))) large in
+    rw (here, later) refl
+
+-- the ends of a network's arcs are small enough
+pub small-ends : (nodes : ℕ) (arcs : List Arc) → nodes ≤ 2 ^ 24 → All (IsArc nodes) arcs → All HasSmallEnds arcs
+small-ends nodes arcs few are = All-weaker (IsArc nodes) HasSmallEnds (λ (arc : Arc) (is : IsArc nodes arc).
+    let tail = is.tail.to_last in
+    let head = is.head.to_last in
+    (omega (arith, few, tail), omega (arith, few, head))) arcs are
 
 -- one more arc
 module _ (arcs : List Arc) (arc : Arc) where

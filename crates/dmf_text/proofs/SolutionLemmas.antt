@@ -1,5 +1,5 @@
 -- What a solution text says, line after line, and its end.
-use Rattle.std.proofs.Common.{◌≡◌, ◌≢◌, ◌⊎◌, ℕ, List, [], ◌∷◌, ◌++◌, Bool, true, false, Option, Some, None, Result, Ok, Err, MatchResult, refl, sym, ap, ◌∙◌, subst, inl, inr, ⊎_elim, arith, codes, pos}
+use Rattle.std.proofs.Common.{◌≡◌, ◌≢◌, ◌⊎◌, ◌≤◌, ◌^◌, ℕ, List, [], ◌∷◌, ◌++◌, Bool, true, false, Option, Some, None, Result, Ok, Err, MatchResult, refl, sym, ap, ◌∙◌, subst, inl, inr, ⊎_elim, arith, codes, pos}
 use Rattle.std.proofs.lemmas.Bool.{cases_Bool}
 use Rattle.std.proofs.lemmas.Bool.Decides.{Decides-int_eq}
 use Rattle.std.proofs.lemmas.Int.{ints}
@@ -18,14 +18,14 @@ use Rattle.dmf_net.specs.FlowFault.{first_unbalanced, flow_fault}
 use Rattle.dmf_net.proofs.FlowFaults.{below-told, none-over, none-unbalanced}
 use Rattle.dmf_net.specs.NetworkState.{NetworkState, with_flows}
 use Rattle.dmf_text.specs.declared.fault.SolutionFaultKind.{SolutionFaultKind}
-use Rattle.dmf_text.specs.declared.fault.SolutionFaultKind.TheVariants.{NoMemory, ValueDiffers}
+use Rattle.dmf_text.specs.declared.fault.SolutionFaultKind.TheVariants.{NoMemory, NoSuchPair, ValueDiffers}
 use Rattle.dmf_text.specs.declared.solution_reading.SolutionReading.{SolutionReading}
 use Rattle.dmf_text.specs.Number.{number_of}
 use Rattle.dmf_text.specs.Judging.{Line}
 use Rattle.dmf_text.specs.Solution.{same_pair, Facts, facts_of, value_in, flow_in, flow_fits, judged_flow, put_on, ended}
 use Rattle.dmf_text.specs.SolutionReading.{flow_kind, AddsFlow, CannotAdd, Keeps, with_line, TakesLine}
 use Rattle.dmf_text.proofs.JudgingLemmas.{first_fact-push}
-use Rattle.dmf_text.proofs.PairLemmas.{keeps-added, fits-good, fits-bad, put-within}
+use Rattle.dmf_text.proofs.PairLemmas.{keeps-added, fits-good, fits-bad, none-large, put-within}
 
 -- ---- lines
 
@@ -57,9 +57,13 @@ module _ (arcs : List Arc) (facts : Facts) (reading now : SolutionReading) (f g 
       → TakesLine arcs facts (codes "f" ∷ f ∷ g ∷ h ∷ []) (judged_flow arcs facts (f ∷ g ∷ h ∷ [])) now result
   line-taken (Ok done) added =
       let pairs = keeps-added arcs facts.flows reading.pairs now.pairs (tail, head) flow kept.pairs added in
-      let keeps : Keeps arcs (record { value = facts.value; flows = facts.flows ++ ((tail, head), flow) ∷ [] }) now = record { value = value ∙ kept.value; pairs = pairs } in
+      let keeps : Keeps arcs (record { value = facts.value; flows = facts.flows ++ ((tail, head), flow) ∷ [] }) now = record { ends = kept.ends; value = value ∙ kept.value; pairs = pairs } in
       (line-judged ∙ fits-good arcs facts reading.pairs now.pairs (tail, head) flow kept.pairs added, subst (λ s. Keeps arcs s now) (sym line-says) keeps)
   line-taken (Err kind) cannot = line-judged ∙ fits-bad arcs facts reading.pairs (tail, head) flow kind kept.pairs cannot
+
+  -- A number past 32 bits is no node's, and no arc's pair has it.
+  pub line-unknown : (2 ^ 32 ≤ tail) ⊎ (2 ^ 32 ≤ head) → judged_flow arcs facts (f ∷ g ∷ h ∷ []) ≡ Err NoSuchPair
+  line-unknown large = line-judged ∙ rw (none-large arcs (tail, head) kept.ends large) refl
 
 -- ---- the end
 

@@ -1,6 +1,6 @@
 -- What the reader of a solution text keeps of the network, and of the lines that it took.
 -- Private: only contracts inside the crate and proofs use this.
-use Rattle.std.specs.Prelude.{ℕ, ◌≡◌, ◌+◌, ◌<◌, ◌≤◌, List, ◌++◌, Option, Some, None, is_some, Result, Ok, Err, MatchResult}
+use Rattle.std.specs.Prelude.{ℕ, ◌≡◌, ◌+◌, ◌^◌, ◌<◌, ◌≤◌, All, List, ◌++◌, Option, Some, None, is_some, Result, Ok, Err, MatchResult}
 use Rattle.std.specs.Option.{option_or, option_to_list}
 use Rattle.std.specs.HashMap.{HashMap, get, Updates}
 use Rattle.dmf_net.specs.declared.arc.Arc.{Arc}
@@ -47,8 +47,13 @@ abbrev pub CannotAdd : Option PairFlow → ℕ → SolutionFaultKind → Type 0
 CannotAdd None flow kind = kind ≡ NoSuchPair
 CannotAdd (Some known) flow kind = (known.cap < known.flow + flow) × (kind ≡ OverCapacity)
 
+-- Both ends of the arc are below 2^32.
+abbrev pub HasSmallEnds : Arc → Type 0
+HasSmallEnds arc = (arc.tail < 2 ^ 32) × (arc.head < 2 ^ 32)
+
 -- The reader has what is said of a network with these arcs.
 pub record Keeps (arcs : List Arc) (facts : Facts) (reading : SolutionReading) : Type 0 where
+  pub ends : All HasSmallEnds arcs
   pub value : reading.value ≡ facts.value
   pub pairs : KeepsPairs arcs (pair_flow facts.flows) reading.pairs
 

@@ -10,7 +10,7 @@ use crate::digits::number;
 use crate::exact_fields::{one_field, three_fields};
 use crate::fault::SolutionFaultKind;
 use crate::field::Fields;
-use crate::pairs::{PairFlow, Pairs, add_flow, pairs_of, put_on};
+use crate::pairs::{PairFlow, Pairs, add_flow, pair_of, pairs_of, put_on};
 use dmf_net::State;
 use std::alloc::{AllocError, Global};
 use std::collections::HashMap;
@@ -18,7 +18,7 @@ use std::collections::HashMap;
 /// What the lines of a solution text say that were taken so far.
 #[derive(Drop)]
 pub(crate) struct SolutionReading {
-    pairs: HashMap<(u64, u64), PairFlow>,
+    pairs: HashMap<(u32, u32), PairFlow>,
     value: Option<u64>,
 }
 
@@ -76,7 +76,10 @@ impl SolutionReading {
         let tail = number(tail)?;
         let head = number(head)?;
         let flow = number(flow)?;
-        add_flow(&mut self.pairs, (tail, head), flow)
+        let Some(pair) = pair_of(tail, head) else {
+            return Err(SolutionFaultKind::NoSuchPair);
+        };
+        add_flow(&mut self.pairs, pair, flow)
     }
 
     /// The state that the lines stand for, at the end of the text: the network of this one with the flows that they say.
