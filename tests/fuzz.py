@@ -20,7 +20,7 @@ from random import Random
 
 import built
 from random_cases import random_case
-from refusals import REFUSED, way_of
+from refusals import REFUSED, ways_of
 
 CASES = 6000
 # Texts of the documents, each of which so many cases are to meet: all but want of memory and the limits of size.
@@ -30,7 +30,8 @@ TEXTS = """problem line expected, second problem line, unknown line, not a max p
     capacities past 64 bits, no such arc, over capacity, second value line, value line missing,
     flow not conserved at node, value differs, line too long, unknown command, arc is closed, nothing to undo,
     nothing to redo, flow is not greatest, cannot open the problem, read failed, a word is not UTF-8, Usage: dmf,
-    c greatest, c flow, c cut, c side, c cap value, c add, c close value, c undo value, c redo value, p max, dmf 0.1.0"""
+    c greatest, c flow, c cut, c side, c cap value, c add, c close value, c shut value, c undo value, c redo value, p max,
+    dmf 0.1.0"""
 TEXTS = [text.encode() for text in re.split(r",\s+", TEXTS)]
 
 
@@ -47,7 +48,7 @@ def judge(number, seed, library):
         refused = int(10 ** random.uniform(0.5, 3))
         run, calls = built.watch(case, library, CALL="memory", AT=refused)
         met += ["no memory"] * (REFUSED in calls)
-        if way_of(case, run) is None:
+        if not ways_of(case, run, 1):
             return kept(case, run, wanted, f"LD_PRELOAD={library} FAULT=memory FAULT_AT={refused} "), met
     return None, met
 

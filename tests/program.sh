@@ -45,6 +45,11 @@ refuse_words "no problem is named" session
 refuse_words "two problems are named" session examples/a.max examples/b.max
 refuse_words "no problem is checked" check
 refuse_words "a cut of a check" check --cut examples/a.max
+refuse_words "a history alone" --history 1
+refuse_words "a history of a solve" solve --history 1
+refuse_words "a history of a check" check --history 1 examples/a.max
+refuse_words "a history below 0" session --history -1 examples/a.max
+refuse_words "two histories" session --history 1 --history 1 examples/a.max
 help_words "help" --help
 help_words "help on solve" solve --help
 help_words "help on session" session --help

@@ -5,7 +5,7 @@ A text is made as a list of lines, and a line as a list of fields. Faults are pu
 from dataclasses import replace
 
 from built import PROBLEM, Case
-from oracle.changes import add, cap, close, solve
+from oracle.changes import add, cap, close, shut, solve
 from oracle.network import Arc, State
 from oracle.session import FIELDS
 from oracle.texts import LARGEST, Fault
@@ -64,6 +64,10 @@ ODD_COMMANDS = [
     [b"add", b"1", b"x", b"18446744073709551616"],
     [b"close"],
     [b"close", b"1", b"1"],
+    [b"shut"],
+    [b"shut", b"1", b"1"],
+    [b"shut", b"x"],
+    [b"shuts", b"1"],
     [b"x" * 4096],
     [b"x" * 4097],
     [b"c", b"x" * 4094],
@@ -160,8 +164,8 @@ def changed(state, random):
         arc = random.randint(1, len(state.arcs) + 1)
         ends = [random.randint(1, state.nodes) for _ in range(2)]
         amount = random.choice([0, 0, 1, 2, 5, 9])
-        change = random.choice([solve, cap, cap, close, add])
-        numbers = {solve: [], cap: [arc, amount], close: [arc], add: [*ends, amount]}[change]
+        change = random.choice([solve, cap, cap, close, shut, add])
+        numbers = {solve: [], cap: [arc, amount], close: [arc], shut: ends[:1], add: [*ends, amount]}[change]
         try:
             state = change(state, *numbers)
         except Fault:
@@ -207,7 +211,7 @@ def command_lines(state, random):
     """A script of commands. Most of them can be carried out."""
     count = random.choice([3, 8, 20, 60, 200])
     odd_share = random.choice([0, 0.02, 0.3])
-    words = random.choices([*FIELDS, b"print"], [5, 3, 1, 4, 2, 2, 2, random.randrange(9)], k=random.randint(1, count))
+    words = random.choices([*FIELDS, b"print"], [5, 3, 1, 0.5, 4, 2, 2, 2, random.randrange(9)], k=random.randint(1, count))
     arc_count = len(state.arcs)
     lines = []
     for word in words:
@@ -218,7 +222,14 @@ def command_lines(state, random):
         amount = random.choice([0, 1, 1, 1, 2, 2, 3, 5, 9, 9, 20, 2**63])
         ends = [random.randint(0 if odd_share else 1, state.nodes + bool(odd_share)) for _ in range(2)]
         steps = [random.choice([0, 1, 1, 2, 2, 3, 9])] * random.randrange(2)
-        numbers = {b"cap": [arc, amount], b"add": [*ends, amount], b"close": [arc], b"undo": steps, b"redo": steps}
+        numbers = {
+            b"cap": [arc, amount],
+            b"add": [*ends, amount],
+            b"close": [arc],
+            b"shut": ends[:1],
+            b"undo": steps,
+            b"redo": steps,
+        }
         shown = [random.choice([b"problem", b"flow", b"flow", b"cut", b"cut"])] if word == b"print" else []
         lines.append([word, *line(*numbers.get(word, [])), *shown])
         arc_count += word == b"add"
@@ -298,10 +309,12 @@ def text_of(lines, random, comment, fault_share):
 
 
 def words_of(command, random):
-    """Words that ask for this, with or without a cut; some of them are faulty."""
+    """Words that ask for this, with or without a cut and a bound of the history; some of them are faulty."""
     path = [random.choices([PROBLEM, b"missing.max", b"folder"], [98, 1, 1])[0]] if command != b"solve" else []
     cut = [b"--cut"] * random.randrange(2) if command != b"check" else []
-    words = [command] + random.sample(cut + path, len(cut + path))
+    bound = [[b"--history", b"%d" % random.choice(BOUNDS)]] if command == b"session" and random.random() < 0.5 else []
+    parts = [[word] for word in cut + path] + bound
+    words = [command] + [word for part in random.sample(parts, len(parts)) for word in part]
     if words == [b"solve"] and random.random() < 0.3:
         words = []
     if random.random() < 0.03:
@@ -309,8 +322,10 @@ def words_of(command, random):
     return tuple(words)
 
 
+BOUNDS = [0, 1, 1, 2, 3, 5, 1_000_000, 1_000_001]
 ODD_WORDS = (
-    [b"solve", b"session", b"check", b"help", b"--help", b"-h", b"--version", b"-V", b"--cut", b"--", b"wash", b"--wash"]
+    [b"--history", b"--history=2", b"+1", b"1000001", b"-1"]
+    + [b"solve", b"session", b"check", b"help", b"--help", b"-h", b"--version", b"-V", b"--cut", b"--", b"wash", b"--wash"]
     + [PROBLEM, b"missing.max", b"folder", b"\xff", b"", b"./" + PROBLEM]
 )
 

@@ -17,11 +17,17 @@ from oracle.session import Refusals
 from worked import CROSSED, WORKED, text
 
 REFUSED = "memory", -1, -1
+# Lines that search the network wherever the cases carry them out, and so want memory there.
+SEARCHING = b"solve", b"print cut", b"shut 3"
 ADDING = "add 1 4 7 / add 2 4 1 / undo 2 / redo 2 / undo / add 1 3 9 / redo / print problem / solve / undo / redo / print flow"
+SHUTTING = "solve / shut 3 / undo / shut 2 / solve / undo 2 / redo 2 / shut 1 / print flow"
 CUTTING = "solve / print cut / undo / print cut / solve / print cut"
 MORE = [
     Case("arcs are added, taken back and added again", (b"session", PROBLEM), text(CROSSED), text(ADDING)),
+    Case("nodes are shut", (b"session", PROBLEM), text(CROSSED), text(SHUTTING)),
     Case("cuts are printed", (b"session", b"--cut", PROBLEM), text(CROSSED), text(CUTTING)),
+    Case("no state is kept", (b"session", b"--history", b"0", PROBLEM), text(CROSSED), text(ADDING)),
+    Case("one state is kept", (b"session", b"--history", b"1", PROBLEM), text(CROSSED), text(ADDING)),
     Case("the help", (b"--help",), b"", b""),
     Case("the help of a command", (b"help", b"session"), b"", b""),
     Case("the version", (b"--version",), b"", b""),
@@ -43,11 +49,11 @@ def ways_of(case, run, row):
 
 
 def searches(case):
-    """The lines that search the network, and so want memory wherever they are carried out."""
+    """The lines that search the network."""
     asked = Refusals()
     built.wanted(case, asked)
     lines = case.input.split(b"\n")
-    return {line for line in asked.possible if lines[line - 1] in (b"solve", b"print cut")}
+    return {line for line in asked.possible if lines[line - 1] in SEARCHING}
 
 
 def judge(item, library):

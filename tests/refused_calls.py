@@ -26,13 +26,13 @@ ARCS = (Arc(1, 2, 3), Arc(1, 3, 2), Arc(2, 3, 5), Arc(2, 4, 2), Arc(3, 4, 3))
 START = State(4, 1, 4, ARCS, (0, 0, 0, 0, 0))
 COMMANDS = (
     "add 1 4 1 / solve / add 1 4 2 / add 1 4 3 / undo 2 / redo 2 / cap 5 1 / add 1 4 4 / undo 3 / add 1 4 5 / add 1 4 6 / close 1 / "
-    "undo 4 / redo 3 / solve / add 1 4 7"
+    "undo 4 / redo 3 / solve / shut 3 / undo 1 / redo 1 / add 1 4 7"
 ).split(" / ")
 ADDITIONS = [f"add 1 4 {cap}" for cap in range(1, 8)]
 REFUSED = "refused no memory"
 SESSIONS = [(name, bound) for bound in (MOST_KEPT, 1, 0) for name in ("whole", "delta")]
 # The calls of which some run has to be refused memory, by the part of the program's text and the word.
-GROWING = {(*session, word) for session in SESSIONS for word in ("add", "cap", "close", "solve")} | {
+GROWING = {(*session, word) for session in SESSIONS for word in ("add", "cap", "close", "shut", "solve")} | {
     ("state", "add"),
     ("state", "copy"),
 }

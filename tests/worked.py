@@ -63,6 +63,10 @@ JOINED = "p max 5 5 / n 1 s / n 5 t / a 1 2 1 / a 1 3 1 / a 2 4 1 / a 3 4 1 / a 
 SECOND_WAY = "s 1 / f 1 2 0 / f 1 3 1 / f 2 4 0 / f 3 4 1 / f 4 5 1"
 # Parallel arcs, an arc that comes back to its tail, and one into the source, in a text that is as loose as may be.
 LOOSE = b"cNote\r\n\r\np  max\t3   5\r\nn 3 t\r\nn 1 s\r\na 1 2 4\r\n  a 2 2 9\r\na 1 2 007 \r\na 2 1 6\r\na 2 3 9"
+LOOSE_FLOW = "s 9 / f 1 2 4 / f 2 2 0 / f 1 2 5 / f 2 1 0 / f 2 3 9"
+# Four nodes: one way of parallel arcs, with an arc that comes back to its tail, and another way beside it.
+PARALLEL = "p max 4 6 / n 1 s / n 4 t / a 1 2 1 / a 2 2 5 / a 1 2 2 / a 2 4 3 / a 1 3 2 / a 3 4 2"
+PARALLEL_FLOW = "s 5 / f 1 2 1 / f 2 2 0 / f 1 2 2 / f 2 4 3 / f 1 3 2 / f 3 4 2"
 LARGEST = "p max 2 1 / n 1 s / n 2 t / a 1 2 18446744073709551615"
 TWO = "p max 2 1 / n 1 s / n 2 t"
 
@@ -71,7 +75,7 @@ SOLVES = [
     solved("two ways that cross, with the cut", CROSSED, f"{CROSSED_FLOW} / {CROSSED_CUT}", CUT),
     solved("the largest capacity", LARGEST, "s 18446744073709551615 / f 1 2 18446744073709551615"),
     solved("no arcs", "p max 2 0 / n 1 s / n 2 t", "s 0 / c cut 0 / c side 1", CUT),
-    solved("a loose text", LOOSE, "s 9 / f 1 2 4 / f 2 2 0 / f 1 2 5 / f 2 1 0 / f 2 3 9"),
+    solved("a loose text", LOOSE, LOOSE_FLOW),
     solved(
         "arcs count by their places and not by their heads",
         "p max 5 5 / n 1 s / n 5 t / a 1 3 1 / a 1 2 1 / a 2 4 1 / a 3 4 1 / a 4 5 1",
@@ -109,6 +113,63 @@ SESSIONS = [
         CROSSED,
         "solve / close 1 / print flow / undo / print flow",
         f"{CROSSED_FLOW} / c close value 2 / s 2 / f 1 3 2 / f 2 3 0 / f 2 4 0 / f 3 4 2 / c undo value 5 / {CROSSED_FLOW}",
+    ),
+    held(
+        "a node is shut, and undo gives back the flow",
+        CROSSED,
+        "solve / shut 2 / print flow / undo / print flow",
+        f"{CROSSED_FLOW} / c shut value 2 / s 2 / f 1 3 2 / f 3 4 2 / c undo value 5 / {CROSSED_FLOW}",
+    ),
+    held(
+        "closing one arc of a node leaves less to take off the next",
+        CROSSED,
+        "solve / shut 3 / print flow",
+        f"{CROSSED_FLOW} / c shut value 2 / s 2 / f 1 2 2 / f 2 4 2",
+    ),
+    held(
+        "all arcs at a node are one change, and a node without open arcs is shut too",
+        CROSSED,
+        "shut 5 / shut 0 / shut / shut 2 / shut 2 / undo 2 / print problem",
+        "c refused 1 no such node / c refused 2 no such node / c refused 3 wrong number of fields / c shut value 0 / "
+        f"c shut value 0 / c undo value 0 / {CROSSED}",
+    ),
+    held(
+        "a node with parallel arcs and an arc that comes back is shut, and shut again with another arc",
+        PARALLEL,
+        "solve / shut 2 / print flow / undo / print flow / redo / "
+        "add 2 4 1 / shut 2 / print problem / undo 3 / print problem / redo 4 / redo 3",
+        f"{PARALLEL_FLOW} / c shut value 2 / s 2 / f 1 3 2 / f 3 4 2 / c undo value 5 / {PARALLEL_FLOW} / c redo value 2 / "
+        "c add 7 value 2 / c shut value 2 / p max 4 2 / n 1 s / n 4 t / a 1 3 2 / a 3 4 2 / c undo value 5 / "
+        f"{PARALLEL} / c refused 12 nothing to redo / c redo value 2",
+    ),
+    held(
+        "the source is shut",
+        CROSSED,
+        "solve / shut 1 / print flow / print cut / undo 1 / shut 1 / redo",
+        f"{CROSSED_FLOW} / c shut value 0 / s 0 / f 2 3 0 / f 2 4 0 / f 3 4 0 / c cut 0 / c side 1 / c undo value 5 / "
+        "c shut value 0 / c refused 7 nothing to redo",
+    ),
+    held(
+        "the sink is shut, and nothing can be sent any more",
+        CROSSED,
+        "solve / shut 4 / print problem / solve / close 4 / cap 5 1",
+        f"{CROSSED_FLOW} / c shut value 0 / p max 4 3 / n 1 s / n 4 t / a 1 2 3 / a 1 3 2 / a 2 3 5 / "
+        "s 0 / f 1 2 0 / f 1 3 0 / f 2 3 0 / c refused 5 arc is closed / c refused 6 arc is closed",
+    ),
+    held(
+        "every arc is at the node that is shut",
+        LOOSE,
+        "solve / shut 2 / print problem / print flow / undo / print flow",
+        f"{LOOSE_FLOW} / c shut value 0 / p max 3 0 / n 1 s / n 3 t / s 0 / c undo value 9 / {LOOSE_FLOW}",
+    ),
+    held(
+        "lines for a node to be shut that are refused",
+        CROSSED,
+        "shut 1 1 / shut x / shut -1 / shut 18446744073709551616 / shut 18446744073709551615 / shut 4294967297 / "
+        "Shut 1 / shutter 1",
+        "c refused 1 wrong number of fields / c refused 2 not a number / c refused 3 not a number / "
+        "c refused 4 number too large / c refused 5 no such node / c refused 6 no such node / "
+        "c refused 7 unknown command / c refused 8 unknown command",
     ),
     held(
         "a solve of a greatest flow is a change",
@@ -301,7 +362,35 @@ FAULTS = [
         "line 5: capacities past 64 bits",
     ),
 ]
-WORKED = SOLVES + SESSIONS + CHECKS + FAULTS
+HISTORIES = [
+    held(
+        "one state is kept",
+        CROSSED,
+        "cap 1 4 / close 2 / undo 2 / undo / redo / print problem",
+        "c cap value 0 / c close value 0 / c refused 3 nothing to undo / c undo value 0 / c redo value 0"
+        " / p max 4 4 / n 1 s / n 4 t / a 1 2 4 / a 2 3 5 / a 2 4 2 / a 3 4 3",
+        b"--history",
+        b"1",
+    ),
+    held(
+        "no state is kept",
+        CROSSED,
+        "solve / undo / print flow",
+        f"{CROSSED_FLOW} / c refused 2 nothing to undo / {CROSSED_FLOW}",
+        b"--history",
+        b"0",
+    ),
+    held(
+        "two states are kept, and a change drops what was undone",
+        CROSSED,
+        "cap 1 4 / cap 1 5 / cap 1 6 / undo 2 / undo / cap 1 7 / cap 1 8 / undo 3 / undo 2 / redo 2 / redo",
+        "c cap value 0 / c cap value 0 / c cap value 0 / c undo value 0 / c refused 5 nothing to undo / c cap value 0 / c cap value 0"
+        " / c refused 8 nothing to undo / c undo value 0 / c redo value 0 / c refused 11 nothing to redo",
+        b"--history",
+        b"2",
+    ),
+]
+WORKED = SOLVES + SESSIONS + HISTORIES + CHECKS + FAULTS
 # As many command lines as a session takes, and one more.
 LIMITS = [
     held("a million command lines", CROSSED, b"undo\n" + b"\n" * 999_999, "c refused 1 nothing to undo"),

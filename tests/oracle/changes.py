@@ -42,5 +42,15 @@ def add(state, tail, head, capacity):
     return replace(state, arcs=state.arcs + (Arc(tail, head, capacity),), flows=state.flows + (0,))
 
 
+def shut(state, node):
+    """Closes each open arc at the node, ascending, on the state that the closings before gave."""
+    if not 1 <= node <= state.nodes:
+        raise Fault("no such node")
+    for j, arc in enumerate(state.arcs, 1):
+        if not arc.is_closed and node in (arc.tail, arc.head):
+            state = close(state, j)
+    return state
+
+
 def solve(state):
     return solved(state)

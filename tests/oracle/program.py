@@ -5,7 +5,7 @@ from typing import NamedTuple
 
 from .network import is_greatest, solved
 from .problem import read_problem
-from .session import MOST_LINES, Refusals, cut_of, run_lines
+from .session import MOST_KEPT, MOST_LINES, Refusals, cut_of, run_lines
 from .solution import read_solution, solution_text
 from .texts import LineFault, written
 
@@ -47,6 +47,7 @@ TOO_MUCH = told("too much input")
 OUT_OF_MEMORY = Outcome(NO_MEMORY, b"", told("no memory"))
 VERSION = Outcome(WELL, b"dmf 0.1.0\n")
 REFUSED_WORDS = Outcome(USAGE, b"", re.compile(rb"error: .*\nUsage: dmf.*\n", re.DOTALL))
+REFUSED_VALUE = Outcome(USAGE, b"", re.compile(rb"error: .*\n", re.DOTALL))
 NO_TEXT = Outcome(USAGE, b"", told("a word is not UTF-8"))
 COMMANDS = ("solve", "session", "check")
 
@@ -83,13 +84,13 @@ def check(problem, solution):
     return Outcome(NOT_GREATEST, written("c", "flow", state.value()))
 
 
-def session(problem, commands, want_cut, refusals=None):
+def session(problem, commands, want_cut, bound, refusals=None):
     state = judged(read_problem, bounded(problem))
     line_count = commands.count(b"\n") + (not commands.endswith(b"\n") and commands != b"")
     is_too_much = len(commands) > MOST_BYTES or line_count > MOST_LINES
     if is_too_much:
         commands = ended_lines(commands[:MOST_BYTES])
-    replies, some_refused = run_lines(state, commands, want_cut, refusals or Refusals())
+    replies, some_refused = run_lines(state, commands, want_cut, refusals or Refusals(), bound)
     if is_too_much:
         return Outcome(STREAM_FAULT, replies, TOO_MUCH)
     return Outcome(SOME_REFUSED if some_refused else WELL, replies)
@@ -111,10 +112,10 @@ def read_file(path):
 
 
 def asked(words):
-    """What words ask for: the command's word, whether a cut is wanted, and the path where one is; or how the run ends at once.
-    Words are taken from left to right."""
+    """What words ask for: the command's word, whether a cut is wanted, the bound of the history, and the path where one is; or how
+    the run ends at once. Words are taken from left to right."""
     if words in ([], ["--"]):
-        return "solve", False, None
+        return "solve", False, MOST_KEPT, None
     if words[0] in ("-h", "--help"):
         return help_on([])
     if words[0] in ("-V", "--version"):
@@ -127,14 +128,26 @@ def asked(words):
     return asked_of(words[0], words[1:])
 
 
+def bound_of(text):
+    """The bound that a text writes: digits, behind a plus or not; none where it is past the most."""
+    digits = text.removeprefix("+")
+    is_number = digits.isascii() and digits.isdigit()
+    return int(digits) if is_number and int(digits) <= MOST_KEPT else None
+
+
 def asked_of(command, words):
     """What the words behind a command ask for."""
     path_count = 0 if command == "solve" else 1
-    paths, want_cut, are_flags = [], False, True
+    paths, want_cut, bound, are_flags = [], False, None, True
+    words = iter(words)
     for word in words:
-        if are_flags and word in ("-h", "--help"):
+        if are_flags and command == "session" and bound is None and (word == "--history" or word.startswith("--history=")):
+            bound = bound_of(word.removeprefix("--history=") if "=" in word else next(words, ""))
+            if bound is None:
+                return REFUSED_VALUE
+        elif are_flags and word in ("-h", "--help"):
             return help_on([command])
-        if are_flags and word == "--":
+        elif are_flags and word == "--":
             are_flags = False
         elif are_flags and word == "--cut" and command != "check" and not want_cut:
             want_cut = True
@@ -146,7 +159,7 @@ def asked_of(command, words):
             return REFUSED_WORDS
     if len(paths) < path_count:
         return REFUSED_WORDS
-    return command, want_cut, *(paths or [None])
+    return command, want_cut, MOST_KEPT if bound is None else bound, *(paths or [None])
 
 
 def run(words, standard_input, refusals=None):
@@ -158,12 +171,12 @@ def run(words, standard_input, refusals=None):
     asked_for = asked(words)
     if isinstance(asked_for, Outcome):
         return asked_for
-    command, want_cut, path = asked_for
+    command, want_cut, bound, path = asked_for
     try:
         if command == "solve":
             return solve(standard_input, want_cut)
         if command == "check":
             return check(read_file(path), standard_input)
-        return session(read_file(path), standard_input, want_cut, refusals)
+        return session(read_file(path), standard_input, want_cut, bound, refusals)
     except Ended as ended:
         return ended.outcome

@@ -15,13 +15,14 @@ FIELDS = {
     b"cap": {2},
     b"add": {3},
     b"close": {1},
+    b"shut": {1},
     b"solve": {0},
     b"undo": {0, 1},
     b"redo": {0, 1},
     b"print": {1},
 }
 PRINTED = {b"problem", b"flow", b"cut"}
-CHANGES = {"cap": changes.cap, "add": changes.add, "close": changes.close, "solve": changes.solve}
+CHANGES = {"cap": changes.cap, "add": changes.add, "close": changes.close, "shut": changes.shut, "solve": changes.solve}
 
 
 def command_of(line, is_ended):
@@ -129,10 +130,10 @@ class Refusals:
                 raise Fault("no memory")
 
 
-def run_lines(state, text, want_cut, refusals):
+def run_lines(state, text, want_cut, refusals, bound=MOST_KEPT):
     """What the lines of a command text write, one reply a line, and whether one of them is refused. An empty rest behind the
     last line feed is no line. Lines past the limit are left out."""
-    session = Session(state, want_cut)
+    session = Session(state, want_cut, bound)
     replies = []
     some_refused = False
     *ended, rest = text.split(b"\n")

@@ -1,12 +1,14 @@
 //! The program `dmf`: reads its words, opens what a run needs, calls the run, and tells how it ended.
 #![tactic(auto)]
 
+ghost use Rattle.std.specs.Prelude.{◌≤◌};
+
 mod fault;
 mod progress;
 mod words;
 
 use dmf_run::{
-    EngineFault, MAX_BYTES, Mode, Status, WordsFault, read_words, run_check, run_session,
+    EngineFault, MAX_BYTES, Mode, Status, WordsFault, read_words, run_check, run_session_bounded,
     run_solve, run_solve_watched, status_of,
 };
 use dmf_text::{StdSink, StdSource};
@@ -29,7 +31,13 @@ fn main(rt: HostRuntime) -> ExitCode {
 fn run(rt: &HostRuntime) -> Result<Status, Fault> {
     match read_words(rt.alloc(), words::words(rt)?) {
         Ok(Mode::Solve { cut }) => solve(rt, cut),
-        Ok(Mode::Session { cut, problem }) => hold_session(rt, problem.as_str(), cut),
+        Ok(
+            Mode::Session {
+                cut,
+                history,
+                problem,
+            },
+        ) => hold_session(rt, problem.as_str(), cut, history),
         Ok(Mode::Check { problem }) => check(rt, problem.as_str()),
         Err(WordsFault::Help(text) | WordsFault::Version(text)) => print(rt, text.as_str()),
         Err(WordsFault::Usage(text)) => Err(Fault::Usage(text)),
@@ -66,13 +74,23 @@ fn solve_watched(
 }
 
 /// Holds a session on the problem in the file at the path, with the commands from standard input, and tells the cut of
-/// each solve where it is wanted.
+/// each solve where it is wanted. At most `bound` states are kept before the present one.
 #[inline(never)]
-fn hold_session(rt: &HostRuntime, path: &str, want_cut: bool) -> Result<Status, Fault> {
+fn hold_session(rt: &HostRuntime, path: &str, want_cut: bool, bound: u32) -> Result<Status, Fault>
+    requires { bound ≤ 1000000 }
+{
     let mut problem = StdSource::new(open_problem(rt, path)?);
     let mut out = output(rt)?;
     let mut commands = StdSource::new(rt.stdin());
-    run_session(rt.alloc(), &mut problem, &mut commands, &mut out, want_cut).map_err(Fault::Run)
+    run_session_bounded(
+        rt.alloc(),
+        &mut problem,
+        &mut commands,
+        &mut out,
+        want_cut,
+        bound,
+    )
+    .map_err(Fault::Run)
 }
 
 /// Checks the solution on standard input of the problem in the file at the path.

@@ -11,7 +11,7 @@ use std::process::ExitCode;
 use std::{env, io};
 
 /// Changes that add arcs and others, steps back, and steps forward over additions.
-fn commands() -> [Command; 16] {
+fn commands() -> [Command; 19] {
     [
         add(1),
         Command::Solve,
@@ -28,6 +28,9 @@ fn commands() -> [Command; 16] {
         Command::Undo(4),
         Command::Redo(3),
         Command::Solve,
+        Command::Shut { node: 3 },
+        Command::Undo(1),
+        Command::Redo(1),
         add(7),
     ]
 }
@@ -165,6 +168,7 @@ fn tell_command(rt: &HostRuntime, command: Command) -> io::Result<()> {
         Command::Cap { arc, cap } => println!(rt; "command cap {arc} {cap}"),
         Command::Add { tail, head, cap } => println!(rt; "command add {tail} {head} {cap}"),
         Command::Close { arc } => println!(rt; "command close {arc}"),
+        Command::Shut { node } => println!(rt; "command shut {node}"),
         Command::Solve => println!(rt; "command solve"),
         Command::Undo(steps) => println!(rt; "command undo {steps}"),
         Command::Redo(steps) => println!(rt; "command redo {steps}"),

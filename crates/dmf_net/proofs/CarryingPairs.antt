@@ -17,16 +17,10 @@ use Rattle.dmf_net.specs.Network.{Network, IsNetwork}
 use Rattle.dmf_net.specs.Flow.{AreWithinCapacities}
 use Rattle.dmf_net.specs.Drain.{carried, carried_from, value_or_zero, return_link, carrying_steps}
 use Rattle.dmf_net.specs.NetworkState.{NetworkState, IsState}
-use Rattle.dmf_net.specs.Pairs.{carrying_pair, carrying_from, return_pair, carrying_pairs}
+use Rattle.dmf_net.specs.Pairs.{AreNoMore, carrying_pair, carrying_from, return_pair, carrying_pairs}
 use Rattle.dmf_net.proofs.Changing.{flow_at-le}
 use Rattle.dmf_net.proofs.Draining.{IsNoMore}
 use Rattle.dmf_net.proofs.ResidualSteps.{in-optional}
-
--- No flow is more than it was at first, nor is what the sink receives.
-pub record AreNoMore (n : Network) (firsts flows : List ℕ) : Type 0 where
-  pub one_each : length firsts ≡ length n.arcs
-  pub no_more : IsNoMore firsts flows
-  pub at_sink : value_or_zero n flows ≤ value_or_zero n firsts
 
 -- whether an arc has no pair
 abbrev pub is_idle : Arc → ℕ → Bool

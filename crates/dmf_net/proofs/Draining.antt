@@ -1,5 +1,5 @@
 -- Draining an arc has one outcome, and what it leaves is a flow.
-use Rattle.std.proofs.Common.{ℕ, ◌≡◌, ◌+◌, ◌<◌, ◌≤◌, zero, suc, true, List, [], ◌∷◌, refl, ap, sym, ◌∙◌, subst, arith, ⊎_elim, pos, ◌≤ℤ◌}
+use Rattle.std.proofs.Common.{ℕ, ◌≡◌, ◌+◌, ◌-◌, ◌<◌, ◌≤◌, zero, suc, true, List, [], ◌∷◌, refl, ap, sym, ◌∙◌, subst, arith, ⊎_elim, pos, ◌≤ℤ◌}
 use Rattle.std.specs.List.{AllZip}
 use Rattle.std.proofs.lemmas.Bool.{cases_lt}
 use Rattle.std.proofs.lemmas.Int.{ints}
@@ -28,18 +28,18 @@ no_more-in_turn (x ∷ xs) (y ∷ ys) [] first second = absurd second
 no_more-in_turn (x ∷ xs) (y ∷ ys) (z ∷ zs) first second = (omega (arith, first.0, second.0), no_more-in_turn xs ys zs first.1 second.1)
 
 -- Nothing is taken off where the flows stay.
-TakesOff-none : (n : Network) (j limit : ℕ) (flows : List ℕ) → IsFlow n flows → TakesOff n j limit flows flows
-TakesOff-none n j limit flows flow = record {
+pub TakesOff-none : (n : Network) (amount : ℕ) (flows : List ℕ) → IsFlow n flows → TakesOff n amount flows flows
+TakesOff-none n amount flows flow = record {
   no_more = no_more-same flows;
   flow = flow;
   value = omega (arith, ints);
-  untouched = λ within. refl;
+  untouched = λ none. refl;
 }
 
 -- Lowering along paths in turn leaves a flow, whose value is not below 0.
-lowers-state : (n : Network) (j limit : ℕ) (flows last : List ℕ) (paths : List (List Step)) → IsNetwork n → IsFlow n flows → pos 0 ≤ℤ flow_value n flows → has_arc n j ≡ true → Lowers n j limit flows paths last → TakesOff n j limit flows last × (pos 0 ≤ℤ flow_value n last)
+lowers-state : (n : Network) (j limit : ℕ) (flows last : List ℕ) (paths : List (List Step)) → IsNetwork n → IsFlow n flows → pos 0 ≤ℤ flow_value n flows → has_arc n j ≡ true → Lowers n j limit flows paths last → TakesOff n (flow_on flows j - limit) flows last × (pos 0 ≤ℤ flow_value n last)
 lowers-state n j limit flows last [] network flow from_zero has is =
-    subst (λ xs. TakesOff n j limit flows xs × (pos 0 ≤ℤ flow_value n xs)) is (TakesOff-none n j limit flows flow, from_zero)
+    subst (λ xs. TakesOff n (flow_on flows j - limit) flows xs × (pos 0 ≤ℤ flow_value n xs)) is (TakesOff-none n (flow_on flows j - limit) flows flow, from_zero)
 lowers-state n j limit flows last (path ∷ paths) network flow from_zero has goes =
     let next : List ℕ = lowered j limit path flows in
     let amount = lowered-amount n j limit flows path goes.0 goes.1 in
@@ -51,13 +51,13 @@ lowers-state n j limit flows last (path ∷ paths) network flow from_zero has go
         no_more = no_more-in_turn flows next last (lowered-no_more j limit path flows) rest.0.no_more;
         flow = rest.0.flow;
         value = omega (arith, ints, amount.1, on, value.0, rest.0.value);
-        untouched = λ within. absurd (omega (arith, within, goes.0));
+        untouched = λ none. absurd (omega (arith, none, goes.0));
       },
       rest.1,
     )
 
 -- What draining leaves is a flow, and its value is not below 0.
-pub drains-state : (n : Network) (j limit : ℕ) (flows last : List ℕ) → IsNetwork n → IsFlow n flows → pos 0 ≤ℤ flow_value n flows → has_arc n j ≡ true → Drains n j limit flows last → TakesOff n j limit flows last × (pos 0 ≤ℤ flow_value n last)
+pub drains-state : (n : Network) (j limit : ℕ) (flows last : List ℕ) → IsNetwork n → IsFlow n flows → pos 0 ≤ℤ flow_value n flows → has_arc n j ≡ true → Drains n j limit flows last → TakesOff n (flow_on flows j - limit) flows last × (pos 0 ≤ℤ flow_value n last)
 drains-state n j limit flows last network flow from_zero has drains = lowers-state n j limit flows last drains.paths network flow from_zero has drains.lowers
 
 -- Lowering the same flows in turn ends at the same flows.

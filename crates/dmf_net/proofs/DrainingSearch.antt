@@ -1,15 +1,16 @@
 -- Draining an arc by a search over the pairs of links that stand for carrying steps, and reading the flows off it.
-use Rattle.std.proofs.Common.{ℕ, ◌≡◌, ◌≢◌, ◌+◌, ◌-◌, ◌*◌, ◌<◌, ◌≤◌, Bool, true, false, cond, List, [], ◌∷◌, ◌++◌, length, get_or, zero, suc, refl, ap, sym, ◌∙◌, subst, arith, ⊎_elim, add-zero, Option, Some}
-use Rattle.std.specs.List.{slice_get, AllZip}
+use Rattle.std.proofs.Common.{ℕ, ◌≡◌, ◌≢◌, ◌+◌, ◌-◌, ◌*◌, ◌<◌, ◌≤◌, Bool, true, false, cond, List, [], ◌∷◌, ◌++◌, length, get_or, zero, suc, refl, ap, sym, ◌∙◌, subst, arith, ⊎_elim, add-zero, Option, Some, None}
+use Rattle.std.specs.List.{slice_get}
 use Rattle.std.specs.Option.{option_map, unwrap_or}
 use Rattle.std.proofs.lemmas.Bool.{ne_eqb, cases_Bool}
 use Rattle.std.proofs.lemmas.List.Elements.{AllZip-get_or}
+use Rattle.std.proofs.lemmas.Option.{get_or_from_slice_get}
 use Rattle.std.proofs.lemmas.Slice.Zip.{AllZip-long}
 use Rattle.dmf_path.specs.declared.pair.Pair.{Pair}
 use Rattle.dmf_path.specs.Step.{Step}
 use Rattle.dmf_path.specs.Path.{IsPath, HasNoPath, IsLeastPath, has_rank, bottleneck_up_to}
 use Rattle.dmf_path.specs.Pair.{steps_of, pushed_pair, pushed_from, pushed_pairs}
-use Rattle.dmf_path.specs.Search.{Searched, with_pairs, Augments, HasAlong, lowered_along}
+use Rattle.dmf_path.specs.Search.{Searched, aimed, along_at, with_pairs, Augments, HasAlong, lowered_along}
 use Rattle.dmf_path.proofs.Loops.{least-without_loops, no_path-without_loops}
 use Rattle.dmf_path.proofs.ShortestPaths.{IsShortestPath, IsShortestPath-least, IsShortestPath-tail}
 use Rattle.dmf_net.specs.declared.arc.Arc.{Arc}
@@ -17,22 +18,18 @@ use Rattle.dmf_net.specs.Arc.{no_arc}
 use Rattle.dmf_net.specs.Network.{Network, arc_number, has_arc}
 use Rattle.dmf_net.specs.Flow.{flow_on, IsFlow}
 use Rattle.dmf_net.specs.Drain.{carrying_steps, lowered, Drains}
-use Rattle.dmf_net.specs.NetworkState.{NetworkState, IsState}
-use Rattle.dmf_net.specs.Pairs.{carrying_pair, carrying_from, return_pair, carrying_pairs, flows_read}
+use Rattle.dmf_net.specs.NetworkState.{NetworkState, IsState, with_flows}
+use Rattle.dmf_net.specs.Pairs.{AreNoMore, KeepLoops, Carries, IsCarryingSearch, carrying_pair, carrying_from, return_pair, carrying_pairs, flows_read}
 use Rattle.dmf_net.specs.declared.moves.FlowLink.TheVariants.{Along}
-use Rattle.dmf_net.proofs.CarryingPairs.{AreNoMore, is_idle, idle-why, length-carrying_pairs, carrying-without_loops}
+use Rattle.dmf_net.proofs.CarryingPairs.{is_idle, idle-why, length-carrying_pairs, carrying-without_loops, pair-of_arc}
 use Rattle.dmf_net.proofs.CarryingSteps.{IsCarrying, along, returns, carrying-contained, carrying-path}
 use Rattle.dmf_net.proofs.ChangedArc.{has_arc-within}
-use Rattle.dmf_net.proofs.Draining.{no_more-same}
+use Rattle.dmf_net.proofs.Draining.{IsNoMore, no_more-same}
 use Rattle.dmf_net.proofs.DrainingWalk.{AreDrainedSoFar, drained-none, drained-more, drained-all}
 use Rattle.dmf_net.proofs.LoweredPairs.{other-rank, carrying_pairs-lowered, no_more-lowered}
 use Rattle.dmf_net.proofs.Lowering.{HaveOwnRanks-least, lowered-amount, lowered-on, unlowered}
 
 -- ---- arcs that come back to their tails
-
--- On an arc that comes back to its tail flows what flowed at first.
-abbrev pub KeepLoops : Network → List ℕ → List ℕ → Type 0
-KeepLoops n firsts flows = (k : ℕ) → k < length n.arcs → (get_or n.arcs k no_arc).tail ≡ (get_or n.arcs k no_arc).head → get_or flows k 0 ≡ get_or firsts k 0
 
 -- A carrying step with the rank of such an arc comes back.
 comes-back : (n : Network) (flows : List ℕ) (s : Step) (k : ℕ) → k < length n.arcs → (get_or n.arcs k no_arc).tail ≡ (get_or n.arcs k no_arc).head → s.rank ≡ 2 * (1 + k) → IsCarrying n flows s → s.to ≡ s.from
@@ -52,8 +49,8 @@ loop-unranked n flows a b k (s ∷ path) within loop shortest =
     rw (ne_eqb s.rank (2 * (1 + k)) apart) (loop-unranked n flows s.to b k path within loop (IsShortestPath-tail (carrying_steps n flows) a b s path shortest))
 
 -- Lowering along a least path leaves what flows on such an arc.
-KeepLoops-lowered : (n : Network) (firsts flows : List ℕ) (j limit : ℕ) (path : List Step) → (arc_number n j).head ≢ (arc_number n j).tail → IsFlow n flows → IsLeastPath (carrying_steps n flows) (arc_number n j).head (arc_number n j).tail path → KeepLoops n firsts flows → KeepLoops n firsts (lowered j limit path flows)
-KeepLoops-lowered n firsts flows j limit path apart flow least kept k within loop =
+KeepLoops-lowered : (n : Network) (unpaired flows : List ℕ) (j limit : ℕ) (path : List Step) → (arc_number n j).head ≢ (arc_number n j).tail → IsFlow n flows → IsLeastPath (carrying_steps n flows) (arc_number n j).head (arc_number n j).tail path → KeepLoops n unpaired flows → KeepLoops n unpaired (lowered j limit path flows)
+KeepLoops-lowered n unpaired flows j limit path apart flow least kept k within loop =
     let same = AllZip-long _ n.arcs flows flow.within in
     let other : 1 + k ≢ j = λ e.
     let index : k ≡ j - 1 = omega (arith, e) in
@@ -76,22 +73,24 @@ slice_get-pushed amount i path (arc ∷ arcs) (first ∷ firsts) (flow ∷ flows
     slice_get-pushed amount (i + 1) path arcs firsts flows last k (omega (arith, within)) (omega (arith, long)) (omega (arith, same))
     ∙ ap (λ m. Some (pushed_pair false m amount path (carrying_pair (get_or arcs k no_arc) (get_or firsts k 0) (get_or flows k 0)))) place
 
--- The room along the pair of an arc is what flows there, and what flows on an arc without a pair is what flowed at first.
-flow-left : (arc : Arc) (first flow : ℕ) (idle : Bool) → is_idle arc first ≡ idle → flow ≤ first → (arc.tail ≡ arc.head → flow ≡ first) → unwrap_or (option_map (λ (p : Pair). p.along) (carrying_pair arc first flow)) first ≡ flow
-flow-left arc first flow false e less kept = rw e refl
-flow-left arc first flow true e less kept =
-    let same : first ≡ flow = ⊎_elim (λ (loop : arc.tail ≡ arc.head). sym (kept loop)) (λ (none : first ≡ 0). omega (arith, none, less)) (idle-why arc first e) in
+-- The room along the pair of an arc is what flows there; what flows on an arc without a pair is told beside it.
+flow-left : (arc : Arc) (first unpaired flow : ℕ) (idle : Bool) → is_idle arc first ≡ idle → flow ≤ first → unpaired ≤ first → (arc.tail ≡ arc.head → flow ≡ unpaired) → unwrap_or (option_map (λ (p : Pair). p.along) (carrying_pair arc first flow)) unpaired ≡ flow
+flow-left arc first unpaired flow false e less fewer kept = rw e refl
+flow-left arc first unpaired flow true e less fewer kept =
+    let same : unpaired ≡ flow = ⊎_elim (λ (loop : arc.tail ≡ arc.head). sym (kept loop)) (λ (none : first ≡ 0). omega (arith, none, less, fewer)) (idle-why arc first e) in
     rw e same
 
--- The flows are read off the pairs of the arcs.
-read-flows : (arcs : List Arc) (firsts flows : List ℕ) (rest : List (Option Pair)) → length firsts ≡ length arcs → AllZip (λ x y. y ≤ x) firsts flows → ((k : ℕ) → k < length arcs → (get_or arcs k no_arc).tail ≡ (get_or arcs k no_arc).head → get_or flows k 0 ≡ get_or firsts k 0) → flows_read Along firsts (carrying_from arcs firsts flows ++ rest) ≡ flows
-read-flows arcs [] [] rest long less kept = refl
-read-flows arcs [] (flow ∷ flows) rest long less kept = absurd less
-read-flows arcs (first ∷ firsts) [] rest long less kept = absurd less
-read-flows [] (first ∷ firsts) (flow ∷ flows) rest long less kept = absurd (omega (arith, long))
-read-flows (arc ∷ arcs) (first ∷ firsts) (flow ∷ flows) rest long less kept =
-    let here = flow-left arc first flow (is_idle arc first) refl less.0 (λ loop. kept 0 (omega arith) loop) in
-    let later = read-flows arcs firsts flows rest (omega (arith, long)) less.1 (λ k h loop. kept (suc k) (omega (arith, h)) loop) in
+-- The flows are read off the pairs of the arcs, and the list.
+read-flows : (arcs : List Arc) (firsts unpaired flows : List ℕ) (rest : List (Option Pair)) → length firsts ≡ length arcs → IsNoMore firsts flows → IsNoMore firsts unpaired → ((k : ℕ) → k < length arcs → (get_or arcs k no_arc).tail ≡ (get_or arcs k no_arc).head → get_or flows k 0 ≡ get_or unpaired k 0) → flows_read Along unpaired (carrying_from arcs firsts flows ++ rest) ≡ flows
+read-flows arcs [] [] [] rest long less fewer kept = refl
+read-flows arcs [] [] (flow ∷ flows) rest long less fewer kept = absurd less
+read-flows arcs [] (u ∷ unpaired) flows rest long less fewer kept = absurd fewer
+read-flows arcs (first ∷ firsts) unpaired [] rest long less fewer kept = absurd less
+read-flows arcs (first ∷ firsts) [] (flow ∷ flows) rest long less fewer kept = absurd fewer
+read-flows [] (first ∷ firsts) (u ∷ unpaired) (flow ∷ flows) rest long less fewer kept = absurd (omega (arith, long))
+read-flows (arc ∷ arcs) (first ∷ firsts) (u ∷ unpaired) (flow ∷ flows) rest long less fewer kept =
+    let here = flow-left arc first u flow (is_idle arc first) refl less.0 fewer.0 (λ loop. kept 0 (omega arith) loop) in
+    let later = read-flows arcs firsts unpaired flows rest (omega (arith, long)) less.1 fewer.1 (λ k h loop. kept (suc k) (omega (arith, h)) loop) in
     λ i. here i ∷ later i
 
 -- the pair of an arc, once it is pushed
@@ -139,29 +138,83 @@ carrying_search n j firsts flows = record {
   takes_back = false;
 }
 
--- The search is that of flows to which draining has come, and `left` is what is still on the arc above the limit.
-pub record IsDraining (s : NetworkState) (j limit left : ℕ) (search : Searched) : Type 0 where
+-- The flows are read off the search and the list.
+pub carries-read : (s : NetworkState) (unpaired flows : List ℕ) (search : Searched) → Carries s unpaired flows search → flows_read Along unpaired search.pairs ≡ flows
+carries-read s unpaired flows search carries =
+    ap (flows_read Along unpaired) carries.pairs_are
+    ∙ read-flows s.network.arcs s.flows unpaired flows (return_pair s.network s.flows flows ∷ []) carries.no_more.one_each carries.no_more.no_more carries.less carries.loops
+
+-- So they are those that are read.
+pub IsCarryingSearch-from : (s : NetworkState) (unpaired flows : List ℕ) (search : Searched) → Carries s unpaired flows search → IsCarryingSearch s unpaired search
+IsCarryingSearch-from s unpaired flows search carries =
+    subst (λ xs. Carries s unpaired xs search) (sym (carries-read s unpaired flows search carries)) carries
+
+-- At first they are the state's.
+pub carries-first : (s : NetworkState) (search : Searched) → IsState s → search.nodes ≡ s.network.nodes → search.pairs ≡ carrying_pairs s.network s.flows s.flows → search.takes_back ≡ false → Carries s s.flows s.flows search
+carries-first s search state nodes pairs none = record {
+  state = state;
+  no_more = record { one_each = AllZip-long _ s.network.arcs s.flows state.flow.within; no_more = no_more-same s.flows; at_sink = omega arith };
+  less = no_more-same s.flows;
+  loops = λ k within loop. refl;
+  nodes_are = nodes;
+  pairs_are = pairs;
+  takes_none_back = none;
+}
+
+-- There is a pair for each flow.
+pub length-carries : (s : NetworkState) (unpaired flows : List ℕ) (search : Searched) → Carries s unpaired flows search → length s.flows ≤ length search.pairs
+length-carries s unpaired flows search carries =
+    let first = carries.no_more.one_each in
+    let same = AllZip-long _ s.flows flows carries.no_more.no_more in
+    let all = length-carrying_pairs s.network s.flows flows first (same ∙ first) in
+    omega (arith, all, first, ap (λ (pairs : List (Option Pair)). length pairs) carries.pairs_are)
+
+-- What the search tells of an arc that leads to another node is what flows there.
+pub carries-along : (s : NetworkState) (unpaired flows : List ℕ) (search : Searched) (j : ℕ) → has_arc s.network j ≡ true → (arc_number s.network j).head ≢ (arc_number s.network j).tail → Carries s unpaired flows search → unwrap_or (along_at search.pairs (j - 1)) 0 ≡ flow_on flows j
+carries-along s unpaired flows search j has apart carries =
+    let n : Network = s.network in
+    let at = has_arc-within n j has in
+    let same = AllZip-long _ s.flows flows carries.no_more.no_more in
+    let long = carries.no_more.one_each in
+    let no_more : flow_on flows j ≤ flow_on s.flows j = AllZip-get_or (λ x y. y ≤ x) s.flows flows (j - 1) 0 0 carries.no_more.no_more (omega (arith, at.1, long)) in
+    let pair = get_or_from_slice_get _ (j - 1) _ None (pair-of_arc n s.flows flows (j - 1) at.1 long (same ∙ long)) in
+    ap (λ pairs. unwrap_or (along_at pairs (j - 1)) 0) carries.pairs_are
+    ∙ ap (λ p. unwrap_or (option_map (λ (p : Pair). p.along) p) 0) pair
+    ∙ flow-left (arc_number n j) (flow_on s.flows j) 0 (flow_on flows j) (is_idle (arc_number n j) (flow_on s.flows j)) refl no_more (omega arith) (λ loop. absurd (apart (sym loop)))
+
+-- ---- draining
+
+-- The search is that of flows to which draining has come from `first`, and `left` is what is still on the arc above the limit.
+pub record IsDraining (s : NetworkState) (unpaired first : List ℕ) (j limit left : ℕ) (search : Searched) : Type 0 where
   pub flows : List ℕ
-  pub so_far : AreDrainedSoFar s j limit flows
+  pub so_far : AreDrainedSoFar (with_flows s first) j limit flows
   pub no_more : AreNoMore s.network s.flows flows
-  pub loops : KeepLoops s.network s.flows flows
+  pub less : IsNoMore s.flows unpaired
+  pub loops : KeepLoops s.network unpaired flows
   pub search_is : search ≡ carrying_search s.network j s.flows flows
   pub left_is : left ≡ flow_on flows j - limit
 
 -- no path yet
-pub draining-begun : (s : NetworkState) (j limit left : ℕ) (search : Searched) → IsState s → left ≡ flow_on s.flows j - limit → search ≡ carrying_search s.network j s.flows s.flows → IsDraining s j limit left search
-draining-begun s j limit left search state left_is is = record {
-  flows = s.flows;
-  so_far = drained-none s j limit state;
-  no_more = record { one_each = AllZip-long _ s.network.arcs s.flows state.flow.within; no_more = no_more-same s.flows; at_sink = omega arith };
-  loops = λ k within loop. refl;
-  search_is = is;
+pub draining-begun : (s : NetworkState) (unpaired first : List ℕ) (j limit left : ℕ) (search : Searched) → left ≡ flow_on first j - limit → Carries s unpaired first search → IsDraining s unpaired first j limit left (aimed search (arc_number s.network j).head (arc_number s.network j).tail)
+draining-begun s unpaired first j limit left search left_is carries = record {
+  flows = first;
+  so_far = drained-none (with_flows s first) j limit carries.state;
+  no_more = carries.no_more;
+  less = carries.less;
+  loops = carries.loops;
+  search_is = λ i. record {
+    nodes = carries.nodes_are i;
+    pairs = carries.pairs_are i;
+    start = (arc_number s.network j).head;
+    goal = (arc_number s.network j).tail;
+    takes_back = carries.takes_none_back i;
+  };
   left_is = left_is;
 }
 
 -- A path is left, while more than the limit is on the arc.
-pub draining-has_path : (s : NetworkState) (j limit left : ℕ) (search : Searched) → has_arc s.network j ≡ true → 0 < left → IsDraining s j limit left search → ¬ HasNoPath (steps_of search.pairs) search.start search.goal
-draining-has_path s j limit left search has some draining none =
+pub draining-has_path : (s : NetworkState) (unpaired first : List ℕ) (j limit left : ℕ) (search : Searched) → has_arc s.network j ≡ true → 0 < left → IsDraining s unpaired first j limit left search → ¬ HasNoPath (steps_of search.pairs) search.start search.goal
+draining-has_path s unpaired first j limit left search has some draining none =
     let n : Network = s.network in
     let state = draining.so_far.state in
     let found = carrying-path n draining.flows j state.network state.flow state.value_from_zero has (omega (arith, some, draining.left_is)) in
@@ -171,14 +224,14 @@ draining-has_path s j limit left search has some draining none =
     no_path-without_loops (carrying_steps n draining.flows) (steps_of (carrying_pairs n s.flows draining.flows)) (arc_number n j).head (arc_number n j).tail without here found.path found.leads
 
 -- What is said of one path more: the amount is above 0, no more than is left, and the arc's link has room for it.
-pub record DrainsOnce (s : NetworkState) (j limit left amount : ℕ) (next : Searched) : Type 0 where
+pub record DrainsOnce (s : NetworkState) (unpaired first : List ℕ) (j limit left amount : ℕ) (next : Searched) : Type 0 where
   pub some : 0 < amount
   pub within : amount ≤ left
   pub room : HasAlong next.pairs (j - 1) amount
-  pub draining : IsDraining s j limit (left - amount) (with_pairs next (lowered_along next.pairs (j - 1) amount))
+  pub draining : IsDraining s unpaired first j limit (left - amount) (with_pairs next (lowered_along next.pairs (j - 1) amount))
 
-pub draining-once : (s : NetworkState) (j limit left amount : ℕ) (search next : Searched) → has_arc s.network j ≡ true → (arc_number s.network j).head ≢ (arc_number s.network j).tail → 0 < left → IsDraining s j limit left search → Augments left amount search next → DrainsOnce s j limit left amount next
-draining-once s j limit left amount search next has apart some draining augments =
+pub draining-once : (s : NetworkState) (unpaired first : List ℕ) (j limit left amount : ℕ) (search next : Searched) → has_arc s.network j ≡ true → (arc_number s.network j).head ≢ (arc_number s.network j).tail → 0 < left → IsDraining s unpaired first j limit left search → Augments left amount search next → DrainsOnce s unpaired first j limit left amount next
+draining-once s unpaired first j limit left amount search next has apart some draining augments =
     let n : Network = s.network in
     let flows : List ℕ = draining.flows in
     let old : Searched = carrying_search n j s.flows flows in
@@ -199,9 +252,10 @@ draining-once s j limit left amount search next has apart some draining augments
       room = subst (λ pairs. HasAlong pairs (j - 1) amount) (sym (ap (λ (x : Searched). x.pairs) own.gives)) along;
       draining = record {
         flows = lowered j limit path flows;
-        so_far = drained-more s j limit flows path has above least draining.so_far;
+        so_far = drained-more (with_flows s first) j limit flows path has above least draining.so_far;
         no_more = no_more-lowered n s.flows flows j limit path draining.no_more above has state.network state.flow least;
-        loops = KeepLoops-lowered n s.flows flows j limit path apart state.flow least draining.loops;
+        less = draining.less;
+        loops = KeepLoops-lowered n unpaired flows j limit path apart state.flow least draining.loops;
         search_is =
             ap (λ (x : Searched). with_pairs x (lowered_along x.pairs (j - 1) amount)) own.gives
             ∙ ap (λ m. with_pairs old (lowered_along (pushed_pairs false m path old.pairs) (j - 1) m)) is
@@ -210,20 +264,19 @@ draining-once s j limit left amount search next has apart some draining augments
       };
     }
 
--- There is a pair for each flow.
-pub draining-length : (s : NetworkState) (j limit left : ℕ) (search : Searched) → IsDraining s j limit left search → length s.flows ≤ length search.pairs
-draining-length s j limit left search draining =
-    let first = draining.no_more.one_each in
-    let same = AllZip-long _ s.flows draining.flows draining.no_more.no_more in
-    let all = length-carrying_pairs s.network s.flows draining.flows first (same ∙ first) in
-    omega (arith, all, first, ap (λ (x : Searched). length x.pairs) draining.search_is)
-
--- Where nothing is left, the arc is drained, and what is read off the search is what draining leaves.
-pub draining-done : (s : NetworkState) (j limit left : ℕ) (search : Searched) → left ≤ 0 → IsDraining s j limit left search → Drains s.network j limit s.flows (flows_read Along s.flows search.pairs)
-draining-done s j limit left search done draining =
-    let n : Network = s.network in
+-- Where nothing is left, the arc is drained, and the search carries what draining leaves.
+pub draining-done : (s : NetworkState) (unpaired first : List ℕ) (j limit left : ℕ) (search : Searched) → left ≤ 0 → IsDraining s unpaired first j limit left search → IsCarryingSearch s unpaired search × Drains s.network j limit first (flows_read Along unpaired search.pairs)
+draining-done s unpaired first j limit left search done draining =
     let flows : List ℕ = draining.flows in
-    let read : flows_read Along s.flows search.pairs ≡ flows =
-    ap (λ (x : Searched). flows_read Along s.flows x.pairs) draining.search_is
-    ∙ read-flows n.arcs s.flows flows (return_pair n s.flows flows ∷ []) draining.no_more.one_each draining.no_more.no_more draining.loops in
-    subst (Drains n j limit s.flows) (sym read) (drained-all s j limit flows (omega (arith, done, draining.left_is)) draining.so_far)
+    let carries : Carries s unpaired flows search = record {
+      state = draining.so_far.state;
+      no_more = draining.no_more;
+      less = draining.less;
+      loops = draining.loops;
+      nodes_are = ap (λ (x : Searched). x.nodes) draining.search_is;
+      pairs_are = ap (λ (x : Searched). x.pairs) draining.search_is;
+      takes_none_back = ap (λ (x : Searched). x.takes_back) draining.search_is;
+    } in (
+      IsCarryingSearch-from s unpaired flows search carries,
+      subst (Drains s.network j limit first) (sym (carries-read s unpaired flows search carries)) (drained-all (with_flows s first) j limit flows (omega (arith, done, draining.left_is)) draining.so_far),
+    )

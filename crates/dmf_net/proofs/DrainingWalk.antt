@@ -61,7 +61,7 @@ draining-moves s j limit last moves state has drains is =
     }
 
 -- no flow differs from itself
-differences-none : (j : ℕ) (flows : List ℕ) → differences j flows flows ≡ []
+pub differences-none : (j : ℕ) (flows : List ℕ) → differences j flows flows ≡ []
 differences-none j [] = refl
 differences-none j (x ∷ flows) = rw (eq-eqb x x refl) (differences-none (j + 1) flows)
 

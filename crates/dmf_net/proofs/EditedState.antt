@@ -1,6 +1,7 @@
 -- A state as an edit leaves it, read through the edit.
 use Rattle.std.proofs.Common.{ℕ, ◌≡◌, ◌≢◌, ◌+◌, ◌-◌, ◌^◌, ◌<◌, ◌≤◌, ◌==◌, List, [], ◌∷◌, ◌++◌, length, get_or, set, take, drop, suc, cond, true, false, sum_by, refl, ap, sym, ◌∙◌, subst, arith, ⊎_elim, eq-eqb}
 use Rattle.std.specs.List.{zip}
+use Rattle.std.specs.List.Sorted.{IsStrictlyIncreasing}
 use Rattle.std.proofs.lemmas.Bool.{ne_eqb}
 use Rattle.std.proofs.lemmas.Bool.Decides.{eqb_tells}
 use Rattle.std.proofs.lemmas.List.{get_or-set_same, get_or-set_other, length-set, length_push, get_or_append_left, take_all}
@@ -11,16 +12,17 @@ use Rattle.std.proofs.Math.ListN.{drop_of_length-le}
 use Rattle.std.proofs.Math.Seq.{drop-cons, get_or-append_seam}
 use Rattle.dmf_net.specs.declared.arc.Arc.{Arc}
 use Rattle.dmf_net.specs.declared.edit.Edit.{Edit}
-use Rattle.dmf_net.specs.declared.edit.Edit.TheVariants.{Cap, Add, Close, Solve}
+use Rattle.dmf_net.specs.declared.edit.Edit.TheVariants.{Cap, Add, Close, Shut, Solve}
 use Rattle.dmf_net.specs.declared.edit.Move.{Move}
 use Rattle.dmf_net.specs.Arc.{no_arc, capacity_sum, with_cap, closed_arc, open_arc}
-use Rattle.dmf_net.specs.Edit.{moved, applied, MovesFit}
-use Rattle.dmf_net.specs.Edited.{arc_after, added_arc}
+use Rattle.dmf_net.specs.Edit.{moved, applied, numbers, MovesFit, ArcFits}
+use Rattle.dmf_net.specs.Edited.{arc_after, added_arc, shuttings_of}
 use Rattle.dmf_net.specs.Flow.{AreWithinCapacities, flow_value}
 use Rattle.dmf_net.specs.FlowSums.{IsNodeFlow}
-use Rattle.dmf_net.specs.Network.{arc_number}
+use Rattle.dmf_net.specs.Network.{Network, arc_number}
 use Rattle.dmf_net.specs.NetworkState.{NetworkState}
 use Rattle.dmf_net.proofs.ChangedArc.{flow_value-with_arc}
+use Rattle.dmf_net.proofs.ClosedTogether.{arc-closed, increasing-open, length-closed, nodes-closed, source-closed, sink-closed, value-with_closed}
 use Rattle.dmf_net.proofs.IdleArc.{flow_value-idle}
 use Rattle.dmf_net.proofs.Moving.{no_move, MovesFit-made}
 use Rattle.dmf_net.proofs.Summing.{at_node, sum-more, part-le, flows-le-capacities}
@@ -65,8 +67,8 @@ AddsNone edit = (tail head cap : ℕ) → edit ≡ Add tail head cap → ⊥
 -- ---- arcs
 
 -- an arc that was there before
-pub arc-after : (edit : Edit) (s : NetworkState) (k : ℕ) → k < length s.network.arcs → get_or (applied edit s).network.arcs k no_arc ≡ arc_after edit k (get_or s.network.arcs k no_arc)
-arc-after (Cap j old new moves) s k h = ⊎_elim
+pub arc-after : (edit : Edit) (s : NetworkState) (k : ℕ) → IsStrictlyIncreasing (0 ∷ numbers (shuttings_of edit)) → k < length s.network.arcs → get_or (applied edit s).network.arcs k no_arc ≡ arc_after edit k (get_or s.network.arcs k no_arc)
+arc-after (Cap j old new moves) s k increasing h = ⊎_elim
     (λ (here : ((k == j - 1) ≡ true) × (k ≡ j - 1)).
     rw here.0
     (ap (λ i. get_or (set s.network.arcs (j - 1) (with_cap new (arc_number s.network j))) i no_arc) here.1
@@ -74,7 +76,7 @@ arc-after (Cap j old new moves) s k h = ⊎_elim
     ∙ ap (λ i. with_cap new (get_or s.network.arcs i no_arc)) (sym here.1)))
     (λ (other : ((k == j - 1) ≡ false) × (k ≢ j - 1)). rw other.0 (get_or-set_other s.network.arcs (j - 1) k (with_cap new (arc_number s.network j)) no_arc other.1))
     (eqb_tells k (j - 1))
-arc-after (Close j old moves) s k h = ⊎_elim
+arc-after (Close j old moves) s k increasing h = ⊎_elim
     (λ (here : ((k == j - 1) ≡ true) × (k ≡ j - 1)).
     rw here.0
     (ap (λ i. get_or (set s.network.arcs (j - 1) (closed_arc (arc_number s.network j))) i no_arc) here.1
@@ -82,8 +84,17 @@ arc-after (Close j old moves) s k h = ⊎_elim
     ∙ ap (λ i. closed_arc (get_or s.network.arcs i no_arc)) (sym here.1)))
     (λ (other : ((k == j - 1) ≡ false) × (k ≢ j - 1)). rw other.0 (get_or-set_other s.network.arcs (j - 1) k (closed_arc (arc_number s.network j)) no_arc other.1))
     (eqb_tells k (j - 1))
-arc-after (Add tail head cap) s k h = get_or_append_left s.network.arcs (open_arc tail head cap ∷ []) no_arc k h
-arc-after (Solve moves) s k h = refl
+arc-after (Add tail head cap) s k increasing h = get_or_append_left s.network.arcs (open_arc tail head cap ∷ []) no_arc k h
+arc-after (Shut arcs moves) s k increasing h = arc-closed 0 arcs.items s.network k increasing h
+arc-after (Solve moves) s k increasing h = refl
+
+-- The numbers of the arcs that an edit shuts ascend where it fits.
+pub increasing-fits : (edit : Edit) (n : Network) → ArcFits edit n → IsStrictlyIncreasing (0 ∷ numbers (shuttings_of edit))
+increasing-fits (Shut arcs moves) n fits = increasing-open 0 arcs.items n fits
+increasing-fits (Cap j old new moves) n fits = λ k h. absurd (omega (arith, h))
+increasing-fits (Close j old moves) n fits = λ k h. absurd (omega (arith, h))
+increasing-fits (Add tail head cap) n fits = λ k h. absurd (omega (arith, h))
+increasing-fits (Solve moves) n fits = λ k h. absurd (omega (arith, h))
 
 -- an arc past them
 pub arc-added : (edit : Edit) (s : NetworkState) (k : ℕ) → length s.network.arcs ≤ k → k < length (applied edit s).network.arcs → get_or (applied edit s).network.arcs k no_arc ≡ added_arc edit
@@ -92,6 +103,7 @@ arc-added (Close j old moves) s k past h = absurd (omega (arith, past, h, length
 arc-added (Add tail head cap) s k past h =
     let last : k ≡ length s.network.arcs = omega (arith, past, h, length_push s.network.arcs (open_arc tail head cap)) in
     ap (λ i. get_or (s.network.arcs ++ open_arc tail head cap ∷ []) i no_arc) last ∙ get_or-append_seam s.network.arcs (open_arc tail head cap) [] no_arc
+arc-added (Shut arcs moves) s k past h = absurd (omega (arith, past, h, length-closed arcs.items s.network))
 arc-added (Solve moves) s k past h = absurd (omega (arith, past, h))
 
 -- ---- what stays
@@ -100,18 +112,28 @@ pub nodes-after : (edit : Edit) (s : NetworkState) → (applied edit s).network.
 nodes-after (Cap j old new moves) s = refl
 nodes-after (Close j old moves) s = refl
 nodes-after (Add tail head cap) s = refl
+nodes-after (Shut arcs moves) s = nodes-closed arcs.items s.network
 nodes-after (Solve moves) s = refl
+
+pub source-after : (edit : Edit) (s : NetworkState) → (applied edit s).network.source ≡ s.network.source
+source-after (Cap j old new moves) s = refl
+source-after (Close j old moves) s = refl
+source-after (Add tail head cap) s = refl
+source-after (Shut arcs moves) s = source-closed arcs.items s.network
+source-after (Solve moves) s = refl
 
 pub sink-after : (edit : Edit) (s : NetworkState) → (applied edit s).network.sink ≡ s.network.sink
 sink-after (Cap j old new moves) s = refl
 sink-after (Close j old moves) s = refl
 sink-after (Add tail head cap) s = refl
+sink-after (Shut arcs moves) s = sink-closed arcs.items s.network
 sink-after (Solve moves) s = refl
 
 pub arcs-most : (edit : Edit) (s : NetworkState) → length (applied edit s).network.arcs ≤ length s.network.arcs + 1
 arcs-most (Cap j old new moves) s = omega (arith, length-set s.network.arcs (j - 1) (with_cap new (arc_number s.network j)))
 arcs-most (Close j old moves) s = omega (arith, length-set s.network.arcs (j - 1) (closed_arc (arc_number s.network j)))
 arcs-most (Add tail head cap) s = omega (arith, length_push s.network.arcs (open_arc tail head cap))
+arcs-most (Shut arcs moves) s = omega (arith, length-closed arcs.items s.network)
 arcs-most (Solve moves) s = omega arith
 
 -- ---- the value
@@ -121,6 +143,8 @@ pub value-same : (edit : Edit) (s : NetworkState) → AddsNone edit → length (
 value-same (Cap j old new moves) s none long = flow_value-with_arc s.network j (with_cap new (arc_number s.network j)) (moved moves.items s.flows) refl refl long
 value-same (Close j old moves) s none long = flow_value-with_arc s.network j (closed_arc (arc_number s.network j)) (moved moves.items s.flows) refl refl long
 value-same (Add tail head cap) s none long = absurd (none tail head cap refl)
+value-same (Shut arcs moves) s none long =
+    value-with_closed arcs.items s.network (moved moves.items s.flows) long
 value-same (Solve moves) s none long = refl
 
 -- It has as many arcs.
@@ -128,6 +152,7 @@ pub arcs-long : (edit : Edit) (s : NetworkState) → AddsNone edit → length (a
 arcs-long (Cap j old new moves) s none = length-set s.network.arcs (j - 1) (with_cap new (arc_number s.network j))
 arcs-long (Close j old moves) s none = length-set s.network.arcs (j - 1) (closed_arc (arc_number s.network j))
 arcs-long (Add tail head cap) s none = absurd (none tail head cap refl)
+arcs-long (Shut arcs moves) s none = length-closed arcs.items s.network
 arcs-long (Solve moves) s none = refl
 
 -- The value after an arc is added is that before.

@@ -17,6 +17,8 @@ pub mod Carrying
 pub mod CarryingSteps
 pub mod ChangedArc
 pub mod ChangedState
+pub mod ClosedTogether
+pub mod FoundArc
 pub mod EditedState
 pub mod Lowering
 pub mod Draining
@@ -41,4 +43,9 @@ pub mod LoweredValue
 pub mod CarryingPairs
 pub mod LoweredPairs
 pub mod DrainingSearch
+pub mod DrainedInTurn
+pub mod ClosedArcs
+pub mod OpenArcs
+pub mod UnpairedLoop
+pub mod ClosedStates
 pub mod Equality

@@ -13,8 +13,8 @@ use Rattle.dmf_net.specs.declared.arc.Arc.{Arc}
 use Rattle.dmf_net.specs.Network.{Network, IsNetwork, arc_number, has_arc}
 use Rattle.dmf_net.specs.Flow.{flow_on, IsFlow}
 use Rattle.dmf_net.specs.Drain.{value_or_zero, carrying_steps, lowered_from, lowered}
-use Rattle.dmf_net.specs.Pairs.{carrying_pair, carrying_from, return_pair, carrying_pairs}
-use Rattle.dmf_net.proofs.CarryingPairs.{AreNoMore, is_idle}
+use Rattle.dmf_net.specs.Pairs.{AreNoMore, carrying_pair, carrying_from, return_pair, carrying_pairs}
+use Rattle.dmf_net.proofs.CarryingPairs.{is_idle}
 use Rattle.dmf_net.proofs.ChangedArc.{has_arc-within}
 use Rattle.dmf_net.proofs.Draining.{no_more-in_turn}
 use Rattle.dmf_net.proofs.LoweredValue.{value_or_zero-lowered}

@@ -1,39 +1,24 @@
 -- What taking an edit back makes of the state that the edit made.
-use Rattle.std.proofs.Common.{ℕ, ◌≡◌, ◌-◌, ◌+◌, ◌≤◌, List, [], ◌∷◌, ◌++◌, length, take, map, get_or, set, false, refl, ap, ◌∙◌, sym, subst, arith}
-use Rattle.std.proofs.lemmas.List.{take_at, length_push, get_or_push, get_or-set_same, set-set, set-get_or}
+use Rattle.std.proofs.Common.{ℕ, ◌≡◌, ◌-◌, ◌+◌, ◌≤◌, List, [], ◌∷◌, ◌++◌, length, take, map, get_or, false, refl, ap, ◌∙◌, sym, subst, arith}
+use Rattle.std.proofs.lemmas.List.{take_at, length_push, get_or_push}
 use Rattle.std.proofs.lemmas.List.Sums.{sum_by_push}
 use Rattle.std.proofs.lemmas.Slice.Zip.{AllZip-long}
 use Rattle.dmf_net.specs.declared.arc.Arc.{Arc}
 use Rattle.dmf_net.specs.declared.edit.Edit.{Edit}
-use Rattle.dmf_net.specs.declared.edit.Edit.TheVariants.{Cap, Add, Close, Solve}
+use Rattle.dmf_net.specs.declared.edit.Edit.TheVariants.{Cap, Add, Close, Shut, Solve}
 use Rattle.dmf_net.specs.declared.edit.Move.{Move}
 use Rattle.dmf_net.specs.declared.flow_sums.NodeFlow.{NodeFlow}
 use Rattle.dmf_net.specs.Arc.{no_arc, open_arc, with_cap, closed_arc, capacity_sum, open_count}
-use Rattle.dmf_net.specs.Network.{Network, arc_number, with_arc}
+use Rattle.dmf_net.specs.Network.{arc_number}
 use Rattle.dmf_net.specs.NetworkState.{NetworkState, IsState, with_idle_arc}
 use Rattle.dmf_net.specs.Totals.{KeepsTotals}
-use Rattle.dmf_net.specs.Edit.{IsOpenWith, MovesFit, moves_of}
-use Rattle.dmf_net.specs.Revert.{opposite, with_open, without_last, reverted, Stands}
+use Rattle.dmf_net.specs.Edit.{MovesFit, moves_of}
+use Rattle.dmf_net.specs.Revert.{opposite, without_last, reverted, Stands}
 use Rattle.dmf_net.specs.Direction.{HasIdleLast}
 use Rattle.dmf_net.proofs.IdleArc.{flow_at-idle}
-use Rattle.dmf_net.proofs.ChangedArc.{has_arc-within}
+use Rattle.dmf_net.proofs.ClosedTogether.{with_open-replaced, with_opened-closed}
 use Rattle.dmf_net.proofs.TakenBack.{moved_back-moved, MovesFit-opposite}
 use Rattle.dmf_net.specs.Laws.{HasOneBefore, GivesBack}
-
--- An open arc is the one with its ends and its capacity.
-open_arc-same : (a : Arc) (cap : ℕ) → a.closed ≡ false → a.cap ≡ cap → open_arc a.tail a.head cap ≡ a
-open_arc-same a cap is_open is_cap = λ i. record { tail = a.tail; head = a.head; cap = sym is_cap i; closed = sym is_open i }
-
--- The open arc put back in the place of another with its ends.
-with_open-replaced : (n : Network) (j cap : ℕ) (arc : Arc) → IsOpenWith n j cap → arc.tail ≡ (arc_number n j).tail → arc.head ≡ (arc_number n j).head → with_open (with_arc n j arc) j cap ≡ n
-with_open-replaced n j cap arc is tail head =
-    let k : ℕ = j - 1 in
-    let put : arc_number (with_arc n j arc) j ≡ arc = get_or-set_same n.arcs k arc no_arc (has_arc-within n j is.is_there).1 in
-    let back : open_arc arc.tail arc.head cap ≡ arc_number n j =
-    ap (λ v. open_arc v arc.head cap) tail ∙ ap (λ v. open_arc (arc_number n j).tail v cap) head ∙ open_arc-same (arc_number n j) cap is.is_open is.has_cap in
-    let arcs : (with_open (with_arc n j arc) j cap).arcs ≡ n.arcs =
-    ap (λ a. set (set n.arcs k arc) k (open_arc a.tail a.head cap)) put ∙ ap (λ a. set (set n.arcs k arc) k a) back ∙ set-set n.arcs k arc (arc_number n j) ∙ set-get_or n.arcs k no_arc in
-    λ i. record { nodes = n.nodes; source = n.source; sink = n.sink; arcs = arcs i }
 
 -- a list without what was put at its end
 take-push : {A : Type 0} (xs : List A) (x : A) → take (length (xs ++ x ∷ []) - 1) (xs ++ x ∷ []) ≡ xs
@@ -58,6 +43,10 @@ gives-back (Close j old moves) s fits =
     let network = with_open-replaced s.network j old (closed_arc (arc_number s.network j)) fits.arc refl refl in
     let flows = moved_back-moved 0 moves.items s.flows fits.moves in
     λ i. record { network = network i; flows = flows i }
+gives-back (Shut arcs moves) s fits =
+    let network = with_opened-closed 0 arcs.items s.network fits.arc in
+    let flows = moved_back-moved 0 moves.items s.flows fits.moves in
+    λ i. record { network = network i; flows = flows i }
 gives-back (Solve moves) s fits =
     let flows = moved_back-moved 0 moves.items s.flows fits.moves in
     λ i. record { network = s.network; flows = flows i }
@@ -70,6 +59,7 @@ pub fit-back : (edit : Edit) (t : NetworkState) (moves : List Move) → Stands e
 fit-back (Add tail head cap) t moves stands is = rw (← is) tt
 fit-back (Cap j old new of_it) t moves stands is = rw (← is) (rw (← stands.gives) (MovesFit-opposite 0 of_it.items stands.before.flows stands.fits.moves))
 fit-back (Close j old of_it) t moves stands is = rw (← is) (rw (← stands.gives) (MovesFit-opposite 0 of_it.items stands.before.flows stands.fits.moves))
+fit-back (Shut arcs of_it) t moves stands is = rw (← is) (rw (← stands.gives) (MovesFit-opposite 0 of_it.items stands.before.flows stands.fits.moves))
 fit-back (Solve of_it) t moves stands is = rw (← is) (rw (← stands.gives) (MovesFit-opposite 0 of_it.items stands.before.flows stands.fits.moves))
 
 -- and what is left without it is a state.

@@ -1,5 +1,5 @@
 -- A change that is not refused has an outcome.
-use Rattle.std.proofs.Common.{ℕ, ◌≡◌, ◌+◌, ◌^◌, ◌&&◌, zero, suc, Bool, true, false, cond, List, [], ◌∷◌, length, Some, None, is_none, option_map, pos, ◌+ℤ◌, ◌≤ℤ◌, ◌<ℤ◌, ltb, inl, inr, refl, arith, ltb-true}
+use Rattle.std.proofs.Common.{ℕ, ◌≡◌, ◌+◌, ◌^◌, ◌&&◌, zero, suc, Bool, true, false, cond, List, [], ◌∷◌, length, Some, None, is_none, option_map, pos, ◌+ℤ◌, ◌≤ℤ◌, ◌<ℤ◌, ltb, inl, inr, refl, sym, subst, arith, ltb-true}
 use Rattle.std.proofs.lemmas.Bool.{both_ways}
 use Rattle.std.proofs.lemmas.Int.{ints}
 use Rattle.std.proofs.lemmas.Slice.Zip.{AllZip-long}
@@ -8,21 +8,23 @@ use Rattle.dmf_net.specs.declared.fault.ArcFault.TheVariants.{NoSuchNode, TooMan
 use Rattle.dmf_net.specs.declared.fault.PlanFault.TheVariants as plan
 use Rattle.dmf_net.specs.declared.fault.PlanFault.TheVariants.{Closed, NoSuchArc}
 use Rattle.dmf_path.specs.Node.{is_node}
-use Rattle.dmf_net.specs.Arc.{IsArc, open_arc, with_cap, closed_arc, capacity_sum}
+use Rattle.dmf_net.specs.Arc.{IsArc, open_arc, with_cap, closed_arc, capacity_sum, open_arcs_at}
 use Rattle.dmf_net.specs.Network.{Network, IsNetwork, arc_number, has_arc, with_arc}
 use Rattle.dmf_net.specs.Flow.{IsFlow, flow_value}
 use Rattle.dmf_net.specs.NetworkState.{NetworkState, IsState, with_idle_arc, with_flows}
 use Rattle.dmf_net.specs.Residual.{residual_steps, augmented}
 use Rattle.dmf_net.specs.Solve.{Solves}
 use Rattle.dmf_net.specs.Drain.{Drains}
-use Rattle.dmf_net.specs.Change.{Cap, Add, Close, Solve, plan_fault, sum_with}
+use Rattle.dmf_net.specs.Change.{Cap, Add, Close, Shut, Solve, Closes, plan_fault, sum_with}
 use Rattle.dmf_net.proofs.IdleArc.{IsState-idle, IsNode-is_node}
 use Rattle.dmf_path.proofs.SomeLeast.{SomeLeast, least-or-none}
 use Rattle.dmf_net.proofs.ResidualSteps.{AreSteps-residual}
 use Rattle.dmf_net.proofs.ChangedArc.{IsNetwork-with_arc, IsFlow-with_arc, flow_value-with_arc}
 use Rattle.dmf_net.proofs.Draining.{drains-state, SomeDrained, some-drained}
+use Rattle.dmf_net.proofs.DrainedInTurn.{HasArcs}
+use Rattle.dmf_net.proofs.ClosedTogether.{IsNetwork-closed, HasArcs-closed, HasArcs-at}
 use Rattle.dmf_net.proofs.Augmenting.{room-positive, augmented-flow, augmented-value, value-le-capacities}
-use Rattle.dmf_net.specs.Laws.{HasOutcome}
+use Rattle.dmf_net.specs.Laws.{HasOutcome, Outcome}
 
 -- A flow at which augmenting ends, of a value no smaller.
 record Solved (n : Network) (flows : List ℕ) : Type 0 where
@@ -94,6 +96,31 @@ IsState-drained s j arc last state has tail head network drains =
       value_from_zero = rw (flow_value-with_arc s.network j arc last tail head (AllZip-long _ s.network.arcs last left.0.flow.within)) left.1;
     }
 
+-- An arc can be closed,
+some-closed : (s : NetworkState) (j : ℕ) → IsState s → has_arc s.network j ≡ true → Outcome s (Close j)
+some-closed s j state has =
+    let arc : Arc = closed_arc (arc_number s.network j) in
+    let found : SomeDrained s.network j 0 s.flows = some-drained s.network j 0 s.flows state.network state.flow state.value_from_zero has in
+    record {
+      after = record { network = with_arc s.network j arc; flows = found.last };
+      state = IsState-drained s j arc found.last state has refl refl (IsNetwork-closed s.network j state.network has) found.drains;
+      becomes = (refl, found.drains);
+    }
+
+-- and so can arcs in turn.
+record SomeClosed (js : List ℕ) (s : NetworkState) : Type 0 where
+  after : NetworkState
+  state : IsState after
+  closes : Closes js s after
+
+some-closed_in_turn : (js : List ℕ) (s : NetworkState) → IsState s → HasArcs s.network js → SomeClosed js s
+some-closed_in_turn [] s state has = record { after = s; state = state; closes = refl }
+some-closed_in_turn (j ∷ js) s state has =
+    let first = some-closed s j state has.0 in
+    let there = subst (λ n. HasArcs n js) (sym first.becomes.0) (HasArcs-closed s.network j js has.1) in
+    let rest = some-closed_in_turn js first.after first.state there in
+    record { after = rest.after; state = rest.state; closes = (first.after, first.becomes, rest.closes) }
+
 pub some-outcome : HasOutcome
 some-outcome s (Cap j cap) state accepted =
     let n : Network = s.network in
@@ -108,17 +135,7 @@ some-outcome s (Cap j cap) state accepted =
       becomes = (refl, found.drains);
     }
 some-outcome s (Close j) state accepted =
-    let n : Network = s.network in
-    let arc : Arc = closed_arc (arc_number n j) in
-    let passes = close-passes (has_arc n j) (arc_number n j).closed accepted in
-    let network : IsNetwork (with_arc n j arc) =
-    IsNetwork-with_arc n j arc state.network passes.0 refl refl (λ closed. refl) (omega (arith, state.network.capacities)) in
-    let found : SomeDrained n j 0 s.flows = some-drained n j 0 s.flows state.network state.flow state.value_from_zero passes.0 in
-    record {
-      after = record { network = with_arc n j arc; flows = found.last };
-      state = IsState-drained s j arc found.last state passes.0 refl refl network found.drains;
-      becomes = (refl, found.drains);
-    }
+    some-closed s j state (close-passes (has_arc s.network j) (arc_number s.network j).closed accepted).0
 some-outcome s (Add tail head cap) state accepted =
     let passes = each-passes (is_node s.network.nodes tail) (is_node s.network.nodes head) (ltb (length s.network.arcs) (2 ^ 27)) (ltb (capacity_sum s.network.arcs + cap) (2 ^ 64)) accepted in
     let arc : IsArc s.network.nodes (open_arc tail head cap) = record {
@@ -131,6 +148,9 @@ some-outcome s (Add tail head cap) state accepted =
       state = IsState-idle s (open_arc tail head cap) state arc (ltb-true _ _ passes.2) (ltb-true _ _ passes.3);
       becomes = refl;
     }
+some-outcome s (Shut v) state accepted =
+    let found = some-closed_in_turn (open_arcs_at v 1 s.network.arcs) s state (HasArcs-at v s.network) in
+    record { after = found.after; state = found.state; becomes = found.closes }
 some-outcome s Solve state accepted =
     let found : Solved s.network s.flows = solved s.network state.network (suc (capacity_sum s.network.arcs)) s.flows state.flow (omega (arith, ints, state.value_from_zero)) in
     record {

@@ -1,6 +1,6 @@
 -- Arcs and sums over them.
 -- Public: a public contract says no more than this.
-use Rattle.std.specs.Prelude.{ℕ, ◌≡◌, List, true, false, not, sum_by, count_by}
+use Rattle.std.specs.Prelude.{ℕ, ◌≡◌, ◌+◌, ◌==◌, ◌&&◌, ◌||◌, if◌then◌else◌, Bool, List, [], ◌∷◌, true, false, not, sum_by, count_by}
 use Rattle.dmf_net.specs.declared.arc.Arc.{Arc}
 use Rattle.dmf_path.specs.Node.{IsNode}
 
@@ -33,3 +33,15 @@ capacity_sum arcs = sum_by (λ arc. arc.cap) arcs
 -- how many of the arcs are open
 abbrev pub open_count : List Arc → ℕ
 open_count arcs = count_by (λ arc. not arc.closed) arcs
+
+-- whether the arc is open and has node `v` as its tail or its head
+abbrev pub is_open_at : ℕ → Arc → Bool
+is_open_at v arc = not arc.closed && (arc.tail == v || arc.head == v)
+
+-- the numbers of the open arcs at node `v`, which have it as their tail or their head, ascending, the first arc of the list being
+-- number `j`
+abbrev pub open_arcs_at : ℕ → ℕ → List Arc → List ℕ
+open_arcs_at v j [] = []
+open_arcs_at v j (arc ∷ arcs) =
+    if is_open_at v arc then j ∷ open_arcs_at v (j + 1) arcs
+    else open_arcs_at v (j + 1) arcs

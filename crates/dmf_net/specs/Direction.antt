@@ -3,9 +3,12 @@
 use Rattle.std.specs.Prelude.{◌≡◌, List, map, false}
 use Rattle.dmf_net.specs.declared.arc.Arc.{Arc}
 use Rattle.dmf_net.specs.declared.edit.Move.{Move}
+use Rattle.dmf_net.specs.declared.edit.Shutting.{Shutting}
 use Rattle.dmf_net.specs.declared.moves.Direction.{Direction}
 use Rattle.dmf_net.specs.declared.moves.Direction.TheVariants.{Forward, Back}
 use Rattle.dmf_net.specs.NetworkState.{NetworkState, IsState, with_idle_arc}
+use Rattle.dmf_net.specs.Edit.{AreOpenWith, with_closed}
+use Rattle.dmf_net.specs.Network.{Network}
 use Rattle.dmf_net.specs.Revert.{opposite}
 
 -- the move, or the one that takes it back
@@ -17,6 +20,13 @@ step_along Back m = opposite m
 abbrev pub along : Direction → List Move → List Move
 along Forward moves = moves
 along Back moves = map opposite moves
+
+-- These arcs were closed together, and with them open this is a state.
+pub record AreClosed (arcs : List Shutting) (t : NetworkState) : Type 0 where
+  pub before : Network
+  pub state : IsState (record { network = before; flows = t.flows })
+  pub are_open : AreOpenWith 0 arcs before
+  pub gives : with_closed arcs before ≡ t.network
 
 -- The last arc is open, nothing flows on it, and without it this is a state.
 pub record HasIdleLast (t : NetworkState) : Type 0 where

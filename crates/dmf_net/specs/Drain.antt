@@ -63,10 +63,10 @@ pub record Drains (n : Network) (j limit : ℕ) (flows last : List ℕ) : Type 0
   pub lowers : Lowers n j limit flows paths last
   pub within : flow_on last j ≤ limit
 
--- What draining takes off: no flow is more than before, what is left is a flow, and its value is less by at most what was
--- on the arc above the limit. Where no more than the limit was on the arc, no flow differs.
-pub record TakesOff (n : Network) (j limit : ℕ) (before after : List ℕ) : Type 0 where
+-- What draining takes off: no flow is more than before, what is left is a flow, and its value is less by at most an amount,
+-- which is what has to leave the arcs that are drained. Where that is nothing, no flow differs.
+pub record TakesOff (n : Network) (amount : ℕ) (before after : List ℕ) : Type 0 where
   pub no_more : AllZip (λ x y. y ≤ x) before after
   pub flow : IsFlow n after
-  pub value : (flow_value n before -ℤ pos (flow_on before j - limit)) ≤ℤ flow_value n after
-  pub untouched : flow_on before j ≤ limit → after ≡ before
+  pub value : (flow_value n before -ℤ pos amount) ≤ℤ flow_value n after
+  pub untouched : amount ≡ 0 → after ≡ before

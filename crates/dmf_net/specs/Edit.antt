@@ -1,9 +1,10 @@
 -- Edits: changes that were planned on a state, written down so that they can be applied to it.
 -- Public: a public contract says no more than this.
-use Rattle.std.specs.Prelude.{ℕ, ◌≡◌, ◌+◌, ◌-◌, ◌<◌, ◌==◌, if◌then◌else◌, List, [], ◌∷◌, slice_get, slice_set, Some, true, false, ⊤}
+use Rattle.std.specs.Prelude.{ℕ, ◌≡◌, ◌+◌, ◌-◌, ◌<◌, ◌==◌, if◌then◌else◌, List, [], ◌∷◌, map, slice_get, slice_set, Some, true, false, ⊤}
 use Rattle.dmf_net.specs.declared.edit.Move.{Move}
+use Rattle.dmf_net.specs.declared.edit.Shutting.{Shutting}
 use Rattle.dmf_net.specs.declared.edit.Edit.{Edit}
-use Rattle.dmf_net.specs.declared.edit.Edit.TheVariants.{Cap, Add, Close, Solve}
+use Rattle.dmf_net.specs.declared.edit.Edit.TheVariants.{Cap, Add, Close, Shut, Solve}
 use Rattle.dmf_net.specs.Arc.{open_arc, with_cap, closed_arc}
 use Rattle.dmf_net.specs.Network.{Network, arc_number, has_arc, with_arc}
 use Rattle.dmf_net.specs.NetworkState.{NetworkState, IsState, with_flows, with_idle_arc}
@@ -13,12 +14,27 @@ abbrev pub moves_of : Edit → List Move
 moves_of (Cap arc old new moves) = moves.items
 moves_of (Close arc old moves) = moves.items
 moves_of (Add tail head cap) = []
+moves_of (Shut arcs moves) = moves.items
 moves_of (Solve moves) = moves.items
+
+-- the numbers of these arcs
+abbrev pub numbers : List Shutting → List ℕ
+numbers arcs = map (λ a. a.arc) arcs
+
+-- the numbers of the arcs that an edit shuts
+abbrev pub shut_arcs : Edit → List ℕ
+shut_arcs (Shut arcs moves) = numbers arcs.items
+shut_arcs edit = []
 
 -- the flows after these moves: each arc that they name has the flow that they give it
 abbrev pub moved : List Move → List ℕ → List ℕ
 moved [] flows = flows
 moved (m ∷ moves) flows = moved moves (slice_set flows (m.arc - 1) m.to)
+
+-- the network with these arcs closed, one after the other
+abbrev pub with_closed : List Shutting → Network → Network
+with_closed [] n = n
+with_closed (a ∷ arcs) n = with_closed arcs (with_arc n a.arc (closed_arc (arc_number n a.arc)))
 
 -- the state that an edit makes of a state
 abbrev pub applied : Edit → NetworkState → NetworkState
@@ -33,6 +49,7 @@ applied (Close j old moves) s =
       flows = moved moves.items s.flows;
     }
 applied (Add tail head cap) s = with_idle_arc s (open_arc tail head cap)
+applied (Shut arcs moves) s = record { network = with_closed arcs.items s.network; flows = moved moves.items s.flows }
 applied (Solve moves) s = with_flows s (moved moves.items s.flows)
 
 -- The edit adds an arc.
@@ -40,6 +57,7 @@ abbrev pub AddsArc : Edit → Type 0
 AddsArc (Cap j old new moves) = ⊥
 AddsArc (Close j old moves) = ⊥
 AddsArc (Add tail head cap) = ⊤
+AddsArc (Shut arcs moves) = ⊥
 AddsArc (Solve moves) = ⊥
 
 -- The moves name arcs past number `last`, in strictly ascending order, each with the flow that it has.
@@ -54,11 +72,17 @@ pub record IsOpenWith (n : Network) (j cap : ℕ) : Type 0 where
   pub is_open : (arc_number n j).closed ≡ false
   pub has_cap : (arc_number n j).cap ≡ cap
 
--- What the edit says of an arc besides its flow is so.
+-- These are arcs past number `last`, in strictly ascending order, open and of these capacities.
+abbrev pub AreOpenWith : ℕ → List Shutting → Network → Type 0
+AreOpenWith last [] n = Unit {0}
+AreOpenWith last (a ∷ arcs) n = (last < a.arc) × IsOpenWith n a.arc a.old × AreOpenWith a.arc arcs n
+
+-- What the edit says of arcs besides their flow is so.
 abbrev pub ArcFits : Edit → Network → Type 0
 ArcFits (Cap j old new moves) n = IsOpenWith n j old
 ArcFits (Close j old moves) n = IsOpenWith n j old
 ArcFits (Add tail head cap) n = Unit {0}
+ArcFits (Shut arcs moves) n = AreOpenWith 0 arcs.items n
 ArcFits (Solve moves) n = Unit {0}
 
 -- The edit fits the state: what it says of the state is so, and what it makes of it is a state.

@@ -1,16 +1,28 @@
 -- The arcs of a network as an edit leaves them, each read through the edit.
 -- Private: only contracts inside the crate and proofs use this.
-use Rattle.std.specs.Prelude.{ℕ, ◌-◌, ◌==◌, if◌then◌else◌}
+use Rattle.std.specs.Prelude.{ℕ, ◌+◌, ◌-◌, ◌==◌, Bool, if◌then◌else◌, List, []}
+use Rattle.std.specs.List.{list_any}
 use Rattle.dmf_net.specs.declared.arc.Arc.{Arc}
+use Rattle.dmf_net.specs.declared.edit.Shutting.{Shutting}
 use Rattle.dmf_net.specs.declared.edit.Edit.{Edit}
-use Rattle.dmf_net.specs.declared.edit.Edit.TheVariants.{Cap, Add, Close, Solve}
+use Rattle.dmf_net.specs.declared.edit.Edit.TheVariants.{Cap, Add, Close, Shut, Solve}
 use Rattle.dmf_net.specs.Arc.{open_arc, with_cap, closed_arc, no_arc}
+
+-- the arcs that the edit shuts
+abbrev pub shuttings_of : Edit → List Shutting
+shuttings_of (Shut arcs moves) = arcs.items
+shuttings_of edit = []
+
+-- whether arc number `j` is one of these
+abbrev pub shuts : List Shutting → ℕ → Bool
+shuts arcs j = list_any (λ a. a.arc == j) arcs
 
 -- the arc at index `k`, which was there before
 abbrev pub arc_after : Edit → ℕ → Arc → Arc
 arc_after (Cap j old new moves) k arc = if k == j - 1 then with_cap new arc else arc
 arc_after (Close j old moves) k arc = if k == j - 1 then closed_arc arc else arc
 arc_after (Add tail head cap) k arc = arc
+arc_after (Shut arcs moves) k arc = if shuts arcs.items (k + 1) then closed_arc arc else arc
 arc_after (Solve moves) k arc = arc
 
 -- the arc that the edit adds

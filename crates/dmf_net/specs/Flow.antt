@@ -11,6 +11,10 @@ use Rattle.dmf_net.specs.Network.{Network}
 abbrev pub flow_on : List ℕ → ℕ → ℕ
 flow_on flows j = slice_index flows (j - 1)
 
+-- the sum of the flows on the arcs of these numbers
+abbrev pub flow_on_all : List ℕ → List ℕ → ℕ
+flow_on_all flows numbers = sum_by (flow_on flows) numbers
+
 -- the sum of the flows of the arcs that have node `v` at this end, which is the tail or the head
 abbrev pub flow_at : (Arc → ℕ) → List Arc → List ℕ → ℕ → ℕ
 flow_at end arcs flows v = sum_by (λ p. if end p.0 == v then p.1 else 0) (zip arcs flows)

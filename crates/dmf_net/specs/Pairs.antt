@@ -1,7 +1,8 @@
 -- The pairs of links among which paths are looked for.
 -- Private: only contracts inside the crate and proofs use this.
-use Rattle.std.specs.Prelude.{ℕ, ◌≡◌, ◌-◌, ◌==◌, ◌||◌, ◌↔◌, true, if◌then◌else◌, List, [], ◌∷◌, ◌++◌, Option, Some, None, option_map, IsTrue, pos}
+use Rattle.std.specs.Prelude.{ℕ, ◌≡◌, ◌-◌, ◌<◌, ◌≤◌, ◌==◌, ◌||◌, ◌↔◌, true, false, length, slice_index, slice_index_or, if◌then◌else◌, List, [], ◌∷◌, ◌++◌, Option, Some, None, option_map, IsTrue, pos}
 use Rattle.std.specs.Option.{unwrap_or}
+use Rattle.std.specs.List.{AllZip}
 use Rattle.std.specs.List.Sorted.{IsStrictlyIncreasing}
 use Rattle.dmf_path.specs.declared.pair.Pair.{Pair}
 use Rattle.dmf_path.specs.Node.{IsNode}
@@ -9,6 +10,7 @@ use Rattle.dmf_path.specs.Pair.{steps_of}
 use Rattle.dmf_path.specs.Path.{IsReachable}
 use Rattle.dmf_path.specs.Search.{Searched}
 use Rattle.dmf_net.specs.declared.arc.Arc.{Arc}
+use Rattle.dmf_net.specs.Arc.{no_arc}
 use Rattle.dmf_net.specs.declared.moves.FlowLink.{FlowLink}
 use Rattle.dmf_net.specs.declared.moves.FlowLink.TheVariants.{Along, Against}
 use Rattle.dmf_net.specs.Network.{Network}
@@ -74,6 +76,33 @@ abbrev pub flows_read : FlowLink → List ℕ → List (Option Pair) → List �
 flows_read link [] pairs = []
 flows_read link (first ∷ firsts) [] = []
 flows_read link (first ∷ firsts) (pair ∷ pairs) = flow_read link first pair ∷ flows_read link firsts pairs
+
+-- No flow is more than it was at first, nor is what the sink receives.
+pub record AreNoMore (n : Network) (firsts flows : List ℕ) : Type 0 where
+  pub one_each : length firsts ≡ length n.arcs
+  pub no_more : AllZip (λ x y. y ≤ x) firsts flows
+  pub at_sink : value_or_zero n flows ≤ value_or_zero n firsts
+
+-- On an arc that comes back to its tail flows what stands in the other list.
+abbrev pub KeepLoops : Network → List ℕ → List ℕ → Type 0
+KeepLoops n others flows =
+    (k : ℕ) → k < length n.arcs → (slice_index_or n.arcs k no_arc).tail ≡ (slice_index_or n.arcs k no_arc).head
+    → slice_index flows k ≡ slice_index others k
+
+-- The search is one over the carrying steps of these flows, which were made of the state's by lowering them. The list has
+-- the flows on arcs without a pair.
+pub record Carries (s : NetworkState) (unpaired flows : List ℕ) (search : Searched) : Type 0 where
+  pub state : IsState (with_flows s flows)
+  pub no_more : AreNoMore s.network s.flows flows
+  pub less : AllZip (λ x y. y ≤ x) s.flows unpaired
+  pub loops : KeepLoops s.network unpaired flows
+  pub nodes_are : search.nodes ≡ s.network.nodes
+  pub pairs_are : search.pairs ≡ carrying_pairs s.network s.flows flows
+  pub takes_none_back : search.takes_back ≡ false
+
+-- The same, of the flows that are read off the search and the list.
+abbrev pub IsCarryingSearch : NetworkState → List ℕ → Searched → Type 0
+IsCarryingSearch s unpaired search = Carries s unpaired (flows_read Along unpaired search.pairs) search
 
 -- the flows that a search for augmenting paths has reached from those of the state
 abbrev pub reached_flows : NetworkState → Searched → List ℕ

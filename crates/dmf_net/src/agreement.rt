@@ -2,8 +2,8 @@
 ghost use Rattle.std.specs.Prelude.{◌≢◌, ◌+◌, ◌^◌, ◌<◌, ◌≤◌};
 ghost use Rattle.dmf_path.specs.Node.{IsNode};
 
-use crate::scanning::{draining_moves, solving_moves};
-use crate::{Edit, State, plan_cap, plan_close, plan_solve};
+use crate::scanning::{draining_moves, shutting, solving_moves};
+use crate::{Edit, State, plan_cap, plan_close, plan_shut, plan_solve};
 use std::alloc::Global;
 use std::process::Abort;
 use std::test::Fail;
@@ -80,9 +80,27 @@ fn halve_and_close(
     Ok(())
 }
 
+/// Shuts the node, comparing the plan.
+fn shut(rt: &impl Abort, alloc: Global, state: &mut State, node: u32) -> Result<(), Fail> {
+    let edit = plan_shut(alloc, state, u64::from(node))?;
+    let (arcs, moves) = shutting(alloc, state, node)?;
+    assert_eq!(rt; edit, Edit::Shut { arcs, moves });
+    state.apply(&edit)?;
+    Ok(())
+}
+
+/// Solves and shuts each node of a copy, comparing the plans.
+fn solve_and_shut(rt: &impl Abort, alloc: Global, state: &mut State) -> Result<(), Fail> {
+    solve(rt, alloc, state)?;
+    for node in 1..state.nodes() + 1 {
+        shut(rt, alloc, &mut state.copy(alloc)?, node)?;
+    }
+    Ok(())
+}
+
 /// Solves, closes each arc in turn and solves again each time, comparing the plans.
 fn solve_and_close(rt: &impl Abort, alloc: Global, state: &mut State) -> Result<(), Fail> {
-    solve(rt, alloc, state)?;
+    solve_and_shut(rt, alloc, state)?;
     for index in 0..state.arcs().len() {
         halve_and_close(rt, alloc, state, index)?;
         solve(rt, alloc, state)?;
@@ -101,6 +119,28 @@ fn small_networks_agree(rt: HostRuntime) -> Result<(), Fail> {
     solve_and_close(&rt, alloc, &mut network(alloc, 5, 1, 5, &b)?)?;
     solve_and_close(&rt, alloc, &mut network(alloc, 3, 1, 3, &loops)?)?;
     solve_and_close(&rt, alloc, &mut network(alloc, 5, 1, 5, &turned)?)?;
+    Ok(())
+}
+
+/// Parallel arcs, an arc that comes back to its tail, and a cycle: something flows on each of them.
+#[test]
+fn a_flow_that_goes_round_agrees(rt: HostRuntime) -> Result<(), Fail> {
+    let alloc = rt.alloc();
+    let arcs = [
+        (1, 2, 4),
+        (2, 2, 9),
+        (1, 2, 7),
+        (2, 3, 9),
+        (3, 4, 5),
+        (4, 2, 5),
+        (4, 4, 1),
+    ];
+    let empty = network(alloc, 4, 1, 3, &arcs)?;
+    assert_eq!(rt; empty.arcs().len(), 7);
+    let flowing = empty.with_flows(alloc, vec![in alloc; 4, 5, 2, 8, 2, 2, 1]?)?;
+    for node in 1..5 {
+        shut(&rt, alloc, &mut flowing.copy(alloc)?, node)?;
+    }
     Ok(())
 }
 
@@ -215,6 +255,11 @@ fn random_networks_agree(rt: HostRuntime) -> Result<(), Fail> {
             let arcs = state.arcs().len();
             let index = draws.draw() as usize % arcs.max(1);
             halve_and_close(&rt, alloc, &mut state, index)?;
+            solve(&rt, alloc, &mut state)?;
+        }
+        for _ in 0..3 {
+            let node = draws.node(state.nodes());
+            shut(&rt, alloc, &mut state, node)?;
             solve(&rt, alloc, &mut state)?;
         }
     }

@@ -1,5 +1,5 @@
 ghost use Rattle.std.specs.Prelude.{◌≡◌};
-ghost use Rattle.dmf_net.specs.Arc.{open_arc, with_cap, closed_arc};
+ghost use Rattle.dmf_net.specs.Arc.{open_arc, with_cap, closed_arc, is_open_at};
 
 /// A directed arc of a network.
 ///
@@ -45,5 +45,12 @@ impl Arc {
             closed: true,
             ..self
         }
+    }
+
+    /// Whether the arc is open, and node `v` is its tail or its head.
+    pub(crate) fn is_open_at(self, v: u32) -> bool
+        ensures { result ≡ is_open_at v self }
+    {
+        !self.closed && (self.tail == v || self.head == v)
     }
 }

@@ -1,10 +1,10 @@
-ghost use Rattle.std.specs.Prelude.{◌≡◌, ◌≢◌, ◌≤◌, true, [], ◌∷◌, length, IfOk, IsOk};
+ghost use Rattle.std.specs.Prelude.{◌≡◌, ◌≢◌, ◌≤◌, ℕ, true, List, [], ◌∷◌, length, IfOk, IsOk};
 ghost use Rattle.dmf_net.specs.declared.moves.FlowLink.TheVariants.{Along};
 ghost use Rattle.dmf_net.specs.Network.{arc_number, has_arc};
 ghost use Rattle.dmf_net.specs.Flow.{flow_on};
 ghost use Rattle.dmf_net.specs.Drain.{Drains};
 ghost use Rattle.dmf_net.specs.Moves.{AreDrainingMoves};
-ghost use Rattle.dmf_net.specs.Pairs.{flows_read};
+ghost use Rattle.dmf_net.specs.Pairs.{IsCarryingSearch, flows_read};
 
 use crate::carrying_pairs::CarryingPairs;
 use crate::edit::Move;
@@ -29,8 +29,9 @@ pub fn drain(alloc: Global, state: &State, j: u32, limit: u64) -> Result<Vec<Mov
     if arc.tail == arc.head {
         return loop_moves(alloc, j, flow, limit);
     }
-    let search = drained(alloc, state, j, limit)?;
-    list_moves(alloc, before, &search, FlowLink::Along)
+    let mut search = carrying_search(alloc, state)?;
+    drain_along(state, j, limit, &mut search);
+    list_moves(alloc, before, before, &search, FlowLink::Along)
 }
 
 /// The move that drains arc number `j`, which comes back to its tail: no other arc carries its flow.
@@ -46,18 +47,39 @@ fn loop_moves(alloc: Global, j: u32, flow: u64, limit: u64) -> Result<Vec<Move>,
     Ok(moves)
 }
 
-/// A search over the carrying steps of the state's flow that has drained arc number `j` to the limit.
-fn drained(alloc: Global, state: &State, j: u32, limit: u64) -> Result<Search, AllocError>
+/// A search over the carrying steps of the state's flow, which is aimed at nothing yet.
+pub fn carrying_search(alloc: Global, state: &State) -> Result<Search, AllocError>
+    ensures carrying { IfOk result (IsCarryingSearch state.now state.now.flows) }
+    ensures flows { IfOk result (λ search. flows_read Along state.now.flows search.pairs ≡ state.now.flows) }
+{
+    let pairs = CarryingPairs { state };
+    Search::new(
+        alloc,
+        state.nodes(),
+        &pairs,
+        state.source(),
+        state.sink(),
+        false,
+    )
+}
+
+/// Drains arc number `j`, which leads from a node to another, to the limit: takes flow off along the paths that a search
+/// over carrying steps finds. Where no more than that flows on it, the search is not aimed at it.
+pub fn drain_along(state: &State, j: u32, limit: u64, search: &mut Search)
     requires is_there { has_arc state.now.network j ≡ true }
     requires no_loop { (arc_number state.now.network j).tail ≢ (arc_number state.now.network j).head }
-    ensures one_each { IfOk result (λ search. length state.now.flows ≤ length search.pairs) }
-    ensures drains { IfOk result (λ search. Drains state.now.network j limit state.now.flows (flows_read Along state.now.flows search.pairs)) }
+    requires carrying { (unpaired : List ℕ) × IsCarryingSearch state.now unpaired search.old }
+    ensures { (unpaired : List ℕ) → IsCarryingSearch state.now unpaired search.old →
+        IsCarryingSearch state.now unpaired search.new
+        × Drains state.now.network j limit (flows_read Along unpaired search.old.pairs) (flows_read Along unpaired search.new.pairs) }
 {
-    let arc = state.arc(j);
-    let pairs = CarryingPairs { state };
-    let mut search = Search::new(alloc, state.nodes(), &pairs, arc.head, arc.tail, false)?;
     let i = j as usize - 1;
-    let mut left = state.flows()[i].saturating_sub(limit);
+    let mut left = search.along(i).unwrap_or(0).saturating_sub(limit);
+    if left == 0 {
+        return;
+    }
+    let arc = state.arc(j);
+    search.aim(arc.head, arc.tail);
     while 0 < left {
         match search.augment(left) {
             Some(amount) => {
@@ -67,5 +89,4 @@ fn drained(alloc: Global, state: &State, j: u32, limit: u64) -> Result<Search, A
             None => unreachable!(),
         }
     }
-    Ok(search)
 }

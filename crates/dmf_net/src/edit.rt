@@ -9,6 +9,15 @@ pub struct Move {
     pub to: u64,
 }
 
+/// An arc that is closed beside others, by one change.
+#[derive(Clone, Copy, Debug, PartialEq, Eq, Hash)]
+pub struct Shutting {
+    /// The arc's number, counted from 1.
+    pub arc: u32,
+    /// Its capacity before.
+    pub old: u64,
+}
+
 /// A change that was planned on a state, with all that it takes to apply it there.
 #[derive(Debug, PartialEq, Eq, Drop)]
 pub enum Edit {
@@ -38,6 +47,13 @@ pub enum Edit {
         arc: u32,
         /// Its capacity before.
         old: u64,
+        /// The arcs whose flow differs, in the order of their numbers.
+        moves: Vec<Move>,
+    },
+    /// Nothing may flow on some arcs any more.
+    Shut {
+        /// The arcs, in the order of their numbers.
+        arcs: Vec<Shutting>,
         /// The arcs whose flow differs, in the order of their numbers.
         moves: Vec<Move>,
     },

@@ -74,6 +74,7 @@ fn moves_of(edit: &Edit) -> &[Move]
         Edit::Cap { ref moves, .. } => moves,
         Edit::Close { ref moves, .. } => moves,
         Edit::Add { .. } => &[],
+        Edit::Shut { ref moves, .. } => moves,
         Edit::Solve { ref moves } => moves,
     }
 }

@@ -1,9 +1,10 @@
-ghost use Rattle.std.specs.Prelude.{◌≡◌, ◌-◌, length};
-ghost use Rattle.dmf_net.specs.Edit.{applied};
-ghost use Rattle.dmf_net.specs.Edited.{arc_after, added_arc};
+ghost use Rattle.std.specs.Prelude.{◌≡◌, ◌∷◌, ◌-◌, ◌<◌, ◌^◌, length};
+ghost use Rattle.std.specs.List.Sorted.{IsStrictlyIncreasing};
+ghost use Rattle.dmf_net.specs.Edit.{applied, numbers};
+ghost use Rattle.dmf_net.specs.Edited.{arc_after, added_arc, shuts, shuttings_of};
 
 use crate::arc::Arc;
-use crate::edit::Edit;
+use crate::edit::{Edit, Shutting};
 use crate::residual::residual_pair;
 use crate::state::State;
 use dmf_path::{Pair, Pairs};
@@ -15,6 +16,7 @@ pub struct EditedPairs<'a> {
     pub state: &'a State,
     pub edit: &'a Edit,
     pub flows: &'a [u64],
+    ghost ascending: { IsStrictlyIncreasing (0 ∷ numbers (shuttings_of edit.now)) },
     ghost one_each: { length flows.now ≡ length (applied edit.now state.now).network.arcs },
 }
 
@@ -40,6 +42,8 @@ impl Pairs for EditedPairs<'_> {
 
 /// The arc at index `k`, as the edit leaves it.
 fn arc_after(edit: &Edit, k: usize, arc: Arc) -> Arc
+    requires few { k < 2 ^ 27 }
+    requires ascending { IsStrictlyIncreasing (numbers (shuttings_of edit.now)) }
     ensures { result ≡ arc_after edit.now k arc }
 {
     match *edit {
@@ -51,9 +55,25 @@ fn arc_after(edit: &Edit, k: usize, arc: Arc) -> Arc
             }
         }
         Edit::Close { arc: j, .. } => { if k == index_of(j) { arc.close() } else { arc } }
+        Edit::Shut { ref arcs, .. } => {
+            if shuts(arcs, k as u32 + 1) {
+                arc.close()
+            } else {
+                arc
+            }
+        }
         Edit::Add { .. } => arc,
         Edit::Solve { .. } => arc,
     }
+}
+
+/// Whether arc number `j` is one of these.
+fn shuts(arcs: &[Shutting], j: u32) -> bool
+    requires { IsStrictlyIncreasing (numbers arcs.now) }
+    ensures { result ≡ shuts arcs.now j }
+{
+    arcs.binary_search_by_key(&j, |shutting| shutting.arc)
+        .is_ok()
 }
 
 /// The index of arc number `j`.

@@ -2,7 +2,7 @@
 #![tactic(auto)]
 
 pub use arc::Arc;
-pub use edit::{Edit, Move};
+pub use edit::{Edit, Move, Shutting};
 pub use fault::{CutFault, FlowFault, NetFault, NoMemory, PlanFault};
 pub use laws::{
     change_has_one_outcome, change_has_outcome, edit_has_one_state_before,
@@ -11,8 +11,8 @@ pub use laws::{
 };
 pub use limits::{MAX_ARCS, MAX_NODES};
 pub use plan::{
-    plan_add, plan_cap, plan_close, plan_solve, plan_solve_watched, plan_solve_with_side,
-    plan_solve_with_side_watched,
+    plan_add, plan_cap, plan_close, plan_shut, plan_solve, plan_solve_watched,
+    plan_solve_with_side, plan_solve_with_side_watched,
 };
 pub use side::{Side, side_after, smallest_side};
 pub use side_ids::SideIds;
@@ -42,6 +42,9 @@ mod revert;
 mod revert_tests;
 #[cfg(test)]
 mod scanning;
+mod shut;
+#[cfg(test)]
+mod shut_tests;
 mod side;
 mod side_ids;
 mod solve;

@@ -1,9 +1,9 @@
-ghost use Rattle.std.specs.Prelude.{◌≡◌, ◌+◌, ◌-◌, ◌^◌, ◌<◌, ◌≤◌, true, if◌then◌else◌, length, option_map, IfOk};
+ghost use Rattle.std.specs.Prelude.{◌≡◌, ◌+◌, ◌-◌, ◌^◌, ◌<◌, ◌≤◌, true, if◌then◌else◌, length, IfOk};
 ghost use Rattle.dmf_net.specs.Arc.{capacity_sum};
 ghost use Rattle.dmf_net.specs.Flow.{AreWithinCapacities};
 ghost use Rattle.dmf_net.specs.FlowSums.{IsNodeFlow};
 ghost use Rattle.dmf_net.specs.Edit.{MovesFit, moved, differences};
-ghost use Rattle.dmf_net.specs.Pairs.{room_of, flows_read};
+ghost use Rattle.dmf_net.specs.Pairs.{flow_read, flows_read};
 ghost use Rattle.dmf_path.specs.Search.{pair_number};
 ghost use Rattle.dmf_net.specs.Direction.{step_along, along};
 
@@ -21,39 +21,40 @@ pub enum FlowLink {
 }
 
 /// The moves of the arcs on which the flow that a search has reached differs from that before, in the order of their
-/// numbers.
+/// numbers. Where an arc has no pair, `unpaired` has its flow.
 pub fn list_moves(
     alloc: Global,
     before: &[u64],
+    unpaired: &[u64],
     search: &Search,
     link: FlowLink,
 ) -> Result<Vec<Move>, AllocError>
+    requires unpaired { length unpaired.now ≡ length before.now }
     requires one_each { length before.now ≤ length search.now.pairs }
     requires at_most_arcs { length before.now ≤ 2 ^ 27 }
-    ensures { IfOk result (λ moves. moves.items ≡ differences 1 before.now (flows_read link before.now search.now.pairs)) }
+    ensures { IfOk result (λ moves. moves.items ≡ differences 1 before.now (flows_read link unpaired.now search.now.pairs)) }
 {
     let mut moves = Vec::new(alloc);
-    for i in 0..before.len() {
-        if let Some(to) = flow_read(search, i, link) {
-            let from = before[i];
-            if from != to {
-                let arc = i as u32 + 1;
-                moves.push(Move { arc, from, to })?;
-            }
+    for (i, &from) in before.iter().enumerate() {
+        let to = flow_read(search, i, link, unpaired[i]);
+        if from != to {
+            let arc = i as u32 + 1;
+            moves.push(Move { arc, from, to })?;
         }
     }
     Ok(moves)
 }
 
-/// The flow that a search has reached on the arc at index `k`, where the arc has a pair.
-fn flow_read(search: &Search, k: usize, link: FlowLink) -> Option<u64>
+/// The flow that a search has reached on the arc at index `k`: where the arc has no pair, `unpaired`.
+fn flow_read(search: &Search, k: usize, link: FlowLink, unpaired: u64) -> u64
     requires { k < length search.now.pairs }
-    ensures { result ≡ option_map (room_of link) (pair_number search.now.pairs k) }
+    ensures { result ≡ flow_read link unpaired (pair_number search.now.pairs k) }
 {
-    match link {
+    let room = match link {
         FlowLink::Along => search.along(k),
         FlowLink::Against => search.against(k),
-    }
+    };
+    room.unwrap_or(unpaired)
 }
 
 /// Whether moves are made or taken back.

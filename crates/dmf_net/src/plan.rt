@@ -1,10 +1,11 @@
-ghost use Rattle.std.specs.Prelude.{◌≡◌, ◌≢◌, ◌≤◌, Err, IfOk, IsOkUnless, MatchOption, pos};
+ghost use Rattle.std.specs.Prelude.{◌≡◌, ◌≢◌, ◌-◌, ◌≤◌, Err, IfOk, IsOkUnless, MatchOption, pos};
 ghost use Rattle.std.specs.Result.{result_err};
-ghost use Rattle.dmf_net.specs.Change.{Cap, Close, Add, Solve, change_fault, Becomes, IsEditOf};
+ghost use Rattle.dmf_net.specs.Change.{Cap, Close, Add, Shut, Solve, change_fault, Becomes, IsEditOf};
 ghost use Rattle.dmf_net.specs.Cut.{HasCutOf};
 ghost use Rattle.dmf_net.specs.Drain.{TakesOff};
-ghost use Rattle.dmf_net.specs.Edit.{applied, Fits, ListsDifferences};
-ghost use Rattle.dmf_net.specs.Flow.{flow_on, flow_value};
+ghost use Rattle.dmf_net.specs.Arc.{open_arcs_at};
+ghost use Rattle.dmf_net.specs.Edit.{applied, shut_arcs, Fits, ListsDifferences};
+ghost use Rattle.dmf_net.specs.Flow.{flow_on, flow_on_all, flow_value};
 ghost use Rattle.dmf_net.specs.Greatest.{IsGreatest};
 ghost use Rattle.dmf_net.specs.Pairs.{IsSolved, reached_flows};
 ghost use Rattle.dmf_net.specs.Planning.{PlansSolve};
@@ -13,6 +14,7 @@ ghost use Rattle.dmf_net.specs.Side.{IsSmallestSide};
 use crate::drain::drain;
 use crate::edit::Edit;
 use crate::fault::PlanFault;
+use crate::shut::{open_arcs_at, shutting_moves};
 use crate::side::{Side, solved_side};
 use crate::solve::{Solved, solve};
 use crate::solved_moves::{into_flows, list_differences};
@@ -35,7 +37,7 @@ pub fn plan_cap(alloc: Global, state: &State, j: u64, cap: u64) -> Result<Edit, 
     ensures fits { IfOk result (λ edit. Fits edit state.now) }
     ensures becomes { IfOk result (λ edit. Becomes state.now (Cap j cap) (applied edit state.now)) }
     ensures moves { IfOk result (λ edit. ListsDifferences edit state.now) }
-    ensures takes_off { IfOk result (λ edit. TakesOff state.now.network j cap state.now.flows (applied edit state.now).flows) }
+    ensures takes_off { IfOk result (λ edit. TakesOff state.now.network (flow_on state.now.flows j - cap) state.now.flows (applied edit state.now).flows) }
 {
     let (arc, old) = state.open_arc(j)?;
     if cap > state.largest_cap(old) {
@@ -64,11 +66,37 @@ pub fn plan_close(alloc: Global, state: &State, j: u64) -> Result<Edit, PlanFaul
     ensures fits { IfOk result (λ edit. Fits edit state.now) }
     ensures becomes { IfOk result (λ edit. Becomes state.now (Close j) (applied edit state.now)) }
     ensures moves { IfOk result (λ edit. ListsDifferences edit state.now) }
-    ensures takes_off { IfOk result (λ edit. TakesOff state.now.network j 0 state.now.flows (applied edit state.now).flows) }
+    ensures takes_off { IfOk result (λ edit. TakesOff state.now.network (flow_on state.now.flows j) state.now.flows (applied edit state.now).flows) }
 {
     let (arc, old) = state.open_arc(j)?;
     let moves = drain(alloc, state, arc, 0)?;
     Ok(Edit::Close { arc, old, moves })
+}
+
+/// Plans closing every open arc at node `v`, the arcs that it is the tail or the head of, in the order of their numbers,
+/// without changing the state. Where something flows on an arc when its turn comes, it is drained first. The source and the
+/// sink may be shut, and so may a node without open arcs.
+///
+/// Refused by [`PlanFault::NoSuchNode`], before any draining. Takes memory for the arcs and, where something flows on one of
+/// them, for the flows, two links an arc of the network and some numbers a node; where it is refused, the answer is
+/// [`PlanFault::NoMemory`].
+pub fn plan_shut(alloc: Global, state: &State, v: u64) -> Result<Edit, PlanFault>
+    ensures refused { MatchOption (change_fault state.now (Shut v))
+        (IsOkUnless result PlanFault.NoMemory)
+        (λ fault. result ≡ Err fault) }
+    ensures kind { IfOk result (IsEditOf (Shut v)) }
+    ensures arcs { IfOk result (λ edit. shut_arcs edit ≡ open_arcs_at v 1 state.now.network.arcs) }
+    ensures fits { IfOk result (λ edit. Fits edit state.now) }
+    ensures becomes { IfOk result (λ edit. Becomes state.now (Shut v) (applied edit state.now)) }
+    ensures moves { IfOk result (λ edit. ListsDifferences edit state.now) }
+    ensures takes_off { IfOk result (λ edit. TakesOff state.now.network (flow_on_all state.now.flows (open_arcs_at v 1 state.now.network.arcs)) state.now.flows (applied edit state.now).flows) }
+{
+    if v < 1 || v > u64::from(state.nodes()) {
+        return Err(PlanFault::NoSuchNode);
+    }
+    let arcs = open_arcs_at(alloc, state, v as u32)?;
+    let moves = shutting_moves(alloc, state, &arcs)?;
+    Ok(Edit::Shut { arcs, moves })
 }
 
 /// Plans a new last arc from `tail` to `head` with capacity `cap`, without changing the state.

@@ -30,6 +30,13 @@ impl State {
                 let arc = Arc::open(arc.tail, arc.head, old);
                 self.change_arc(j, arc, moves, Direction::Back);
             }
+            Edit::Shut {
+                ref arcs,
+                ref moves,
+            } => {
+                self.open_all(arcs);
+                self.move_flows(moves, Direction::Back);
+            }
             Edit::Add { .. } => self.drop_last(),
             Edit::Solve { ref moves } => self.move_flows(moves, Direction::Back),
         }

@@ -4,7 +4,9 @@ ghost use Rattle.dmf_net.specs.Edit.{applied, Fits};
 
 use crate::agreement::{Draws, network, random_network};
 use crate::fault::PlanFault;
-use crate::{Edit, State, plan_add, plan_cap, plan_close, plan_solve, reverting_gives_back};
+use crate::{
+    Edit, State, plan_add, plan_cap, plan_close, plan_shut, plan_solve, reverting_gives_back,
+};
 use std::alloc::Global;
 use std::process::Abort;
 use std::test::Fail;
@@ -15,7 +17,7 @@ const NETWORKS: u32 = 300;
 const EDITS: u32 = 10;
 
 /// Applies the edit. What is given is a copy of the state before it.
-fn apply(alloc: Global, state: &mut State, edit: &Edit) -> Result<State, Fail>
+pub fn apply(alloc: Global, state: &mut State, edit: &Edit) -> Result<State, Fail>
     requires { Fits edit.now state.old }
     ensures before { IfOk result (λ before. before ≡ state.old) }
     ensures after { IfOk result (λ before. state.new ≡ applied edit.now before) }
@@ -26,7 +28,7 @@ fn apply(alloc: Global, state: &mut State, edit: &Edit) -> Result<State, Fail>
 }
 
 /// Takes the edit back, and compares what is left with the state before it.
-fn revert(rt: &impl Abort, state: &mut State, edit: &Edit, before: &State)
+pub fn revert(rt: &impl Abort, state: &mut State, edit: &Edit, before: &State)
     requires fits { Fits edit.now before.now }
     requires stands { state.old ≡ applied edit.now before.now }
     ensures { state.new ≡ before.now }
@@ -62,17 +64,18 @@ fn edits_are_taken_back_in_the_opposite_order(rt: HostRuntime) -> Result<(), Fai
     Ok(())
 }
 
-/// A random edit of the state: a solve, another capacity for an arc, a closed arc or a new arc.
+/// A random edit of the state: a solve, another capacity for an arc, a closed arc, a shut node or a new arc.
 fn random_edit(alloc: Global, draws: &mut Draws, state: &State) -> Result<Edit, PlanFault>
     ensures { IfOk result (λ edit. Fits edit state.now) }
 {
     let arc = u64::from(draws.below(state.arcs().len() as u32 + 1)) + 1;
     let head = u64::from(draws.below(state.nodes())) + 1;
     let cap = draws.draw() >> 40;
-    match draws.below(4) {
+    match draws.below(5) {
         0 => plan_solve(alloc, state),
         1 => plan_cap(alloc, state, arc, cap),
         2 => plan_close(alloc, state, arc),
+        3 => plan_shut(alloc, state, head),
         _ => plan_add(state, u64::from(state.source()), head, cap),
     }
 }

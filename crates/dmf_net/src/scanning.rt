@@ -1,6 +1,6 @@
 //! Solving and draining by their rules alone, as a second computation that tests compare with: for each path all steps are
 //! listed anew, and the path is looked for in rounds over all of them.
-use crate::{Arc, Move, State};
+use crate::{Arc, Move, Shutting, State};
 use std::alloc::Global;
 use std::test::Fail;
 
@@ -35,14 +35,47 @@ pub fn draining_moves(
     index: usize,
     limit: u64,
 ) -> Result<Vec<Move>, Fail> {
-    let arc = *state.arcs().get(index).ok_or("there is no such arc")?;
     let mut flows = Vec::from_slice(alloc, state.flows())?;
+    drain(alloc, state, &mut flows, index, limit)?;
+    moves(alloc, state.flows(), &flows)
+}
+
+/// The open arcs at a node, and the moves by which closing one after the other ends. A closed arc carries nothing, so
+/// that the carrying steps are those of the network before.
+pub fn shutting(
+    alloc: Global,
+    state: &State,
+    node: u32,
+) -> Result<(Vec<Shutting>, Vec<Move>), Fail> {
+    let mut arcs = Vec::new(alloc);
+    let mut flows = Vec::from_slice(alloc, state.flows())?;
+    for (index, arc) in state.arcs().iter().enumerate() {
+        if !arc.closed && [arc.tail, arc.head].contains(&node) {
+            arcs.push(Shutting {
+                arc: u32::try_from(index)?.checked_add(1).ok_or("too many arcs")?,
+                old: arc.cap,
+            })?;
+            drain(alloc, state, &mut flows, index, 0)?;
+        }
+    }
+    Ok((arcs, moves(alloc, state.flows(), &flows)?))
+}
+
+/// Drains the arc at this index to the limit.
+fn drain(
+    alloc: Global,
+    state: &State,
+    flows: &mut [u64],
+    index: usize,
+    limit: u64,
+) -> Result<(), Fail> {
+    let arc = *state.arcs().get(index).ok_or("there is no such arc")?;
     for _ in 0..u64::MAX {
         let flow = *flows.get(index).ok_or("there is no such flow")?;
         if flow <= limit {
-            return moves(alloc, state.flows(), &flows);
+            return Ok(());
         }
-        let steps = carrying_steps(alloc, state, &flows)?;
+        let steps = carrying_steps(alloc, state, flows)?;
         let path = least_path(alloc, state.nodes(), &steps, arc.head, arc.tail)?.ok_or(
             "no path leads back",
         )?;
@@ -50,9 +83,9 @@ pub fn draining_moves(
             .iter()
             .map(|step| step.room)
             .fold(flow - limit, |least, room| least.min(room));
-        lower(&mut flows, index, amount)?;
+        lower(flows, index, amount)?;
         for step in &path {
-            lower(&mut flows, step.arc, amount)?;
+            lower(flows, step.arc, amount)?;
         }
     }
     Err("draining does not end")?

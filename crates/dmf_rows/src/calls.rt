@@ -21,13 +21,19 @@ fn command_lines_are_read(rt: HostRuntime) {
         head: 4,
         cap: 7,
     };
-    let table: [(&[u8], Command); 17] = [
+    let table: [(&[u8], Command); 20] = [
         (b"cap 9 18446744073709551615", capacity),
         (b" cap\t09 18446744073709551615", capacity),
         (b"add 1 4 7", addition),
         (b"\tadd  01 4   7 ", addition),
         (b"close 3", Command::Close { arc: 3 }),
         (b"close  0\t", Command::Close { arc: 0 }),
+        (b"shut 3", Command::Shut { node: 3 }),
+        (b" shut\t00 ", Command::Shut { node: 0 }),
+        (
+            b"shut 18446744073709551615",
+            Command::Shut { node: u64::MAX },
+        ),
         (b"solve", Command::Solve),
         (b" solve\t", Command::Solve),
         (b"undo", Command::Undo(1)),
@@ -51,7 +57,7 @@ fn command_lines_are_read(rt: HostRuntime) {
 
 #[test]
 fn command_lines_are_refused(rt: HostRuntime) {
-    let table: [(&[u8], Refusal); 38] = [
+    let table: [(&[u8], Refusal); 45] = [
         (b"cNote", Refusal::UnknownCommand),
         (b"ca 1 2", Refusal::UnknownCommand),
         (b"capx 1", Refusal::UnknownCommand),
@@ -61,11 +67,16 @@ fn command_lines_are_refused(rt: HostRuntime) {
         (b"undo\r", Refusal::UnknownCommand),
         (b"undo\0", Refusal::UnknownCommand),
         (b"solved 1 2 3", Refusal::UnknownCommand),
+        (b"shuts 1", Refusal::UnknownCommand),
+        (b"Shut 1", Refusal::UnknownCommand),
         (b"cap", Refusal::FieldCount),
         (b"cap x", Refusal::FieldCount),
         (b"cap 1 2 3", Refusal::FieldCount),
         (b"close", Refusal::FieldCount),
         (b"close x 1", Refusal::FieldCount),
+        (b"shut", Refusal::FieldCount),
+        (b"shut 1 2", Refusal::FieldCount),
+        (b"shut x 1", Refusal::FieldCount),
         (b"add 1 1", Refusal::FieldCount),
         (b"add 1 1 1 x", Refusal::FieldCount),
         (b"solve 1", Refusal::FieldCount),
@@ -85,6 +96,8 @@ fn command_lines_are_refused(rt: HostRuntime) {
         (b"cap 18446744073709551616 x", Refusal::TooLarge),
         (b"close 1.0", Refusal::NotANumber),
         (b"close 18446744073709551616", Refusal::TooLarge),
+        (b"shut -1", Refusal::NotANumber),
+        (b"shut 18446744073709551616", Refusal::TooLarge),
         (b"undo -1", Refusal::NotANumber),
         (b"undo 1\r", Refusal::NotANumber),
         (b"redo 18446744073709551616", Refusal::TooLarge),

@@ -1,8 +1,9 @@
 //! Sessions over a history of edits and over a history of whole states write the same.
 ghost use Rattle.std.specs.Prelude.{◌<◌};
 
-use crate::networks::{FULL_ARC, LENIENT, NETWORK_A, NETWORK_B, TWO_SHORTEST};
-use crate::streams::{hold, hold_whole};
+use crate::networks::{FULL_ARC, LENIENT, NETWORK_A, NETWORK_B, PARALLEL, TWO_SHORTEST};
+use crate::streams::{hold, hold_bounded, hold_whole};
+use dmf_run::Status;
 use std::alloc::Global;
 use std::test::Fail;
 
@@ -32,7 +33,7 @@ impl Draws {
 
 /// A command line. Most of them are accepted.
 fn random_command(alloc: Global, draws: &mut Draws) -> Result<String, Fail> {
-    let kind = draws.below(12);
+    let kind = draws.below(13);
     let first = draws.below(7);
     let second = draws.below(7);
     let third = draws.below(9);
@@ -43,7 +44,8 @@ fn random_command(alloc: Global, draws: &mut Draws) -> Result<String, Fail> {
         4 | 5 => format!(in alloc; "solve\n")?,
         6 | 7 => format!(in alloc; "undo {first}\n")?,
         8 | 9 => format!(in alloc; "redo {second}\n")?,
-        10 => format!(in alloc; "print flow\n")?,
+        10 => format!(in alloc; "shut {first}\n")?,
+        11 => format!(in alloc; "print flow\n")?,
         _ => format!(in alloc; "print problem\n")?,
     })
 }
@@ -60,7 +62,14 @@ fn random_script(alloc: Global, draws: &mut Draws) -> Result<Vec<u8>, Fail> {
 fn random_sessions_are_the_same_over_both_histories(rt: HostRuntime) -> Result<(), Fail> {
     let alloc = rt.alloc();
     let mut draws = Draws { seed: 20_262 };
-    for problem in [NETWORK_A, NETWORK_B, FULL_ARC, LENIENT, TWO_SHORTEST] {
+    for problem in [
+        NETWORK_A,
+        NETWORK_B,
+        FULL_ARC,
+        LENIENT,
+        TWO_SHORTEST,
+        PARALLEL,
+    ] {
         for _ in 0..SCRIPTS {
             let script = random_script(alloc, &mut draws)?;
             let mut written = Vec::new(alloc);
@@ -71,6 +80,49 @@ fn random_sessions_are_the_same_over_both_histories(rt: HostRuntime) -> Result<(
                 status
             );
             assert!(rt; written.as_slice() == by_states.as_slice());
+        }
+    }
+    Ok(())
+}
+
+#[test]
+fn no_more_states_than_the_bound_are_kept(rt: HostRuntime) -> Result<(), Fail> {
+    let alloc = rt.alloc();
+    let solved = "s 5\nf 1 2 3\nf 1 3 2\nf 2 3 1\nf 2 4 2\nf 3 4 3\n";
+    let one_kept =
+        "c cap value 0\nc close value 0\nc refused 3 nothing to undo\nc undo value 0\nc redo value 0
+p max 4 4\nn 1 s\nn 4 t\na 1 2 4\na 2 3 5\na 2 4 2\na 3 4 3\n";
+    let none_kept = format!(in alloc; "{solved}c refused 2 nothing to undo\n{solved}")?;
+    for keeps_states in [false, true] {
+        let mut written = Vec::new(alloc);
+        let commands = b"cap 1 4\nclose 2\nundo 2\nundo\nredo\nprint problem\n";
+        let outcome = hold_bounded(alloc, NETWORK_A, commands, &mut written, 1, keeps_states);
+        assert_eq!(rt; outcome, Ok(Status::SomeRefused));
+        assert!(rt; written.as_slice() == one_kept.as_bytes());
+        written.clear();
+        let commands = b"solve\nundo\nprint flow\n";
+        let outcome = hold_bounded(alloc, NETWORK_A, commands, &mut written, 0, keeps_states);
+        assert_eq!(rt; outcome, Ok(Status::SomeRefused));
+        assert!(rt; written.as_slice() == none_kept.as_bytes());
+    }
+    Ok(())
+}
+
+#[test]
+fn bounded_sessions_are_the_same_over_both_histories(rt: HostRuntime) -> Result<(), Fail> {
+    let alloc = rt.alloc();
+    let mut draws = Draws { seed: 31_415 };
+    for bound in [0, 1, 2, 5] {
+        for _ in 0..SCRIPTS {
+            let script = random_script(alloc, &mut draws)?;
+            let mut by_edits = Vec::new(alloc);
+            let status = hold_bounded(alloc, NETWORK_A, &script, &mut by_edits, bound, false)?;
+            let mut by_states = Vec::new(alloc);
+            assert_eq!(rt;
+                hold_bounded(alloc, NETWORK_A, &script, &mut by_states, bound, true)?,
+                status
+            );
+            assert!(rt; by_edits.as_slice() == by_states.as_slice());
         }
     }
     Ok(())

@@ -28,6 +28,8 @@ mod row;
 #[cfg(test)]
 mod sessions;
 #[cfg(test)]
+mod shutting;
+#[cfg(test)]
 mod solving;
 #[cfg(test)]
 mod streams;

@@ -19,6 +19,10 @@ pub const FULL_ARC: &[u8] = b"p max 2 1\nn 1 s\nn 2 t\na 1 2 1844674407370955161
 pub const LENIENT: &[u8] =
     b"cNote\r\n\r\np  max\t3   5\r\nn 3 t\r\nn 1 s\r\na 1 2 4\r\n  a 2 2 9\r\na 1 2 007 \r\na 2 1 6\r\na 2 3 9";
 
+/// Parallel arcs over node 2, which has a self loop too, and two arcs over node 3.
+pub const PARALLEL: &[u8] =
+    b"p max 4 6\nn 1 s\nn 4 t\na 1 2 1\na 2 2 5\na 1 2 2\na 2 4 3\na 1 3 2\na 3 4 2\n";
+
 /// Two paths of the same length lead from the source to the sink, over node 3 and over node 2. The arc to node 3 has the
 /// smaller number.
 pub const TWO_SHORTEST: &[u8] =

@@ -1,6 +1,8 @@
 //! Readers and writers that are slow, or fail.
+ghost use Rattle.std.specs.Prelude.{◌≤◌};
+
 use dmf_run::{EngineFault, Status, run_check, run_commands, run_session, run_solve};
-use dmf_session::{Session, WholeHistory};
+use dmf_session::{DeltaHistory, Session, WholeHistory};
 use dmf_text::{StdSink, StdSource, read_problem};
 use std::alloc::Global;
 use std::io;
@@ -29,6 +31,28 @@ pub fn hold_whole(
         &mut StdSink::new(written),
         false,
     )
+}
+
+/// Holds a session over a history of edits with this bound, or over one of whole states with it.
+pub fn hold_bounded(
+    alloc: Global,
+    problem: &[u8],
+    commands: &[u8],
+    written: &mut Vec<u8>,
+    bound: u32,
+    keeps_states: bool,
+) -> Outcome
+    requires { bound ≤ 1000000 }
+{
+    let state = read_problem(alloc, problem).map_err(EngineFault::Problem)?;
+    let mut commands = StdSource::new(commands);
+    let mut out = StdSink::new(written);
+    if keeps_states {
+        let session = Session::new(WholeHistory::with_bound(alloc, state, bound)?);
+        return run_commands(alloc, session, &mut commands, &mut out, false);
+    }
+    let session = Session::new(DeltaHistory::with_bound(alloc, state, bound));
+    run_commands(alloc, session, &mut commands, &mut out, false)
 }
 
 /// Holds a session over any readers and writer; with `want_cut` each solve tells a cut.

@@ -14,8 +14,14 @@ fn read(alloc: Global, line: &str) -> Result<Result<Mode, WordsFault>, AllocErro
 }
 
 fn session(alloc: Global, cut: bool, problem: &str) -> Result<Mode, AllocError> {
+    bounded(alloc, cut, 1_000_000, problem)
+}
+
+/// A session whose history has this bound.
+fn bounded(alloc: Global, cut: bool, history: u32, problem: &str) -> Result<Mode, AllocError> {
     Ok(Mode::Session {
         cut,
+        history,
         problem: String::from_str(alloc, problem)?,
     })
 }
@@ -40,6 +46,13 @@ fn words_ask_for_a_run(rt: HostRuntime) -> Result<(), Fail> {
         ("session -", session(alloc, false, "-")?),
         ("session -- --cut", session(alloc, false, "--cut")?),
         ("session solve", session(alloc, false, "solve")?),
+        ("session --history 0 P", bounded(alloc, false, 0, "P")?),
+        ("session P --history 1", bounded(alloc, false, 1, "P")?),
+        ("session --history=+7 P", bounded(alloc, false, 7, "P")?),
+        (
+            "session --cut --history 1000000 P",
+            bounded(alloc, true, 1_000_000, "P")?,
+        ),
         ("check P", check),
     ] {
         let read = read(alloc, line)?;
@@ -76,6 +89,16 @@ fn words_are_refused_with_a_text(rt: HostRuntime) -> Result<(), Fail> {
             "unexpected value 'yes' for '--cut' found",
         ),
         ("solve --version", "unexpected argument '--version' found"),
+        (
+            "session --history 1 --history 1 P",
+            "cannot be used multiple times",
+        ),
+        ("session --history -1 P", "unexpected argument '-1' found"),
+        (
+            "check --history 1 P",
+            "unexpected argument '--history' found",
+        ),
+        ("solve --history 1", "unexpected argument '--history' found"),
     ] {
         let Err(WordsFault::Usage(text)) = read(alloc, line)? else {
             return Err(Fail::from(line));
@@ -86,9 +109,30 @@ fn words_are_refused_with_a_text(rt: HostRuntime) -> Result<(), Fail> {
     Ok(())
 }
 
+#[test]
+fn bounds_are_refused_with_a_text(rt: HostRuntime) -> Result<(), Fail> {
+    let alloc = rt.alloc();
+    for (line, part) in [
+        (
+            "session --history 1000001 P",
+            "invalid value '1000001' for '--history <N>'",
+        ),
+        (
+            "session --history x P",
+            "invalid value 'x' for '--history <N>'",
+        ),
+    ] {
+        let Err(WordsFault::Usage(text)) = read(alloc, line)? else {
+            return Err(Fail::from(line));
+        };
+        assert!(rt; text.as_str().contains(part), "{line}: {text}");
+    }
+    Ok(())
+}
+
 // How the program is used, by which words that it does not take are answered.
 const USAGE: &str = "Usage: dmf [solve [--cut]] <FILE
-       dmf session [--cut] PROBLEM
+       dmf session [--cut] [--history N] PROBLEM
        dmf check PROBLEM <SOLUTION
 ";
 
@@ -100,7 +144,10 @@ fn refused_words_are_told_the_right_form(rt: HostRuntime) -> Result<(), Fail> {
         ("--cut", USAGE),
         ("net.max", USAGE),
         ("solve net.max", "Usage: dmf solve [--cut] <FILE\n"),
-        ("session", "Usage: dmf session [--cut] PROBLEM\n"),
+        (
+            "session",
+            "Usage: dmf session [--cut] [--history N] PROBLEM\n",
+        ),
         ("check", "Usage: dmf check PROBLEM <SOLUTION\n"),
     ] {
         let Err(WordsFault::Usage(text)) = read(alloc, line)? else {
@@ -115,7 +162,7 @@ const HELP: &str =
     "Solve maximum-flow problems in the DIMACS format, and hold what-if sessions on them
 
 Usage: dmf [solve [--cut]] <FILE
-       dmf session [--cut] PROBLEM
+       dmf session [--cut] [--history N] PROBLEM
        dmf check PROBLEM <SOLUTION
 
 Commands:
@@ -147,7 +194,7 @@ Each command's --help has an example of its replies. man dmf has the formats.
 fn help_is_told(rt: HostRuntime) -> Result<(), Fail> {
     let alloc = rt.alloc();
     let solve = "Usage: dmf solve [--cut] <FILE\n";
-    let session = "Usage: dmf session [--cut] PROBLEM\n";
+    let session = "Usage: dmf session [--cut] [--history N] PROBLEM\n";
     let check = "Usage: dmf check PROBLEM <SOLUTION\n";
     // What the words are, and what the text has.
     for (line, part) in [
@@ -166,7 +213,11 @@ fn help_is_told(rt: HostRuntime) -> Result<(), Fail> {
         ("session --help", session),
         (
             "session --help",
-            "--cut   Write the smallest minimum cut after each solution\n",
+            "--cut          Write the smallest minimum cut after each solution\n",
+        ),
+        (
+            "session --help",
+            "--history <N>  Keep at most N changes for undo [default: 1000000]\n",
         ),
         ("session --help", "\n  undo [K]    "),
         ("session --help", "  c undo value VALUE\n"),

@@ -9,7 +9,7 @@ use Rattle.dmf_net.specs.declared.fault.PlanFault.{PlanFault}
 use Rattle.dmf_net.specs.Change.{change_fault}
 use Rattle.dmf_net.specs.Change as change
 use Rattle.dmf_session.specs.declared.command.Command.{Command}
-use Rattle.dmf_session.specs.declared.command.Command.TheVariants.{Cap, Add, Close, Solve, Undo, Redo, PrintProblem, PrintFlow, PrintCut}
+use Rattle.dmf_session.specs.declared.command.Command.TheVariants.{Cap, Add, Close, Shut, Solve, Undo, Redo, PrintProblem, PrintFlow, PrintCut}
 use Rattle.dmf_session.specs.declared.command.Reply.{Reply}
 use Rattle.dmf_session.specs.declared.command.Reply.TheVariants.{Value, Added}
 use Rattle.dmf_session.specs.declared.command.Refusal.{Refusal}
@@ -75,6 +75,8 @@ steps-grow want_cut t u (Add tail head cap) result within s =
     change-grows t u s.0 (change.Add tail head cap) (λ new. Added (length new.network.arcs) (value_of new)) result (change_fault s.0 (change.Add tail head cap)) within s.2
 steps-grow want_cut t u (Close arc) result within s =
     change-grows t u s.0 (change.Close arc) (λ new. Value (value_of new)) result (change_fault s.0 (change.Close arc)) within s.2
+steps-grow want_cut t u (Shut node) result within s =
+    change-grows t u s.0 (change.Shut node) (λ new. Value (value_of new)) result (change_fault s.0 (change.Shut node)) within s.2
 steps-grow want_cut t u Solve result within s =
     appended-grows t u s.2.new within s.2.appends
 steps-grow want_cut t u (Undo steps) result within s = undo-grows t u steps result (nat_le steps t.place) within s

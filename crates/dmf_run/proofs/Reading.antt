@@ -1,5 +1,5 @@
 -- From what the parser says of the words to what they ask for.
-use Rattle.std.proofs.Common.{◌≡◌, ◌≢◌, ◌⊎◌, ◌∙◌, ap, sym, subst, inl, inr, Bool, true, false, List, [], ◌∷◌, Option, Some, None, codes, Result, Err, option_map}
+use Rattle.std.proofs.Common.{ℕ, ◌≡◌, ◌≢◌, ◌⊎◌, ◌∙◌, arith, refl, ap, sym, subst, inl, inr, Bool, true, false, List, [], ◌∷◌, Option, Some, None, codes, Result, Err, option_map}
 use Rattle.clap.specs.Kinds.{Kinds, IsAmong}
 use Rattle.clap.specs.Values.{bool_text}
 use Rattle.clap.specs.declared.error.kind.ErrorKind.{ErrorKind}
@@ -9,12 +9,16 @@ use Rattle.dmf_run.specs.declared.words.WordsFault.{WordsFault}
 use Rattle.dmf_run.specs.declared.words.WordsFault.TheVariants.{NoMemory}
 use Rattle.dmf_run.specs.Matches.{Asked, asked_of}
 use Rattle.clap.specs.Words.{Row, first_of, one_of}
-use Rattle.dmf_run.specs.Words.{Text, Gives, IsHelp, IsUsage, IsVersion, ReadsWords, solving, holding, checking}
-use Rattle.dmf_run.proofs.Table.{faults_in, asked_in, nothing_taken, nothing_asked, solve_taken, solve_asked, solve_cut_taken, solve_cut_asked, session_taken, session_asked, cut_first_taken, cut_first_asked, cut_last_taken, cut_last_asked, check_taken, check_asked, help_asked, solve_help_asked, session_help_asked, check_help_asked, version_asked, cut_alone_refused, session_alone_refused, check_alone_refused, solve_path_refused, session_second_refused, check_second_refused, check_cut_refused, unknown_refused}
+use Rattle.dmf_run.specs.Words.{Text, Gives, IsBound, IsHelp, IsUsage, IsVersion, ReadsWords, solving, holding, checking}
+use Rattle.dmf_run.proofs.Table.{faults_in, asked_in, most_text, history_alone_refused, solve_history_refused, check_history_refused, nothing_taken, nothing_asked, solve_taken, solve_asked, solve_cut_taken, solve_cut_asked, session_taken, session_asked, cut_first_taken, cut_first_asked, cut_last_taken, cut_last_asked, check_taken, check_asked, help_asked, solve_help_asked, session_help_asked, check_help_asked, version_asked, cut_alone_refused, session_alone_refused, check_alone_refused, solve_path_refused, session_second_refused, check_second_refused, check_cut_refused, unknown_refused}
 
 -- a list of no kinds has no first one
 no_kinds : {k : ErrorKind} {ks : Kinds} → [] ≡ k ∷ ks → ⊥
 no_kinds e = cc
+
+-- the bound that stands where none is written
+most-bound : IsBound most_text 1000000
+most-bound = record { numeral = (omega arith, (omega arith, (omega arith, (omega arith, (omega arith, (omega arith, (omega arith, (omega arith, tt)))))))); value = refl; at_most = omega arith }
 
 -- the words were taken
 module _ (words : List Text) (asked : Asked) (result : Result Mode WordsFault)
@@ -27,27 +31,30 @@ module _ (words : List Text) (asked : Asked) (result : Result Mode WordsFault)
   finds row what is known = found ∙ (ap asked_in is ∙ known)
 
   pub taken_reads : (asked ≡ None → Gives (solving false) result)
-      → ((cut : Bool) (path : Option Text) → asked ≡ Some (codes "solve", Some (bool_text cut), path)
+      → ((cut : Bool) (text path : Option Text) → asked ≡ Some (codes "solve", Some (bool_text cut), text, path)
       → Gives (solving cut) result)
-      → ((cut : Bool) (path : Text) → asked ≡ Some (codes "session", Some (bool_text cut), Some path)
-      → Gives (holding cut path) result)
-      → ((cut : Option Text) (path : Text) → asked ≡ Some (codes "check", cut, Some path) → Gives (checking path) result)
+      → ((cut : Bool) (text : Text) (bound : ℕ) (path : Text) → asked ≡ Some (codes "session", Some (bool_text cut), Some text, Some path)
+      → IsBound text bound → Gives (holding cut bound path) result)
+      → ((cut text : Option Text) (path : Text) → asked ≡ Some (codes "check", cut, text, Some path) → Gives (checking path) result)
       → ReadsWords words result
   taken_reads nothing solve session check = record {
     nothing = λ is. nothing (finds _ _ is nothing_asked);
-    solve = λ is. solve false None (finds _ _ is solve_asked);
-    solve_cut = λ is. solve true None (finds _ _ is solve_cut_asked);
-    session = λ path plain is. session false path (finds _ _ is (session_asked path plain));
+    solve = λ is. solve false None None (finds _ _ is solve_asked);
+    solve_cut = λ is. solve true None None (finds _ _ is solve_cut_asked);
+    session = λ path plain is. session false most_text 1000000 path (finds _ _ is (session_asked path plain)) most-bound;
     session_cut = λ path plain is. elim is [
-      | inl first ↦ session true path (finds _ _ first (cut_first_asked path plain))
-      | inr last ↦ session true path (finds _ _ last (cut_last_asked path plain))
+      | inl first ↦ session true most_text 1000000 path (finds _ _ first (cut_first_asked path plain)) most-bound
+      | inr last ↦ session true most_text 1000000 path (finds _ _ last (cut_last_asked path plain)) most-bound
     ];
-    check = λ path plain is. check None path (finds _ _ is (check_asked path plain));
+    check = λ path plain is. check None None path (finds _ _ is (check_asked path plain));
     help = λ is. absurd (untaken _ is help_asked);
     solve_help = λ is. absurd (untaken _ is solve_help_asked);
     session_help = λ is. absurd (untaken _ is session_help_asked);
     check_help = λ is. absurd (untaken _ is check_help_asked);
     version = λ is. absurd (untaken _ is version_asked);
+    history_alone = λ rest is. absurd (untaken _ is (history_alone_refused rest));
+    solve_history = λ text is. absurd (untaken _ is (solve_history_refused text));
+    check_history = λ text path is. absurd (untaken _ is (check_history_refused text path));
     cut_alone = λ rest is. absurd (untaken _ is (cut_alone_refused rest));
     no_problem = λ is. elim is [
       | inl held ↦ absurd (untaken _ held session_alone_refused)
@@ -130,6 +137,9 @@ module _ (words : List Text) (kind : ErrorKind) (fault : WordsFault)
     session_help = λ is. helped _ is session_help_asked;
     check_help = λ is. helped _ is check_help_asked;
     version = λ is. versioned _ is version_asked;
+    history_alone = λ rest is. stray _ is (history_alone_refused rest);
+    solve_history = λ text is. stray _ is (solve_history_refused text);
+    check_history = λ text path is. stray _ is (check_history_refused text path);
     cut_alone = λ rest is. stray _ is (cut_alone_refused rest);
     no_problem = λ is. elim is [ inl held ↦ missing _ held session_alone_refused | inr checked ↦ missing _ checked check_alone_refused ];
     solve_path = λ path plain is. stray _ is (solve_path_refused path plain);
@@ -141,17 +151,26 @@ module _ (words : List Text) (kind : ErrorKind) (fault : WordsFault)
     unknown = λ word rest named is. unknown _ is (unknown_refused word rest named);
   }
 
--- what was asked of the rows of a command that was found
-pub asked_rows : (found : Option (Text × List Row)) (rows : List Row) (name : Text) (flag path : Option Text)
-    → Some rows ≡ option_map (λ p. p.1) found → asked_of found ≡ Some (name, flag, path)
-    → (one_of (codes "cut") rows ≡ flag) × (first_of (codes "problem") rows ≡ path)
-asked_rows None rows name flag path has asked = cc
-asked_rows (Some p) rows name flag path has asked =
+-- What was asked of the rows of a command that was found.
+pub record AskedRows (rows : List Row) (flag bound path : Option Text) : Type 0 where
+  pub flag_is : one_of (codes "cut") rows ≡ flag
+  pub bound_is : one_of (codes "history") rows ≡ bound
+  pub path_is : first_of (codes "problem") rows ≡ path
+
+pub asked_rows : (found : Option (Text × List Row)) (rows : List Row) (name : Text) (flag bound path : Option Text)
+    → Some rows ≡ option_map (λ p. p.1) found → asked_of found ≡ Some (name, flag, bound, path) → AskedRows rows flag bound path
+asked_rows None rows name flag bound path has asked = cc
+asked_rows (Some p) rows name flag bound path has asked =
     let same : rows ≡ p.1 = cc in
-    let parts : (p.0, one_of (codes "cut") p.1, first_of (codes "problem") p.1) ≡ (name, flag, path) = cc in
-    let flag_is : one_of (codes "cut") p.1 ≡ flag = ap (λ (q : Text × Option Text × Option Text). q.1) parts in
-    let path_is : first_of (codes "problem") p.1 ≡ path = ap (λ (q : Text × Option Text × Option Text). q.2) parts in
-    (rw same flag_is, rw same path_is)
+    let parts : (p.0, one_of (codes "cut") p.1, one_of (codes "history") p.1, first_of (codes "problem") p.1) ≡ (name, flag, bound, path) = cc in
+    rw same (record {
+      flag_is = ap (λ (q : Text × Option Text × Option Text × Option Text). q.1) parts;
+      bound_is = ap (λ (q : Text × Option Text × Option Text × Option Text). q.2) parts;
+      path_is = ap (λ (q : Text × Option Text × Option Text × Option Text). q.3) parts;
+    })
+
+pub same-holding : {cut wanted : Bool} {n bound : ℕ} {problem path : Text} → cut ≡ wanted → n ≡ bound → problem ≡ path → holding cut n problem ≡ holding wanted bound path
+same-holding c n p = cc
 
 -- a flag reads as its text says
 pub flag_reads : (cut read : Bool) (text : Option Text) → (text ≡ Some (codes "true") → read ≡ true)

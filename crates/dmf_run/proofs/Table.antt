@@ -29,6 +29,10 @@ pub line_is_free : is_simple_and_free arguments ≡ true
 unfolding clap_on_literals
 line_is_free = refl
 
+-- the bound that is written where none is
+abbrev pub most_text : Text
+most_text = codes "1000000"
+
 -- ---- words that are taken
 
 pub nothing_taken : faults_in [] ≡ []
@@ -43,7 +47,7 @@ pub solve_taken : faults_in (codes "solve" ∷ []) ≡ []
 unfolding clap_on_literals
 solve_taken = refl
 
-pub solve_asked : asked_in (codes "solve" ∷ []) ≡ Some (codes "solve", Some (bool_text false), None)
+pub solve_asked : asked_in (codes "solve" ∷ []) ≡ Some (codes "solve", Some (bool_text false), None, None)
 unfolding clap_on_literals
 solve_asked = refl
 
@@ -51,7 +55,7 @@ pub solve_cut_taken : faults_in (codes "solve" ∷ codes "--cut" ∷ []) ≡ []
 unfolding clap_on_literals
 solve_cut_taken = refl
 
-pub solve_cut_asked : asked_in (codes "solve" ∷ codes "--cut" ∷ []) ≡ Some (codes "solve", Some (bool_text true), None)
+pub solve_cut_asked : asked_in (codes "solve" ∷ codes "--cut" ∷ []) ≡ Some (codes "solve", Some (bool_text true), None, None)
 unfolding clap_on_literals
 solve_cut_asked = refl
 
@@ -61,7 +65,7 @@ session_taken [] plain = refl
 session_taken (x ∷ xs) plain = rw (plain, plain) refl
 
 pub session_asked : (path : Text) → IsPlain path
-    → asked_in (codes "session" ∷ path ∷ []) ≡ Some (codes "session", Some (bool_text false), Some path)
+    → asked_in (codes "session" ∷ path ∷ []) ≡ Some (codes "session", Some (bool_text false), Some most_text, Some path)
 unfolding clap_on_literals
 session_asked [] plain = refl
 session_asked (x ∷ xs) plain = rw (plain, plain) refl
@@ -72,7 +76,7 @@ cut_first_taken [] plain = refl
 cut_first_taken (x ∷ xs) plain = rw (plain, plain) refl
 
 pub cut_first_asked : (path : Text) → IsPlain path
-    → asked_in (codes "session" ∷ codes "--cut" ∷ path ∷ []) ≡ Some (codes "session", Some (bool_text true), Some path)
+    → asked_in (codes "session" ∷ codes "--cut" ∷ path ∷ []) ≡ Some (codes "session", Some (bool_text true), Some most_text, Some path)
 unfolding clap_on_literals
 cut_first_asked [] plain = refl
 cut_first_asked (x ∷ xs) plain = rw (plain, plain) refl
@@ -83,7 +87,7 @@ cut_last_taken [] plain = refl
 cut_last_taken (x ∷ xs) plain = rw (plain, plain) refl
 
 pub cut_last_asked : (path : Text) → IsPlain path
-    → asked_in (codes "session" ∷ path ∷ codes "--cut" ∷ []) ≡ Some (codes "session", Some (bool_text true), Some path)
+    → asked_in (codes "session" ∷ path ∷ codes "--cut" ∷ []) ≡ Some (codes "session", Some (bool_text true), Some most_text, Some path)
 unfolding clap_on_literals
 cut_last_asked [] plain = refl
 cut_last_asked (x ∷ xs) plain = rw (plain, plain) refl
@@ -94,7 +98,7 @@ check_taken [] plain = refl
 check_taken (x ∷ xs) plain = rw (plain, plain) refl
 
 pub check_asked : (path : Text) → IsPlain path
-    → asked_in (codes "check" ∷ path ∷ []) ≡ Some (codes "check", None, Some path)
+    → asked_in (codes "check" ∷ path ∷ []) ≡ Some (codes "check", None, None, Some path)
 unfolding clap_on_literals
 check_asked [] plain = refl
 check_asked (x ∷ xs) plain = rw (plain, plain) refl
@@ -128,6 +132,18 @@ version_asked = refl
 pub cut_alone_refused : (rest : List Text) → faults_in (codes "--cut" ∷ rest) ≡ UnknownArgument ∷ []
 unfolding clap_on_literals
 cut_alone_refused rest = refl
+
+pub history_alone_refused : (rest : List Text) → faults_in (codes "--history" ∷ rest) ≡ UnknownArgument ∷ []
+unfolding clap_on_literals
+history_alone_refused rest = refl
+
+pub solve_history_refused : (text : Text) → faults_in (codes "solve" ∷ codes "--history" ∷ text ∷ []) ≡ UnknownArgument ∷ []
+unfolding clap_on_literals
+solve_history_refused text = refl
+
+pub check_history_refused : (text path : Text) → faults_in (codes "check" ∷ codes "--history" ∷ text ∷ path ∷ []) ≡ UnknownArgument ∷ []
+unfolding clap_on_literals
+check_history_refused text path = refl
 
 pub session_alone_refused : faults_in (codes "session" ∷ []) ≡ MissingRequiredArgument ∷ []
 unfolding clap_on_literals

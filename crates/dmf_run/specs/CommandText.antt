@@ -7,7 +7,7 @@ use Rattle.dmf_text.specs.declared.digits.NumberFault.TheVariants as digits
 use Rattle.dmf_text.specs.Fields.{fields}
 use Rattle.dmf_text.specs.Number.{number_of}
 use Rattle.dmf_session.specs.declared.command.Command.{Command}
-use Rattle.dmf_session.specs.declared.command.Command.TheVariants.{Cap, Add, Close, Solve, Undo, Redo, PrintProblem, PrintFlow, PrintCut}
+use Rattle.dmf_session.specs.declared.command.Command.TheVariants.{Cap, Add, Close, Shut, Solve, Undo, Redo, PrintProblem, PrintFlow, PrintCut}
 use Rattle.dmf_session.specs.declared.command.Refusal.{Refusal}
 use Rattle.dmf_session.specs.declared.command.Refusal.TheVariants.{UnknownCommand, FieldCount, NotANumber, TooLarge}
 
@@ -29,10 +29,10 @@ addition (tail ∷ head ∷ cap ∷ []) =
     with_number (number_of head) (λ head. with_number (number_of cap) (λ cap. Ok (Add tail head cap))))
 addition fields = Err FieldCount
 
--- `I`, the field behind `close`
-unfoldable pub closing : List (List ℕ) → Result Command Refusal
-closing (arc ∷ []) = with_number (number_of arc) (λ arc. Ok (Close arc))
-closing fields = Err FieldCount
+-- `I`, the field behind `close`, or `V`, that behind `shut`
+unfoldable pub one_number : List (List ℕ) → Result ℕ Refusal
+one_number (field ∷ []) = with_number (number_of field) (λ n. Ok n)
+one_number fields = Err FieldCount
 
 -- nothing, which is what stands behind `solve`
 unfoldable pub solving : List (List ℕ) → Result Command Refusal
@@ -66,7 +66,8 @@ meaning_of (word ∷ behind) =
     if bytes_eq word (codes "c") then Ok None
     else if bytes_eq word (codes "cap") then command_by (λ command. command) (capping behind)
     else if bytes_eq word (codes "add") then command_by (λ command. command) (addition behind)
-    else if bytes_eq word (codes "close") then command_by (λ command. command) (closing behind)
+    else if bytes_eq word (codes "close") then command_by Close (one_number behind)
+    else if bytes_eq word (codes "shut") then command_by Shut (one_number behind)
     else if bytes_eq word (codes "solve") then command_by (λ command. command) (solving behind)
     else if bytes_eq word (codes "undo") then command_by Undo (steps behind)
     else if bytes_eq word (codes "redo") then command_by Redo (steps behind)

@@ -5,7 +5,7 @@ use Rattle.dmf_net.specs.NetworkState.{NetworkState}
 use Rattle.dmf_net.specs.Side.{CutSide}
 use Rattle.dmf_text.specs.Written.{written_line, problem_text, solution_text, cut_text}
 use Rattle.dmf_session.specs.declared.command.Command.{Command}
-use Rattle.dmf_session.specs.declared.command.Command.TheVariants.{Cap, Add, Close, Solve, Undo, Redo, PrintProblem, PrintFlow, PrintCut}
+use Rattle.dmf_session.specs.declared.command.Command.TheVariants.{Cap, Add, Close, Shut, Solve, Undo, Redo, PrintProblem, PrintFlow, PrintCut}
 use Rattle.dmf_session.specs.declared.command.Reply.{Reply}
 use Rattle.dmf_session.specs.declared.command.Reply.TheVariants.{Value, Added, Solution, Problem, Flow, Cut}
 use Rattle.dmf_session.specs.declared.command.Refusal.{Refusal}
@@ -18,6 +18,7 @@ abbrev pub word_of : Command → List ℕ
 word_of (Cap arc cap) = codes "cap"
 word_of (Add tail head cap) = codes "add"
 word_of (Close arc) = codes "close"
+word_of (Shut node) = codes "shut"
 word_of Solve = codes "solve"
 word_of (Undo steps) = codes "undo"
 word_of (Redo steps) = codes "redo"

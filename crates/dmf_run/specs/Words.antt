@@ -1,6 +1,7 @@
 -- The words of the command line: what they ask for.
 -- Public: a public contract says no more than this.
-use Rattle.std.specs.Prelude.{ℕ, ◌≡◌, ◌≢◌, ◌⊎◌, ◌==◌, Bool, true, false, List, [], ◌∷◌, Result, MatchResult, IsErrAnd, codes, ⊤}
+use Rattle.std.specs.Prelude.{ℕ, ◌≡◌, ◌≢◌, ◌⊎◌, ◌==◌, ◌≤◌, Bool, true, false, List, [], ◌∷◌, Result, MatchResult, IsErrAnd, codes, ⊤}
+use Rattle.std.specs.Str.Parse.{IsNumeral, digits_value, without_leading_plus}
 use Rattle.dmf_run.specs.declared.words.Mode.{Mode}
 use Rattle.dmf_run.specs.declared.words.Mode.TheVariants as mode
 use Rattle.dmf_run.specs.declared.words.WordsFault.{WordsFault}
@@ -9,20 +10,38 @@ use Rattle.dmf_run.specs.declared.words.WordsFault.TheVariants.{Help, Version, U
 abbrev pub Text : Type 0
 Text = List ℕ
 
--- what the program is asked to do, with the path of the problem's file; a test says whether the cut is wanted
+-- what the program is asked to do, with the path of the problem's file; a test says whether the cut is wanted, and a session
+-- has the bound of its history
 pub data Task : Type 0 where
   solving : Bool → Task
-  holding : Bool → Text → Task
+  holding : Bool → ℕ → Text → Task
   checking : Text → Task
 
 abbrev pub task_of : Mode → Task
 task_of (mode.Solve cut) = solving cut
-task_of (mode.Session cut problem) = holding cut problem.bytes.items
+task_of (mode.Session cut history problem) = holding cut history problem.bytes.items
 task_of (mode.Check problem) = checking problem.bytes.items
 
 -- Reading the words gave this task, or memory was refused.
 abbrev pub Gives : Task → Result Mode WordsFault → Type 0
 Gives task = λ result. MatchResult result (λ m. task_of m ≡ task) (λ fault. fault ≡ NoMemory)
+
+-- The word does not begin with a dash (45).
+abbrev pub IsPlain : Text → Type 0
+IsPlain [] = ⊤
+IsPlain (byte ∷ rest) = (byte == 45) ≡ false
+
+-- The bound of a session's history is at most 1,000,000.
+abbrev pub HasBound : Mode → Type 0
+HasBound (mode.Solve cut) = ⊤
+HasBound (mode.Session cut history problem) = history ≤ 1000000
+HasBound (mode.Check problem) = ⊤
+
+-- The text writes this bound: decimal digits, behind a plus or not, of a number that is at most 1,000,000.
+pub record IsBound (text : Text) (bound : ℕ) : Type 0 where
+  pub numeral : IsNumeral 10 (without_leading_plus text)
+  pub value : bound ≡ digits_value 10 (without_leading_plus text)
+  pub at_most : bound ≤ 1000000
 
 abbrev pub IsHelp : WordsFault → Type 0
 IsHelp (Help text) = ⊤
@@ -54,11 +73,6 @@ GivesVersion result = IsErrAnd result IsVersion
 abbrev pub GivesUsage : Result Mode WordsFault → Type 0
 GivesUsage result = IsErrAnd result IsUsage
 
--- The word does not begin with a dash (45).
-abbrev pub IsPlain : Text → Type 0
-IsPlain [] = ⊤
-IsPlain (byte ∷ rest) = (byte == 45) ≡ false
-
 -- The word names no command: it is none of the three, nor `help`.
 pub record IsNoCommand (word : Text) : Type 0 where
   pub plain : IsPlain word
@@ -68,21 +82,24 @@ pub record IsNoCommand (word : Text) : Type 0 where
   pub help : word ≢ codes "help"
 
 -- What reading gives, by the words behind the program's name. The path of a problem is any word that does not begin with
--- a dash.
+-- a dash. The bound of a session's history is 1,000,000 where none is written.
 pub record ReadsWords (words : List Text) (result : Result Mode WordsFault) : Type 0 where
   pub nothing : words ≡ [] → Gives (solving false) result
   pub solve : words ≡ codes "solve" ∷ [] → Gives (solving false) result
   pub solve_cut : words ≡ codes "solve" ∷ codes "--cut" ∷ [] → Gives (solving true) result
-  pub session : (path : Text) → IsPlain path → words ≡ codes "session" ∷ path ∷ [] → Gives (holding false path) result
+  pub session : (path : Text) → IsPlain path → words ≡ codes "session" ∷ path ∷ [] → Gives (holding false 1000000 path) result
   pub session_cut : (path : Text) → IsPlain path
       → (words ≡ codes "session" ∷ codes "--cut" ∷ path ∷ []) ⊎ (words ≡ codes "session" ∷ path ∷ codes "--cut" ∷ [])
-      → Gives (holding true path) result
+      → Gives (holding true 1000000 path) result
   pub check : (path : Text) → IsPlain path → words ≡ codes "check" ∷ path ∷ [] → Gives (checking path) result
   pub help : words ≡ codes "--help" ∷ [] → GivesHelp result
   pub solve_help : words ≡ codes "solve" ∷ codes "--help" ∷ [] → GivesHelp result
   pub session_help : words ≡ codes "session" ∷ codes "--help" ∷ [] → GivesHelp result
   pub check_help : words ≡ codes "check" ∷ codes "--help" ∷ [] → GivesHelp result
   pub version : words ≡ codes "--version" ∷ [] → GivesVersion result
+  pub history_alone : (rest : List Text) → words ≡ codes "--history" ∷ rest → GivesUsage result
+  pub solve_history : (text : Text) → words ≡ codes "solve" ∷ codes "--history" ∷ text ∷ [] → GivesUsage result
+  pub check_history : (text path : Text) → words ≡ codes "check" ∷ codes "--history" ∷ text ∷ path ∷ [] → GivesUsage result
   pub cut_alone : (rest : List Text) → words ≡ codes "--cut" ∷ rest → GivesUsage result
   pub no_problem : (words ≡ codes "session" ∷ []) ⊎ (words ≡ codes "check" ∷ []) → GivesUsage result
   pub solve_path : (path : Text) → IsPlain path → words ≡ codes "solve" ∷ path ∷ [] → GivesUsage result

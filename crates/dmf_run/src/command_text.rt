@@ -2,7 +2,7 @@
 ghost use Rattle.std.specs.Prelude.{◌≡◌};
 ghost use Rattle.std.specs.Str.Lines.{strip_carriage_return};
 ghost use Rattle.dmf_text.specs.Number.{number_of};
-ghost use Rattle.dmf_run.specs.CommandText.{command_of, capping, addition, closing, solving, steps, printing, with_number};
+ghost use Rattle.dmf_run.specs.CommandText.{command_of, capping, addition, one_number, solving, steps, printing, with_number};
 ghost use Rattle.dmf_run.specs.KeptLine.{Means};
 
 use crate::kept_line::KeptLine;
@@ -57,7 +57,13 @@ pub fn read_command(line: &[u8]) -> Result<Option<Command>, Refusal>
     } else if word == b"add".as_slice() {
         read_addition(fields)?
     } else if word == b"close".as_slice() {
-        read_closing(fields)?
+        Command::Close {
+            arc: read_one_number(fields)?,
+        }
+    } else if word == b"shut".as_slice() {
+        Command::Shut {
+            node: read_one_number(fields)?,
+        }
     } else if word == b"solve".as_slice() {
         read_solving(fields)?
     } else if word == b"undo".as_slice() {
@@ -101,15 +107,13 @@ fn read_addition(mut fields: Fields<'_>) -> Result<Command, Refusal>
     }
 }
 
-/// The field behind `close`.
-#[tactic(auto, unfolding(crate::specs::CommandText::closing))]
-fn read_closing(mut fields: Fields<'_>) -> Result<Command, Refusal>
-    ensures { result ≡ closing fields.entry }
+/// The field behind `close` or `shut`.
+#[tactic(auto, unfolding(crate::specs::CommandText::one_number))]
+fn read_one_number(mut fields: Fields<'_>) -> Result<u64, Refusal>
+    ensures { result ≡ one_number fields.entry }
 {
     match (fields.next(), fields.next()) {
-        (Some(arc), None) => Ok(Command::Close {
-            arc: read_number(arc)?,
-        }),
+        (Some(field), None) => read_number(field),
         _ => Err(Refusal::FieldCount),
     }
 }

@@ -5,14 +5,14 @@ pub const VERSION: &str = "0.1.0";
 
 /// How the program is used.
 pub const USAGE: &str = "dmf [solve [--cut]] <FILE
-       dmf session [--cut] PROBLEM
+       dmf session [--cut] [--history N] PROBLEM
        dmf check PROBLEM <SOLUTION";
 
 /// How `dmf solve` is used.
 pub const SOLVE_USAGE: &str = "dmf solve [--cut] <FILE";
 
 /// How `dmf session` is used.
-pub const SESSION_USAGE: &str = "dmf session [--cut] PROBLEM";
+pub const SESSION_USAGE: &str = "dmf session [--cut] [--history N] PROBLEM";
 
 /// How `dmf check` is used.
 pub const CHECK_USAGE: &str = "dmf check PROBLEM <SOLUTION";
@@ -54,6 +54,7 @@ pub const SESSION_NOTES: &str = "Commands, one a line on standard input, and the
   cap I U     arc I gets the capacity U           c cap value VALUE
   add A B U   an arc from A to B of capacity U    c add I value VALUE
   close I     nothing may flow on arc I any more  c close value VALUE
+  shut A      every open arc at node A is closed  c shut value VALUE
   solve       the flow becomes a greatest one     the solution
   undo [K]    the last change, or K, taken back   c undo value VALUE
   redo [K]    one change, or K, made again        c redo value VALUE

@@ -166,6 +166,7 @@ fn word_of(command: Command) -> &'static [u8]
         Command::Cap { .. } => b"cap",
         Command::Add { .. } => b"add",
         Command::Close { .. } => b"close",
+        Command::Shut { .. } => b"shut",
         Command::Solve => b"solve",
         Command::Undo(_) => b"undo",
         Command::Redo(_) => b"redo",

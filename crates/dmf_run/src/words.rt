@@ -1,26 +1,36 @@
 //! The words of the command line.
-ghost use Rattle.std.specs.Prelude.{◌≡◌, ◌≢◌, IfOk, Bool, Option, Some, None, codes, drop, map, false};
-ghost use Rattle.clap.specs.Words.{app_of, first_value, found_of, kind_of, rule_of, subcommand_rows_of};
+ghost use Rattle.std.specs.Prelude.{ℕ, ◌≡◌, ◌≢◌, ◌≤◌, IfOk, Bool, Option, Some, None, codes, drop, map, false};
+ghost use Rattle.clap.specs.Words.{app_of, first_value, found_of, kind_of, one_text, rule_of, subcommand_rows_of};
 ghost use Rattle.clap.specs.Values.{bool_text};
 ghost use Rattle.clap.specs.declared.builder.command.Command.TheViews.{out-Command as fields_of};
-ghost use Rattle.dmf_run.specs.Matches.{asked_of, check_line, arguments, cut_rule, problem_rule, program_line, session_line, solve_line};
-ghost use Rattle.dmf_run.specs.Words.{Gives, IsHelp, IsUsage, IsVersion, ReadsWords, Text, solving, holding, checking};
+ghost use Rattle.dmf_run.specs.Matches.{asked_of, check_line, arguments, cut_rule, history_rule, problem_rule, program_line, session_line, solve_line};
+ghost use Rattle.dmf_run.specs.Words.{Gives, HasBound, IsBound, IsHelp, IsUsage, IsVersion, ReadsWords, Text, solving, holding, checking};
 ghost use Rattle.dmf_run.specs.declared.words.WordsFault.TheVariants.{NoMemory};
 
 use crate::help;
 use clap::error::ErrorKind;
-use clap::{Arg, ArgAction, ArgMatches, Command, Error};
+use clap::{Arg, ArgAction, ArgMatches, Command, Error, value_parser};
+use dmf_session::MAX_BOUND;
 use std::alloc::{AllocError, Global};
 
 /// What the program is asked to do.
 #[derive(Debug, Drop, PartialEq, Eq)]
 pub enum Mode {
     /// Solve the problem on standard input, with the cut after its solution where that is wanted.
-    Solve { cut: bool },
-    /// Hold a session on the problem in the file at this path, with the cut after each solution where that is wanted.
-    Session { cut: bool, problem: String },
+    Solve {
+        cut: bool,
+    },
+    /// Hold a session on the problem in the file at this path, with the cut after each solution where that is wanted, and at
+    /// most so many states kept before the present one.
+    Session {
+        cut: bool,
+        history: u32,
+        problem: String,
+    },
     /// Judge the solution on standard input of the problem in the file at this path.
-    Check { problem: String },
+    Check {
+        problem: String,
+    },
 }
 
 /// Why the words ask for no run.
@@ -39,13 +49,15 @@ pub enum WordsFault {
 /// Reads the words of a command line, of which the first is the program's name.
 ///
 /// No words behind it, or `solve`, ask for [`Mode::Solve`]; `session PROBLEM` asks for [`Mode::Session`], and
-/// `check PROBLEM` for [`Mode::Check`]. The flag `--cut` may stand behind `solve` and `session`, and `--help` behind each
-/// command and alone: it is answered by [`WordsFault::Help`], and so is `help`, alone or before a command. `--version` alone
+/// `check PROBLEM` for [`Mode::Check`]. The flag `--cut` may stand behind `solve` and `session`, `--history N` behind `session`
+/// alone, with a number up to [`MAX_BOUND`], which is what stands for it where it is absent, and `--help` behind each command and
+/// alone: it is answered by [`WordsFault::Help`], and so is `help`, alone or before a command. `--version` alone
 /// is answered by [`WordsFault::Version`]. A PROBLEM that begins with a dash stands behind `--`. All other words are refused
 /// by [`WordsFault::Usage`]; the texts are those of `clap`. [`WordsFault::NoMemory`] may come in place of any answer.
 #[inline(never)]
 pub fn read_words(alloc: Global, words: Vec<String>) -> Result<Mode, WordsFault>
-    ensures { ReadsWords (drop 1 (map (λ word. word.bytes.items) words.items)) result }
+    ensures words { ReadsWords (drop 1 (map (λ word. word.bytes.items) words.items)) result }
+    ensures bound { IfOk result HasBound }
 {
     let Ok(command) = command(alloc) else {
         return Err(WordsFault::NoMemory);
@@ -104,6 +116,7 @@ fn session<'a>(alloc: Global) -> Result<Command<'a>, AllocError>
         .override_usage(help::SESSION_USAGE)
         .after_help(help::SESSION_NOTES)
         .arg(cut(alloc, "Write the smallest minimum cut after each solution"))?
+        .arg(history(alloc))?
         .arg(problem(alloc))
 }
 
@@ -131,6 +144,20 @@ fn cut<'a>(alloc: Global, help: &'a str) -> Arg<'a>
         .help(help)
 }
 
+/// The option that says how many states are kept before the present one.
+#[inline(never)]
+fn history<'a>(alloc: Global) -> Arg<'a>
+    ensures rule { rule_of result ≡ history_rule }
+    ensures local { result.global ≡ false }
+{
+    Arg::new(alloc, "history")
+        .long("history")
+        .value_name("N")
+        .default_value("1000000")
+        .value_parser(value_parser!(u32).range(0..=1_000_000))
+        .help("Keep at most N changes for undo")
+}
+
 /// The word that names the problem's file.
 fn problem<'a>(alloc: Global) -> Arg<'a>
     ensures rule { rule_of result ≡ problem_rule }
@@ -145,15 +172,16 @@ fn problem<'a>(alloc: Global) -> Arg<'a>
 /// What the words that the command line took ask for.
 fn mode_of(alloc: Global, matches: &ArgMatches<'_>) -> Result<Mode, WordsFault>
     ensures nothing { asked_of (subcommand_rows_of matches.now) ≡ None → Gives (solving false) result }
-    ensures solve { (cut : Bool) (path : Option Text)
-        → asked_of (subcommand_rows_of matches.now) ≡ Some (codes "solve", Some (bool_text cut), path)
+    ensures solve { (cut : Bool) (text path : Option Text)
+        → asked_of (subcommand_rows_of matches.now) ≡ Some (codes "solve", Some (bool_text cut), text, path)
         → Gives (solving cut) result }
-    ensures session { (cut : Bool) (path : Text)
-        → asked_of (subcommand_rows_of matches.now) ≡ Some (codes "session", Some (bool_text cut), Some path)
-        → Gives (holding cut path) result }
-    ensures check { (cut : Option Text) (path : Text)
-        → asked_of (subcommand_rows_of matches.now) ≡ Some (codes "check", cut, Some path)
+    ensures session { (cut : Bool) (text : Text) (bound : ℕ) (path : Text)
+        → asked_of (subcommand_rows_of matches.now) ≡ Some (codes "session", Some (bool_text cut), Some text, Some path)
+        → IsBound text bound → Gives (holding cut bound path) result }
+    ensures check { (cut text : Option Text) (path : Text)
+        → asked_of (subcommand_rows_of matches.now) ≡ Some (codes "check", cut, text, Some path)
         → Gives (checking path) result }
+    ensures bound { IfOk result HasBound }
 {
     match matches.subcommand() {
         Some(("session", session)) => {
@@ -162,6 +190,7 @@ fn mode_of(alloc: Global, matches: &ArgMatches<'_>) -> Result<Mode, WordsFault>
             };
             Ok(Mode::Session {
                 cut: session.get_flag("cut"),
+                history: bound_of(session),
                 problem,
             })
         }
@@ -176,6 +205,18 @@ fn mode_of(alloc: Global, matches: &ArgMatches<'_>) -> Result<Mode, WordsFault>
         }),
         None => Ok(Mode::Solve { cut: false }),
     }
+}
+
+/// The bound of a session's history. It has a default, and the parser lets no larger number through.
+fn bound_of(matches: &ArgMatches<'_>) -> u32
+    ensures value { (text : Text) (bound : ℕ) → one_text (found_of matches.now) (codes "history") ≡ Some text
+        → IsBound text bound → result ≡ bound }
+    ensures at_most { result ≤ 1000000 }
+{
+    matches
+        .get_one::<u32>("history")
+        .unwrap_or(MAX_BOUND)
+        .min(MAX_BOUND)
 }
 
 /// The path of the problem's file. It is required, so it is there.

@@ -15,7 +15,7 @@ use Rattle.dmf_net.specs.Greatest.{IsGreatest, IsSurpassed}
 use Rattle.dmf_net.specs.Side.{CutSide}
 use Rattle.dmf_net.specs.Laws.{HasSmallestSide, IsGreatestOrSurpassed, HasOutcome}
 use Rattle.dmf_session.specs.declared.command.Command.{Command}
-use Rattle.dmf_session.specs.declared.command.Command.TheVariants.{Cap, Add, Close, Solve, Undo, Redo, PrintProblem, PrintFlow, PrintCut}
+use Rattle.dmf_session.specs.declared.command.Command.TheVariants.{Cap, Add, Close, Shut, Solve, Undo, Redo, PrintProblem, PrintFlow, PrintCut}
 use Rattle.dmf_session.specs.declared.command.Reply.{Reply}
 use Rattle.dmf_session.specs.declared.command.Reply.TheVariants.{Value, Added, Solution, Problem, Flow, Cut}
 use Rattle.dmf_session.specs.declared.command.Refusal.{Refusal}
@@ -78,10 +78,15 @@ add-fault (Some arc.NoSuchNode) e = cc
 add-fault (Some arc.TooManyArcs) e = cc
 add-fault (Some arc.SumTooLarge) e = cc
 
+shut-fault : (has : Bool) → cond has None (Some plan.NoSuchNode) ≢ Some plan.NoMemory
+shut-fault true e = cc
+shut-fault false e = cc
+
 no-memory-fault : (s : NetworkState) (asked : Change) → change_fault s asked ≢ Some plan.NoMemory
 no-memory-fault s (change.Cap j cap) e = cap-fault _ _ _ e
 no-memory-fault s (change.Close j) e = close-fault _ _ e
 no-memory-fault s (change.Add tail head cap) e = add-fault _ e
+no-memory-fault s (change.Shut node) e = shut-fault _ e
 no-memory-fault s change.Solve e = cc
 
 -- A fault that is not want of memory refuses with something else.
@@ -206,6 +211,7 @@ has-answer laws want_cut t (Cap j cap) has = changed-answered laws want_cut t (C
 has-answer laws want_cut t (Add tail head cap) has =
     changed-answered laws want_cut t (Add tail head cap) (change.Add tail head cap) (λ new. Added (length new.network.arcs) (value_of new)) has (λ result u is. is)
 has-answer laws want_cut t (Close j) has = changed-answered laws want_cut t (Close j) (change.Close j) (λ new. Value (value_of new)) has (λ result u is. is)
+has-answer laws want_cut t (Shut node) has = changed-answered laws want_cut t (Shut node) (change.Shut node) (λ new. Value (value_of new)) has (λ result u is. is)
 has-answer laws want_cut t Solve has = solve-answered laws want_cut t has
 has-answer laws want_cut t (Undo count) has = undo-by want_cut t count has (nat_le count t.place) refl
 has-answer laws want_cut t (Redo count) has = redo-by want_cut t count has (nat_le count (future_of t)) refl

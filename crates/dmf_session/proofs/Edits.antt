@@ -5,7 +5,7 @@ use Rattle.std.proofs.lemmas.List.{length_push, length-drop, length-take-le, tak
 use Rattle.std.proofs.lemmas.Bool.{cases_lt}
 use Rattle.std.proofs.lemmas.Option.{get_or_from_slice_get, slice_get-get_or, slice_get_within, slice_get_cases}
 use Rattle.dmf_net.specs.declared.edit.Edit.{Edit}
-use Rattle.dmf_net.specs.declared.edit.Edit.TheVariants.{Cap, Add, Close, Solve}
+use Rattle.dmf_net.specs.declared.edit.Edit.TheVariants.{Cap, Add, Close, Shut, Solve}
 use Rattle.dmf_net.specs.Arc.{open_arc}
 use Rattle.dmf_net.specs.NetworkState.{NetworkState, IsState}
 use Rattle.dmf_net.specs.Edit.{applied, Fits, AddsArc}
@@ -84,6 +84,7 @@ more-arcs : (edit : Edit) (s : NetworkState) → AddsArc edit → length s.netwo
 more-arcs (Cap j old new moves) s adds = absurd adds
 more-arcs (Close j old moves) s adds = absurd adds
 more-arcs (Add tail head cap) s adds = omega (arith, length_push s.network.arcs (open_arc tail head cap))
+more-arcs (Shut arcs moves) s adds = absurd adds
 more-arcs (Solve moves) s adds = absurd adds
 
 -- ---- the oldest edit is dropped

@@ -9,7 +9,7 @@ use Rattle.dmf_net.specs.Greatest.{IsGreatest, IsSurpassed}
 use Rattle.dmf_net.specs.Side.{CutSide, IsSmallestSide}
 use Rattle.dmf_net.specs.Change.{Change, change_fault}
 use Rattle.dmf_net.specs.Change as change
-use Rattle.dmf_session.specs.declared.command.Command.TheVariants.{Cap, Add, Close, Solve, Undo, Redo, PrintProblem, PrintFlow, PrintCut}
+use Rattle.dmf_session.specs.declared.command.Command.TheVariants.{Cap, Add, Close, Shut, Solve, Undo, Redo, PrintProblem, PrintFlow, PrintCut}
 use Rattle.dmf_session.specs.declared.command.Reply.{Reply}
 use Rattle.dmf_session.specs.declared.command.Reply.TheVariants.{Value, Added, Solution, Cut}
 use Rattle.dmf_session.specs.declared.command.Refusal.{Refusal}
@@ -116,6 +116,8 @@ has-one-answer laws want_cut t u v (Add tail head cap) result other has a b =
     one-change laws.outcome t u v (change.Add tail head cap) (λ new. Added (length new.network.arcs) (value_of new)) result other has a b
 has-one-answer laws want_cut t u v (Close j) result other has a b =
     one-change laws.outcome t u v (change.Close j) (λ new. Value (value_of new)) result other has a b
+has-one-answer laws want_cut t u v (Shut node) result other has a b =
+    one-change laws.outcome t u v (change.Shut node) (λ new. Value (value_of new)) result other has a b
 has-one-answer laws want_cut t u v Solve result other has a b =
     one-solved laws want_cut t u v a.0 result other (is-state t a.0 has a.1) a.2 (subst (λ s. IsSolved want_cut t s other v) (one-present t b.0 a.0 b.1 a.1) b.2)
 has-one-answer laws want_cut t u v (Undo count) result other has a b =

@@ -8,7 +8,7 @@ use Rattle.dmf_net.specs.NetworkState.{NetworkState}
 use Rattle.dmf_net.specs.Change.{Change, change_fault}
 use Rattle.dmf_net.specs.Change as change
 use Rattle.dmf_session.specs.declared.command.Command.{Command}
-use Rattle.dmf_session.specs.declared.command.Command.TheVariants.{Cap, Add, Close, Solve, Undo, Redo, PrintProblem, PrintFlow, PrintCut}
+use Rattle.dmf_session.specs.declared.command.Command.TheVariants.{Cap, Add, Close, Shut, Solve, Undo, Redo, PrintProblem, PrintFlow, PrintCut}
 use Rattle.dmf_session.specs.declared.command.Reply.{Reply}
 use Rattle.dmf_session.specs.declared.command.Reply.TheVariants.{Value, Added}
 use Rattle.dmf_session.specs.declared.command.Refusal.{Refusal}
@@ -31,6 +31,8 @@ change-appends want_cut t u (Add tail head cap) reply is a =
     changed-by t u a.0 (change.Add tail head cap) (λ new. Added (length new.network.arcs) (value_of new)) reply (change_fault a.0 (change.Add tail head cap)) a.2
 change-appends want_cut t u (Close arc) reply is a =
     changed-by t u a.0 (change.Close arc) (λ new. Value (value_of new)) reply (change_fault a.0 (change.Close arc)) a.2
+change-appends want_cut t u (Shut node) reply is a =
+    changed-by t u a.0 (change.Shut node) (λ new. Value (value_of new)) reply (change_fault a.0 (change.Shut node)) a.2
 change-appends want_cut t u Solve reply is a = (a.2.new, a.2.appends)
 change-appends want_cut t u (Undo steps) reply is a = absurd is
 change-appends want_cut t u (Redo steps) reply is a = absurd is

@@ -13,7 +13,7 @@ use Rattle.dmf_net.specs.Side.{CutSide, IsSmallestSide}
 use Rattle.dmf_net.specs.Change.{Change, change_fault, Becomes}
 use Rattle.dmf_net.specs.Change as change
 use Rattle.dmf_session.specs.declared.command.Command.{Command}
-use Rattle.dmf_session.specs.declared.command.Command.TheVariants.{Cap, Add, Close, Solve, Undo, Redo, PrintProblem, PrintFlow, PrintCut}
+use Rattle.dmf_session.specs.declared.command.Command.TheVariants.{Cap, Add, Close, Shut, Solve, Undo, Redo, PrintProblem, PrintFlow, PrintCut}
 use Rattle.dmf_session.specs.declared.command.Reply.{Reply}
 use Rattle.dmf_session.specs.declared.command.Reply.TheVariants.{Value, Added, Solution, Problem, Flow, Cut}
 use Rattle.dmf_session.specs.declared.command.Refusal.{Refusal}
@@ -97,6 +97,8 @@ Steps want_cut t (Add tail head cap) result u =
     × Changes t s (change.Add tail head cap) (λ new. Added (length new.network.arcs) (value_of new)) result u
 Steps want_cut t (Close arc) result u =
     (s : NetworkState) × IsPresent t s × Changes t s (change.Close arc) (λ new. Value (value_of new)) result u
+Steps want_cut t (Shut node) result u =
+    (s : NetworkState) × IsPresent t s × Changes t s (change.Shut node) (λ new. Value (value_of new)) result u
 Steps want_cut t Solve result u =
     (s : NetworkState) × IsPresent t s × IsSolved want_cut t s result u
 Steps want_cut t (Undo steps) result u =
@@ -116,6 +118,7 @@ abbrev pub MayWantMemory : Timeline → Command → Type 0
 MayWantMemory t (Cap arc cap) = IsAccepted t (change.Cap arc cap)
 MayWantMemory t (Add tail head cap) = IsAccepted t (change.Add tail head cap)
 MayWantMemory t (Close arc) = IsAccepted t (change.Close arc)
+MayWantMemory t (Shut node) = IsAccepted t (change.Shut node)
 MayWantMemory t Solve = Unit {0}
 MayWantMemory t (Undo steps) = ⊥
 MayWantMemory t (Redo steps) = (steps ≤ future_of t) × (i : ℕ) × (i < steps) × AddsArcs t (t.place + i)
@@ -133,6 +136,7 @@ abbrev pub IsChange : Command → Type 0
 IsChange (Cap arc cap) = Unit {0}
 IsChange (Add tail head cap) = Unit {0}
 IsChange (Close arc) = Unit {0}
+IsChange (Shut node) = Unit {0}
 IsChange Solve = Unit {0}
 IsChange (Undo steps) = ⊥
 IsChange (Redo steps) = ⊥

@@ -25,6 +25,11 @@ pub enum Command {
         /// The arc's number, counted from 1.
         arc: u64,
     },
+    /// Close every open arc that leaves a node or enters it, as one change.
+    Shut {
+        /// The node's number, counted from 1.
+        node: u64,
+    },
     /// Put the greatest flow that augmenting reaches in place of the present one.
     Solve,
     /// Go so many changes back.

@@ -1,5 +1,5 @@
 ghost use Rattle.std.specs.Prelude.{◌≡◌, ◌≤◌, Bool, OnOk};
-ghost use Rattle.dmf_session.specs.declared.command.Command.TheVariants.{Cap, Add, Close, Solve, Undo, Redo, PrintCut};
+ghost use Rattle.dmf_session.specs.declared.command.Command.TheVariants.{Cap, Add, Close, Shut, Solve, Undo, Redo, PrintCut};
 ghost use Rattle.dmf_session.specs.Timeline.{IsTimeline, IsPresent, future_of, back};
 ghost use Rattle.dmf_session.specs.Step.{Answers};
 ghost use Rattle.dmf_session.specs.Optimal.{HasOptimalPresent};
@@ -8,7 +8,8 @@ use crate::command::{Command, Refusal, Reply};
 use crate::history::{History, RedoFault};
 use crate::laws::greatest_is_optimal;
 use dmf_net::{
-    State, plan_add, plan_cap, plan_close, plan_solve, plan_solve_with_side, smallest_side,
+    State, plan_add, plan_cap, plan_close, plan_shut, plan_solve, plan_solve_with_side,
+    smallest_side,
 };
 use std::alloc::Global;
 use std::marker::Model;
@@ -84,6 +85,7 @@ impl<H: History> Session<H> {
             Command::Cap { arc, cap } => self.cap(alloc, arc, cap),
             Command::Add { tail, head, cap } => self.add(tail, head, cap),
             Command::Close { arc } => self.close(alloc, arc),
+            Command::Shut { node } => self.shut(alloc, node),
             Command::Solve => self.solve(alloc, want_cut),
             Command::Undo(steps) => self.undo(steps),
             Command::Redo(steps) => self.redo(steps),
@@ -114,6 +116,14 @@ impl<H: History> Session<H> {
         ensures { (want_cut : Bool) → Answers want_cut (H.timeline self.old) (Close arc) result (H.timeline self.new) }
     {
         let edit = plan_close(alloc, self.history.present(), arc)?;
+        self.history.append(edit)?;
+        Ok(Reply::Value(self.history.present().value()))
+    }
+
+    fn shut(&mut self, alloc: Global, node: u64) -> Result<Reply, Refusal>
+        ensures { (want_cut : Bool) → Answers want_cut (H.timeline self.old) (Shut node) result (H.timeline self.new) }
+    {
+        let edit = plan_shut(alloc, self.history.present(), node)?;
         self.history.append(edit)?;
         Ok(Reply::Value(self.history.present().value()))
     }

@@ -132,6 +132,31 @@ fn capacities_are_changed_and_arcs_closed(rt: HostRuntime) -> Result<(), Fail> {
     Ok(())
 }
 
+#[test]
+fn a_node_is_shut_by_one_change(rt: HostRuntime) -> Result<(), Fail> {
+    let mut session = example(rt.alloc())?;
+    let table = [
+        (Command::Solve, Ok(None)),
+        (Command::Shut { node: 3 }, Ok(Some(2))),
+        (Command::Shut { node: 0 }, Err(Refusal::NoSuchNode)),
+        (Command::Shut { node: 5 }, Err(Refusal::NoSuchNode)),
+        (Command::Shut { node: 3 }, Ok(Some(2))),
+        (Command::Close { arc: 5 }, Err(Refusal::Closed)),
+        (Command::Undo(2), Ok(Some(5))),
+        (Command::Redo(1), Ok(Some(2))),
+    ];
+    for (command, value) in table {
+        assert_eq!(rt;
+            value_of(answer(&rt, rt.alloc(), &mut session, command)),
+            value,
+            "{command:?}"
+        );
+    }
+    assert_eq!(rt; (session.past(), session.future()), (2, 1));
+    assert_eq!(rt; session.present().open_count(), 2);
+    Ok(())
+}
+
 /// Whether an answer tells the cut with these nodes and this capacity.
 fn tells_cut(answer: Result<Reply, Refusal>, ids: &[u32], capacity: u64) -> bool {
     match answer {

@@ -3,12 +3,12 @@ ghost use Rattle.std.specs.Prelude.{◌≡◌, true, ◌+◌, ◌-◌, ◌^◌, 
 ghost use Rattle.dmf_net.specs.Arc.{capacity_sum};
 ghost use Rattle.dmf_net.specs.Network.{arc_number, has_arc, with_arc};
 ghost use Rattle.dmf_net.specs.NetworkState.{IsState, with_flows};
-ghost use Rattle.dmf_net.specs.Direction.{along, HasIdleLast};
-ghost use Rattle.dmf_net.specs.Edit.{moved, applied, AddsArc, MovesFit, Fits};
-ghost use Rattle.dmf_net.specs.Revert.{without_last};
+ghost use Rattle.dmf_net.specs.Direction.{along, AreClosed, HasIdleLast};
+ghost use Rattle.dmf_net.specs.Edit.{moved, applied, with_closed, AddsArc, AreOpenWith, MovesFit, Fits};
+ghost use Rattle.dmf_net.specs.Revert.{with_opened, without_last};
 
 use crate::arc::Arc;
-use crate::edit::{Edit, Move};
+use crate::edit::{Edit, Move, Shutting};
 use crate::fault::NoMemory;
 use crate::moves::{Direction, make_moves};
 use crate::state::State;
@@ -41,6 +41,14 @@ impl State {
             } => {
                 let arc = self.arc(j).close();
                 self.change_arc(j, arc, moves, Direction::Forward);
+                Ok(())
+            }
+            Edit::Shut {
+                ref arcs,
+                ref moves,
+            } => {
+                self.move_flows(moves, Direction::Forward);
+                self.close_all(arcs);
                 Ok(())
             }
             Edit::Add { tail, head, cap } => self.append(Arc::open(tail, head, cap)),
@@ -78,6 +86,30 @@ impl State {
         }
     }
 
+    /// Closes these arcs, on which nothing flows.
+    fn close_all(&mut self, arcs: &[Shutting])
+        requires are_open { AreOpenWith 0 arcs.now self.old.network }
+        requires state { IsState (record { network = with_closed arcs.now self.old.network; flows = self.old.flows }) }
+        ensures { self.new ≡ record { network = with_closed arcs.now self.old.network; flows = self.old.flows } }
+    {
+        for shutting in arcs {
+            let arc = self.arc(shutting.arc).close();
+            self.set_arc(shutting.arc, arc);
+        }
+    }
+
+    /// Opens these arcs, which were closed together.
+    pub(crate) fn open_all(&mut self, arcs: &[Shutting])
+        requires { AreClosed arcs.now self.old }
+        ensures { self.new ≡ record { network = with_opened arcs.now self.old.network; flows = self.old.flows } }
+    {
+        for shutting in arcs {
+            let arc = self.arc(shutting.arc);
+            let arc = Arc::open(arc.tail, arc.head, shutting.old);
+            self.set_arc(shutting.arc, arc);
+        }
+    }
+
     /// Puts an arc with the same ends in the place of arc number `j`.
     fn set_arc(&mut self, j: u32, arc: Arc)
         requires is_there { has_arc self.old.network j ≡ true }
@@ -95,7 +127,7 @@ impl State {
     /// Makes the moves, or takes them back.
     pub(crate) fn move_flows(&mut self, moves: &[Move], direction: Direction)
         requires fit { MovesFit 0 (along direction moves.now) self.old.flows }
-        requires state { IsState (with_flows self.old (moved (along direction moves.now) self.old.flows)) }
+        requires state { IsState self.old → IsState (with_flows self.old (moved (along direction moves.now) self.old.flows)) }
         ensures { self.new ≡ with_flows self.old (moved (along direction moves.now) self.old.flows) }
     {
         make_moves(

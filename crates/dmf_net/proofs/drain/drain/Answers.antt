@@ -6,6 +6,7 @@ use Rattle.dmf_net.specs.declared.moves.FlowLink.TheVariants.{Along}
 use Rattle.dmf_net.specs.Flow.{flow_on}
 use Rattle.dmf_net.specs.Pairs.{flows_read}
 use Rattle.dmf_net.proofs.ChangedArc.{has_arc-within}
+use Rattle.dmf_net.proofs.DrainingSearch.{length-carries}
 use Rattle.dmf_net.proofs.DrainingWalk.{draining-moves, draining-none, draining-loop}
 use Rattle.dmf_net.proofs.drain.drain.Goals as goal
 
@@ -33,10 +34,18 @@ list_moves-requires-clause-at_most_arcs c =
     let state = c.flows-before.ensures.state in
     rw c.flows-before.ensures.value (omega (arith, AllZip-long _ _ _ state.flow.within, state.network.at_most_arcs))
 
+pub list_moves-requires-clause-one_each : goal.list_moves-requires-clause-one_each
+list_moves-requires-clause-one_each c =
+    let s = c.args.state.now in
+    let drained = c.drain_along.ensures s.flows c.in_ok-search.ensures.carrying in
+    rw c.flows-before.ensures.value (length-carries s s.flows _ c.drain_along.new.search drained.0)
+
 pub returns-clause-moves : goal.returns-clause-moves
 returns-clause-moves c =
     let s = c.args.state.now in
     let listed = rw c.flows-before.ensures.value at c.list_moves.ensures in
+    let drained = c.drain_along.ensures s.flows c.in_ok-search.ensures.carrying in
+    let drains = rw c.in_ok-search.ensures.flows at drained.1 in
     IfOk-weaker c.list_moves.result _ _ (λ (moves : Vec Move Global) is.
-    draining-moves s c.args.j c.args.limit (flows_read Along s.flows c.in_ok-search.search.pairs) moves.items c.flows-before.ensures.state c.requires c.in_ok-search.ensures.drains is)
+    draining-moves s c.args.j c.args.limit (flows_read Along s.flows c.drain_along.new.search.pairs) moves.items c.flows-before.ensures.state c.requires drains is)
     listed

@@ -2,30 +2,31 @@ use Rattle.std.proofs.Common.{ap, ap₂, ◌∙◌, codes}
 use Rattle.clap.specs.Words.{found_of, rows_of, subcommand_rows_of}
 use Rattle.clap.proofs.WalkLemmas.{first_value-rows, one_text-rows}
 use Rattle.dmf_run.specs.Words.{solving, holding, checking}
-use Rattle.dmf_run.proofs.Reading.{asked_rows, flag_reads}
+use Rattle.dmf_run.proofs.Reading.{same-holding, asked_rows, flag_reads}
 use Rattle.dmf_run.proofs.words.mode_of.Goals as goal
 
 -- a session was asked for
 pub returns-in-Ok-clause-session : goal.returns-in-Ok-clause-session
-returns-in-Ok-clause-session c = λ cut path is.
+returns-in-Ok-clause-session c = λ cut text bound path is writes.
     let found = found_of c.in-Some-session-default.session.now in
-    let both = asked_rows (subcommand_rows_of c.args.matches.now) (rows_of found) _ _ _ c.in-Some-session-default.ensures.rows is in
-    ap₂ holding
+    let both = asked_rows (subcommand_rows_of c.args.matches.now) (rows_of found) _ _ _ _ c.in-Some-session-default.ensures.rows is in
+    same-holding
     (flag_reads cut c.get_flag.result _ c.get_flag.ensures.value c.get_flag.ensures.other
-    (one_text-rows found (codes "cut") ∙ both.0))
-    (c.in-Ok.ensures path (first_value-rows found (codes "problem") ∙ both.1))
+    (one_text-rows found (codes "cut") ∙ both.flag_is))
+    (c.bound_of.ensures.value text bound (one_text-rows found (codes "history") ∙ both.bound_is) writes)
+    (c.in-Ok.ensures path (first_value-rows found (codes "problem") ∙ both.path_is))
 
 -- checking was asked for
 pub returns-in-Ok-path_of-clause-check : goal.returns-in-Ok-path_of-clause-check
-returns-in-Ok-path_of-clause-check c = λ cut path is.
+returns-in-Ok-path_of-clause-check c = λ cut text path is.
     let found = found_of c.in-Some-check-default.check.now in
-    let both = asked_rows (subcommand_rows_of c.args.matches.now) (rows_of found) _ _ _ c.in-Some-check-default.ensures.rows is in
-    ap checking (c.in-Ok-path_of.ensures path (first_value-rows found (codes "problem") ∙ both.1))
+    let both = asked_rows (subcommand_rows_of c.args.matches.now) (rows_of found) _ _ _ _ c.in-Some-check-default.ensures.rows is in
+    ap checking (c.in-Ok-path_of.ensures path (first_value-rows found (codes "problem") ∙ both.path_is))
 
 -- solving was asked for
 pub returns-in-Some-clause-solve : goal.returns-in-Some-clause-solve
-returns-in-Some-clause-solve c = λ cut path is.
+returns-in-Some-clause-solve c = λ cut text path is.
     let found = found_of c.in-Some.solve.now in
-    let both = asked_rows (subcommand_rows_of c.args.matches.now) (rows_of found) _ _ _ c.in-Some.ensures.rows is in
+    let both = asked_rows (subcommand_rows_of c.args.matches.now) (rows_of found) _ _ _ _ c.in-Some.ensures.rows is in
     ap solving (flag_reads cut c.get_flag-in-Some.result _ c.get_flag-in-Some.ensures.value
-    c.get_flag-in-Some.ensures.other (one_text-rows found (codes "cut") ∙ both.0))
+    c.get_flag-in-Some.ensures.other (one_text-rows found (codes "cut") ∙ both.flag_is))

@@ -9,8 +9,8 @@ use Rattle.dmf_run.proofs.Reading.{taken_reads, refused_reads}
 use Rattle.dmf_run.proofs.words.read_words.Goals as goal
 
 -- the words were taken
-pub returns-in-Ok-try_get_matches_from : goal.returns-in-Ok-try_get_matches_from
-returns-in-Ok-try_get_matches_from c =
+pub returns-in-Ok-try_get_matches_from-clause-words : goal.returns-in-Ok-try_get_matches_from-clause-words
+returns-in-Ok-try_get_matches_from-clause-words c =
     let all : List Text = map (λ word. word.bytes.items) c.args.words.items in
     let line : app_of c.in-Ok.command ≡ arguments = c.in-Ok.ensures in
     let words_are : map (λ word. word.bytes.items) c.as_slice.result.now ≡ all =
@@ -24,8 +24,8 @@ returns-in-Ok-try_get_matches_from c =
     c.mode_of.ensures.nothing c.mode_of.ensures.solve c.mode_of.ensures.session c.mode_of.ensures.check
 
 -- they were not
-pub returns : goal.returns
-returns c =
+pub returns-clause-words : goal.returns-clause-words
+returns-clause-words c =
     let all : List Text = map (λ word. word.bytes.items) c.args.words.items in
     let line : app_of c.in-Ok.command ≡ arguments = c.in-Ok.ensures in
     let words_are : map (λ word. word.bytes.items) c.as_slice.result.now ≡ all =

@@ -9,11 +9,13 @@ returns-clause-line c =
     let start = ap app_of_fields c.after_help.ensures
     ∙ (ap app_of_fields c.override_usage.ensures ∙ (ap app_of_fields c.about.ensures ∙ c.new.ensures.app)) in
     let one = line_with _ _ _ _ _ c.in_ok-arg.ensures c.cut.ensures.local start c.cut.ensures.rule in
-    IfOk-weaker c.arg-2.result _ _ (λ m h. line_with _ _ _ _ _ h c.problem.ensures.local one c.problem.ensures.rule) c.arg-2.ensures
+    let two = line_with _ _ _ _ _ c.in_ok-arg-2.ensures c.history.ensures.local one c.history.ensures.rule in
+    IfOk-weaker c.arg-3.result _ _ (λ m h. line_with _ _ _ _ _ h c.problem.ensures.local two c.problem.ensures.rule) c.arg-3.ensures
 
 pub returns-clause-local : goal.returns-clause-local
 returns-clause-local c =
     let start = ap has_globals c.after_help.ensures
     ∙ (ap has_globals c.override_usage.ensures ∙ (ap has_globals c.about.ensures ∙ c.new.ensures.local)) in
     let one = local_with _ _ _ c.in_ok-arg.ensures c.cut.ensures.local start in
-    IfOk-weaker c.arg-2.result _ _ (λ m h. local_with _ _ _ h c.problem.ensures.local one) c.arg-2.ensures
+    let two = local_with _ _ _ c.in_ok-arg-2.ensures c.history.ensures.local one in
+    IfOk-weaker c.arg-3.result _ _ (λ m h. local_with _ _ _ h c.problem.ensures.local two) c.arg-3.ensures

@@ -4,6 +4,7 @@ use Rattle.dmf_net.specs.Edit.{applied}
 use Rattle.dmf_net.specs.Edited.{arc_after}
 use Rattle.dmf_net.specs.Pairs.{residual_pair}
 use Rattle.dmf_net.proofs.EditedState.{arc-after, arc-added, arcs-most}
+use Rattle.dmf_net.proofs.ClosedTogether.{increasing-tail}
 use Rattle.dmf_net.proofs.ResidualSearch.{slice_get-residual_pairs, index-within}
 use Rattle.dmf_net.proofs.edited_pairs.EditedPairsPairs.pair.Goals.{then-k-arcs, else-k-arcs}
 use Rattle.dmf_net.proofs.edited_pairs.EditedPairsPairs.pair.Goals as goal
@@ -28,7 +29,7 @@ returns c =
     let arc_is =
     elim c.if-k-arcs.branch as (λ _. get_or arcs c.args.k no_arc ≡ c.if-k-arcs.arc) [
       | then-k-arcs w ↦
-          arc-after edit s c.args.k (rw c.arcs-arcs.ensures.value at w.if-k-arcs.true)
+          arc-after edit s c.args.k p.ascending (rw c.arcs-arcs.ensures.value at w.if-k-arcs.true)
           ∙ ap (λ xs. arc_after edit c.args.k (get_or xs c.args.k no_arc)) (sym c.arcs-arcs.ensures.value)
           ∙ sym w.arc_after-arc.ensures ∙ sym w.arc-is
       | else-k-arcs w ↦
@@ -39,3 +40,6 @@ returns c =
     slice_get-residual_pairs arcs p.flows.now c.args.k c.requires
     ∙ ap (λ a. Some (residual_pair a flow)) arc_is
     ∙ ap (λ o. Some o) (sym c.residual_pair.ensures)
+
+pub arc_after-arc-requires-clause-ascending : goal.arc_after-arc-requires-clause-ascending
+arc_after-arc-requires-clause-ascending c = increasing-tail 0 _ c.args.self.now.ascending

@@ -8,7 +8,7 @@ use Rattle.dmf_net.proofs.ChangedState.{IsState-with_arc, IsState-with_arc_back}
 use Rattle.dmf_net.proofs.state.State.change_arc.Goals as goal
 
 pub move_flows-requires-clause-state : goal.move_flows-requires-clause-state
-move_flows-requires-clause-state c =
+move_flows-requires-clause-state c = λ _.
     let cap = ap (λ (a : Arc). a.cap) c.arc.ensures.value in
     IsState-with_arc_back (with_flows c.args.self.now (moved (along c.args.direction c.args.moves.now) c.args.self.now.flows)) c.args.j c.args.arc c.arc.ensures.state.network c.requires.state c.requires.is_there c.requires.tail c.requires.head (omega (arith, cap, c.if-arc.true))
 

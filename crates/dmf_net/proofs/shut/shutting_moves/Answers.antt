@@ -1,0 +1,55 @@
+use Rattle.std.proofs.Common.{◌+◌, sym, ◌∙◌, get_or, drop, Vec, Global}
+use Rattle.std.proofs.lemmas.List.{with_items_is}
+use Rattle.std.proofs.lemmas.Result.{IfOk-weaker}
+use Rattle.std.proofs.lemmas.Slice.Zip.{AllZip-long}
+use Rattle.dmf_net.specs.declared.edit.Move.{Move}
+use Rattle.dmf_net.specs.declared.moves.FlowLink.TheVariants.{Along}
+use Rattle.dmf_net.specs.Edit.{numbers}
+use Rattle.dmf_net.specs.Pairs.{flows_read}
+use Rattle.dmf_net.proofs.ClosedArcs.{no_shutting, open-at, numbers-next, numbers-end, HasArcs-open}
+use Rattle.dmf_net.proofs.DrainedInTurn.{drained-none_in_turn, drained-next_arc, drained-every_arc, shutting-moves}
+use Rattle.dmf_net.proofs.DrainingSearch.{length-carries}
+use Rattle.dmf_net.proofs.DrainingWalk.{differences-none}
+use Rattle.dmf_net.proofs.shut.shutting_moves.Goals as goal
+
+pub returns-then-are_without_flow : goal.returns-then-are_without_flow
+returns-then-are_without_flow c =
+    let s = c.args.state.now in
+    let js = numbers c.args.arcs.now in
+    let none = c.are_without_flow.ensures c.if-are_without_flow.true in
+    shutting-moves s js s.flows c.new.result.items c.flows-before.ensures.state (HasArcs-open 0 c.args.arcs.now s.network c.requires) (drained-none_in_turn s.network js s.flows none)
+    (c.new.ensures.items ∙ sym (differences-none 1 s.flows))
+
+pub drain_in_turn-requires-clause-is_there : goal.drain_in_turn-requires-clause-is_there
+drain_in_turn-requires-clause-is_there c =
+    (open-at 0 c.args.arcs.now c.args.state.now.network c.loop-shutting.shutting-index c.requires c.loop-shutting-test.true).is_there
+
+pub loop-shutting-preserved : goal.loop-shutting-preserved
+loop-shutting-preserved c =
+    let arcs = c.args.arcs.now in
+    let i = c.loop-shutting.shutting-index in
+    let written = with_items_is c.loop-shutting.unpaired c.drain_in_turn.new.unpaired (c.drain_in_turn.auto.unpaired ∙ c.deref_mut.ensures.len) in
+    rw written
+    (drained-next_arc c.args.state.now (numbers arcs) (numbers (drop i arcs)) c.loop-shutting.unpaired.items c.drain_in_turn.new.unpaired
+    (get_or arcs i no_shutting).arc (numbers (drop (i + 1) arcs)) c.loop-shutting.search c.drain_in_turn.new.search
+    (numbers-next arcs i c.loop-shutting-test.true) c.drain_in_turn.ensures.carrying (rw c.deref_mut.ensures.value at c.drain_in_turn.ensures.drains) c.loop-shutting.invariant)
+
+pub list_moves-requires-clause-unpaired : goal.list_moves-requires-clause-unpaired
+list_moves-requires-clause-unpaired c =
+    rw (c.deref.ensures.value, c.flows-before.ensures.value) (AllZip-long _ _ _ c.loop-shutting.invariant.carrying.less)
+
+pub list_moves-requires-clause-one_each : goal.list_moves-requires-clause-one_each
+list_moves-requires-clause-one_each c =
+    rw c.flows-before.ensures.value (length-carries c.args.state.now c.loop-shutting.unpaired.items _ c.loop-shutting.search c.loop-shutting.invariant.carrying)
+
+pub returns : goal.returns
+returns c =
+    let s = c.args.state.now in
+    let arcs = c.args.arcs.now in
+    let js = numbers arcs in
+    let last = flows_read Along c.loop-shutting.unpaired.items c.loop-shutting.search.pairs in
+    let drains = drained-every_arc s js _ c.loop-shutting.unpaired.items c.loop-shutting.search (numbers-end arcs c.loop-shutting.shutting-index c.loop-shutting-test.false) c.loop-shutting.invariant in
+    let listed = rw (c.flows-before.ensures.value, c.deref.ensures.value) at c.list_moves.ensures in
+    IfOk-weaker c.list_moves.result _ _ (λ (moves : Vec Move Global) is.
+    shutting-moves s js last moves.items c.flows-before.ensures.state (HasArcs-open 0 arcs s.network c.requires) drains is)
+    listed
