@@ -7,6 +7,11 @@ pub mod OpenPaths
 pub mod LeastTrail
 pub mod Flags
 pub mod Reaching
+pub mod RoomLeft
+pub mod Descending
+pub mod Settled
+pub mod SettledSent
+pub mod Leaving
 pub mod Pushing
 pub mod Pushed
 pub mod PushedPairs
@@ -18,6 +23,15 @@ pub mod ShortestPaths
 pub mod Loops
 pub mod Walking
 pub mod WalkingTurn
+pub mod UnderWay
+pub mod WayTurn
+pub mod WayWalk
+pub mod WayStart
+pub mod Settling
+pub mod SettledRoom
+pub mod UnderWayWhole
+pub mod Cutting
+pub mod SearchTurns
 pub mod Labelled
 pub mod Marks
 pub mod Counting

@@ -1,11 +1,10 @@
 -- What a push along a trail keeps: labels stay valid, what was passed stays passed, and the links of the trail that still
 -- have room are one.
-use Rattle.std.proofs.Common.{ℕ, ◌≡◌, ◌≢◌, ◌+◌, ◌<◌, ◌≤◌, ◌⊎◌, inl, inr, Bool, List, [], ◌∷◌, length, get_or, take, zero, suc, ap, sym, ◌∙◌, arith, ⊎_elim}
+use Rattle.std.proofs.Common.{ℕ, ◌≡◌, ◌+◌, ◌<◌, ◌⊎◌, inl, inr, Bool, List, [], ◌∷◌, length, get_or, take, zero, suc, ap, sym, ◌∙◌, arith, ⊎_elim}
 use Rattle.std.specs.List.{All}
-use Rattle.std.proofs.lemmas.List.Elements.{All-cons}
 use Rattle.dmf_path.specs.Node.{IsNode}
 use Rattle.dmf_path.specs.Links.{Links, LiesAt, AreLinks, tail_of}
-use Rattle.dmf_path.specs.Walk.{IsAdmissible, IsWalk, AreValid, ArePassed, IsTrail, bottleneck_on, pushed_once, pushed, CanPush}
+use Rattle.dmf_path.specs.Walk.{IsAdmissible, IsWalk, AreValid, ArePassed, IsTrail, pushed_once, pushed}
 use Rattle.dmf_path.proofs.LinkPlaces.{lies-within}
 use Rattle.dmf_path.proofs.Pushing.{own, partner, other, is_beside, once-own, once-other, length-pushed_once}
 
@@ -110,43 +109,3 @@ pub IsTrail-take : (l : Links) (labels rooms current : List ℕ) (v k : ℕ) (ps
 IsTrail-take l labels rooms current v zero ps trail = tt
 IsTrail-take l labels rooms current v (suc k) [] trail = tt
 IsTrail-take l labels rooms current v (suc k) (p ∷ ps) trail = (trail.0, trail.1, IsTrail-take l labels rooms current (get_or l.heads p 0) k ps trail.2)
-
--- Each of these links has so much room.
-abbrev pub HaveRoom : ℕ → List ℕ → List ℕ → Type 0
-HaveRoom amount rooms [] = Unit {0}
-HaveRoom amount rooms (p ∷ ps) = (amount ≤ get_or rooms p 0) × HaveRoom amount rooms ps
-
--- so they have, up to the least of their rooms
-pub HaveRoom-least : (amount limit : ℕ) (rooms ps : List ℕ) → amount ≤ bottleneck_on rooms limit ps → HaveRoom amount rooms ps
-HaveRoom-least amount limit rooms [] within = tt
-HaveRoom-least amount limit rooms (p ∷ ps) within = (omega (arith, within), HaveRoom-least amount limit rooms ps (omega (arith, within)))
-
--- A push along a link leaves the rooms of links that fall on from its end.
-HaveRoom-once : (l : Links) (takes_back : Bool) (amount : ℕ) (labels rooms : List ℕ) (u q v : ℕ) (ps : List ℕ) → AreLinks l → Falls l labels u q → get_or labels v 0 < get_or labels u 0 → FallsOn l labels v ps → HaveRoom amount rooms ps → HaveRoom amount (pushed_once l takes_back amount q rooms) ps
-HaveRoom-once l takes_back amount labels rooms u q v [] links first lower falls have = tt
-HaveRoom-once l takes_back amount labels rooms u q v (p ∷ ps) links first lower falls have =
-    let not_own : p ≢ q = λ e. let same : v ≡ u = sym falls.0.tail ∙ ap (tail_of l) e ∙ first.tail in omega (arith, lower, ap (λ r. get_or labels r 0) same) in
-    let not_partner : p ≢ get_or l.partners q 0 = λ e.
-    let head : get_or l.heads p 0 ≡ u = ap (λ r. get_or l.heads r 0) e ∙ first.tail in
-    omega (arith, lower, falls.0.label, ap (λ r. get_or labels r 0) head) in (
-      omega (arith, have.0, once-other l takes_back amount q p rooms not_own not_partner),
-      HaveRoom-once l takes_back amount labels rooms u q (get_or l.heads p 0) ps links first (omega (arith, lower, falls.0.label)) falls.1 have.1,
-    )
-
--- What each link of a trail has room for can be pushed along them in turn.
-pub CanPush-falls : (l : Links) (takes_back : Bool) (amount : ℕ) (labels rooms : List ℕ) (v : ℕ) (ps : List ℕ) → AreLinks l → FallsOn l labels v ps → HaveRoom amount rooms ps → CanPush l takes_back amount ps rooms
-CanPush-falls l takes_back amount labels rooms v [] links falls have = tt
-CanPush-falls l takes_back amount labels rooms v (p ∷ ps) links falls have = (
-  falls.0.within,
-  have.0,
-  CanPush-falls l takes_back amount labels (pushed_once l takes_back amount p rooms) (get_or l.heads p 0) ps links falls.1
-      (HaveRoom-once l takes_back amount labels rooms v p (get_or l.heads p 0) ps links falls.0 (omega (arith, falls.0.label)) falls.1 have.1),
-)
-
--- The links of a trail are links.
-pub within-falls : (l : Links) (labels : List ℕ) (v : ℕ) (ps : List ℕ) → FallsOn l labels v ps → All (λ p. p < length l.heads) ps
-within-falls l labels v [] falls = λ k d h. absurd (omega (arith, h))
-within-falls l labels v (p ∷ ps) falls = All-cons (λ q. q < length l.heads) p ps falls.0.within (within-falls l labels (get_or l.heads p 0) ps falls.1)
-
-pub within-trail : (l : Links) (labels rooms current : List ℕ) (v : ℕ) (ps : List ℕ) → AreLinks l → IsNode l.nodes v → IsTrail l labels rooms current v ps → All (λ p. p < length l.heads) ps
-within-trail l labels rooms current v ps links node trail = within-falls l labels v ps (FallsOn-trail l labels rooms current v ps links node trail)

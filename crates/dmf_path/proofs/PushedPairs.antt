@@ -69,7 +69,7 @@ left-other l takes_back amount rooms q p ps a b c =
     rw (once-other l takes_back amount q p rooms a b, ne_eqb q p (λ e. a (sym e)), ne_eqb q (get_or l.partners p 0) (λ e. c (sym e))) refl
 
 -- The room of each link, once an amount is pushed along links that fall.
-room-pushed : (l : Links) (takes_back : Bool) (amount : ℕ) (labels rooms : List ℕ) (u : ℕ) (ps : List ℕ) (p : ℕ) → AreLinks l → length rooms ≡ length l.heads → FallsOn l labels u ps → p < length l.heads →
+pub room-pushed : (l : Links) (takes_back : Bool) (amount : ℕ) (labels rooms : List ℕ) (u : ℕ) (ps : List ℕ) (p : ℕ) → AreLinks l → length rooms ≡ length l.heads → FallsOn l labels u ps → p < length l.heads →
     get_or (pushed l takes_back amount ps rooms) p 0 ≡ get_or rooms p 0 - loss amount p ps + cond takes_back (loss amount (get_or l.partners p 0) ps) 0
 room-pushed l true amount labels rooms u [] p links long falls within = omega arith
 room-pushed l false amount labels rooms u [] p links long falls within = omega arith

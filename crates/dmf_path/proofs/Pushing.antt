@@ -1,19 +1,18 @@
 -- Pushing along links, one after the other: what becomes of the rooms and the flags.
-use Rattle.std.proofs.Common.{ℕ, ◌≡◌, ◌≢◌, ◌+◌, ◌-◌, ◌^◌, ◌<◌, ◌≤◌, Bool, true, false, cond, List, [], ◌∷◌, length, get_or, set, min, ap, sym, ◌∙◌, subst, arith, ⊎_elim, get_or-set_other, get_or-set_same, length-set}
+use Rattle.std.proofs.Common.{ℕ, ◌≡◌, ◌≢◌, ◌+◌, ◌-◌, ◌^◌, ◌<◌, ◌≤◌, Bool, true, false, cond, List, [], ◌∷◌, length, get_or, set, refl, ap, sym, ◌∙◌, subst, arith, ⊎_elim, get_or-set_other, get_or-set_same, length-set}
 use Rattle.std.proofs.lemmas.Bool.{cases_eq}
 use Rattle.dmf_path.specs.Links.{Links, AreLinks, AreRooms, AreFlags, open_flag}
-use Rattle.dmf_path.specs.Walk.{bottleneck_on, pushed_once, pushed, CanPush}
+use Rattle.dmf_path.specs.Walk.{pushed_once, pushed}
 use Rattle.dmf_path.proofs.LinkPlaces.{partner-other}
-
--- a limit may be lowered before or after
-pub bottleneck_on-min : (rooms : List ℕ) (limit x : ℕ) (ps : List ℕ) → bottleneck_on rooms (min limit x) ps ≡ min x (bottleneck_on rooms limit ps)
-bottleneck_on-min rooms limit x [] = omega arith
-bottleneck_on-min rooms limit x (p ∷ ps) = let later = bottleneck_on-min rooms limit x ps in omega (arith, later)
 
 -- a push leaves as many rooms
 pub length-pushed_once : (l : Links) (takes_back : Bool) (amount p : ℕ) (rooms : List ℕ) → length (pushed_once l takes_back amount p rooms) ≡ length rooms
 length-pushed_once l true amount p rooms = simp length-set
 length-pushed_once l false amount p rooms = simp length-set
+
+pub length-pushed : (l : Links) (takes_back : Bool) (amount : ℕ) (ps rooms : List ℕ) → length (pushed l takes_back amount ps rooms) ≡ length rooms
+length-pushed l takes_back amount [] rooms = refl
+length-pushed l takes_back amount (p ∷ ps) rooms = length-pushed l takes_back amount ps (pushed_once l takes_back amount p rooms) ∙ length-pushed_once l takes_back amount p rooms
 
 -- what is left of the room of the link itself
 pub once-own : (l : Links) (takes_back : Bool) (amount p : ℕ) (rooms : List ℕ) → AreLinks l → length rooms ≡ length l.heads → p < length l.heads → get_or (pushed_once l takes_back amount p rooms) p 0 ≡ get_or rooms p 0 - amount
@@ -110,10 +109,3 @@ AreFlags-along l amount p rooms flags links long told within =
             | other a b c d ↦ get_or-set_other flags _ q _ 0 b ∙ told.1 q h ∙ sym (ap open_flag (once-other l false amount p (get_or l.partners q 0) rooms c d))
           ],
     )
-
--- A push along a trail, as far as it has come: what is left to push makes of the rooms what pushing along all makes.
-pub record IsPushing (l : Links) (takes_back : Bool) (amount : ℕ) (rest rooms flags whole : List ℕ) : Type 0 where
-  pub goes_on : pushed l takes_back amount rest rooms ≡ whole
-  pub can : CanPush l takes_back amount rest rooms
-  pub rooms_are : AreRooms l rooms
-  pub flags_are : AreFlags l rooms flags

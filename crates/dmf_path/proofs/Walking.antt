@@ -1,7 +1,7 @@
 -- Walking from the start towards the goal: the trail goes on along an admissible link, or steps back.
-use Rattle.std.proofs.Common.{ℕ, ◌≡◌, ◌≢◌, ◌+◌, ◌-◌, ◌<◌, ◌≤◌, ◌⊎◌, ⊎_elim, List, [], ◌∷◌, ◌++◌, length, set, take, slice_index, get_or, refl, ap, sym, subst, ◌∙◌, arith}
+use Rattle.std.proofs.Common.{ℕ, ◌≡◌, ◌≢◌, ◌+◌, ◌-◌, ◌<◌, ◌≤◌, ◌⊎◌, ⊎_elim, List, [], ◌∷◌, ◌++◌, length, set, slice_index, refl, ap, sym, subst, ◌∙◌, arith}
 use Rattle.std.proofs.lemmas.Bool.{cases_lt}
-use Rattle.std.proofs.lemmas.List.{get_or-set_other, length-set, take_more, take_all, get_or_default, nil_from_length}
+use Rattle.std.proofs.lemmas.List.{get_or-set_other, length-set}
 use Rattle.dmf_path.specs.Node.{IsNode}
 use Rattle.dmf_path.specs.Links.{Links, LiesAt, AreLinks, tail_of}
 use Rattle.dmf_path.specs.Walk.{IsAdmissible, IsWalk, ArePassed, AreCurrent, IsTrail, end_of, IsWalking}
@@ -136,27 +136,3 @@ come-back l labels rooms start goal current trail node back are at_start come ot
       arrives = refl;
       is_node = at_u;
     })
-
--- Where the trail leads, as its last link tells.
-pub end_of-last : (l : Links) (labels rooms : List ℕ) (start goal : ℕ) (current trail : List ℕ) (last : ℕ) → AreLinks l → IsNode l.nodes start → IsWalking l labels rooms start goal current trail → 0 < length trail → last ≡ get_or trail (length trail - 1) 0 → (last < length l.heads) × (end_of l start trail ≡ slice_index l.heads last)
-end_of-last l labels rooms start goal current trail last are at_start walking some read =
-    let front : List ℕ = take (length trail - 1) trail in
-    let more : take (length trail - 1 + 1) trail ≡ front ++ get_or trail (length trail - 1) 0 ∷ [] = take_more trail (length trail - 1) 0 (omega arith) in
-    let split : trail ≡ front ++ last ∷ [] = sym (take_all (length trail - 1 + 1) trail (omega arith)) ∙ more ∙ ap (λ p. front ++ p ∷ []) (sym read) in
-    let leads = walking.trail_is in
-    let before = IsTrail-pop l labels rooms current start front last (rw split at leads) in
-    let at_end = end-node l labels rooms current start front are at_start before.0 in
-    (lies-within l (end_of l start front) last are at_end before.1.lies, ap (λ ps. end_of l start ps) split ∙ end_of-push l start front last)
-
--- The walk has come to the node to which its last link leads, as it is read,
-pub come-last : (l : Links) (labels rooms : List ℕ) (start goal : ℕ) (current trail : List ℕ) (last node : ℕ) → AreLinks l → IsNode l.nodes start → IsWalking l labels rooms start goal current trail → 0 < length trail → last ≡ get_or trail (length trail - 1) 0 → node ≡ get_or l.heads last node → HasCome l labels rooms start goal current trail node
-come-last l labels rooms start goal current trail last node are at_start walking some last_read read =
-    let leads = end_of-last l labels rooms start goal current trail last are at_start walking some last_read in
-    let arrives : end_of l start trail ≡ node = leads.1 ∙ get_or_default l.heads last 0 node leads.0 ∙ sym read in
-    let P : ℕ → Type 0 = IsNode l.nodes in
-    record { walking = walking; arrives = arrives; is_node = subst P arrives (end-node l labels rooms current start trail are at_start walking.trail_is) }
-
--- or is at the start.
-pub come-none : (l : Links) (labels rooms : List ℕ) (start goal : ℕ) (current trail : List ℕ) → IsNode l.nodes start → IsWalking l labels rooms start goal current trail → length trail ≤ 0 → HasCome l labels rooms start goal current trail start
-come-none l labels rooms start goal current trail at_start walking none =
-    record { walking = walking; arrives = ap (λ ps. end_of l start ps) (nil_from_length trail (omega arith)); is_node = at_start }

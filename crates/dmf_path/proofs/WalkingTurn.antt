@@ -7,7 +7,7 @@ use Rattle.dmf_path.specs.Node.{IsNode}
 use Rattle.dmf_path.specs.Links.{Links, IsLink, AreLinks, tail_of}
 use Rattle.dmf_path.specs.Walk.{IsWalk, end_of}
 use Rattle.dmf_path.proofs.LinkPlaces.{lies-within, last-within}
-use Rattle.dmf_path.proofs.Walking.{HasCome, label-trail, IsTrail-pop, end-node, dead-end, walking-set, come-next, come-back}
+use Rattle.dmf_path.proofs.Walking.{HasCome, label-trail, IsTrail-pop, end-node, dead-end, walking-set, come-back}
 
 -- The node to which a walk has come, its links, of which those before `place` are not admissible, and the place at which
 -- they end.
@@ -63,7 +63,7 @@ end-is : (t : WalkTurn) → slice_index t.l.first (t.node + 1) ≡ t.end
 end-is t = get_or_default t.l.first (t.node + 1) 0 t.end (omega (arith, t.come.is_node.to_last, t.are.first_long)) ∙ sym t.end_read
 
 -- The node has a current link.
-node-within : (t : WalkTurn) → t.node < length t.current
+pub node-within : (t : WalkTurn) → t.node < length t.current
 node-within t = omega (arith, t.come.walking.current_is.one_each, t.come.is_node.to_last)
 
 -- the walk then
@@ -76,20 +76,6 @@ come-moved t =
 -- The link that was found is one.
 pub found-within : (t : WalkTurn) → t.place < t.end → t.place < length t.l.heads
 found-within t found = omega (arith, end-is t, last-within t.l t.node t.are t.come.is_node.to_last)
-
--- There is room for it on the trail.
-pub trail-short : (t : WalkTurn) → slice_index t.labels t.start ≤ t.l.nodes → slice_index t.labels (slice_index t.heads t.place) + 1 ≡ slice_index t.labels t.node → length t.trail < t.l.nodes
-trail-short t top falls =
-    omega (arith, top, falls, label-trail t.l t.labels t.rooms t.current t.start t.trail t.come.walking.trail_is, ap (λ v. slice_index t.labels v) t.come.arrives)
-
--- The walk goes on along it.
-pub come-found : (t : WalkTurn) (after : List ℕ) (head : ℕ) → t.place < t.end → 0 < slice_index t.rooms t.place → slice_index t.labels (slice_index t.heads t.place) + 1 ≡ slice_index t.labels t.node → after ≡ t.trail ++ t.place ∷ [] → head ≡ get_or t.l.heads t.place head → HasCome t.l t.labels t.rooms t.start t.goal (set t.current t.node t.place) after head
-come-found t after head found room falls pushed read =
-    let head_is : head ≡ slice_index t.l.heads t.place = read ∙ get_or_default t.l.heads t.place head 0 (found-within t found) in
-    let falls_on : slice_index t.labels (slice_index t.l.heads t.place) + 1 ≡ slice_index t.labels t.node = rw (← t.same_heads) falls in
-    rw (pushed, head_is)
-    (come-next t.l t.labels t.rooms t.start t.goal (set t.current t.node t.place) t.trail t.node t.place t.are (come-moved t)
-    (get_or-set_same t.current t.node t.place 0 (node-within t)) (omega (arith, end-is t)) room falls_on)
 
 -- all links of the node are passed
 all-passed : (t : WalkTurn) → t.end ≤ t.place → slice_index t.l.first (t.node + 1) ≤ slice_index (set t.current t.node t.place) t.node
@@ -129,21 +115,6 @@ pub come-popped : (t : WalkTurn) (rest : List ℕ) (back tail : ℕ) → t.end �
 come-popped t rest back tail none other popped is =
     let come = come-moved t in
     rw is (come-back t.l t.labels t.rooms t.start t.goal (set t.current t.node t.place) rest t.node back t.are t.at_start (rw popped at come) other (all-passed t none))
-
--- the opposite of the last link, as it is read
-partner-read : (t : WalkTurn) (rest : List ℕ) (back partner : ℕ) → t.trail ≡ rest ++ back ∷ [] → partner ≡ get_or t.l.partners back partner → partner ≡ slice_index t.l.partners back
-partner-read t rest back partner popped read =
-    read ∙ get_or_default t.l.partners back partner 0 (omega (arith, (last-link t rest back popped).within, t.are.partners_long))
-
-pub partner-within : (t : WalkTurn) (rest : List ℕ) (back partner : ℕ) → t.trail ≡ rest ++ back ∷ [] → partner ≡ get_or t.l.partners back partner → partner < length t.l.heads
-partner-within t rest back partner popped read =
-    omega (arith, partner-read t rest back partner popped read, (last-link t rest back popped).is_link.partner)
-
--- and its tail
-pub tail-read : (t : WalkTurn) (rest : List ℕ) (back partner tail : ℕ) → t.trail ≡ rest ++ back ∷ [] → partner ≡ get_or t.l.partners back partner → tail ≡ get_or t.l.heads partner tail → tail ≡ tail_of t.l back
-tail-read t rest back partner tail popped read_partner read =
-    read ∙ get_or_default t.l.heads partner tail 0 (partner-within t rest back partner popped read_partner)
-    ∙ ap (λ p. slice_index t.l.heads p) (partner-read t rest back partner popped read_partner)
 
 -- how many links are not yet passed, each counted for all that a walk may do until it comes back to it, and what is left
 -- of this

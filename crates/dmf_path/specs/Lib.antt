@@ -7,5 +7,6 @@ pub mod Links
 pub mod Building
 pub mod Labels
 pub mod Walk
+pub mod Held
 pub mod Search
 pub mod Searching

@@ -1,36 +1,57 @@
 -- What a search keeps.
 -- Private: only contracts inside the crate and proofs use this.
-use Rattle.std.specs.Prelude.{ℕ, ◌≡◌, ◌≢◌, ◌+◌, ◌≤◌, Bool, List, length, slice_index}
+use Rattle.std.specs.Prelude.{ℕ, ◌≡◌, ◌≢◌, ◌+◌, ◌^◌, ◌<◌, ◌≤◌, Bool, List, length, slice_index}
 use Rattle.dmf_path.specs.Node.{IsNode}
 use Rattle.dmf_path.specs.Links.{Links, AreLinks, ArePlaces, AreRooms, AreFlags, pairs_at}
 use Rattle.dmf_path.specs.Labels.{AreLabels, no_label}
-use Rattle.dmf_path.specs.Walk.{AreValid, IsWalking}
+use Rattle.dmf_path.specs.Walk.{AreValid, IsTrail, IsWalking, end_of}
+use Rattle.dmf_path.specs.Held.{Way, places_of, walked_slots, rest_slots, filled_slots, rooms_with, HaveLeft}
 use Rattle.dmf_path.specs.Search.{Searched}
 
--- The vectors of a search fit together: links, the places of the pairs, rooms and flags, labels that are valid, and a walk
--- that has come as far as the trail.
-pub record IsSearch (l : Links) (places rooms flags labels current trail : List ℕ) (queue_room trail_room start goal : ℕ) : Type 0 where
-  pub links : AreLinks l
-  pub places_are : ArePlaces l places
+-- How far the search for the next path has come: the walk, and the end of the last path, which leads on to the goal along
+-- admissible current links. There is a slot for each label below that of the start.
+pub record IsUnderWay (l : Links) (labels rooms current : List ℕ) (w : Way) : Type 0 where
+  pub walking : IsWalking l labels rooms w.start w.goal current (places_of (walked_slots w))
+  pub rest_is : IsTrail l labels rooms current w.joint (places_of (rest_slots w))
+  pub ends : end_of l w.joint (places_of (rest_slots w)) ≡ w.goal
+  pub joint_is : IsNode l.nodes w.joint
+  pub order : w.walked ≤ w.rest
+  pub within : w.rest ≤ length w.slots
+  pub one_slot_each : length w.slots ≡ slice_index labels w.start
+  pub goal_label : slice_index labels w.goal ≡ 0
+
+-- What is held can be put on; flags tell of the rooms before that.
+pub record IsHolding (l : Links) (w : Way) (rooms flags : List ℕ) : Type 0 where
   pub rooms_are : AreRooms l rooms
   pub flags_are : AreFlags l rooms flags
+  pub small : w.sent < 2 ^ 64
+  pub have : HaveLeft w.sent rooms (filled_slots w)
+
+-- The vectors of a search fit together: links, the places of the pairs, rooms and flags, with what is held, labels that are
+-- valid, and how far it has come.
+pub record IsSearch (l : Links) (takes_back : Bool) (places rooms flags labels current : List ℕ) (w : Way) (queue_room slots_room : ℕ) : Type 0 where
+  pub links : AreLinks l
+  pub places_are : ArePlaces l places
+  pub holding : IsHolding l w rooms flags
   pub one_label_each : length labels ≡ l.nodes + 1
-  pub start_label : slice_index labels start ≤ l.nodes
-  pub valid : AreValid l labels rooms (slice_index labels start)
-  pub walking : IsWalking l labels rooms start goal current trail
-  pub start_is : IsNode l.nodes start
-  pub goal_is : IsNode l.nodes goal
-  pub apart : start ≢ goal
+  pub start_label : slice_index labels w.start ≤ l.nodes
+  pub valid : AreValid l labels (rooms_with l takes_back w rooms) (slice_index labels w.start)
+  pub under_way : IsUnderWay l labels (rooms_with l takes_back w rooms) current w
+  pub start_is : IsNode l.nodes w.start
+  pub goal_is : IsNode l.nodes w.goal
+  pub apart : w.start ≢ w.goal
   pub queue_room_is : l.nodes + 1 ≤ queue_room
-  pub trail_room_is : l.nodes ≤ trail_room
+  pub slots_room_is : l.nodes ≤ slots_room
 
 -- what callers see of it
 abbrev pub searched : Links → List ℕ → List ℕ → ℕ → ℕ → Bool → Searched
 searched l places rooms start goal takes_back =
     record { nodes = l.nodes; pairs = pairs_at l places rooms; start = start; goal = goal; takes_back = takes_back }
 
--- Labelling from the goal does not reach the start.
-pub record IsUnlabelled (l : Links) (flags : List ℕ) (start goal : ℕ) : Type 0 where
+-- Labelling from the goal, over flags that tell of these rooms, does not reach the start.
+pub record IsUnlabelled (l : Links) (rooms : List ℕ) (start goal : ℕ) : Type 0 where
+  pub flags : List ℕ
+  pub flags_are : AreFlags l rooms flags
   pub labels : List ℕ
   pub are : AreLabels l flags goal start labels
   pub none : slice_index labels start ≡ no_label

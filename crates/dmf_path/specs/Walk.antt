@@ -70,9 +70,3 @@ pushed_once l takes_back amount p rooms =
 abbrev pub pushed : Links → Bool → ℕ → List ℕ → List ℕ → List ℕ
 pushed l takes_back amount [] rooms = rooms
 pushed l takes_back amount (p ∷ ps) rooms = pushed l takes_back amount ps (pushed_once l takes_back amount p rooms)
-
--- An amount can be pushed along these links in turn: each has so much room, when its turn comes.
-abbrev pub CanPush : Links → Bool → ℕ → List ℕ → List ℕ → Type 0
-CanPush l takes_back amount [] rooms = Unit {0}
-CanPush l takes_back amount (p ∷ ps) rooms =
-    (p < length l.heads) × (amount ≤ slice_index rooms p) × CanPush l takes_back amount ps (pushed_once l takes_back amount p rooms)

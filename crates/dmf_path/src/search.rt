@@ -1,19 +1,21 @@
 //! The search for least paths, one after the other, from one node to another.
-ghost use Rattle.std.specs.Prelude.{◌≡◌, ◌≢◌, ℕ, ◌+◌, ◌-◌, ◌^◌, ◌≤◌, ◌<◌, ◌↔◌, true, false, IsTrue, length, drop, map, slice_index, slice_index_or, vec_capacity, IfOk, MatchOption};
+ghost use Rattle.std.specs.Prelude.{◌≡◌, ◌≢◌, ℕ, List, ◌+◌, ◌-◌, ◌^◌, ◌≤◌, ◌<◌, ◌↔◌, false, IsTrue, length, drop, map, slice_index_or, vec_capacity, IfOk, MatchOption};
 ghost use Rattle.dmf_path.specs.Node.{IsNode};
 ghost use Rattle.dmf_path.specs.Path.{HasNoPath, IsReachable};
 ghost use Rattle.dmf_path.specs.Pair.{ArePairs, steps_of};
-ghost use Rattle.dmf_path.specs.Links.{AreLinks, AreRooms, AreFlags, links_of, open_flag};
+ghost use Rattle.dmf_path.specs.Links.{AreLinks, links_of, open_flag};
 ghost use Rattle.dmf_path.specs.Labels.{is_label};
-ghost use Rattle.dmf_path.specs.Walk.{AreValid, IsWalking, end_of};
+ghost use Rattle.dmf_path.specs.Held.{way_of, rooms_with};
 ghost use Rattle.dmf_path.specs.Search.{Augments, HasAlong, along_at, against_at, aimed, lowered_along, with_pairs};
-ghost use Rattle.dmf_path.specs.Searching.{IsUnlabelled};
+ghost use Rattle.dmf_path.specs.Searching.{IsHolding, IsUnderWay};
 
 use crate::label::{NO_LABEL, label_nodes};
 use crate::links::{LinkTable, NO_PLACE, build, open_flag};
 use crate::pair::Pairs;
-use crate::push::{bottleneck, keep_open, push_along, push_once};
-use crate::walk::walk;
+use crate::phase::find;
+use crate::push::push_once;
+use crate::room::settled_room;
+use crate::trail::{Trail, bottleneck, cut, free_slots, put_on_rooms, settle};
 use std::alloc::{AllocError, Global};
 use std::marker::Model;
 
@@ -31,24 +33,24 @@ pub struct Search {
     labels: Vec<u32>,
     current: Vec<u32>,
     queue: Vec<u32>,
-    trail: Vec<u32>,
-    start: u32,
-    goal: u32,
+    trail: Trail,
     takes_back: bool,
 }
 
 impl Model for Search {
     ghost use Rattle.std.specs.Prelude.{vec_capacity};
     ghost use Rattle.dmf_path.specs.Links.{links_of};
+    ghost use Rattle.dmf_path.specs.Held.{way_of, rooms_with};
     ghost use Rattle.dmf_path.specs.Search.{Searched};
     ghost use Rattle.dmf_path.specs.Searching.{searched, IsSearch};
 
     ghost Value = { Searched };
 
-    ghost view = { λ a. searched (links_of a.table) a.places.items a.rooms.items a.start a.goal a.takes_back };
+    ghost view = { λ a. searched (links_of a.table) a.places.items (rooms_with (links_of a.table) a.takes_back (way_of a.trail) a.rooms.items)
+        a.trail.start a.trail.goal a.takes_back };
 
-    ghost invariant = { λ a. IsSearch (links_of a.table) a.places.items a.rooms.items a.flags.items a.labels.items
-        a.current.items a.trail.items (vec_capacity a.queue) (vec_capacity a.trail) a.start a.goal };
+    ghost invariant = { λ a. IsSearch (links_of a.table) a.takes_back a.places.items a.rooms.items a.flags.items a.labels.items
+        a.current.items (way_of a.trail) (vec_capacity a.queue) (vec_capacity a.trail.slots) };
 }
 
 impl Search {
@@ -85,9 +87,15 @@ impl Search {
             labels: vec![in alloc; 0u32; nodes as usize + 1]?,
             current,
             queue: Vec::with_capacity(alloc, nodes as usize + 1)?,
-            trail: Vec::with_capacity(alloc, nodes as usize)?,
-            start,
-            goal,
+            trail: Trail {
+                slots: Vec::with_capacity(alloc, nodes as usize)?,
+                walked: 0,
+                rest: 0,
+                joint: goal,
+                sent: 0,
+                start,
+                goal,
+            },
             takes_back,
         })
     }
@@ -101,28 +109,26 @@ impl Search {
     {
         let found = find(
             &self.table,
-            &self.rooms,
-            &self.flags,
-            self.start,
-            self.goal,
+            self.takes_back,
             &mut self.labels,
             &mut self.current,
             &mut self.queue,
+            &mut self.rooms,
+            &mut self.flags,
             &mut self.trail,
         );
         if !found {
             return None;
         }
-        let amount = bottleneck(&self.rooms, &self.trail, limit);
-        push_along(
+        let amount = bottleneck(&self.trail.slots, self.trail.sent, limit);
+        self.trail.sent = self.trail.sent.wrapping_add(amount);
+        cut(
             &self.table,
-            &self.trail,
-            amount,
             self.takes_back,
             &mut self.rooms,
             &mut self.flags,
+            &mut self.trail,
         );
-        keep_open(&self.rooms, &mut self.trail);
         Some(amount)
     }
 
@@ -135,7 +141,15 @@ impl Search {
         if place == NO_PLACE {
             return None;
         }
-        Some(self.rooms[self.table.partners[place as usize] as usize])
+        let partner = self.table.partners[place as usize];
+        let against = settled_room(
+            &self.table,
+            self.takes_back,
+            &self.rooms,
+            &self.trail,
+            partner,
+        );
+        Some(against)
     }
 
     /// The room of the link along the pair at index `k`, and nothing where there is no pair. Takes no memory.
@@ -147,7 +161,14 @@ impl Search {
         if place == NO_PLACE {
             return None;
         }
-        Some(self.rooms[place as usize])
+        let along = settled_room(
+            &self.table,
+            self.takes_back,
+            &self.rooms,
+            &self.trail,
+            place,
+        );
+        Some(along)
     }
 
     /// Takes an amount off the room of the link along the pair at index `k`. Takes no memory.
@@ -155,6 +176,13 @@ impl Search {
         requires { HasAlong self.old.pairs k amount }
         ensures { self.new ≡ with_pairs self.old (lowered_along self.old.pairs k amount) }
     {
+        settle(
+            &self.table,
+            self.takes_back,
+            &mut self.rooms,
+            &mut self.flags,
+            &mut self.trail,
+        );
         let place = self.places[k];
         push_once(
             &self.table,
@@ -164,7 +192,6 @@ impl Search {
             &mut self.rooms,
             &mut self.flags,
         );
-        keep_open(&self.rooms, &mut self.trail);
     }
 
     /// Makes it a search from another start to another goal, over the same links with their present rooms. Takes no memory.
@@ -174,28 +201,75 @@ impl Search {
         requires apart { start ≢ goal }
         ensures { self.new ≡ aimed self.old start goal }
     {
-        self.start = start;
-        self.goal = goal;
+        settle(
+            &self.table,
+            self.takes_back,
+            &mut self.rooms,
+            &mut self.flags,
+            &mut self.trail,
+        );
+        self.trail.start = start;
+        self.trail.goal = goal;
         // A label that nothing falls to ends the next walk at once.
         self.labels[start as usize] = 0;
+        self.labels[goal as usize] = 0;
         let count = self.current.len();
         self.current.copy_from_slice(&self.table.first[..count]);
-        self.trail.clear();
+        free_slots(&mut self.trail, 0);
     }
 
-    /// Which nodes paths lead to from the start, that of node 1 first. Takes memory for a mark a node, and for a flag a link.
+    /// Which nodes paths lead to from the start, that of node 1 first. Takes memory for a mark a node, and for a flag a link;
+    /// as long as paths may be left, for its room too.
     pub fn reached(&self, alloc: Global) -> Result<Vec<bool>, AllocError>
         ensures one_each { IfOk result (λ marks. length marks.items ≡ self.now.nodes) }
         ensures marks { IfOk result (λ marks. (v : ℕ) → IsNode self.now.nodes v →
             IsTrue (slice_index_or marks.items (v - 1) false) ↔ IsReachable (steps_of self.now.pairs) self.now.start v) }
     {
         let nodes = self.table.nodes as usize;
-        let opens = open_flags(alloc, &self.rooms)?;
+        let opens = settled_flags(
+            alloc,
+            &self.table,
+            self.takes_back,
+            &self.rooms,
+            &self.flags,
+            &self.trail,
+        )?;
         let mut labels = vec![in alloc; 0u32; nodes + 1]?;
         let mut queue = Vec::with_capacity(alloc, nodes + 1)?;
-        label_nodes(&self.table, &opens, self.start, 0, &mut labels, &mut queue);
+        label_nodes(
+            &self.table,
+            &opens,
+            self.trail.start,
+            0,
+            &mut labels,
+            &mut queue,
+        );
         labelled(alloc, &labels)
     }
+}
+
+/// Whether each link has room, once what is held is put on: 1, or else 0.
+fn settled_flags(
+    alloc: Global,
+    table: &LinkTable,
+    takes_back: bool,
+    rooms: &[u64],
+    flags: &[u8],
+    trail: &Trail,
+) -> Result<Vec<u8>, AllocError>
+    requires links { AreLinks (links_of table.now) }
+    requires start { IsNode table.now.nodes trail.now.start }
+    requires holding { IsHolding (links_of table.now) (way_of trail.now) rooms.now flags.now }
+    requires under_way { (labels : List ℕ) × (after : List ℕ) × (current : List ℕ) × IsUnderWay (links_of table.now) labels after current (way_of trail.now) }
+    ensures { IfOk result (λ opens. opens.items ≡ map open_flag (rooms_with (links_of table.now) takes_back (way_of trail.now) rooms.now)) }
+{
+    if trail.is_empty() {
+        return open_flags(alloc, rooms);
+    }
+    let mut settled = Vec::from_slice(alloc, rooms)?;
+    let mut flags = Vec::from_slice(alloc, flags)?;
+    put_on_rooms(table, takes_back, &mut settled, &mut flags, trail);
+    open_flags(alloc, &settled)
 }
 
 /// Whether each link has room: 1, or else 0.
@@ -214,50 +288,4 @@ fn labelled(alloc: Global, labels: &[u32]) -> Result<Vec<bool>, AllocError>
         .skip(1)
         .map(|label| *label != NO_LABEL)
         .collect(alloc)
-}
-
-/// Finds the least path from the start to the goal: goes on with the walk, and where none is left, labels the nodes anew
-/// and walks again.
-fn find(
-    table: &LinkTable,
-    rooms: &[u64],
-    flags: &[u8],
-    start: u32,
-    goal: u32,
-    labels: &mut [u32],
-    current: &mut [u32],
-    queue: &mut Vec<u32>,
-    trail: &mut Vec<u32>,
-) -> bool
-    requires links { AreLinks (links_of table.now) }
-    requires rooms { AreRooms (links_of table.now) rooms.now }
-    requires flags { AreFlags (links_of table.now) rooms.now flags.now }
-    requires one_label_each { length labels.old ≡ table.now.nodes + 1 }
-    requires start_label { slice_index labels.old start ≤ table.now.nodes }
-    requires valid { AreValid (links_of table.now) labels.old rooms.now (slice_index labels.old start) }
-    requires walking { IsWalking (links_of table.now) labels.old rooms.now start goal current.old trail.old.items }
-    requires start { IsNode table.now.nodes start }
-    requires goal { IsNode table.now.nodes goal }
-    requires apart { start ≢ goal }
-    requires queue_room { table.now.nodes + 1 ≤ vec_capacity queue.old }
-    requires trail_room { table.now.nodes ≤ vec_capacity trail.old }
-    ensures start_label { slice_index labels.new start ≤ table.now.nodes }
-    ensures valid { AreValid (links_of table.now) labels.new rooms.now (slice_index labels.new start) }
-    ensures walking { IsWalking (links_of table.now) labels.new rooms.now start goal current.new trail.new.items }
-    ensures queue_room { vec_capacity queue.new ≡ vec_capacity queue.old }
-    ensures trail_room { vec_capacity trail.new ≡ vec_capacity trail.old }
-    ensures found { result ≡ true → end_of (links_of table.now) start trail.new.items ≡ goal }
-    ensures none { result ≡ false → IsUnlabelled (links_of table.now) flags.now start goal }
-{
-    if walk(table, rooms, labels, start, goal, current, trail) {
-        return true;
-    }
-    label_nodes(table, flags, goal, start, labels, queue);
-    current.copy_from_slice(&table.first[..current.len()]);
-    if labels[start as usize] == NO_LABEL {
-        // A label that nothing falls to ends the next walk at once.
-        labels[start as usize] = 0;
-        return false;
-    }
-    walk(table, rooms, labels, start, goal, current, trail)
 }

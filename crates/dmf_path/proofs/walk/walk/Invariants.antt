@@ -1,14 +1,17 @@
 use Rattle.std.proofs.Common.{◌≡◌, vec_capacity}
 use Rattle.dmf_path.specs.Links.{links_of}
-use Rattle.dmf_path.proofs.Walking.{HasCome}
+use Rattle.dmf_path.specs.Held.{way_of, rooms_with}
 use Rattle.dmf_path.proofs.WalkingTurn.{work_left}
+use Rattle.dmf_path.proofs.WayTurn.{IsOnWay}
 use Rattle.dmf_path.proofs.walk.walk.Given as goal
 
 abbrev pub invariant-loop-node : goal.invariant-loop-node
 invariant-loop-node l = record {
-  come : HasCome (links_of l.table) l.labels l.rooms l.start l.goal l.current l.trail.items l.node;
-  room : vec_capacity l.trail ≡ vec_capacity l.fn.trail;
+  on : IsOnWay (links_of l.table) l.takes_back l.labels (rooms_with (links_of l.table) l.takes_back (way_of l.fn.trail) l.fn.rooms) l.current (way_of l.trail) l.rooms l.flags l.node;
+  start : l.trail.start ≡ l.fn.trail.start;
+  goal : l.trail.goal ≡ l.fn.trail.goal;
+  room : vec_capacity l.trail.slots ≡ vec_capacity l.fn.trail.slots;
 }
 
 abbrev pub decreases-loop-node : goal.decreases-loop-node
-decreases-loop-node l = work_left (links_of l.table) l.labels l.start l.current l.node
+decreases-loop-node l = work_left (links_of l.table) l.labels l.fn.trail.start l.current l.node

@@ -1,59 +1,129 @@
-use Rattle.std.proofs.Common.{◌≡◌, ◌∙◌, refl, arith}
+-- A path is found, or none is left; what is sent along it, and the cut.
+use Rattle.std.proofs.Common.{◌≡◌, ◌+◌, ◌-◌, ◌%◌, ◌^◌, sym, ◌∙◌, arith, get_or}
+use Rattle.std.specs.Vec.{with_items}
 use Rattle.std.proofs.lemmas.List.{with_items_is}
-use Rattle.dmf_path.specs.Walk.{bottleneck_on}
-use Rattle.dmf_path.proofs.Searching.{IsSearch-found, can-push, IsSearch-pushed, augments-pushed, no_path-search}
-use Rattle.dmf_path.proofs.Pushed.{within-trail}
+use Rattle.dmf_path.specs.Links.{links_of}
+use Rattle.dmf_path.specs.Held.{way_of, least_left, IsCut}
+use Rattle.dmf_path.proofs.SettledSent.{HaveLeft-sent}
+use Rattle.dmf_path.proofs.UnderWayWhole.{slot-within}
+use Rattle.dmf_path.proofs.Cutting.{middle-leaves, has-cut, cut-start, cut-goal}
+use Rattle.dmf_path.proofs.Searching.{can-augment, no_path-search}
+use Rattle.dmf_path.proofs.SearchTurns.{IsSearch-found, sent_on, is-sent, IsSearch-cut, same-searched, augments-between}
 use Rattle.dmf_path.proofs.search.Search.augment.Goals as goal
+
+pub invariant_of-self : goal.invariant_of-self
+invariant_of-self c =
+    let l = links_of c.self.inside.table in
+    let w = way_of c.find-found.new.trail in
+    let f = IsSearch-found _ _ _ c.self.inside.rooms.items c.self.inside.flags.items c.self.inside.labels.items c.self.inside.current.items (way_of c.self.inside.trail) _ _ c.find-found.new.rooms c.find-found.new.flags c.find-found.new.labels c.find-found.new.current w _ _ c.self.invariant
+    (omega (arith, c.find-found.auto.labels, c.deref_mut.ensures.len, c.self.inside.labels.ok.0)) c.find-found.ensures.start_label c.find-found.ensures.holding
+    (rw c.deref_mut-3.ensures.value at c.find-found.ensures.same) (rw c.deref_mut-3.ensures.value at c.find-found.ensures.valid) (rw c.deref_mut-3.ensures.value at c.find-found.ensures.under_way)
+    c.find-found.ensures.start c.find-found.ensures.goal c.find-found.ensures.queue_room c.find-found.ensures.slots_room in
+    let rooms = with_items_is c.self.inside.rooms c.find-found.new.rooms (c.find-found.auto.rooms ∙ c.deref_mut-3.ensures.len) in
+    let flags = with_items_is c.self.inside.flags c.find-found.new.flags (c.find-found.auto.flags ∙ c.deref_mut-4.ensures.len) in
+    let labels = with_items_is c.self.inside.labels c.find-found.new.labels (c.find-found.auto.labels ∙ c.deref_mut.ensures.len) in
+    let current = with_items_is c.self.inside.current c.find-found.new.current (c.find-found.auto.current ∙ c.deref_mut-2.ensures.len) in
+    rw (rooms, flags, labels, current) f
 
 pub returns-then-not-found : goal.returns-then-not-found
 returns-then-not-found c =
-    let none = rw c.deref-2.ensures.value at (c.find-found.ensures.none c.if-not-found.true) in
-    rw (← c.self.view_is) (no_path-search _ _ _ _ _ _ _ _ _ _ _ c.self.invariant none, refl)
+    let l = links_of c.self.inside.table in
+    let rooms = with_items_is c.self.inside.rooms c.find-found.new.rooms (c.find-found.auto.rooms ∙ c.deref_mut-3.ensures.len) in
+    let flags = with_items_is c.self.inside.flags c.find-found.new.flags (c.find-found.auto.flags ∙ c.deref_mut-4.ensures.len) in
+    let i = c.self.invariant in
+    let none = rw c.deref_mut-3.ensures.value at (c.find-found.ensures.none c.if-not-found.true) in
+    rw (← c.self.view_is, rooms) (
+      no_path-search _ _ _ _ _ i.links i.places_are i.start_is none,
+      same-searched l c.self.inside.places.items _ _ _ _ _ _ c.self.inside.takes_back (rw c.deref_mut-3.ensures.value at c.find-found.ensures.same) c.find-found.ensures.start c.find-found.ensures.goal,
+    )
 
-pub bottleneck-amount-requires : goal.bottleneck-amount-requires
-bottleneck-amount-requires c =
-    let f = IsSearch-found _ _ _ _ c.self.inside.labels.items c.self.inside.current.items c.self.inside.trail.items c.find-found.new.labels c.find-found.new.current c.find-found.new.trail.items _ _ _ _ _ _ c.self.invariant
-    (omega (arith, c.find-found.auto.labels, c.deref_mut.ensures.len, c.self.inside.labels.ok.0)) c.find-found.ensures.start_label
-    (rw c.deref.ensures.value at c.find-found.ensures.valid) (rw c.deref.ensures.value at c.find-found.ensures.walking) c.find-found.ensures.queue_room c.find-found.ensures.trail_room in
-    rw (c.deref-3.ensures.value, c.deref-4.ensures.value, f.rooms_are.0) (within-trail _ _ _ _ _ _ f.links f.start_is f.walking.trail_is)
+pub cut-requires-clause-flags : goal.cut-requires-clause-flags
+cut-requires-clause-flags c =
+    let l = links_of c.self.inside.table in
+    let w = way_of c.find-found.new.trail in
+    let f = IsSearch-found _ _ _ c.self.inside.rooms.items c.self.inside.flags.items c.self.inside.labels.items c.self.inside.current.items (way_of c.self.inside.trail) _ _ c.find-found.new.rooms c.find-found.new.flags c.find-found.new.labels c.find-found.new.current w _ _ c.self.invariant
+    (omega (arith, c.find-found.auto.labels, c.deref_mut.ensures.len, c.self.inside.labels.ok.0)) c.find-found.ensures.start_label c.find-found.ensures.holding
+    (rw c.deref_mut-3.ensures.value at c.find-found.ensures.same) (rw c.deref_mut-3.ensures.value at c.find-found.ensures.valid) (rw c.deref_mut-3.ensures.value at c.find-found.ensures.under_way)
+    c.find-found.ensures.start c.find-found.ensures.goal c.find-found.ensures.queue_room c.find-found.ensures.slots_room in
+    let rooms = with_items_is c.self.inside.rooms c.find-found.new.rooms (c.find-found.auto.rooms ∙ c.deref_mut-3.ensures.len) in
+    let flags = with_items_is c.self.inside.flags c.find-found.new.flags (c.find-found.auto.flags ∙ c.deref_mut-4.ensures.len) in
+    rw (c.deref_mut-5.ensures.value, c.deref_mut-6.ensures.value, rooms, flags) f.holding.flags_are
 
-pub push_along-requires-clause-can : goal.push_along-requires-clause-can
-push_along-requires-clause-can c =
-    let f = IsSearch-found _ _ _ _ c.self.inside.labels.items c.self.inside.current.items c.self.inside.trail.items c.find-found.new.labels c.find-found.new.current c.find-found.new.trail.items _ _ _ _ _ _ c.self.invariant
-    (omega (arith, c.find-found.auto.labels, c.deref_mut.ensures.len, c.self.inside.labels.ok.0)) c.find-found.ensures.start_label
-    (rw c.deref.ensures.value at c.find-found.ensures.valid) (rw c.deref.ensures.value at c.find-found.ensures.walking) c.find-found.ensures.queue_room c.find-found.ensures.trail_room in
-    let least : c.bottleneck-amount.result ≡ bottleneck_on c.self.inside.rooms.items c.args.limit c.find-found.new.trail.items = rw (c.deref-3.ensures.value, c.deref-4.ensures.value) at c.bottleneck-amount.ensures in
-    rw (c.deref-5.ensures.value, c.deref_mut-3.ensures.value) (can-push _ _ _ _ _ _ _ _ _ _ _ _ c.args.limit _ f least)
+pub cut-requires-clause-can : goal.cut-requires-clause-can
+cut-requires-clause-can c =
+    let l = links_of c.self.inside.table in
+    let w = way_of c.find-found.new.trail in
+    let f = IsSearch-found _ _ _ c.self.inside.rooms.items c.self.inside.flags.items c.self.inside.labels.items c.self.inside.current.items (way_of c.self.inside.trail) _ _ c.find-found.new.rooms c.find-found.new.flags c.find-found.new.labels c.find-found.new.current w _ _ c.self.invariant
+    (omega (arith, c.find-found.auto.labels, c.deref_mut.ensures.len, c.self.inside.labels.ok.0)) c.find-found.ensures.start_label c.find-found.ensures.holding
+    (rw c.deref_mut-3.ensures.value at c.find-found.ensures.same) (rw c.deref_mut-3.ensures.value at c.find-found.ensures.valid) (rw c.deref_mut-3.ensures.value at c.find-found.ensures.under_way)
+    c.find-found.ensures.start c.find-found.ensures.goal c.find-found.ensures.queue_room c.find-found.ensures.slots_room in
+    let rooms = with_items_is c.self.inside.rooms c.find-found.new.rooms (c.find-found.auto.rooms ∙ c.deref_mut-3.ensures.len) in
+    let flags = with_items_is c.self.inside.flags c.find-found.new.flags (c.find-found.auto.flags ∙ c.deref_mut-4.ensures.len) in
+    let least : c.bottleneck-amount.result ≡ least_left w.sent c.args.limit w.slots = rw c.deref.ensures.value at c.bottleneck-amount.ensures in
+    let can = can-augment l c.self.inside.takes_back c.self.inside.places.items c.find-found.new.rooms c.find-found.new.flags c.find-found.new.labels c.find-found.new.current w _ _ c.args.limit c.bottleneck-amount.result f (c.find-found.ensures.found c.if-not-found.false) least in
+    let read : c.deref_mut-5.result.now ≡ c.find-found.new.rooms = c.deref_mut-5.ensures.value ∙ rooms in
+    λ first behind less within.
+    rw read (middle-leaves l c.self.inside.takes_back c.find-found.new.labels ((w.sent + c.bottleneck-amount.result) % 2 ^ 64) (get_or c.find-found.new.labels w.start 0) c.find-found.new.rooms w.slots first behind f.links f.holding.rooms_are.0 can.descends
+    (HaveLeft-sent w.sent c.bottleneck-amount.result c.find-found.new.rooms w.slots f.holding.small can.can can.have) less).1.can
 
-pub keep_open-requires : goal.keep_open-requires
-keep_open-requires c =
-    let f = IsSearch-found _ _ _ _ c.self.inside.labels.items c.self.inside.current.items c.self.inside.trail.items c.find-found.new.labels c.find-found.new.current c.find-found.new.trail.items _ _ _ _ _ _ c.self.invariant
-    (omega (arith, c.find-found.auto.labels, c.deref_mut.ensures.len, c.self.inside.labels.ok.0)) c.find-found.ensures.start_label
-    (rw c.deref.ensures.value at c.find-found.ensures.valid) (rw c.deref.ensures.value at c.find-found.ensures.walking) c.find-found.ensures.queue_room c.find-found.ensures.trail_room in
-    let rooms : c.deref-6.result.now ≡ c.push_along.new.rooms = c.deref-6.ensures.value ∙ with_items_is c.self.inside.rooms c.push_along.new.rooms (c.push_along.auto.rooms ∙ c.deref_mut-3.ensures.len) in
-    rw (rooms, c.push_along.ensures.sums.0) (within-trail _ _ _ _ _ _ f.links f.start_is f.walking.trail_is)
+pub cut-requires-clause-places : goal.cut-requires-clause-places
+cut-requires-clause-places c =
+    let l = links_of c.self.inside.table in
+    let w = way_of c.find-found.new.trail in
+    let f = IsSearch-found _ _ _ c.self.inside.rooms.items c.self.inside.flags.items c.self.inside.labels.items c.self.inside.current.items (way_of c.self.inside.trail) _ _ c.find-found.new.rooms c.find-found.new.flags c.find-found.new.labels c.find-found.new.current w _ _ c.self.invariant
+    (omega (arith, c.find-found.auto.labels, c.deref_mut.ensures.len, c.self.inside.labels.ok.0)) c.find-found.ensures.start_label c.find-found.ensures.holding
+    (rw c.deref_mut-3.ensures.value at c.find-found.ensures.same) (rw c.deref_mut-3.ensures.value at c.find-found.ensures.valid) (rw c.deref_mut-3.ensures.value at c.find-found.ensures.under_way)
+    c.find-found.ensures.start c.find-found.ensures.goal c.find-found.ensures.queue_room c.find-found.ensures.slots_room in
+    let least : c.bottleneck-amount.result ≡ least_left w.sent c.args.limit w.slots = rw c.deref.ensures.value at c.bottleneck-amount.ensures in
+    let can = can-augment l c.self.inside.takes_back c.self.inside.places.items c.find-found.new.rooms c.find-found.new.flags c.find-found.new.labels c.find-found.new.current w _ _ c.args.limit c.bottleneck-amount.result f (c.find-found.ensures.found c.if-not-found.false) least in
+    λ i inside. slot-within l c.find-found.new.labels _ _ w.slots i can.descends inside
 
 pub invariant_of-self-2 : goal.invariant_of-self-2
 invariant_of-self-2 c =
-    let f = IsSearch-found _ _ _ _ c.self.inside.labels.items c.self.inside.current.items c.self.inside.trail.items c.find-found.new.labels c.find-found.new.current c.find-found.new.trail.items _ _ _ _ _ _ c.self.invariant
-    (omega (arith, c.find-found.auto.labels, c.deref_mut.ensures.len, c.self.inside.labels.ok.0)) c.find-found.ensures.start_label
-    (rw c.deref.ensures.value at c.find-found.ensures.valid) (rw c.deref.ensures.value at c.find-found.ensures.walking) c.find-found.ensures.queue_room c.find-found.ensures.trail_room in
-    let made = rw (c.deref-5.ensures.value, c.deref_mut-3.ensures.value) at c.push_along.ensures.rooms in
-    let rooms = with_items_is c.self.inside.rooms c.push_along.new.rooms (c.push_along.auto.rooms ∙ c.deref_mut-3.ensures.len) in
-    let flags = with_items_is c.self.inside.flags c.push_along.new.flags (c.push_along.auto.flags ∙ c.deref_mut-4.ensures.len) in
+    let l = links_of c.self.inside.table in
+    let w = way_of c.find-found.new.trail in
+    let f = IsSearch-found _ _ _ c.self.inside.rooms.items c.self.inside.flags.items c.self.inside.labels.items c.self.inside.current.items (way_of c.self.inside.trail) _ _ c.find-found.new.rooms c.find-found.new.flags c.find-found.new.labels c.find-found.new.current w _ _ c.self.invariant
+    (omega (arith, c.find-found.auto.labels, c.deref_mut.ensures.len, c.self.inside.labels.ok.0)) c.find-found.ensures.start_label c.find-found.ensures.holding
+    (rw c.deref_mut-3.ensures.value at c.find-found.ensures.same) (rw c.deref_mut-3.ensures.value at c.find-found.ensures.valid) (rw c.deref_mut-3.ensures.value at c.find-found.ensures.under_way)
+    c.find-found.ensures.start c.find-found.ensures.goal c.find-found.ensures.queue_room c.find-found.ensures.slots_room in
+    let rooms = with_items_is c.self.inside.rooms c.find-found.new.rooms (c.find-found.auto.rooms ∙ c.deref_mut-3.ensures.len) in
+    let flags = with_items_is c.self.inside.flags c.find-found.new.flags (c.find-found.auto.flags ∙ c.deref_mut-4.ensures.len) in
     let labels = with_items_is c.self.inside.labels c.find-found.new.labels (c.find-found.auto.labels ∙ c.deref_mut.ensures.len) in
     let current = with_items_is c.self.inside.current c.find-found.new.current (c.find-found.auto.current ∙ c.deref_mut-2.ensures.len) in
-    let read : c.deref-6.result.now ≡ c.push_along.new.rooms = c.deref-6.ensures.value ∙ rooms in
-    rw (rooms, flags, labels, current)
-    (IsSearch-pushed _ _ _ _ _ _ _ _ _ c.push_along.new.rooms c.push_along.new.flags c.keep_open.new.trail.items _ _ _ _ _ f made c.push_along.ensures.sums c.push_along.ensures.flags c.keep_open.ensures.front (rw read at c.keep_open.ensures.open_links) c.keep_open.ensures.room)
+    let least : c.bottleneck-amount.result ≡ least_left w.sent c.args.limit w.slots = rw c.deref.ensures.value at c.bottleneck-amount.ensures in
+    let can = can-augment l c.self.inside.takes_back c.self.inside.places.items c.find-found.new.rooms c.find-found.new.flags c.find-found.new.labels c.find-found.new.current w _ _ c.args.limit c.bottleneck-amount.result f (c.find-found.ensures.found c.if-not-found.false) least in
+    let read : c.deref_mut-5.result.now ≡ c.find-found.new.rooms = c.deref_mut-5.ensures.value ∙ rooms in
+    let sent = is-sent l c.self.inside.takes_back c.self.inside.places.items c.find-found.new.rooms c.find-found.new.flags c.find-found.new.labels c.find-found.new.current w _ _ c.args.limit c.bottleneck-amount.result f (c.find-found.ensures.found c.if-not-found.false) can in
+    let way : IsCut l c.self.inside.takes_back (sent_on w c.bottleneck-amount.result) c.find-found.new.rooms (way_of c.cut.new.trail) c.cut.new.rooms = rw read at c.cut.ensures.way in
+    let cut = has-cut l c.self.inside.takes_back c.find-found.new.labels _ c.find-found.new.current (sent_on w c.bottleneck-amount.result) (way_of c.cut.new.trail) c.find-found.new.rooms c.cut.new.rooms c.cut.new.flags sent f.under_way.joint_is way c.cut.ensures.sums c.cut.ensures.flags in
+    let start = cut-start l c.self.inside.takes_back (sent_on w c.bottleneck-amount.result) (way_of c.cut.new.trail) c.find-found.new.rooms c.cut.new.rooms way in
+    let end = cut-goal l c.self.inside.takes_back (sent_on w c.bottleneck-amount.result) (way_of c.cut.new.trail) c.find-found.new.rooms c.cut.new.rooms way in
+    let rooms_cut = with_items_is (with_items c.self.inside.rooms c.find-found.new.rooms) c.cut.new.rooms (c.cut.auto.rooms ∙ c.deref_mut-5.ensures.len) in
+    let flags_cut = with_items_is (with_items c.self.inside.flags c.find-found.new.flags) c.cut.new.flags (c.cut.auto.flags ∙ c.deref_mut-6.ensures.len) in
+    rw (rooms_cut, flags_cut, labels, current)
+    (IsSearch-cut l c.self.inside.takes_back c.self.inside.places.items c.find-found.new.rooms c.find-found.new.flags c.find-found.new.labels c.find-found.new.current w _ _ c.args.limit c.bottleneck-amount.result c.cut.new.rooms c.cut.new.flags (way_of c.cut.new.trail) _ f can cut start end c.cut.ensures.room)
 
 pub returns : goal.returns
 returns c =
-    let f = IsSearch-found _ _ _ _ c.self.inside.labels.items c.self.inside.current.items c.self.inside.trail.items c.find-found.new.labels c.find-found.new.current c.find-found.new.trail.items _ _ _ _ _ _ c.self.invariant
-    (omega (arith, c.find-found.auto.labels, c.deref_mut.ensures.len, c.self.inside.labels.ok.0)) c.find-found.ensures.start_label
-    (rw c.deref.ensures.value at c.find-found.ensures.valid) (rw c.deref.ensures.value at c.find-found.ensures.walking) c.find-found.ensures.queue_room c.find-found.ensures.trail_room in
-    let made = rw (c.deref-5.ensures.value, c.deref_mut-3.ensures.value) at c.push_along.ensures.rooms in
-    let rooms = with_items_is c.self.inside.rooms c.push_along.new.rooms (c.push_along.auto.rooms ∙ c.deref_mut-3.ensures.len) in
-    let least : c.bottleneck-amount.result ≡ bottleneck_on c.self.inside.rooms.items c.args.limit c.find-found.new.trail.items = rw (c.deref-3.ensures.value, c.deref-4.ensures.value) at c.bottleneck-amount.ensures in
-    rw (← c.self.view_is, rooms)
-    (augments-pushed _ _ _ _ _ _ _ _ _ _ c.push_along.new.rooms _ _ _ _ f (c.find-found.ensures.found c.if-not-found.false) least made)
+    let l = links_of c.self.inside.table in
+    let w = way_of c.find-found.new.trail in
+    let f = IsSearch-found _ _ _ c.self.inside.rooms.items c.self.inside.flags.items c.self.inside.labels.items c.self.inside.current.items (way_of c.self.inside.trail) _ _ c.find-found.new.rooms c.find-found.new.flags c.find-found.new.labels c.find-found.new.current w _ _ c.self.invariant
+    (omega (arith, c.find-found.auto.labels, c.deref_mut.ensures.len, c.self.inside.labels.ok.0)) c.find-found.ensures.start_label c.find-found.ensures.holding
+    (rw c.deref_mut-3.ensures.value at c.find-found.ensures.same) (rw c.deref_mut-3.ensures.value at c.find-found.ensures.valid) (rw c.deref_mut-3.ensures.value at c.find-found.ensures.under_way)
+    c.find-found.ensures.start c.find-found.ensures.goal c.find-found.ensures.queue_room c.find-found.ensures.slots_room in
+    let rooms = with_items_is c.self.inside.rooms c.find-found.new.rooms (c.find-found.auto.rooms ∙ c.deref_mut-3.ensures.len) in
+    let flags = with_items_is c.self.inside.flags c.find-found.new.flags (c.find-found.auto.flags ∙ c.deref_mut-4.ensures.len) in
+    let least : c.bottleneck-amount.result ≡ least_left w.sent c.args.limit w.slots = rw c.deref.ensures.value at c.bottleneck-amount.ensures in
+    let can = can-augment l c.self.inside.takes_back c.self.inside.places.items c.find-found.new.rooms c.find-found.new.flags c.find-found.new.labels c.find-found.new.current w _ _ c.args.limit c.bottleneck-amount.result f (c.find-found.ensures.found c.if-not-found.false) least in
+    let read : c.deref_mut-5.result.now ≡ c.find-found.new.rooms = c.deref_mut-5.ensures.value ∙ rooms in
+    let sent = is-sent l c.self.inside.takes_back c.self.inside.places.items c.find-found.new.rooms c.find-found.new.flags c.find-found.new.labels c.find-found.new.current w _ _ c.args.limit c.bottleneck-amount.result f (c.find-found.ensures.found c.if-not-found.false) can in
+    let way : IsCut l c.self.inside.takes_back (sent_on w c.bottleneck-amount.result) c.find-found.new.rooms (way_of c.cut.new.trail) c.cut.new.rooms = rw read at c.cut.ensures.way in
+    let cut = has-cut l c.self.inside.takes_back c.find-found.new.labels _ c.find-found.new.current (sent_on w c.bottleneck-amount.result) (way_of c.cut.new.trail) c.find-found.new.rooms c.cut.new.rooms c.cut.new.flags sent f.under_way.joint_is way c.cut.ensures.sums c.cut.ensures.flags in
+    let start = cut-start l c.self.inside.takes_back (sent_on w c.bottleneck-amount.result) (way_of c.cut.new.trail) c.find-found.new.rooms c.cut.new.rooms way in
+    let end = cut-goal l c.self.inside.takes_back (sent_on w c.bottleneck-amount.result) (way_of c.cut.new.trail) c.find-found.new.rooms c.cut.new.rooms way in
+    let rooms_cut = with_items_is (with_items c.self.inside.rooms c.find-found.new.rooms) c.cut.new.rooms (c.cut.auto.rooms ∙ c.deref_mut-5.ensures.len) in
+    rw (← c.self.view_is, rooms_cut)
+    (augments-between c.args.limit c.bottleneck-amount.result _ _ _ _
+    (same-searched l c.self.inside.places.items _ _ _ _ _ _ c.self.inside.takes_back (rw c.deref_mut-3.ensures.value at c.find-found.ensures.same) c.find-found.ensures.start c.find-found.ensures.goal)
+    (same-searched l c.self.inside.places.items _ _ _ _ _ _ c.self.inside.takes_back (sym cut.same) (sym start) (sym end))
+    can.augments)

@@ -1,0 +1,182 @@
+-- What a search keeps, from one call to the next.
+use Rattle.std.proofs.Common.{ℕ, ◌≡◌, ◌≢◌, ◌+◌, ◌%◌, ◌^◌, ◌≤◌, Bool, List, [], length, get_or, set, take, drop, replicate, ap, sym, ◌∙◌, subst, arith}
+use Rattle.std.proofs.lemmas.List.{drop_all, get_or-replicate, length-replicate, get_or-set_same, get_or-set_other, length-set}
+use Rattle.dmf_path.specs.declared.trail.Slot.{Slot}
+use Rattle.dmf_path.specs.Node.{IsNode}
+use Rattle.dmf_path.specs.Links.{Links, AreLinks, ArePlaces, AreRooms, AreFlags}
+use Rattle.dmf_path.specs.Walk.{AreValid, IsTrail, end_of}
+use Rattle.dmf_path.specs.Held.{Way, places_of, walked_slots, settled, rooms_with, emptied, with_slots}
+use Rattle.dmf_path.specs.Search.{Searched, Augments}
+use Rattle.dmf_path.specs.Searching.{IsUnderWay, IsHolding, IsSearch, searched}
+use Rattle.dmf_path.proofs.Pushed.{OpensUpwards, AreValid-opens, ArePassed-opens}
+use Rattle.dmf_path.proofs.SettledSent.{HaveLeft-sent}
+use Rattle.dmf_path.proofs.Settling.{rooms_with-free, holding-free, way-free}
+use Rattle.dmf_path.proofs.Searching.{CanAugment}
+use Rattle.dmf_path.proofs.Cutting.{IsSent, HasCut}
+
+-- at first
+pub IsSearch-new : (l : Links) (takes_back : Bool) (places rooms flags labels current : List ℕ) (slots : List Slot) (start goal queue_room slots_room : ℕ) → AreLinks l → ArePlaces l places → AreRooms l rooms → AreFlags l rooms flags
+    → IsNode l.nodes start → IsNode l.nodes goal → start ≢ goal → labels ≡ replicate (l.nodes + 1) 0 → current ≡ take (l.nodes + 1) l.first → slots ≡ [] → l.nodes + 1 ≤ queue_room → l.nodes ≤ slots_room
+    → IsSearch l takes_back places rooms flags labels current (record { slots = slots; walked = 0; rest = 0; joint = goal; sent = 0; start = start; goal = goal }) queue_room slots_room
+IsSearch-new l takes_back places rooms flags labels current slots start goal queue_room slots_room links places_are sums told start_is goal_is apart zeros first none queue_room_is slots_room_is =
+    let w : Way = record { slots = []; walked = 0; rest = 0; joint = goal; sent = 0; start = start; goal = goal } in
+    let label : (v : ℕ) → v ≤ l.nodes → get_or labels v 0 ≡ 0 = λ v h. ap (λ xs. get_or xs v 0) zeros ∙ get_or-replicate (l.nodes + 1) v 0 0 (omega (arith, h)) in
+    let free : rooms_with l takes_back w rooms ≡ rooms = rooms_with-free l takes_back w [] rooms in
+    let at : IsSearch l takes_back places rooms flags labels current w queue_room slots_room = record {
+      links = links;
+      places_are = places_are;
+      holding = holding-free l w [] rooms flags sums told (omega arith);
+      one_label_each = ap length zeros ∙ length-replicate (l.nodes + 1) 0;
+      start_label = omega (arith, label start start_is.to_last);
+      valid = λ v p node lies room below. absurd (omega (arith, below, label start start_is.to_last));
+      under_way = subst (λ rs. IsUnderWay l labels rs current w) (sym free) (way-free l labels rooms current w [] links goal_is first (omega (arith, label start start_is.to_last)) (label goal goal_is.to_last));
+      start_is = start_is;
+      goal_is = goal_is;
+      apart = apart;
+      queue_room_is = queue_room_is;
+      slots_room_is = slots_room_is;
+    } in
+    subst (λ (ss : List Slot). IsSearch l takes_back places rooms flags labels current (record { slots = ss; walked = 0; rest = 0; joint = goal; sent = 0; start = start; goal = goal }) queue_room slots_room) (sym none) at
+
+-- after looking for a path
+pub IsSearch-found : (l : Links) (takes_back : Bool) (places rooms flags labels current : List ℕ) (w : Way) (queue_room slots_room : ℕ) (new_rooms new_flags new_labels new_current : List ℕ) (new : Way) (new_queue_room new_slots_room : ℕ)
+    → IsSearch l takes_back places rooms flags labels current w queue_room slots_room
+    → length new_labels ≡ length labels → get_or new_labels w.start 0 ≤ l.nodes → IsHolding l new new_rooms new_flags → rooms_with l takes_back new new_rooms ≡ rooms_with l takes_back w rooms
+    → AreValid l new_labels (rooms_with l takes_back w rooms) (get_or new_labels w.start 0) → IsUnderWay l new_labels (rooms_with l takes_back w rooms) new_current new
+    → new.start ≡ w.start → new.goal ≡ w.goal → new_queue_room ≡ queue_room → new_slots_room ≡ slots_room
+    → IsSearch l takes_back places new_rooms new_flags new_labels new_current new new_queue_room new_slots_room
+IsSearch-found l takes_back places rooms flags labels current w queue_room slots_room new_rooms new_flags new_labels new_current new new_queue_room new_slots_room is long label holding same valid way start goal queue_same slots_same = record {
+  links = is.links;
+  places_are = is.places_are;
+  holding = holding;
+  one_label_each = long ∙ is.one_label_each;
+  start_label = omega (arith, label, ap (λ v. get_or new_labels v 0) start);
+  valid = subst (λ rs. AreValid l new_labels rs (get_or new_labels new.start 0)) (sym same) (subst (λ v. AreValid l new_labels (rooms_with l takes_back w rooms) (get_or new_labels v 0)) (sym start) valid);
+  under_way = subst (λ rs. IsUnderWay l new_labels rs new_current new) (sym same) way;
+  start_is = subst (IsNode l.nodes) (sym start) is.start_is;
+  goal_is = subst (IsNode l.nodes) (sym goal) is.goal_is;
+  apart = λ e. is.apart (sym start ∙ e ∙ goal);
+  queue_room_is = omega (arith, is.queue_room_is, queue_same);
+  slots_room_is = omega (arith, is.slots_room_is, slots_same);
+}
+
+-- what a trail keeps once so much more is sent
+abbrev pub sent_on : Way → ℕ → Way
+sent_on w amount = record { slots = w.slots; walked = w.walked; rest = w.rest; joint = w.joint; sent = (w.sent + amount) % 2 ^ 64; start = w.start; goal = w.goal }
+
+-- Along the path that was found more is sent.
+pub is-sent : (l : Links) (takes_back : Bool) (places rooms flags labels current : List ℕ) (w : Way) (queue_room slots_room limit amount : ℕ) → IsSearch l takes_back places rooms flags labels current w queue_room slots_room
+    → end_of l w.start (places_of (walked_slots w)) ≡ w.joint → CanAugment l takes_back places rooms labels current w limit amount → IsSent l takes_back labels (rooms_with l takes_back w rooms) current (sent_on w amount) rooms
+is-sent l takes_back places rooms flags labels current w queue_room slots_room limit amount is joins can = record {
+  links = is.links;
+  start_is = is.start_is;
+  trail = can.whole.trail;
+  ends = can.whole.ends;
+  joins = joins;
+  current_is = is.under_way.walking.current_is;
+  passed = ArePassed-opens l labels (rooms_with l takes_back w rooms) (settled l takes_back ((w.sent + amount) % 2 ^ 64) w.slots rooms) w.goal current is.links can.opens is.under_way.walking.passed;
+  meets = can.whole.meets;
+  filled = can.whole.filled;
+  within = is.under_way.within;
+  one_slot_each = is.under_way.one_slot_each;
+  goal_label = is.under_way.goal_label;
+  have = HaveLeft-sent w.sent amount rooms w.slots is.holding.small can.can can.have;
+  small = omega arith;
+  rooms_are = is.holding.rooms_are;
+  descends = can.descends;
+}
+
+-- after the path is cut
+pub IsSearch-cut : (l : Links) (takes_back : Bool) (places rooms flags labels current : List ℕ) (w : Way) (queue_room slots_room limit amount : ℕ) (new_rooms new_flags : List ℕ) (new : Way) (new_slots_room : ℕ)
+    → IsSearch l takes_back places rooms flags labels current w queue_room slots_room → CanAugment l takes_back places rooms labels current w limit amount
+    → HasCut l takes_back labels (settled l takes_back ((w.sent + amount) % 2 ^ 64) w.slots rooms) current new new_rooms new_flags
+    → new.start ≡ w.start → new.goal ≡ w.goal → new_slots_room ≡ slots_room → IsSearch l takes_back places new_rooms new_flags labels current new queue_room new_slots_room
+IsSearch-cut l takes_back places rooms flags labels current w queue_room slots_room limit amount new_rooms new_flags new new_slots_room is can cut start goal slots_same =
+    let after : List ℕ = settled l takes_back ((w.sent + amount) % 2 ^ 64) w.slots rooms in
+    let valid = AreValid-opens l labels (rooms_with l takes_back w rooms) after (get_or labels w.start 0) can.opens is.valid in
+    record {
+      links = is.links;
+      places_are = is.places_are;
+      holding = cut.holding;
+      one_label_each = is.one_label_each;
+      start_label = omega (arith, is.start_label, ap (λ v. get_or labels v 0) start);
+      valid = subst (λ rs. AreValid l labels rs (get_or labels new.start 0)) (sym cut.same) (subst (λ v. AreValid l labels after (get_or labels v 0)) (sym start) valid);
+      under_way = subst (λ rs. IsUnderWay l labels rs current new) (sym cut.same) cut.way;
+      start_is = subst (IsNode l.nodes) (sym start) is.start_is;
+      goal_is = subst (IsNode l.nodes) (sym goal) is.goal_is;
+      apart = λ e. is.apart (sym start ∙ e ∙ goal);
+      queue_room_is = is.queue_room_is;
+      slots_room_is = omega (arith, is.slots_room_is, slots_same);
+    }
+
+-- after all links have left and rooms have changed, where at most links that lead upwards gained some
+pub IsSearch-emptied : (l : Links) (takes_back : Bool) (places rooms flags labels current : List ℕ) (w : Way) (queue_room slots_room : ℕ) (new_rooms new_flags : List ℕ) (new : Way) (new_slots_room : ℕ)
+    → IsSearch l takes_back places rooms flags labels current w queue_room slots_room → OpensUpwards l labels (rooms_with l takes_back w rooms) new_rooms → AreRooms l new_rooms → AreFlags l new_rooms new_flags
+    → new ≡ emptied w → new_slots_room ≡ slots_room → IsSearch l takes_back places new_rooms new_flags labels current new queue_room new_slots_room
+IsSearch-emptied l takes_back places rooms flags labels current w queue_room slots_room new_rooms new_flags new new_slots_room is opens sums told empty slots_same =
+    let none : drop (length w.slots) w.slots ≡ [] = drop_all (length w.slots) w.slots (omega arith) in
+    let same : rooms_with l takes_back (emptied w) new_rooms ≡ new_rooms = rooms_with-free l takes_back w w.slots new_rooms in
+    let at : IsSearch l takes_back places new_rooms new_flags labels current (emptied w) queue_room new_slots_room = record {
+      links = is.links;
+      places_are = is.places_are;
+      holding = holding-free l w w.slots new_rooms new_flags sums told is.holding.small;
+      one_label_each = is.one_label_each;
+      start_label = is.start_label;
+      valid = subst (λ rs. AreValid l labels rs (get_or labels w.start 0)) (sym same) (AreValid-opens l labels (rooms_with l takes_back w rooms) new_rooms (get_or labels w.start 0) opens is.valid);
+      under_way = subst (λ rs. IsUnderWay l labels rs current (emptied w)) (sym same)
+          (record {
+            walking = record {
+              current_is = is.under_way.walking.current_is;
+              passed = ArePassed-opens l labels (rooms_with l takes_back w rooms) new_rooms w.goal current is.links opens is.under_way.walking.passed;
+              trail_is = tt;
+            };
+            rest_is = subst (λ (ss : List Slot). IsTrail l labels new_rooms current w.goal (places_of ss)) (sym none) tt;
+            ends = ap (λ (ss : List Slot). end_of l w.goal (places_of ss)) none;
+            joint_is = is.goal_is;
+            order = omega arith;
+            within = omega arith;
+            one_slot_each = is.under_way.one_slot_each;
+            goal_label = is.under_way.goal_label;
+          });
+      start_is = is.start_is;
+      goal_is = is.goal_is;
+      apart = is.apart;
+      queue_room_is = is.queue_room_is;
+      slots_room_is = omega (arith, is.slots_room_is, slots_same);
+    } in
+    subst (λ (u : Way). IsSearch l takes_back places new_rooms new_flags labels current u queue_room new_slots_room) (sym empty) at
+
+-- after all links have left and other ends are set
+pub IsSearch-aimed : (l : Links) (takes_back : Bool) (places rooms flags labels current : List ℕ) (w : Way) (queue_room slots_room start goal : ℕ) (new_rooms new_flags new_current : List ℕ) (new : Way) (slots : List Slot) (new_slots_room : ℕ)
+    → IsSearch l takes_back places rooms flags labels current w queue_room slots_room → AreRooms l new_rooms → AreFlags l new_rooms new_flags → IsNode l.nodes start → IsNode l.nodes goal → start ≢ goal
+    → new_current ≡ take (l.nodes + 1) l.first → length slots ≡ 0 → new ≡ with_slots (record { slots = w.slots; walked = 0; rest = length w.slots; joint = w.goal; sent = w.sent; start = start; goal = goal }) slots → new_slots_room ≡ slots_room
+    → IsSearch l takes_back places new_rooms new_flags (set (set labels start 0) goal 0) new_current new queue_room new_slots_room
+IsSearch-aimed l takes_back places rooms flags labels current w queue_room slots_room start goal new_rooms new_flags new_current new slots new_slots_room is sums told start_is goal_is apart first none same slots_same =
+    let aimed : Way = record { slots = w.slots; walked = 0; rest = length w.slots; joint = w.goal; sent = w.sent; start = start; goal = goal } in
+    let labels_now : List ℕ = set (set labels start 0) goal 0 in
+    let long : length labels_now ≡ length labels = length-set (set labels start 0) goal 0 ∙ length-set labels start 0 in
+    let goal_label : get_or labels_now goal 0 ≡ 0 = get_or-set_same (set labels start 0) goal 0 0 (omega (arith, is.one_label_each, goal_is.to_last, length-set labels start 0)) in
+    let start_label : get_or labels_now start 0 ≡ 0 = get_or-set_other (set labels start 0) goal start 0 0 apart ∙ get_or-set_same labels start 0 0 (omega (arith, is.one_label_each, start_is.to_last)) in
+    let free : rooms_with l takes_back (with_slots aimed slots) new_rooms ≡ new_rooms = rooms_with-free l takes_back aimed slots new_rooms in
+    let at : IsSearch l takes_back places new_rooms new_flags labels_now new_current (with_slots aimed slots) queue_room new_slots_room = record {
+      links = is.links;
+      places_are = is.places_are;
+      holding = holding-free l aimed slots new_rooms new_flags sums told is.holding.small;
+      one_label_each = long ∙ is.one_label_each;
+      start_label = omega (arith, start_label);
+      valid = λ v p node lies room below. absurd (omega (arith, below, start_label));
+      under_way = subst (λ rs. IsUnderWay l labels_now rs new_current (with_slots aimed slots)) (sym free) (way-free l labels_now new_rooms new_current aimed slots is.links goal_is first (omega (arith, none, start_label)) goal_label);
+      start_is = start_is;
+      goal_is = goal_is;
+      apart = apart;
+      queue_room_is = is.queue_room_is;
+      slots_room_is = omega (arith, is.slots_room_is, slots_same);
+    } in
+    subst (λ (u : Way). IsSearch l takes_back places new_rooms new_flags labels_now new_current u queue_room new_slots_room) (sym same) at
+
+-- The same search is told of the same rooms and ends.
+pub same-searched : (l : Links) (places rooms others : List ℕ) (start from goal to : ℕ) (takes_back : Bool) → rooms ≡ others → start ≡ from → goal ≡ to → searched l places rooms start goal takes_back ≡ searched l places others from to takes_back
+same-searched l places rooms others start from goal to takes_back same starts goals = λ i. searched l places (same i) (starts i) (goals i) takes_back
+
+pub augments-between : (limit amount : ℕ) (old new from to : Searched) → old ≡ from → new ≡ to → Augments limit amount old new → Augments limit amount from to
+augments-between limit amount old new from to before after augments = subst (λ s. Augments limit amount s to) before (subst (λ s. Augments limit amount old s) after augments)

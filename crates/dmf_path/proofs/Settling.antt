@@ -1,0 +1,82 @@
+-- All links leave, and nothing is held any more.
+use Rattle.std.proofs.Common.{ℕ, ◌≡◌, ◌+◌, ◌-◌, ◌^◌, ◌<◌, ◌≤◌, Bool, List, [], ◌++◌, length, take, drop, get_or, ap, sym, ◌∙◌, subst, arith}
+use Rattle.std.proofs.lemmas.List.{append-nil, ext_get_or, get_or-take, length-take-le, drop_all}
+use Rattle.dmf_path.specs.declared.trail.Slot.{Slot}
+use Rattle.dmf_path.specs.Node.{IsNode}
+use Rattle.dmf_path.specs.Links.{Links, AreLinks, AreRooms, AreFlags}
+use Rattle.dmf_path.specs.Walk.{IsTrail, end_of}
+use Rattle.dmf_path.specs.Held.{Way, places_of, walked_slots, rest_slots, settled, rooms_with, HaveLeft, put_each, CanPut, with_slots}
+use Rattle.dmf_path.specs.Searching.{IsUnderWay, IsHolding}
+use Rattle.dmf_path.proofs.Descending.{Descends, descends-behind}
+use Rattle.dmf_path.proofs.Settled.{places-append, length-settled, room-settled, nothing}
+use Rattle.dmf_path.proofs.Leaving.{have-all-left}
+use Rattle.dmf_path.proofs.UnderWay.{descends-way}
+
+-- Where no slot is filled, nothing is held.
+pub settled-none : (l : Links) (takes_back : Bool) (sent : ℕ) (rooms : List ℕ) → settled l takes_back sent [] rooms ≡ rooms
+settled-none l takes_back sent rooms =
+    ext_get_or 0 (settled l takes_back sent [] rooms) rooms (length-settled l takes_back sent [] rooms)
+    (λ p within.
+    let here : p < length rooms = omega (arith, within, length-settled l takes_back sent [] rooms) in
+    room-settled l takes_back sent [] rooms p here ∙ nothing takes_back (get_or rooms p 0))
+
+-- What is held can be put on, first for the walk, then for the rest.
+pub record CanSettle (l : Links) (takes_back : Bool) (w : Way) (rooms : List ℕ) : Type 0 where
+  pub walked : CanPut l takes_back w.sent (walked_slots w) rooms
+  pub rest : CanPut l takes_back w.sent (rest_slots w) (put_each l takes_back w.sent (walked_slots w) rooms)
+  pub same : rooms_with l takes_back w rooms ≡ put_each l takes_back w.sent (rest_slots w) (put_each l takes_back w.sent (walked_slots w) rooms)
+
+pub can-settle : (l : Links) (takes_back : Bool) (labels after current : List ℕ) (w : Way) (rooms flags : List ℕ) → AreLinks l → IsNode l.nodes w.start → IsUnderWay l labels after current w → IsHolding l w rooms flags → CanSettle l takes_back w rooms
+can-settle l takes_back labels after current w rooms flags links start way holding =
+    let top : ℕ = get_or labels w.start 0 in
+    let whole = descends-way l labels after current w links start way in
+    let first = have-all-left l takes_back labels w.sent top 0 [] (walked_slots w) (rest_slots w) rooms links holding.rooms_are.0
+    (subst (Descends l labels top 0) (sym (places-append (walked_slots w) (rest_slots w))) whole) holding.have in
+    let none : rest_slots w ++ [] ≡ rest_slots w = append-nil (rest_slots w) in
+    let between : List ℕ = put_each l takes_back w.sent (walked_slots w) rooms in
+    let low : Descends l labels top 0 (places_of (rest_slots w)) = descends-behind l labels top 0 (places_of (walked_slots w)) (places_of (rest_slots w)) whole in
+    let later = have-all-left l takes_back labels w.sent top 0 [] (rest_slots w) [] between links first.long
+    (subst (λ (ss : List Slot). Descends l labels top 0 (places_of ss)) (sym none) low)
+    (subst (HaveLeft w.sent between) (sym none) first.have) in
+    record {
+      walked = first.can;
+      rest = later.can;
+      same = first.same ∙ ap (λ (ss : List Slot). settled l takes_back w.sent ss between) (sym none) ∙ later.same ∙ settled-none l takes_back w.sent (put_each l takes_back w.sent (rest_slots w) between);
+    }
+
+-- With free slots nothing is held,
+pub rooms_with-free : (l : Links) (takes_back : Bool) (w : Way) (slots : List Slot) (rooms : List ℕ) → rooms_with l takes_back (with_slots w slots) rooms ≡ rooms
+rooms_with-free l takes_back w slots rooms =
+    ap (λ (ss : List Slot). settled l takes_back w.sent ss rooms) (drop_all (length slots) slots (omega arith)) ∙ settled-none l takes_back w.sent rooms
+
+pub holding-free : (l : Links) (w : Way) (slots : List Slot) (rooms flags : List ℕ) → AreRooms l rooms → AreFlags l rooms flags → w.sent < 2 ^ 64 → IsHolding l (with_slots w slots) rooms flags
+holding-free l w slots rooms flags sums told small = record {
+  rooms_are = sums;
+  flags_are = told;
+  small = small;
+  have = subst (HaveLeft w.sent rooms) (sym (drop_all (length slots) slots (omega arith))) tt;
+}
+
+-- and with the current links of all nodes at their first ones the search begins.
+pub way-free : (l : Links) (labels after current : List ℕ) (w : Way) (slots : List Slot) → AreLinks l → IsNode l.nodes w.goal → current ≡ take (l.nodes + 1) l.first → length slots ≡ get_or labels w.start 0 → get_or labels w.goal 0 ≡ 0 → IsUnderWay l labels after current (with_slots w slots)
+way-free l labels after current w slots links goal first count label =
+    let at_first : (v : ℕ) → v ≤ l.nodes → get_or current v 0 ≡ get_or l.first v 0 = λ v h. ap (λ cs. get_or cs v 0) first ∙ get_or-take (l.nodes + 1) l.first v 0 (omega (arith, h)) in
+    let none : drop (length slots) slots ≡ [] = drop_all (length slots) slots (omega arith) in
+    record {
+      walking = record {
+        current_is = record {
+          one_each = ap length first ∙ length-take-le (l.nodes + 1) l.first (omega (arith, links.first_long));
+          from = λ v node. omega (arith, at_first v node.to_last);
+          to = λ v node. omega (arith, at_first v node.to_last, links.ascending v node.to_last);
+        };
+        passed = λ v p ps node lies before walk. omega (arith, at_first v node.to_last, lies.from, before);
+        trail_is = tt;
+      };
+      rest_is = subst (λ (ss : List Slot). IsTrail l labels after current w.goal (places_of ss)) (sym none) tt;
+      ends = ap (λ (ss : List Slot). end_of l w.goal (places_of ss)) none;
+      joint_is = goal;
+      order = omega arith;
+      within = omega arith;
+      one_slot_each = count;
+      goal_label = label;
+    }

@@ -1,0 +1,43 @@
+-- Where the walk goes on, as it begins: at the start, or where its last link leads.
+use Rattle.std.proofs.Common.{ℕ, ◌≡◌, ◌-◌, ◌<◌, ◌≤◌, Bool, List, length, take, get_or, refl, ap, sym, ◌∙◌, subst, ⊎_elim, arith}
+use Rattle.std.proofs.lemmas.Bool.{cases_lt}
+use Rattle.dmf_path.specs.Node.{IsNode}
+use Rattle.dmf_path.specs.Links.{Links, AreLinks}
+use Rattle.dmf_path.specs.Walk.{IsTrail, end_of}
+use Rattle.dmf_path.specs.Held.{Way, places_of, walked_slots, rooms_with, slot_at}
+use Rattle.dmf_path.specs.Searching.{IsUnderWay, IsHolding}
+use Rattle.dmf_path.proofs.LinkPlaces.{lies-within}
+use Rattle.dmf_path.proofs.Walking.{IsTrail-pop, end_of-push, end-node}
+use Rattle.dmf_path.proofs.WayTurn.{IsOnWay, last-places}
+
+-- The last link of the walk is one.
+pub last-link_within : (l : Links) (labels after current : List ℕ) (w : Way) → AreLinks l → IsNode l.nodes w.start → IsUnderWay l labels after current w → 0 < w.walked → (slot_at w.slots (w.walked - 1)).place < length l.heads
+last-link_within l labels after current w links start way some =
+    let p : ℕ = (slot_at w.slots (w.walked - 1)).place in
+    let front : List ℕ = places_of (take (w.walked - 1) w.slots) in
+    let trail = subst (IsTrail l labels after current w.start) (last-places w some (omega (arith, way.order, way.within))) way.walking.trail_is in
+    let before = IsTrail-pop l labels after current w.start front p trail in
+    lies-within l (end_of l w.start front) p links (end-node l labels after current w.start front links start before.0) before.1.lies
+
+-- The walk has come to this node.
+pub on-start : (l : Links) (takes_back : Bool) (labels current : List ℕ) (w : Way) (rooms flags : List ℕ) (node : ℕ) → AreLinks l → IsNode l.nodes w.start → IsUnderWay l labels (rooms_with l takes_back w rooms) current w → IsHolding l w rooms flags
+    → (w.walked ≡ 0 → node ≡ w.start) → (0 < w.walked → node ≡ get_or l.heads (slot_at w.slots (w.walked - 1)).place 0) → IsOnWay l takes_back labels (rooms_with l takes_back w rooms) current w rooms flags node
+on-start l takes_back labels current w rooms flags node links start way holding first last =
+    let arrives : end_of l w.start (places_of (walked_slots w)) ≡ node = ⊎_elim
+    (λ (some : 0 < w.walked).
+    ap (λ ps. end_of l w.start ps) (last-places w some (omega (arith, way.order, way.within)))
+    ∙ end_of-push l w.start (places_of (take (w.walked - 1) w.slots)) (slot_at w.slots (w.walked - 1)).place ∙ sym (last some))
+    (λ (none : w.walked ≤ 0).
+    let empty : w.walked ≡ 0 = omega (arith, none) in
+    ap (λ n. end_of l w.start (places_of (take n w.slots))) empty ∙ sym (first empty))
+    (cases_lt 0 w.walked) in
+    record {
+      come = record {
+        walking = way.walking;
+        arrives = arrives;
+        is_node = subst (IsNode l.nodes) arrives (end-node l labels (rooms_with l takes_back w rooms) current w.start (places_of (walked_slots w)) links start way.walking.trail_is);
+      };
+      way = way;
+      holding = holding;
+      same = refl;
+    }

@@ -1,0 +1,103 @@
+-- The walk, and what follows where it finds nothing: nothing is held, the nodes are labelled anew, and it walks again.
+use Rattle.std.proofs.Common.{◌≡◌, get_or, ap, sym, ◌∙◌, subst}
+use Rattle.dmf_path.specs.Links.{links_of}
+use Rattle.dmf_path.specs.Walk.{AreValid, IsWalk}
+use Rattle.dmf_path.specs.Held.{Way, way_of, rooms_with}
+use Rattle.dmf_path.specs.Searching.{IsUnderWay, IsUnlabelled}
+use Rattle.dmf_path.proofs.Settling.{can-settle, rooms_with-free}
+use Rattle.dmf_path.proofs.phase.find.Goals as goal
+
+pub settle-requires-clause-rest : goal.settle-requires-clause-rest
+settle-requires-clause-rest c =
+    let l = links_of c.args.table.now in
+    let settles = can-settle l c.args.takes_back _ _ _ (way_of c.walk.new.trail) c.walk.new.rooms c.walk.new.flags c.requires.links (rw c.walk.ensures.start c.requires.start) c.walk.ensures.under_way c.walk.ensures.holding in
+    settles.rest
+
+pub walk-requires-then-relabel-clause-under_way : goal.walk-requires-then-relabel-clause-under_way
+walk-requires-then-relabel-clause-under_way c =
+    let l = links_of c.args.table.now in
+    let settles = can-settle l c.args.takes_back _ _ _ (way_of c.walk.new.trail) c.walk.new.rooms c.walk.new.flags c.requires.links (rw c.walk.ensures.start c.requires.start) c.walk.ensures.under_way c.walk.ensures.holding in
+    let now : c.settle.new.rooms ≡ rooms_with l c.args.takes_back (way_of c.args.trail.now) c.args.rooms.now = c.settle.ensures.rooms ∙ sym settles.same ∙ c.walk.ensures.same in
+    let freed : rooms_with l c.args.takes_back (way_of c.relabel.new.trail) c.settle.new.rooms ≡ c.settle.new.rooms =
+    ap (λ (w : Way). rooms_with l c.args.takes_back w c.settle.new.rooms) c.relabel.ensures.way ∙ rooms_with-free l c.args.takes_back (way_of c.settle.new.trail) c.relabel.new.trail.slots.items c.settle.new.rooms in
+    let way : IsUnderWay l c.relabel.new.labels c.settle.new.rooms c.relabel.new.current (way_of c.relabel.new.trail) =
+    subst (λ (w : Way). IsUnderWay l c.relabel.new.labels c.settle.new.rooms c.relabel.new.current w) (sym c.relabel.ensures.way) c.relabel.ensures.under_way in
+    subst (λ rs. IsUnderWay l c.relabel.new.labels rs c.relabel.new.current (way_of c.relabel.new.trail)) (sym freed) way
+
+pub returns-then-relabel-clause-same : goal.returns-then-relabel-clause-same
+returns-then-relabel-clause-same c =
+    let l = links_of c.args.table.now in
+    let settles = can-settle l c.args.takes_back _ _ _ (way_of c.walk.new.trail) c.walk.new.rooms c.walk.new.flags c.requires.links (rw c.walk.ensures.start c.requires.start) c.walk.ensures.under_way c.walk.ensures.holding in
+    let now : c.settle.new.rooms ≡ rooms_with l c.args.takes_back (way_of c.args.trail.now) c.args.rooms.now = c.settle.ensures.rooms ∙ sym settles.same ∙ c.walk.ensures.same in
+    let freed : rooms_with l c.args.takes_back (way_of c.relabel.new.trail) c.settle.new.rooms ≡ c.settle.new.rooms =
+    ap (λ (w : Way). rooms_with l c.args.takes_back w c.settle.new.rooms) c.relabel.ensures.way ∙ rooms_with-free l c.args.takes_back (way_of c.settle.new.trail) c.relabel.new.trail.slots.items c.settle.new.rooms in
+    c.walk-then-relabel.ensures.same ∙ freed ∙ now
+
+pub returns-then-relabel-clause-valid : goal.returns-then-relabel-clause-valid
+returns-then-relabel-clause-valid c =
+    let l = links_of c.args.table.now in
+    let settles = can-settle l c.args.takes_back _ _ _ (way_of c.walk.new.trail) c.walk.new.rooms c.walk.new.flags c.requires.links (rw c.walk.ensures.start c.requires.start) c.walk.ensures.under_way c.walk.ensures.holding in
+    let now : c.settle.new.rooms ≡ rooms_with l c.args.takes_back (way_of c.args.trail.now) c.args.rooms.now = c.settle.ensures.rooms ∙ sym settles.same ∙ c.walk.ensures.same in
+    let start : c.settle.new.trail.start ≡ c.args.trail.now.start = ap (λ (w : Way). w.start) c.settle.ensures.way ∙ c.walk.ensures.start in
+    subst (λ rs. AreValid l c.relabel.new.labels rs (get_or c.relabel.new.labels c.args.trail.now.start 0)) now
+    (subst (λ s. AreValid l c.relabel.new.labels c.settle.new.rooms (get_or c.relabel.new.labels s 0)) start c.relabel.ensures.valid)
+
+pub returns-then-relabel-clause-under_way : goal.returns-then-relabel-clause-under_way
+returns-then-relabel-clause-under_way c =
+    let l = links_of c.args.table.now in
+    let settles = can-settle l c.args.takes_back _ _ _ (way_of c.walk.new.trail) c.walk.new.rooms c.walk.new.flags c.requires.links (rw c.walk.ensures.start c.requires.start) c.walk.ensures.under_way c.walk.ensures.holding in
+    let now : c.settle.new.rooms ≡ rooms_with l c.args.takes_back (way_of c.args.trail.now) c.args.rooms.now = c.settle.ensures.rooms ∙ sym settles.same ∙ c.walk.ensures.same in
+    let freed : rooms_with l c.args.takes_back (way_of c.relabel.new.trail) c.settle.new.rooms ≡ c.settle.new.rooms =
+    ap (λ (w : Way). rooms_with l c.args.takes_back w c.settle.new.rooms) c.relabel.ensures.way ∙ rooms_with-free l c.args.takes_back (way_of c.settle.new.trail) c.relabel.new.trail.slots.items c.settle.new.rooms in
+    subst (λ rs. IsUnderWay l c.relabel.new.labels rs c.walk-then-relabel.new.current (way_of c.walk-then-relabel.new.trail)) (freed ∙ now) c.walk-then-relabel.ensures.under_way
+
+pub returns-then-relabel-clause-none : goal.returns-then-relabel-clause-none
+returns-then-relabel-clause-none c =
+    let l = links_of c.args.table.now in
+    let settles = can-settle l c.args.takes_back _ _ _ (way_of c.walk.new.trail) c.walk.new.rooms c.walk.new.flags c.requires.links (rw c.walk.ensures.start c.requires.start) c.walk.ensures.under_way c.walk.ensures.holding in
+    let freed : rooms_with l c.args.takes_back (way_of c.relabel.new.trail) c.settle.new.rooms ≡ c.settle.new.rooms =
+    ap (λ (w : Way). rooms_with l c.args.takes_back w c.settle.new.rooms) c.relabel.ensures.way ∙ rooms_with-free l c.args.takes_back (way_of c.settle.new.trail) c.relabel.new.trail.slots.items c.settle.new.rooms in
+    λ no.
+    let found = c.relabel.ensures.labelled c.if-relabel.true in
+    let walk : IsWalk l c.relabel.new.labels c.settle.new.rooms c.relabel.new.trail.goal c.relabel.new.trail.start found.0 =
+    subst (λ (w : Way). IsWalk l c.relabel.new.labels c.settle.new.rooms w.goal w.start found.0) (sym c.relabel.ensures.way) found.1 in
+    absurd (c.walk-then-relabel.ensures.none no found.0 (subst (λ rs. IsWalk l c.relabel.new.labels rs c.relabel.new.trail.goal c.relabel.new.trail.start found.0) (sym freed) walk))
+
+pub returns-clause-same : goal.returns-clause-same
+returns-clause-same c =
+    let l = links_of c.args.table.now in
+    let settles = can-settle l c.args.takes_back _ _ _ (way_of c.walk.new.trail) c.walk.new.rooms c.walk.new.flags c.requires.links (rw c.walk.ensures.start c.requires.start) c.walk.ensures.under_way c.walk.ensures.holding in
+    let now : c.settle.new.rooms ≡ rooms_with l c.args.takes_back (way_of c.args.trail.now) c.args.rooms.now = c.settle.ensures.rooms ∙ sym settles.same ∙ c.walk.ensures.same in
+    let freed : rooms_with l c.args.takes_back (way_of c.relabel.new.trail) c.settle.new.rooms ≡ c.settle.new.rooms =
+    ap (λ (w : Way). rooms_with l c.args.takes_back w c.settle.new.rooms) c.relabel.ensures.way ∙ rooms_with-free l c.args.takes_back (way_of c.settle.new.trail) c.relabel.new.trail.slots.items c.settle.new.rooms in
+    freed ∙ now
+
+pub returns-clause-valid : goal.returns-clause-valid
+returns-clause-valid c =
+    let l = links_of c.args.table.now in
+    let settles = can-settle l c.args.takes_back _ _ _ (way_of c.walk.new.trail) c.walk.new.rooms c.walk.new.flags c.requires.links (rw c.walk.ensures.start c.requires.start) c.walk.ensures.under_way c.walk.ensures.holding in
+    let now : c.settle.new.rooms ≡ rooms_with l c.args.takes_back (way_of c.args.trail.now) c.args.rooms.now = c.settle.ensures.rooms ∙ sym settles.same ∙ c.walk.ensures.same in
+    let start : c.settle.new.trail.start ≡ c.args.trail.now.start = ap (λ (w : Way). w.start) c.settle.ensures.way ∙ c.walk.ensures.start in
+    subst (λ rs. AreValid l c.relabel.new.labels rs (get_or c.relabel.new.labels c.args.trail.now.start 0)) now
+    (subst (λ s. AreValid l c.relabel.new.labels c.settle.new.rooms (get_or c.relabel.new.labels s 0)) start c.relabel.ensures.valid)
+
+pub returns-clause-under_way : goal.returns-clause-under_way
+returns-clause-under_way c =
+    let l = links_of c.args.table.now in
+    let settles = can-settle l c.args.takes_back _ _ _ (way_of c.walk.new.trail) c.walk.new.rooms c.walk.new.flags c.requires.links (rw c.walk.ensures.start c.requires.start) c.walk.ensures.under_way c.walk.ensures.holding in
+    let now : c.settle.new.rooms ≡ rooms_with l c.args.takes_back (way_of c.args.trail.now) c.args.rooms.now = c.settle.ensures.rooms ∙ sym settles.same ∙ c.walk.ensures.same in
+    let way : IsUnderWay l c.relabel.new.labels c.settle.new.rooms c.relabel.new.current (way_of c.relabel.new.trail) =
+    subst (λ (w : Way). IsUnderWay l c.relabel.new.labels c.settle.new.rooms c.relabel.new.current w) (sym c.relabel.ensures.way) c.relabel.ensures.under_way in
+    subst (λ rs. IsUnderWay l c.relabel.new.labels rs c.relabel.new.current (way_of c.relabel.new.trail)) now way
+
+pub returns-clause-none : goal.returns-clause-none
+returns-clause-none c =
+    let l = links_of c.args.table.now in
+    let settles = can-settle l c.args.takes_back _ _ _ (way_of c.walk.new.trail) c.walk.new.rooms c.walk.new.flags c.requires.links (rw c.walk.ensures.start c.requires.start) c.walk.ensures.under_way c.walk.ensures.holding in
+    let now : c.settle.new.rooms ≡ rooms_with l c.args.takes_back (way_of c.args.trail.now) c.args.rooms.now = c.settle.ensures.rooms ∙ sym settles.same ∙ c.walk.ensures.same in
+    let start : c.settle.new.trail.start ≡ c.args.trail.now.start = ap (λ (w : Way). w.start) c.settle.ensures.way ∙ c.walk.ensures.start in
+    λ no.
+    let goal_is : c.settle.new.trail.goal ≡ c.args.trail.now.goal = ap (λ (w : Way). w.goal) c.settle.ensures.way ∙ c.walk.ensures.goal in
+    subst (λ rs. IsUnlabelled l rs c.args.trail.now.start c.args.trail.now.goal) now
+    (subst (λ g. IsUnlabelled l c.settle.new.rooms c.args.trail.now.start g) goal_is
+    (subst (λ s. IsUnlabelled l c.settle.new.rooms s c.settle.new.trail.goal) start (c.relabel.ensures.none c.if-relabel.false)))

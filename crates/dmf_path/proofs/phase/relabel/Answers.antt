@@ -1,0 +1,22 @@
+use Rattle.std.proofs.Common.{◌≡◌, ◌+◌, take}
+use Rattle.dmf_path.specs.Links.{links_of}
+use Rattle.dmf_path.specs.Held.{way_of}
+use Rattle.dmf_path.proofs.Labelled.{valid-labelled, walk-labelled}
+use Rattle.dmf_path.proofs.Settling.{way-free}
+use Rattle.dmf_path.proofs.phase.relabel.Goals as goal
+
+pub returns-clause-valid : goal.returns-clause-valid
+returns-clause-valid c =
+    let q = c.requires in
+    valid-labelled (links_of c.args.table.now) c.args.rooms.now c.args.flags.now c.label_nodes.new.labels c.args.trail.now.start c.args.trail.now.goal q.links q.flags c.label_nodes.ensures.labels
+
+pub returns-clause-under_way : goal.returns-clause-under_way
+returns-clause-under_way c =
+    let q = c.requires in
+    let first : c.copy_from_slice.new.self ≡ take (c.args.table.now.nodes + 1) c.args.table.now.first.items = rw (c.deref.ensures.value, q.one_current_each) at c.copy_from_slice.ensures.after in
+    way-free (links_of c.args.table.now) c.label_nodes.new.labels c.args.rooms.now c.copy_from_slice.new.self (way_of c.args.trail.now) c.free_slots-2.new.trail.slots.items q.links q.goal first c.free_slots-2.ensures.count c.label_nodes.ensures.labels.root_is
+
+pub returns-clause-labelled : goal.returns-clause-labelled
+returns-clause-labelled c =
+    let q = c.requires in
+    λ yes. walk-labelled (links_of c.args.table.now) c.args.rooms.now c.args.flags.now c.label_nodes.new.labels c.args.trail.now.start c.args.trail.now.goal q.links q.flags c.label_nodes.ensures.labels c.args.trail.now.start q.start c.if-labels-start.false

@@ -1,0 +1,143 @@
+-- Pushes that are held: what is sent along the links of a path is put on a link only when it leaves the path.
+-- Private: only contracts inside the crate and proofs use this.
+use Rattle.std.specs.Prelude.{ℕ, ◌≡◌, ◌≢◌, ◌+◌, ◌-◌, ◌%◌, ◌^◌, ◌<◌, ◌≤◌, ◌==◌, Bool, if◌then◌else◌, List, [], ◌∷◌, ◌++◌, length, map, min, take, drop, slice_index, slice_index_or, slice_set, Option, Some, None}
+use Rattle.std.specs.List.{range_with_len}
+use Rattle.dmf_path.specs.declared.trail.Slot.{Slot}
+use Rattle.dmf_path.specs.declared.trail.Trail.{Trail}
+use Rattle.dmf_path.specs.Links.{Links}
+use Rattle.dmf_path.specs.Walk.{pushed_once}
+
+-- the room that is left to a link which is full when `full_at` is sent in all, once `sent` is; both modulo 2^64
+abbrev pub room_left : ℕ → ℕ → ℕ
+room_left sent full_at = (full_at + (2 ^ 64 - sent)) % 2 ^ 64
+
+-- the places of the links in slots
+abbrev pub places_of : List Slot → List ℕ
+places_of slots = map (λ s. s.place) slots
+
+-- how much is held for the link at place `p`
+abbrev pub held_for : ℕ → List ℕ → List Slot → ℕ → ℕ
+held_for sent rooms [] p = 0
+held_for sent rooms (s ∷ slots) p =
+    if s.place == p then slice_index rooms p - room_left sent s.full_at else held_for sent rooms slots p
+
+-- the same, if the link is in a slot
+abbrev pub held_in : ℕ → List ℕ → List Slot → ℕ → Option ℕ
+held_in sent rooms [] p = None
+held_in sent rooms (s ∷ slots) p =
+    if s.place == p then Some (slice_index rooms p - room_left sent s.full_at) else held_in sent rooms slots p
+
+-- the room of a link, once what is held is put on
+abbrev pub settled_room : Links → Bool → ℕ → List Slot → List ℕ → ℕ → ℕ
+settled_room l takes_back sent slots rooms p =
+    slice_index rooms p - held_for sent rooms slots p + (if takes_back then held_for sent rooms slots (slice_index l.partners p) else 0)
+
+-- the rooms then
+abbrev pub settled : Links → Bool → ℕ → List Slot → List ℕ → List ℕ
+settled l takes_back sent slots rooms = map (settled_room l takes_back sent slots rooms) (range_with_len 0 (length rooms))
+
+-- a slot for each link of a path; how many the walk has filled; from where on they have the end of the last path, and the node
+-- at which that begins; how much was sent in all; and the ends of the path
+pub record Way : Type 0 where
+  pub slots : List Slot
+  pub walked : ℕ
+  pub rest : ℕ
+  pub joint : ℕ
+  pub sent : ℕ
+  pub start : ℕ
+  pub goal : ℕ
+
+-- what a trail keeps
+abbrev pub way_of : Trail → Way
+way_of t = record { slots = t.slots.items; walked = t.walked; rest = t.rest; joint = t.joint; sent = t.sent; start = t.start; goal = t.goal }
+
+-- the slots that the walk has filled, those with the end of the last path, and both
+abbrev pub walked_slots : Way → List Slot
+walked_slots w = take w.walked w.slots
+
+abbrev pub rest_slots : Way → List Slot
+rest_slots w = drop w.rest w.slots
+
+abbrev pub filled_slots : Way → List Slot
+filled_slots w = walked_slots w ++ rest_slots w
+
+-- the rooms, once what is held is put on
+abbrev pub rooms_with : Links → Bool → Way → List ℕ → List ℕ
+rooms_with l takes_back w rooms = settled l takes_back w.sent (filled_slots w) rooms
+
+-- the slot at an index
+abbrev pub slot_at : List Slot → ℕ → Slot
+slot_at slots i = slice_index_or slots i (record { place = 0; full_at = 0 })
+
+-- Each of the links has as much room as is left to it, or more.
+abbrev pub HaveLeft : ℕ → List ℕ → List Slot → Type 0
+HaveLeft sent rooms [] = Unit {0}
+HaveLeft sent rooms (s ∷ slots) =
+    (s.full_at < 2 ^ 64) × (room_left sent s.full_at ≤ slice_index rooms s.place) × HaveLeft sent rooms slots
+
+-- the least of a limit and the rooms that are left
+abbrev pub least_left : ℕ → ℕ → List Slot → ℕ
+least_left sent limit [] = limit
+least_left sent limit (s ∷ slots) = min (room_left sent s.full_at) (least_left sent limit slots)
+
+-- The slot has a link, with as much room as is left to it, or more.
+pub record IsSlot (l : Links) (sent : ℕ) (rooms : List ℕ) (s : Slot) : Type 0 where
+  pub within : s.place < length l.heads
+  pub left : room_left sent s.full_at ≤ slice_index rooms s.place
+
+-- the rooms once what is held for a link is put on
+abbrev pub put_once : Links → Bool → ℕ → Slot → List ℕ → List ℕ
+put_once l takes_back sent s rooms = pushed_once l takes_back (slice_index rooms s.place - room_left sent s.full_at) s.place rooms
+
+-- the rooms once that is done for each of these links
+abbrev pub put_each : Links → Bool → ℕ → List Slot → List ℕ → List ℕ
+put_each l takes_back sent [] rooms = rooms
+put_each l takes_back sent (s ∷ slots) rooms = put_each l takes_back sent slots (put_once l takes_back sent s rooms)
+
+-- It can be done for these links in turn.
+abbrev pub CanPut : Links → Bool → ℕ → List Slot → List ℕ → Type 0
+CanPut l takes_back sent [] rooms = Unit {0}
+CanPut l takes_back sent (s ∷ slots) rooms = IsSlot l sent rooms s × CanPut l takes_back sent slots (put_once l takes_back sent s rooms)
+
+-- The next slot is free, or it had the first link of the end of the last path, which leaves.
+pub data MakesWay (l : Links) (takes_back : Bool) (old : Way) (rooms : List ℕ) (new : Way) (after : List ℕ) : Type 0 where
+  free : old.walked < old.rest → new ≡ old → after ≡ rooms → MakesWay l takes_back old rooms new after
+  leaves : old.walked ≡ old.rest
+      → new ≡ record { slots = old.slots; walked = old.walked; rest = old.rest + 1; joint = slice_index l.heads (slot_at old.slots old.rest).place; sent = old.sent; start = old.start; goal = old.goal }
+      → after ≡ put_once l takes_back old.sent (slot_at old.slots old.rest) rooms → MakesWay l takes_back old rooms new after
+
+-- The walk goes on along a link with so much room.
+abbrev pub entered : Way → ℕ → ℕ → Way
+entered w place room = record {
+  slots = slice_set w.slots w.walked (record { place = place; full_at = (w.sent + room) % 2 ^ 64 });
+  walked = w.walked + 1;
+  rest = w.rest;
+  joint = w.joint;
+  sent = w.sent;
+  start = w.start;
+  goal = w.goal;
+}
+
+-- The walk steps back.
+abbrev pub stepped_back : Way → Way
+stepped_back w = record { slots = w.slots; walked = w.walked - 1; rest = w.rest; joint = w.joint; sent = w.sent; start = w.start; goal = w.goal }
+
+-- All links have left.
+abbrev pub emptied : Way → Way
+emptied w = record { slots = w.slots; walked = 0; rest = length w.slots; joint = w.goal; sent = w.sent; start = w.start; goal = w.goal }
+
+-- Other slots, all of them free.
+abbrev pub with_slots : Way → List Slot → Way
+with_slots w slots = record { slots = slots; walked = 0; rest = length slots; joint = w.goal; sent = w.sent; start = w.start; goal = w.goal }
+
+-- No link in a slot before `first` is full, and none from `behind` on.
+pub record AreOpen (sent : ℕ) (slots : List Slot) (first behind : ℕ) : Type 0 where
+  pub before : (i : ℕ) → i < first → (slot_at slots i).full_at ≢ sent
+  pub after : (i : ℕ) → behind ≤ i → i < length slots → (slot_at slots i).full_at ≢ sent
+
+-- The full links of a path leave, with those between them; or none is full.
+pub data IsCut (l : Links) (takes_back : Bool) (old : Way) (rooms : List ℕ) (new : Way) (after : List ℕ) : Type 0 where
+  stays : (first behind : ℕ) → behind ≤ first → AreOpen old.sent old.slots first behind → new ≡ old → after ≡ rooms → IsCut l takes_back old rooms new after
+  cut_at : (first behind : ℕ) → first < behind → behind ≤ length old.slots → AreOpen old.sent old.slots first behind
+      → new ≡ record { slots = old.slots; walked = first; rest = behind; joint = slice_index l.heads (slot_at old.slots (behind - 1)).place; sent = old.sent; start = old.start; goal = old.goal }
+      → after ≡ put_each l takes_back old.sent (take (behind - first) (drop first old.slots)) rooms → IsCut l takes_back old rooms new after

@@ -1,0 +1,105 @@
+//! The search for the next path: the walk goes on, or the nodes are labelled anew and it begins again.
+ghost use Rattle.std.specs.Prelude.{◌≡◌, ◌≢◌, ℕ, List, ◌+◌, ◌≤◌, true, false, length, slice_index, vec_capacity};
+ghost use Rattle.dmf_path.specs.Node.{IsNode};
+ghost use Rattle.dmf_path.specs.Links.{AreLinks, AreRooms, AreFlags, links_of};
+ghost use Rattle.dmf_path.specs.Walk.{AreValid, IsWalk, end_of};
+ghost use Rattle.dmf_path.specs.Held.{way_of, places_of, walked_slots, rooms_with, with_slots};
+ghost use Rattle.dmf_path.specs.Searching.{IsHolding, IsUnderWay, IsUnlabelled};
+
+use crate::label::{NO_LABEL, label_nodes};
+use crate::links::LinkTable;
+use crate::trail::{Trail, free_slots, settle};
+use crate::walk::walk;
+
+/// Finds the least path from the start to the goal: goes on with the walk, and where none is left, labels the nodes anew
+/// and walks again.
+pub fn find(
+    table: &LinkTable,
+    takes_back: bool,
+    labels: &mut [u32],
+    current: &mut [u32],
+    queue: &mut Vec<u32>,
+    rooms: &mut [u64],
+    flags: &mut [u8],
+    trail: &mut Trail,
+) -> bool
+    requires links { AreLinks (links_of table.now) }
+    requires one_label_each { length labels.old ≡ table.now.nodes + 1 }
+    requires start_label { slice_index labels.old trail.old.start ≤ table.now.nodes }
+    requires holding { IsHolding (links_of table.now) (way_of trail.old) rooms.old flags.old }
+    requires valid { AreValid (links_of table.now) labels.old
+        (rooms_with (links_of table.now) takes_back (way_of trail.old) rooms.old) (slice_index labels.old trail.old.start) }
+    requires under_way { IsUnderWay (links_of table.now) labels.old
+        (rooms_with (links_of table.now) takes_back (way_of trail.old) rooms.old) current.old (way_of trail.old) }
+    requires start { IsNode table.now.nodes trail.old.start }
+    requires goal { IsNode table.now.nodes trail.old.goal }
+    requires apart { trail.old.start ≢ trail.old.goal }
+    requires queue_room { table.now.nodes + 1 ≤ vec_capacity queue.old }
+    requires slots_room { table.now.nodes ≤ vec_capacity trail.old.slots }
+    ensures start_label { slice_index labels.new trail.old.start ≤ table.now.nodes }
+    ensures holding { IsHolding (links_of table.now) (way_of trail.new) rooms.new flags.new }
+    ensures same { rooms_with (links_of table.now) takes_back (way_of trail.new) rooms.new
+        ≡ rooms_with (links_of table.now) takes_back (way_of trail.old) rooms.old }
+    ensures valid { AreValid (links_of table.now) labels.new
+        (rooms_with (links_of table.now) takes_back (way_of trail.old) rooms.old) (slice_index labels.new trail.old.start) }
+    ensures under_way { IsUnderWay (links_of table.now) labels.new
+        (rooms_with (links_of table.now) takes_back (way_of trail.old) rooms.old) current.new (way_of trail.new) }
+    ensures start { trail.new.start ≡ trail.old.start }
+    ensures goal { trail.new.goal ≡ trail.old.goal }
+    ensures queue_room { vec_capacity queue.new ≡ vec_capacity queue.old }
+    ensures slots_room { vec_capacity trail.new.slots ≡ vec_capacity trail.old.slots }
+    ensures found { result ≡ true → end_of (links_of table.now) trail.new.start (places_of (walked_slots (way_of trail.new))) ≡ trail.new.joint }
+    ensures none { result ≡ false → IsUnlabelled (links_of table.now)
+        (rooms_with (links_of table.now) takes_back (way_of trail.old) rooms.old) trail.old.start trail.old.goal }
+{
+    if walk(table, labels, takes_back, current, rooms, flags, trail) {
+        return true;
+    }
+    settle(table, takes_back, rooms, flags, trail);
+    if relabel(table, rooms, flags, labels, current, queue, trail) {
+        return walk(table, labels, takes_back, current, rooms, flags, trail);
+    }
+    false
+}
+
+/// Labels the nodes anew, where nothing is held, and begins again. Whether the start has a label.
+fn relabel(
+    table: &LinkTable,
+    rooms: &[u64],
+    flags: &[u8],
+    labels: &mut [u32],
+    current: &mut [u32],
+    queue: &mut Vec<u32>,
+    trail: &mut Trail,
+) -> bool
+    requires links { AreLinks (links_of table.now) }
+    requires rooms { AreRooms (links_of table.now) rooms.now }
+    requires flags { AreFlags (links_of table.now) rooms.now flags.now }
+    requires one_label_each { length labels.old ≡ table.now.nodes + 1 }
+    requires one_current_each { length current.old ≡ table.now.nodes + 1 }
+    requires start { IsNode table.now.nodes trail.old.start }
+    requires goal { IsNode table.now.nodes trail.old.goal }
+    requires apart { trail.old.start ≢ trail.old.goal }
+    requires queue_room { table.now.nodes + 1 ≤ vec_capacity queue.old }
+    requires slots_room { table.now.nodes ≤ vec_capacity trail.old.slots }
+    ensures start_label { slice_index labels.new trail.old.start ≤ table.now.nodes }
+    ensures valid { AreValid (links_of table.now) labels.new rooms.now (slice_index labels.new trail.old.start) }
+    ensures way { way_of trail.new ≡ with_slots (way_of trail.old) trail.new.slots.items }
+    ensures under_way { IsUnderWay (links_of table.now) labels.new rooms.now current.new (with_slots (way_of trail.old) trail.new.slots.items) }
+    ensures queue_room { vec_capacity queue.new ≡ vec_capacity queue.old }
+    ensures slots_room { vec_capacity trail.new.slots ≡ vec_capacity trail.old.slots }
+    ensures labelled { result ≡ true → (ps : List ℕ) × IsWalk (links_of table.now) labels.new rooms.now trail.old.goal trail.old.start ps }
+    ensures none { result ≡ false → IsUnlabelled (links_of table.now) rooms.now trail.old.start trail.old.goal }
+{
+    let start = trail.start as usize;
+    label_nodes(table, flags, trail.goal, trail.start, labels, queue);
+    current.copy_from_slice(&table.first[..current.len()]);
+    if labels[start] == NO_LABEL {
+        // A label that nothing falls to ends the next walk at once.
+        labels[start] = 0;
+        free_slots(trail, 0);
+        return false;
+    }
+    free_slots(trail, labels[start]);
+    true
+}
