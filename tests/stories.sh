@@ -7,10 +7,6 @@ printf '#!/bin/sh\nexec python3 "%s/tests/oracle" "$@"\n' "$PWD" >"$work/oracle"
 chmod +x "$work/oracle"
 
 for page in examples/*/README.md docs/TUTORIAL.md; do
-    if grep -q '^    shut ' "$page" && ! ./dmf session --help | grep -q '^  shut '; then
-        echo "skipped: the program does not know shut, so $page was not tried"
-        continue
-    fi
     run_script "$page" tests/examples.py "$page"
     run_script "$page, on the second implementation" tests/examples.py --program "$work/oracle" "$page"
 done

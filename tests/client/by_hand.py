@@ -3,7 +3,7 @@
 import tempfile
 import unittest
 
-from shared import KNOWS_HISTORY, KNOWS_SHUT, PIPES, dmf, ends, pipes
+from shared import PIPES, dmf, ends, pipes
 
 LARGEST = 2**64 - 1
 
@@ -115,7 +115,6 @@ class Worked(unittest.TestCase):
         with dmf.Network([("a", "b", LARGEST)], "a", "b") as network:
             self.assertEqual(network.solve().value, LARGEST)
 
-    @unittest.skipUnless(KNOWS_SHUT, "the program does not know the command shut")
     def test_shut(self):
         with pipes() as network:
             first = network.solve()
@@ -126,7 +125,6 @@ class Worked(unittest.TestCase):
             self.assertEqual((network.shut("town"), flows(network.flow())), (2, [2, 2]))
             self.assertRaises(dmf.NoSuchNode, network.shut, "Mill")
 
-    @unittest.skipUnless(KNOWS_HISTORY, "the program does not know the option --history")
     def test_history(self):
         with pipes(history=1) as network:
             network.cap(("lake", "mill"), 4)

@@ -3,7 +3,7 @@
 import unittest
 from random import Random
 
-from shared import KNOWS_SHUT, PIPES, dmf
+from shared import PIPES, dmf
 from oracle.network import is_greatest, smallest_side
 from oracle.problem import problem_text
 from oracle.session import Session
@@ -38,8 +38,7 @@ class RandomSessions(unittest.TestCase):
 
     def step(self, model, network, random):
         """One random command to both. They agree, also where it is refused."""
-        words = ["solve", "cap", "cap", "close", "add", "undo", "undo", "redo", "redo"]
-        word = random.choice([*words, "shut"] if KNOWS_SHUT else words)
+        word = random.choice(["solve", "cap", "cap", "close", "add", "shut", "undo", "undo", "redo", "redo"])
         arc, count = random.randint(1, max(1, len(network._arcs))), random.choice([0, 1, 1, 2, 3])
         tail, head, node = (random.randint(1, model.present().nodes) for _ in range(3))
         amount = random.choice([0, 1, 2, 5, 9, 2**63])

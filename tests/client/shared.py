@@ -21,17 +21,3 @@ def pipes(**options):
 
 def ends(arcs):
     return [(arc.tail, arc.head) for arc in arcs]
-
-
-def can(use, **options):
-    """Whether the program knows what a use of a network needs."""
-    try:
-        with pipes(**options) as network:
-            use(network)
-    except (dmf.UnknownCommand, dmf.SessionEnded):
-        return False
-    return True
-
-
-KNOWS_SHUT = can(lambda network: network.shut("mill"))
-KNOWS_HISTORY = can(lambda network: network.undo(0), history=1)
