@@ -189,7 +189,7 @@ fn solve_edit(alloc: Global, state: &State, solved: Solved) -> Result<Edit, Plan
 {
     let before = state.flows();
     let Solved { search, .. } = solved;
-    let after = into_flows(alloc, before, search)?;
+    let after = into_flows(alloc, state, search)?;
     let moves = list_differences(alloc, before, &after)?;
     Ok(Edit::Solve { moves })
 }

@@ -1,31 +1,48 @@
 //! The flows that a search for augmenting paths has reached, and the moves that lead to them.
 ghost use Rattle.std.specs.Prelude.{◌≡◌, ◌^◌, ◌≤◌, length, IfOk};
-ghost use Rattle.dmf_net.specs.declared.moves.FlowLink.TheVariants.{Against};
 ghost use Rattle.dmf_net.specs.Edit.{differences};
-ghost use Rattle.dmf_net.specs.Pairs.{flows_read};
+ghost use Rattle.dmf_net.specs.Flow.{AreWithinCapacities};
+ghost use Rattle.dmf_net.specs.Pairs.{flow_left, reached_flows, residual_search};
 
+use crate::arc::Arc;
 use crate::edit::Move;
+use crate::state::State;
 use dmf_path::Search;
 use std::alloc::{AllocError, Global};
 
-/// The flows that a search has reached from those before. The search is let go, and with it most of what a solve takes.
-pub fn into_flows(alloc: Global, before: &[u64], search: Search) -> Result<Vec<u64>, AllocError>
-    requires { length before.now ≤ length search.pairs }
-    ensures { IfOk result (λ flows. flows.items ≡ flows_read Against before.now search.pairs) }
+/// The flows that a search for augmenting paths has reached from those of the state. The search is let go, and with it most
+/// of what a solve takes.
+pub fn into_flows(alloc: Global, state: &State, search: Search) -> Result<Vec<u64>, AllocError>
+    requires search { search ≡ residual_search state.now.network (reached_flows state.now search) }
+    requires within { AreWithinCapacities state.now.network.arcs (reached_flows state.now search) }
+    ensures { IfOk result (λ flows. flows.items ≡ reached_flows state.now search) }
 {
-    reached_flows(alloc, before, &search)
+    read_flows(alloc, state, &search)
 }
 
-/// The flows that a search has reached from those before.
-fn reached_flows(alloc: Global, before: &[u64], search: &Search) -> Result<Vec<u64>, AllocError>
-    requires { length before.now ≤ length search.now.pairs }
-    ensures { IfOk result (λ flows. flows.items ≡ flows_read Against before.now search.now.pairs) }
+/// The flows that a search has reached: on an arc flows its capacity less the room that is left along it.
+fn read_flows(alloc: Global, state: &State, search: &Search) -> Result<Vec<u64>, AllocError>
+    requires search { search.now ≡ residual_search state.now.network (reached_flows state.now search.now) }
+    requires within { AreWithinCapacities state.now.network.arcs (reached_flows state.now search.now) }
+    ensures { IfOk result (λ flows. flows.items ≡ reached_flows state.now search.now) }
 {
+    let arcs = state.arcs();
+    let before = state.flows();
     let mut flows = Vec::with_capacity(alloc, before.len())?;
     for (i, &first) in before.iter().enumerate() {
-        flows.push(search.against(i).unwrap_or(first))?;
+        flows.push(flow_left(arcs[i], first, search.along(i)))?;
     }
     Ok(flows)
+}
+
+/// What flows on an arc with this room along its pair; where it has no pair, what flowed at first.
+fn flow_left(arc: Arc, first: u64, along: Option<u64>) -> u64
+    ensures { result ≡ flow_left arc first along }
+{
+    match along {
+        Some(room) => arc.cap.saturating_sub(room),
+        None => first,
+    }
 }
 
 /// The moves of the arcs whose flow differs, in the order of their numbers.

@@ -1,4 +1,4 @@
-use Rattle.std.proofs.Common.{◌≡◌, ◌∙◌, ap, arith, refl, subst, sym}
+use Rattle.std.proofs.Common.{◌≡◌, ◌∙◌, arith, refl, subst, sym}
 use Rattle.std.proofs.lemmas.Slice.Zip.{AllZip-long}
 use Rattle.dmf_net.specs.NetworkState.{IsState, with_flows}
 use Rattle.dmf_net.specs.Cut.{HasCutOf}
@@ -14,17 +14,18 @@ use Rattle.dmf_net.proofs.SolvingSearch.{solved-long}
 use Rattle.dmf_net.proofs.plan.solve_edit.Goals as goal
 use Rattle.dmf_net.proofs.plan.solve_edit.Goals.{In_ok-moves}
 
-pub into_flows-requires : goal.into_flows-requires
-into_flows-requires c =
-    let long = solved-long c.args.state.now c.args.solved.search c.args.solved.value c.flows-before.ensures.state c.requires in
-    rw c.flows-before.ensures.value (omega (arith, long))
+pub into_flows-requires-clause-search : goal.into_flows-requires-clause-search
+into_flows-requires-clause-search c = c.requires.search_is
+
+pub into_flows-requires-clause-within : goal.into_flows-requires-clause-within
+into_flows-requires-clause-within c = c.requires.state.flow.within
 
 pub list_differences-requires-clause-one_each : goal.list_differences-requires-clause-one_each
 list_differences-requires-clause-one_each c =
     let long = solved-long c.args.state.now c.args.solved.search c.args.solved.value c.flows-before.ensures.state c.requires in
     let read = length-flows_read Against c.args.state.now.flows c.args.solved.search.pairs (omega (arith, long)) in
     let after : c.deref.result.now ≡ flows_read Against c.args.state.now.flows c.args.solved.search.pairs =
-    c.deref.ensures.value ∙ c.in_ok-after.ensures ∙ ap (λ flows. flows_read Against flows c.args.solved.search.pairs) c.flows-before.ensures.value in
+    c.deref.ensures.value ∙ c.in_ok-after.ensures in
     rw (after, c.flows-before.ensures.value) read
 
 pub list_differences-requires-clause-at_most_arcs : goal.list_differences-requires-clause-at_most_arcs
@@ -36,7 +37,7 @@ list_differences-requires-clause-at_most_arcs c =
 between : (c : In_ok-moves) → AreMovesBetween c.in_ok-moves.moves.items c.args.state.now.flows (reached_flows c.args.state.now c.args.solved.search)
 between c =
     let after : c.deref.result.now ≡ reached_flows c.args.state.now c.args.solved.search =
-    c.deref.ensures.value ∙ c.in_ok-after.ensures ∙ ap (λ flows. flows_read Against flows c.args.solved.search.pairs) c.flows-before.ensures.value in
+    c.deref.ensures.value ∙ c.in_ok-after.ensures in
     moves-between _ _ _ (flows-long c.args.state.now _ c.flows-before.ensures.state c.requires.state)
     (rw (after, c.flows-before.ensures.value) at c.in_ok-moves.ensures)
 
