@@ -135,23 +135,17 @@ fn capacities_are_changed_and_arcs_closed(rt: HostRuntime) -> Result<(), Fail> {
 #[test]
 fn a_node_is_shut_by_one_change(rt: HostRuntime) -> Result<(), Fail> {
     let mut session = example(rt.alloc())?;
-    let table = [
-        (Command::Solve, Ok(None)),
-        (Command::Shut { node: 3 }, Ok(Some(2))),
+    let answers = [
+        (Command::Solve, Ok(Reply::Solution(None))),
+        (Command::Shut { node: 3 }, Ok(Reply::Value(2))),
         (Command::Shut { node: 0 }, Err(Refusal::NoSuchNode)),
         (Command::Shut { node: 5 }, Err(Refusal::NoSuchNode)),
-        (Command::Shut { node: 3 }, Ok(Some(2))),
+        (Command::Shut { node: 3 }, Ok(Reply::Value(2))),
         (Command::Close { arc: 5 }, Err(Refusal::Closed)),
-        (Command::Undo(2), Ok(Some(5))),
-        (Command::Redo(1), Ok(Some(2))),
+        (Command::Undo(2), Ok(Reply::Value(5))),
+        (Command::Redo(1), Ok(Reply::Value(2))),
     ];
-    for (command, value) in table {
-        assert_eq!(rt;
-            value_of(answer(&rt, rt.alloc(), &mut session, command)),
-            value,
-            "{command:?}"
-        );
-    }
+    expect(&rt, rt.alloc(), &mut session, &answers);
     assert_eq!(rt; (session.past(), session.future()), (2, 1));
     assert_eq!(rt; session.present().open_count(), 2);
     Ok(())
