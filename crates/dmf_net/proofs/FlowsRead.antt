@@ -1,5 +1,5 @@
 -- The flows that are read off a search.
-use Rattle.std.proofs.Common.{ℕ, ◌≡◌, ◌≤◌, ◌<◌, List, [], ◌∷◌, length, get_or, zero, suc, refl, ap, arith, Option, Bool, true, false, ◌==◌, ◌||◌}
+use Rattle.std.proofs.Common.{ℕ, ◌≡◌, ◌≤◌, ◌<◌, List, [], ◌∷◌, length, get_or, zero, suc, refl, ap, arith, Option, Bool, true, false, ◌==◌}
 use Rattle.std.specs.Option.{option_map}
 use Rattle.dmf_path.specs.declared.pair.Pair.{Pair}
 use Rattle.dmf_path.specs.Search.{pair_number, along_at}
@@ -24,7 +24,7 @@ get_or-flows_read link (first ∷ firsts) (pair ∷ pairs) zero long h = refl
 get_or-flows_read link (first ∷ firsts) (pair ∷ pairs) (suc k) long h = get_or-flows_read link firsts pairs k (omega (arith, long)) (omega (arith, h))
 
 -- On an arc flows its capacity less the room along its pair.
-left-here : (arc : Arc) (first flow : ℕ) (skipped : Bool) → (arc.tail == arc.head || arc.cap == 0) ≡ skipped → flow ≤ arc.cap
+left-here : (arc : Arc) (first flow : ℕ) (loop : Bool) → (arc.tail == arc.head) ≡ loop → flow ≤ arc.cap
     → flow_left arc first (option_map (λ (p : Pair). p.along) (residual_pair arc flow)) ≡ flow_read Against first (residual_pair arc flow)
 left-here arc first flow true e within = rw e refl
 left-here arc first flow false e within = rw e (omega (arith, within))
@@ -34,5 +34,5 @@ pub left-along : (arcs : List Arc) (firsts flows : List ℕ) (k : ℕ) → AreWi
 left-along [] firsts flows k within long h = absurd (omega (arith, long, h))
 left-along (arc ∷ arcs) [] flows k within long h = absurd (omega (arith, h))
 left-along (arc ∷ arcs) (first ∷ firsts) [] k within long h = absurd within
-left-along (arc ∷ arcs) (first ∷ firsts) (flow ∷ flows) zero within long h = left-here arc first flow (arc.tail == arc.head || arc.cap == 0) refl within.0
+left-along (arc ∷ arcs) (first ∷ firsts) (flow ∷ flows) zero within long h = left-here arc first flow (arc.tail == arc.head) refl within.0
 left-along (arc ∷ arcs) (first ∷ firsts) (flow ∷ flows) (suc k) within long h = left-along arcs firsts flows k within.1 (omega (arith, long)) (omega (arith, h))

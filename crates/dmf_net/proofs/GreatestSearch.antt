@@ -33,7 +33,7 @@ pub found-answers : (s : NetworkState) (limit : ℕ) (found : Option ℕ) (old n
 found-answers s limit None old new answer state is told e =
     let yes = yes-of answer e in
     let n = s.network in
-    let without = residual-without_loops n.arcs s.flows state.flow.within in
+    let without = residual-without_loops n.arcs s.flows in
     let left = subst (λ (o : Searched). HasNoPath (steps_of o.pairs) o.start o.goal) is told.0 in
     let greatest = greatest-from_no_path n s.flows state.network state.flow (no_path-without_loops (residual_steps n.arcs s.flows) (steps_of (residual_pairs n.arcs s.flows)) n.source n.sink without left) in
     record {
@@ -43,7 +43,7 @@ found-answers s limit None old new answer state is told e =
 found-answers s limit (Some amount) old new answer state is told e =
     let no = no-of answer e in
     let n = s.network in
-    let without = residual-without_loops n.arcs s.flows state.flow.within in
+    let without = residual-without_loops n.arcs s.flows in
     let push = subst (λ o. Augments limit amount o new) is told in
     let least = least-without_loops (residual_steps n.arcs s.flows) (steps_of (residual_pairs n.arcs s.flows)) n.source n.sink push.path without push.least in
     let larger = surpassed n s.flows push.path state.network state.flow least in

@@ -1,9 +1,10 @@
 -- The pairs of links that stand for residual steps: their steps are those, but for loops, and pushing along a path of them is
 -- augmenting.
-use Rattle.std.proofs.Common.{ℕ, ◌≡◌, ◌≢◌, ◌+◌, ◌-◌, ◌*◌, ◌<◌, ◌≤◌, ◌==◌, ◌||◌, ◌⊎◌, Bool, true, false, cond, ltb, List, [], ◌∷◌, ◌++◌, length, get_or, suc, refl, ap, sym, ◌∙◌, subst, arith, ⊎_elim, Option, Some}
+use Rattle.std.proofs.Common.{ℕ, ◌≡◌, ◌≢◌, ◌+◌, ◌-◌, ◌*◌, ◌<◌, ◌≤◌, ◌==◌, ◌⊎◌, Bool, true, false, cond, ltb, List, [], ◌∷◌, ◌++◌, length, get_or, suc, refl, ap, sym, ◌∙◌, subst, arith, ⊎_elim, Option, Some}
 use Rattle.std.specs.List.{Contains}
-use Rattle.std.proofs.lemmas.Bool.{cases_eq, ne_eqb, ltb-true}
+use Rattle.std.proofs.lemmas.Bool.{cases_eq, ne_eqb}
 use Rattle.std.proofs.lemmas.Bool.Decides.{nat_tests}
+use Rattle.std.proofs.lemmas.Map.Views.{exact_unsigned_eq}
 use Rattle.std.proofs.lemmas.List.Elements.{Contains-append_cases, Contains-append_left, Contains-append_right}
 use Rattle.dmf_path.specs.declared.pair.Pair.{Pair}
 use Rattle.dmf_path.specs.Step.{Step}
@@ -22,40 +23,29 @@ use Rattle.dmf_net.proofs.ResidualSteps.{along, against, in-optional, residual-c
 ltb-room : (flow cap : ℕ) → ltb 0 (cap - flow) ≡ ltb flow cap
 ltb-room flow cap = grind (arith, nat_tests)
 
--- whether an arc has no pair
-abbrev pub is_skipped : Arc → Bool
-is_skipped arc = arc.tail == arc.head || arc.cap == 0
+-- whether an arc comes back to its tail, and so has no pair
+abbrev pub is_loop : Arc → Bool
+is_loop arc = arc.tail == arc.head
 
 -- A step of an arc's pair is a residual step of the arc.
-pair-within : (j : ℕ) (arc : Arc) (flow : ℕ) (s : Step) (skipped : Bool) → is_skipped arc ≡ skipped → Contains (pair_steps j (residual_pair arc flow)) s → Contains (forward j arc flow ++ backward j arc flow) s
+pair-within : (j : ℕ) (arc : Arc) (flow : ℕ) (s : Step) (loop : Bool) → is_loop arc ≡ loop → Contains (pair_steps j (residual_pair arc flow)) s → Contains (forward j arc flow ++ backward j arc flow) s
 pair-within j arc flow s true e c = let none = rw e at c in absurd (omega (arith, none.1))
 pair-within j arc flow s false e c = let own = rw (e, ltb-room flow arc.cap) at c in own
 
--- why an arc has none
-skipped-why : (arc : Arc) → is_skipped arc ≡ true → (arc.tail ≡ arc.head) ⊎ (arc.cap ≡ 0)
-skipped-why arc e = grind (arith, nat_tests)
-
 -- A residual step of an arc is one of its pair, unless it comes back to where it leaves.
-pair-others : (j : ℕ) (arc : Arc) (flow : ℕ) (s : Step) (skipped : Bool) → is_skipped arc ≡ skipped → flow ≤ arc.cap → s.from ≢ s.to → Contains (forward j arc flow ++ backward j arc flow) s → Contains (pair_steps j (residual_pair arc flow)) s
-pair-others j arc flow s false e within apart c = rw (e, ltb-room flow arc.cap) c
-pair-others j arc flow s true e within apart c =
+pair-others : (j : ℕ) (arc : Arc) (flow : ℕ) (s : Step) (loop : Bool) → is_loop arc ≡ loop → s.from ≢ s.to → Contains (forward j arc flow ++ backward j arc flow) s → Contains (pair_steps j (residual_pair arc flow)) s
+pair-others j arc flow s false e apart c = rw (e, ltb-room flow arc.cap) c
+pair-others j arc flow s true e apart c =
+    let loop : arc.tail ≡ arc.head = exact_unsigned_eq arc.tail arc.head e in
     ⊎_elim
     (λ (ahead : Contains (forward j arc flow) s).
     let step : Step = record { from = arc.tail; to = arc.head; rank = 2 * j; room = arc.cap - flow } in
     let told = in-optional (ltb flow arc.cap) step s ahead in
-    let more : flow < arc.cap = ltb-true flow arc.cap told.0 in
-    ⊎_elim
-    (λ (loop : arc.tail ≡ arc.head). absurd (apart (ap (λ (t : Step). t.from) (sym told.1) ∙ loop ∙ ap (λ (t : Step). t.to) told.1)))
-    (λ (none : arc.cap ≡ 0). absurd (omega (arith, more, none)))
-    (skipped-why arc e))
+    absurd (apart (ap (λ (t : Step). t.from) (sym told.1) ∙ loop ∙ ap (λ (t : Step). t.to) told.1)))
     (λ (behind : Contains (backward j arc flow) s).
     let step : Step = record { from = arc.head; to = arc.tail; rank = 2 * j + 1; room = flow } in
     let told = in-optional (ltb 0 flow) step s behind in
-    let some : 0 < flow = ltb-true 0 flow told.0 in
-    ⊎_elim
-    (λ (loop : arc.tail ≡ arc.head). absurd (apart (ap (λ (t : Step). t.from) (sym told.1) ∙ sym loop ∙ ap (λ (t : Step). t.to) told.1)))
-    (λ (none : arc.cap ≡ 0). absurd (omega (arith, some, none, within)))
-    (skipped-why arc e))
+    absurd (apart (ap (λ (t : Step). t.from) (sym told.1) ∙ sym loop ∙ ap (λ (t : Step). t.to) told.1)))
     (Contains-append_cases (forward j arc flow) (backward j arc flow) s c)
 
 -- The steps of the pairs are residual steps,
@@ -64,24 +54,24 @@ within-from j [] flows s c = c
 within-from j (arc ∷ arcs) [] s c = c
 within-from j (arc ∷ arcs) (flow ∷ flows) s c =
     ⊎_elim
-    (λ (own : Contains (pair_steps j (residual_pair arc flow)) s). Contains-append_left (forward j arc flow ++ backward j arc flow) (residual_from (j + 1) arcs flows) s (pair-within j arc flow s (is_skipped arc) refl own))
+    (λ (own : Contains (pair_steps j (residual_pair arc flow)) s). Contains-append_left (forward j arc flow ++ backward j arc flow) (residual_from (j + 1) arcs flows) s (pair-within j arc flow s (is_loop arc) refl own))
     (λ (later : Contains (steps_from (j + 1) (residual_pairs arcs flows)) s). Contains-append_right (forward j arc flow ++ backward j arc flow) (residual_from (j + 1) arcs flows) s (within-from (j + 1) arcs flows s later))
     (Contains-append_cases (pair_steps j (residual_pair arc flow)) (steps_from (j + 1) (residual_pairs arcs flows)) s c)
 
 -- and all of them that do not come back.
-others-from : (j : ℕ) (arcs : List Arc) (flows : List ℕ) (s : Step) → AreWithinCapacities arcs flows → s.from ≢ s.to → Contains (residual_from j arcs flows) s → Contains (steps_from j (residual_pairs arcs flows)) s
-others-from j [] flows s within apart c = c
-others-from j (arc ∷ arcs) [] s within apart c = c
-others-from j (arc ∷ arcs) (flow ∷ flows) s within apart c =
+others-from : (j : ℕ) (arcs : List Arc) (flows : List ℕ) (s : Step) → s.from ≢ s.to → Contains (residual_from j arcs flows) s → Contains (steps_from j (residual_pairs arcs flows)) s
+others-from j [] flows s apart c = c
+others-from j (arc ∷ arcs) [] s apart c = c
+others-from j (arc ∷ arcs) (flow ∷ flows) s apart c =
     ⊎_elim
-    (λ (own : Contains (forward j arc flow ++ backward j arc flow) s). Contains-append_left (pair_steps j (residual_pair arc flow)) (steps_from (j + 1) (residual_pairs arcs flows)) s (pair-others j arc flow s (is_skipped arc) refl within.0 apart own))
-    (λ (later : Contains (residual_from (j + 1) arcs flows) s). Contains-append_right (pair_steps j (residual_pair arc flow)) (steps_from (j + 1) (residual_pairs arcs flows)) s (others-from (j + 1) arcs flows s within.1 apart later))
+    (λ (own : Contains (forward j arc flow ++ backward j arc flow) s). Contains-append_left (pair_steps j (residual_pair arc flow)) (steps_from (j + 1) (residual_pairs arcs flows)) s (pair-others j arc flow s (is_loop arc) refl apart own))
+    (λ (later : Contains (residual_from (j + 1) arcs flows) s). Contains-append_right (pair_steps j (residual_pair arc flow)) (steps_from (j + 1) (residual_pairs arcs flows)) s (others-from (j + 1) arcs flows s apart later))
     (Contains-append_cases (forward j arc flow ++ backward j arc flow) (residual_from (j + 1) arcs flows) s c)
 
-pub residual-without_loops : (arcs : List Arc) (flows : List ℕ) → AreWithinCapacities arcs flows → AreWithoutLoops (residual_steps arcs flows) (steps_of (residual_pairs arcs flows))
-residual-without_loops arcs flows within = record {
+pub residual-without_loops : (arcs : List Arc) (flows : List ℕ) → AreWithoutLoops (residual_steps arcs flows) (steps_of (residual_pairs arcs flows))
+residual-without_loops arcs flows = record {
   within = λ s c. within-from 1 arcs flows s c;
-  others = λ s c apart. others-from 1 arcs flows s within apart c;
+  others = λ s c apart. others-from 1 arcs flows s apart c;
 }
 
 -- A step of the path that has this rank and so much room.
@@ -134,7 +124,7 @@ rooms-behind false true amount flow cap within up down = omega arith
 rooms-behind false false amount flow cap within up down = omega arith
 
 -- The pair of an augmented arc is the arc's pair, pushed.
-pair-augmented : (amount j : ℕ) (path : List Step) (arc : Arc) (flow : ℕ) (skipped ahead behind : Bool) → is_skipped arc ≡ skipped → has_rank path (2 * j) ≡ ahead → has_rank path (2 * j + 1) ≡ behind → flow ≤ arc.cap → (ahead ≡ true → amount + flow ≤ arc.cap) → (behind ≡ true → amount ≤ flow) →
+pair-augmented : (amount j : ℕ) (path : List Step) (arc : Arc) (flow : ℕ) (loop ahead behind : Bool) → is_loop arc ≡ loop → has_rank path (2 * j) ≡ ahead → has_rank path (2 * j + 1) ≡ behind → flow ≤ arc.cap → (ahead ≡ true → amount + flow ≤ arc.cap) → (behind ≡ true → amount ≤ flow) →
     residual_pair arc (flow + cond ahead amount 0 - cond behind amount 0) ≡ pushed_pair true j amount path (residual_pair arc flow)
 pair-augmented amount j path arc flow true ahead behind e a b within up down = rw e refl
 pair-augmented amount j path arc flow false ahead behind e a b within up down =
@@ -146,7 +136,7 @@ pairs-augmented amount j path [] [] within fit = refl
 pairs-augmented amount j path [] (flow ∷ flows) within fit = refl
 pairs-augmented amount j path (arc ∷ arcs) [] within fit = refl
 pairs-augmented amount j path (arc ∷ arcs) (flow ∷ flows) within fit =
-    let first = pair-augmented amount j path arc flow (is_skipped arc) (has_rank path (2 * j)) (has_rank path (2 * j + 1)) refl refl refl within.0 fit.0 fit.1 in
+    let first = pair-augmented amount j path arc flow (is_loop arc) (has_rank path (2 * j)) (has_rank path (2 * j + 1)) refl refl refl within.0 fit.0 fit.1 in
     let later = pairs-augmented amount (j + 1) path arcs flows within.1 fit.2 in
     λ i. first i ∷ later i
 

@@ -54,12 +54,11 @@ flow-within (arc ∷ arcs) (flow ∷ flows) zero within = within.0
 flow-within (arc ∷ arcs) (flow ∷ flows) (suc k) within = flow-within arcs flows k within.1
 
 -- The pair of an arc on which no more flows than can is one.
-pair-is : (nodes : ℕ) (arc : Arc) (flow : ℕ) (p : Pair) (loop idle : Bool) → IsArc nodes arc → flow ≤ arc.cap → arc.cap < 2 ^ 64 → (arc.tail == arc.head) ≡ loop → (arc.cap == 0) ≡ idle → residual_pair arc flow ≡ Some p → IsPair nodes p
-pair-is nodes arc flow p true idle is within small e f has = let none = rw e at has in absurd (cc)
-pair-is nodes arc flow p false true is within small e f has = let none = rw (e, f) at has in absurd (cc)
-pair-is nodes arc flow p false false is within small e f has =
+pair-is : (nodes : ℕ) (arc : Arc) (flow : ℕ) (p : Pair) (loop : Bool) → IsArc nodes arc → flow ≤ arc.cap → arc.cap < 2 ^ 64 → (arc.tail == arc.head) ≡ loop → residual_pair arc flow ≡ Some p → IsPair nodes p
+pair-is nodes arc flow p true is within small e has = let none = rw e at has in absurd (cc)
+pair-is nodes arc flow p false is within small e has =
     let made : Pair = record { tail = arc.tail; head = arc.head; along = arc.cap - flow; against = flow } in
-    let same : made ≡ p = let some = rw (e, f) at has in cc in
+    let same : made ≡ p = let some = rw e at has in cc in
     subst (IsPair nodes) same (record { tail = is.tail; head = is.head; no_loop = λ (loop : arc.tail ≡ arc.head). absurd (let tells : (arc.tail == arc.head) ≡ true = eq-eqb arc.tail arc.head loop in cc); fits = omega arith })
 
 -- The residual pairs of a state's flow are pairs.
@@ -73,18 +72,18 @@ ArePairs-residual s is = record {
       let flow : ℕ = get_or s.flows k 0 in
       let read = slice_get-residual_pairs arcs s.flows k long in
       let le = get_or-le-sum_by (λ (a : Arc). a.cap) arcs k no_arc within in
-      pair-is s.network.nodes arc flow p (arc.tail == arc.head) (arc.cap == 0)
+      pair-is s.network.nodes arc flow p (arc.tail == arc.head)
       (All-get_or (IsArc s.network.nodes) arcs k no_arc within is.network.arcs)
       (flow-within arcs s.flows k is.flow.within)
-      (omega (arith, le, is.network.capacities)) refl refl
+      (omega (arith, le, is.network.capacities)) refl
       (let same : residual_pair arc flow ≡ Some p = cc in same);
   at_most = omega (arith, length-residual_pairs s.network.arcs s.flows is.flow.within, is.network.at_most_arcs);
 }
 
 -- What the search reaches, residual steps reach.
-pub reached-residual : (n : Network) (flows : List ℕ) (search : Searched) (v : ℕ) → AreWithinCapacities n.arcs flows → search ≡ residual_search n flows → IsReachable (steps_of search.pairs) search.start v ↔ IsReachable (residual_steps n.arcs flows) n.source v
-reached-residual n flows search v within same =
-    let fewer = residual-without_loops n.arcs flows within in
+pub reached-residual : (n : Network) (flows : List ℕ) (search : Searched) (v : ℕ) → search ≡ residual_search n flows → IsReachable (steps_of search.pairs) search.start v ↔ IsReachable (residual_steps n.arcs flows) n.source v
+reached-residual n flows search v same =
+    let fewer = residual-without_loops n.arcs flows in
     rw same (
       reachable-within (residual_steps n.arcs flows) (steps_of (residual_pairs n.arcs flows)) n.source v fewer,
       reachable-without_loops (residual_steps n.arcs flows) (steps_of (residual_pairs n.arcs flows)) n.source v fewer,

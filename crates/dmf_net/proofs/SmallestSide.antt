@@ -50,13 +50,13 @@ IsSmallestSide-reached n flows ids capacity network flow none r increasing value
 }
 
 -- The side of the nodes that a search for augmenting paths reaches has those that residual paths reach.
-pub reached-by_search : (n : Network) (flows : List ℕ) (search : Searched) (capacity : ℕ) (side : CutSide) → IsFlow n flows → search ≡ residual_search n flows → IsReachedSide search capacity side → AreReached n flows (has_node side.ids)
-reached-by_search n flows search capacity side flow same is =
+pub reached-by_search : (n : Network) (flows : List ℕ) (search : Searched) (capacity : ℕ) (side : CutSide) → search ≡ residual_search n flows → IsReachedSide search capacity side → AreReached n flows (has_node side.ids)
+reached-by_search n flows search capacity side same is =
     let nodes : search.nodes ≡ n.nodes = ap (λ (o : Searched). o.nodes) same in
     record {
       of_nodes = λ v inside. subst (λ last. IsNode last v) nodes ((is.nodes v).0 inside).0;
-      reached = λ v inside. (reached-residual n flows search v flow.within same).0 ((is.nodes v).0 inside).1;
-      every = λ v node path leads. (is.nodes v).1 (subst (λ last. IsNode last v) (sym nodes) node, (reached-residual n flows search v flow.within same).1 (path, leads));
+      reached = λ v inside. (reached-residual n flows search v same).0 ((is.nodes v).0 inside).1;
+      every = λ v node path leads. (is.nodes v).1 (subst (λ last. IsNode last v) (sym nodes) node, (reached-residual n flows search v same).1 (path, leads));
     }
 
 -- Where it has not the sink, no path leads there.
@@ -66,7 +66,7 @@ no_path-by_search n flows has network r out path leads = both_ways (has n.sink) 
 -- It is the smallest side then.
 pub IsSmallestSide-by_search : (n : Network) (flows : List ℕ) (search : Searched) (capacity : ℕ) (side : CutSide) → IsNetwork n → IsFlow n flows → HasNoPath (residual_steps n.arcs flows) n.source n.sink → search ≡ residual_search n flows → pos capacity ≡ flow_value n flows → IsReachedSide search capacity side → IsSmallestSide n side
 IsSmallestSide-by_search n flows search capacity side network flow none same value is =
-    IsSmallestSide-reached n flows side.ids side.capacity network flow none (reached-by_search n flows search capacity side flow same is) is.ascending (ap pos is.capacity_is ∙ value)
+    IsSmallestSide-reached n flows side.ids side.capacity network flow none (reached-by_search n flows search capacity side same is) is.ascending (ap pos is.capacity_is ∙ value)
 
 -- A network has one smallest side.
 pub one-smallest_side : HasOneSmallestSide

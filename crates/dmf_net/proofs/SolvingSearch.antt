@@ -24,18 +24,18 @@ use Rattle.dmf_net.specs.Pairs.{residual_pair, residual_pairs, residual_search, 
 use Rattle.dmf_net.specs.declared.moves.FlowLink.TheVariants.{Against}
 use Rattle.dmf_net.proofs.Augmenting.{augmented-value, value-le-capacities}
 use Rattle.dmf_net.proofs.AugmentedPushed.{get_or-augmented_from}
-use Rattle.dmf_net.proofs.ResidualPairs.{is_skipped, residual-without_loops, step-of_least, residual_pairs-augmented}
+use Rattle.dmf_net.proofs.ResidualPairs.{is_loop, residual-without_loops, step-of_least, residual_pairs-augmented}
 use Rattle.dmf_net.proofs.ResidualSearch.{length-residual_pairs, flow-within}
 use Rattle.dmf_net.proofs.ResidualSteps.{IsResidual, along, against, in-optional, residual-contained}
 use Rattle.dmf_net.proofs.RoomLeaving.{room_leaving, room_leaving-falls}
 use Rattle.dmf_net.proofs.Solving.{IsReached, reached-more}
 
 -- an arc with a pair leads to another node
-pair-no_loop : (arc : Arc) → is_skipped arc ≡ false → arc.tail ≢ arc.head
+pair-no_loop : (arc : Arc) → is_loop arc ≡ false → arc.tail ≢ arc.head
 pair-no_loop arc e same = grind (arith, nat_tests)
 
 -- A step of an arc's pair leads to another node,
-apart-pair : (j : ℕ) (arc : Arc) (flow : ℕ) (s : Step) (skipped : Bool) → is_skipped arc ≡ skipped → Contains (pair_steps j (residual_pair arc flow)) s → s.from ≢ s.to
+apart-pair : (j : ℕ) (arc : Arc) (flow : ℕ) (s : Step) (loop : Bool) → is_loop arc ≡ loop → Contains (pair_steps j (residual_pair arc flow)) s → s.from ≢ s.to
 apart-pair j arc flow s true e c = let none = rw e at c in absurd (omega (arith, none.1))
 apart-pair j arc flow s false e c =
     let first : Step = record { from = arc.tail; to = arc.head; rank = 2 * j; room = arc.cap - flow } in
@@ -57,7 +57,7 @@ apart-from j [] flows s c = absurd (omega (arith, c.1))
 apart-from j (arc ∷ arcs) [] s c = absurd (omega (arith, c.1))
 apart-from j (arc ∷ arcs) (flow ∷ flows) s c =
     ⊎_elim
-    (apart-pair j arc flow s (is_skipped arc) refl)
+    (apart-pair j arc flow s (is_loop arc) refl)
     (apart-from (j + 1) arcs flows s)
     (Contains-append_cases (pair_steps j (residual_pair arc flow)) (steps_from (j + 1) (residual_pairs arcs flows)) s c)
 
@@ -71,11 +71,11 @@ ends-same arcs flows k s loop from to (against i is room some) =
     is.head ∙ ap (λ n. (get_or arcs n no_arc).head) place ∙ sym loop ∙ sym (ap (λ n. (get_or arcs n no_arc).tail) place) ∙ sym is.tail
 
 -- A path of the pairs has no step of an arc that comes back.
-loop-unranked : (arcs : List Arc) (flows : List ℕ) (a b k rank : ℕ) (path : List Step) (has : Bool) → AreWithinCapacities arcs flows → IsPath (steps_of (residual_pairs arcs flows)) a b path → (get_or arcs k no_arc).tail ≡ (get_or arcs k no_arc).head → 2 * (1 + k) ≤ rank → rank ≤ 2 * (1 + k) + 1 → has_rank path rank ≡ has → has_rank path rank ≡ false
-loop-unranked arcs flows a b k rank path false within leads loop from to e = e
-loop-unranked arcs flows a b k rank path true within leads loop from to e =
+loop-unranked : (arcs : List Arc) (flows : List ℕ) (a b k rank : ℕ) (path : List Step) (has : Bool) → IsPath (steps_of (residual_pairs arcs flows)) a b path → (get_or arcs k no_arc).tail ≡ (get_or arcs k no_arc).head → 2 * (1 + k) ≤ rank → rank ≤ 2 * (1 + k) + 1 → has_rank path rank ≡ has → has_rank path rank ≡ false
+loop-unranked arcs flows a b k rank path false leads loop from to e = e
+loop-unranked arcs flows a b k rank path true leads loop from to e =
     let step = step-of_least (steps_of (residual_pairs arcs flows)) a b rank path leads e in
-    let listed = (residual-without_loops arcs flows within).within step.step step.listed in
+    let listed = (residual-without_loops arcs flows).within step.step step.listed in
     absurd (apart-from 1 arcs flows step.step step.listed
     (ends-same arcs flows k step.step loop (omega (arith, step.rank_is)) (omega (arith, step.rank_is)) (residual-contained 1 arcs flows step.step listed)))
 
@@ -88,8 +88,8 @@ AreKept arcs firsts flows =
 kept-augmented : (arcs : List Arc) (firsts flows : List ℕ) (a b : ℕ) (path : List Step) → AreWithinCapacities arcs flows → IsPath (steps_of (residual_pairs arcs flows)) a b path → AreKept arcs firsts flows → AreKept arcs firsts (augmented path flows)
 kept-augmented arcs firsts flows a b path within leads kept k h loop =
     let long = AllZip-long _ arcs flows within in
-    let forth = loop-unranked arcs flows a b k (2 * (1 + k)) path (has_rank path (2 * (1 + k))) within leads loop (omega arith) (omega arith) refl in
-    let back = loop-unranked arcs flows a b k (2 * (1 + k) + 1) path (has_rank path (2 * (1 + k) + 1)) within leads loop (omega arith) (omega arith) refl in
+    let forth = loop-unranked arcs flows a b k (2 * (1 + k)) path (has_rank path (2 * (1 + k))) leads loop (omega arith) (omega arith) refl in
+    let back = loop-unranked arcs flows a b k (2 * (1 + k) + 1) path (has_rank path (2 * (1 + k) + 1)) leads loop (omega arith) (omega arith) refl in
     let same : get_or flows k 0 + 0 - 0 ≡ get_or flows k 0 = omega arith in
     get_or-augmented_from 1 (bottleneck path) path flows k (omega (arith, h, long)) ∙ rw (forth, back) same ∙ kept k h loop
 
@@ -135,7 +135,7 @@ solving-more s limit amount value old new all is augments =
     let state = is.reached.state in
     let push = subst (λ o. Augments limit amount o new) is.search_is augments in
     let path = push.path in
-    let least = least-without_loops (residual_steps n.arcs is.flows) (steps_of (residual_pairs n.arcs is.flows)) n.source n.sink path (residual-without_loops n.arcs is.flows state.flow.within) push.least in
+    let least = least-without_loops (residual_steps n.arcs is.flows) (steps_of (residual_pairs n.arcs is.flows)) n.source n.sink path (residual-without_loops n.arcs is.flows) push.least in
     let same = push.amount_is ∙ bottleneck_up_to-least n is.flows limit path all state.network state.flow least.leads in
     let pairs =
     ap (λ m. pushed_pairs true m path (residual_pairs n.arcs is.flows)) same
@@ -159,10 +159,9 @@ solving-more s limit amount value old new all is augments =
     }
 
 -- The flow that is read off an arc: the room against its pair, and where it has none, what flowed at first.
-read-flow : (arc : Arc) (first flow : ℕ) (loop idle : Bool) → (arc.tail == arc.head) ≡ loop → (arc.cap == 0) ≡ idle → first ≤ arc.cap → flow ≤ arc.cap → (arc.tail ≡ arc.head → flow ≡ first) → flow_read Against first (residual_pair arc flow) ≡ flow
-read-flow arc first flow true idle e f below within kept = rw e (sym (kept (exact_unsigned_eq arc.tail arc.head e)))
-read-flow arc first flow false true e f below within kept = rw (e, f) (let none : arc.cap ≡ 0 = exact_unsigned_eq arc.cap 0 f in omega arith)
-read-flow arc first flow false false e f below within kept = rw (e, f) refl
+read-flow : (arc : Arc) (first flow : ℕ) (loop : Bool) → (arc.tail == arc.head) ≡ loop → (arc.tail ≡ arc.head → flow ≡ first) → flow_read Against first (residual_pair arc flow) ≡ flow
+read-flow arc first flow true e kept = rw e (sym (kept (exact_unsigned_eq arc.tail arc.head e)))
+read-flow arc first flow false e kept = rw e refl
 
 -- So the flows are read off the pairs.
 read-flows : (arcs : List Arc) (firsts flows : List ℕ) → AreWithinCapacities arcs firsts → AreWithinCapacities arcs flows → AreKept arcs firsts flows → flows_read Against firsts (residual_pairs arcs flows) ≡ flows
@@ -172,7 +171,7 @@ read-flows [] (first ∷ firsts) flows below within kept = absurd below
 read-flows (arc ∷ arcs) [] flows below within kept = absurd below
 read-flows (arc ∷ arcs) (first ∷ firsts) [] below within kept = absurd within
 read-flows (arc ∷ arcs) (first ∷ firsts) (flow ∷ flows) below within kept =
-    let here = read-flow arc first flow (arc.tail == arc.head) (arc.cap == 0) refl refl below.0 within.0 (λ loop. kept 0 (omega arith) loop) in
+    let here = read-flow arc first flow (arc.tail == arc.head) refl (λ loop. kept 0 (omega arith) loop) in
     let later = read-flows arcs firsts flows below.1 within.1 (λ k h loop. kept (suc k) (omega (arith, h)) loop) in
     λ i. here i ∷ later i
 
@@ -182,7 +181,7 @@ solving-done s value old new state is none same =
     let n = s.network in
     let search : new ≡ residual_search n is.flows = same ∙ is.search_is in
     let left = subst (λ (o : Searched). HasNoPath (steps_of o.pairs) o.start o.goal) is.search_is none in
-    let no_path = no_path-without_loops (residual_steps n.arcs is.flows) (steps_of (residual_pairs n.arcs is.flows)) n.source n.sink (residual-without_loops n.arcs is.flows is.reached.state.flow.within) left in
+    let no_path = no_path-without_loops (residual_steps n.arcs is.flows) (steps_of (residual_pairs n.arcs is.flows)) n.source n.sink (residual-without_loops n.arcs is.flows) left in
     let read : is.flows ≡ reached_flows s new = sym (ap (reached_flows s) search ∙ read-flows n.arcs s.flows is.flows state.flow.within is.reached.state.flow.within is.kept) in
     let solves : Solves n s.flows is.flows = record { paths = is.reached.paths; augments = is.reached.augments; no_path = no_path } in
     record {

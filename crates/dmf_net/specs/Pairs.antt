@@ -21,10 +21,10 @@ use Rattle.dmf_net.specs.Side.{CutSide, has_node}
 use Rattle.dmf_net.specs.Drain.{value_or_zero}
 
 -- The pair of an arc for its residual steps: along it what more can flow, and against it what flows. An arc that comes back
--- to its tail has none, nor has one on which nothing may flow.
+-- to its tail has none; one on which nothing may flow has a pair without room.
 abbrev pub residual_pair : Arc → ℕ → Option Pair
 residual_pair arc flow =
-    if arc.tail == arc.head || arc.cap == 0 then None
+    if arc.tail == arc.head then None
     else Some (record { tail = arc.tail; head = arc.head; along = arc.cap - flow; against = flow })
 
 -- the pairs of the arcs, in order

@@ -10,7 +10,7 @@ use crate::state::State;
 use dmf_path::{Pair, Pairs};
 
 /// The pairs of links that stand for the residual steps of the flow that an edit makes of a state's: one for each arc, but
-/// for those that come back to their tails and those on which nothing may flow.
+/// for those that come back to their tails.
 #[derive(Clone, Copy)]
 pub struct EditedPairs<'a> {
     pub state: &'a State,

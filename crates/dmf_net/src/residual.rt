@@ -24,7 +24,7 @@ pub fn residual_search(alloc: Global, state: &State) -> Result<Search, AllocErro
 }
 
 /// The pairs of links that stand for the residual steps of a state's flow: one for each arc, but for those that come back
-/// to their tails and those on which nothing may flow.
+/// to their tails.
 #[derive(Clone, Copy)]
 struct ResidualPairs<'a> {
     state: &'a State,
@@ -48,7 +48,7 @@ impl Pairs for ResidualPairs<'_> {
 pub fn residual_pair(arc: Arc, flow: u64) -> Option<Pair>
     ensures { result ≡ residual_pair arc flow }
 {
-    if arc.tail == arc.head || arc.cap == 0 {
+    if arc.tail == arc.head {
         return None;
     }
     Some(Pair {

@@ -15,7 +15,7 @@ returns-then-contains-clause-fault c same =
     let state = c.requires.applied in
     let sink = c.sink.ensures.value ∙ sym (sink-after c.args.edit.now c.args.state.now) in
     let inside = ap (has_node c.in_ok-side.side.ids) (sym sink) ∙ sym c.contains.ensures ∙ c.if-contains.true in
-    let reached = reached-by_search n flows c.in_ok-edited.edited.search c.in_ok-edited.edited.value c.in_ok-side.side state.flow c.in_ok-edited.ensures.search c.in_ok-side.ensures in
+    let reached = reached-by_search n flows c.in_ok-edited.edited.search c.in_ok-edited.edited.value c.in_ok-side.side c.in_ok-edited.ensures.search c.in_ok-side.ensures in
     let path = reached.reached n.sink inside in
     surpassed-from_path n flows path.0 state.network state.flow path.1
 
@@ -27,7 +27,7 @@ returns-clause-side c =
     let state = c.requires.applied in
     let sink = c.sink.ensures.value ∙ sym (sink-after c.args.edit.now c.args.state.now) in
     let outside = ap (has_node c.in_ok-side.side.ids) (sym sink) ∙ sym c.contains.ensures ∙ c.if-contains.false in
-    let reached = reached-by_search n flows c.in_ok-edited.edited.search c.in_ok-edited.edited.value c.in_ok-side.side state.flow c.in_ok-edited.ensures.search c.in_ok-side.ensures in
+    let reached = reached-by_search n flows c.in_ok-edited.edited.search c.in_ok-edited.edited.value c.in_ok-side.side c.in_ok-edited.ensures.search c.in_ok-side.ensures in
     let none = no_path-by_search n flows (has_node c.in_ok-side.side.ids) state.network reached outside in
     IsSmallestSide-by_search n flows c.in_ok-edited.edited.search c.in_ok-edited.edited.value c.in_ok-side.side state.network state.flow none c.in_ok-edited.ensures.search c.in_ok-edited.ensures.value c.in_ok-side.ensures
 
@@ -39,5 +39,5 @@ returns-clause-greatest c =
     let state = c.requires.applied in
     let sink = c.sink.ensures.value ∙ sym (sink-after c.args.edit.now c.args.state.now) in
     let outside = ap (has_node c.in_ok-side.side.ids) (sym sink) ∙ sym c.contains.ensures ∙ c.if-contains.false in
-    let reached = reached-by_search n flows c.in_ok-edited.edited.search c.in_ok-edited.edited.value c.in_ok-side.side state.flow c.in_ok-edited.ensures.search c.in_ok-side.ensures in
+    let reached = reached-by_search n flows c.in_ok-edited.edited.search c.in_ok-edited.edited.value c.in_ok-side.side c.in_ok-edited.ensures.search c.in_ok-side.ensures in
     greatest-from_no_path n flows state.network state.flow (no_path-by_search n flows (has_node c.in_ok-side.side.ids) state.network reached outside)
