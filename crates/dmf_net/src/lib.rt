@@ -20,13 +20,9 @@ pub use solve::is_greatest;
 pub use state::State;
 pub use watch::{Unwatched, Watch};
 
-#[cfg(test)]
-mod agreement;
 mod arc;
 mod carrying_pairs;
 mod drain;
-#[cfg(test)]
-mod drain_tests;
 mod edit;
 mod edited;
 mod edited_pairs;
@@ -38,18 +34,10 @@ mod moves;
 mod plan;
 mod residual;
 mod revert;
-#[cfg(test)]
-mod revert_tests;
-#[cfg(test)]
-mod scanning;
 mod shut;
-#[cfg(test)]
-mod shut_tests;
 mod side;
 mod side_ids;
 mod solve;
 mod solved_moves;
 mod state;
-#[cfg(test)]
-mod tests;
 mod watch;

@@ -1,12 +1,11 @@
 //! Tests that an edit which is taken back leaves the state that was there.
-ghost use Rattle.std.specs.Prelude.{◌≡◌, IfOk};
-ghost use Rattle.dmf_net.specs.Edit.{applied, Fits};
+ghost use Rattle.std.specs.Prelude.{IfOk};
+ghost use Rattle.dmf_net.specs.Edit.{Fits};
 
-use crate::agreement::{Draws, network, random_network};
-use crate::fault::PlanFault;
-use crate::{
-    Edit, State, plan_add, plan_cap, plan_close, plan_shut, plan_solve, reverting_gives_back,
-};
+use crate::edits::{apply, revert};
+use crate::networks::example;
+use crate::random::{Draws, random_network};
+use dmf_net::{Edit, PlanFault, State, plan_add, plan_cap, plan_close, plan_shut, plan_solve};
 use std::alloc::Global;
 use std::process::Abort;
 use std::test::Fail;
@@ -16,36 +15,10 @@ const NETWORKS: u32 = 300;
 
 const EDITS: u32 = 10;
 
-/// Applies the edit. What is given is a copy of the state before it.
-pub fn apply(alloc: Global, state: &mut State, edit: &Edit) -> Result<State, Fail>
-    requires { Fits edit.now state.old }
-    ensures before { IfOk result (λ before. before ≡ state.old) }
-    ensures after { IfOk result (λ before. state.new ≡ applied edit.now before) }
-{
-    let before = state.copy(alloc)?;
-    state.apply(edit)?;
-    Ok(before)
-}
-
-/// Takes the edit back, and compares what is left with the state before it.
-pub fn revert(rt: &impl Abort, state: &mut State, edit: &Edit, before: &State)
-    requires fits { Fits edit.now before.now }
-    requires stands { state.old ≡ applied edit.now before.now }
-    ensures { state.new ≡ before.now }
-{
-    reverting_gives_back();
-    let value = before.value();
-    state.revert(edit);
-    assert!(rt; *state == *before);
-    assert_eq!(rt; state.value(), value);
-    assert_eq!(rt; state.open_count(), before.open_count());
-}
-
 #[test]
 fn edits_are_taken_back_in_the_opposite_order(rt: HostRuntime) -> Result<(), Fail> {
     let alloc = rt.alloc();
-    let a = [(1, 2, 3), (1, 3, 2), (2, 3, 5), (2, 4, 2), (3, 4, 3)];
-    let mut state = network(alloc, 4, 1, 4, &a)?;
+    let mut state = example(alloc)?;
     let solve = plan_solve(alloc, &state)?;
     let read = apply(alloc, &mut state, &solve)?;
     let close = plan_close(alloc, &state, 1)?;

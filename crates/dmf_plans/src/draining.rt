@@ -1,16 +1,8 @@
 //! Tests of draining.
-use crate::{Arc, Edit, Move, NetFault, PlanFault, State, plan_cap, plan_close};
-use std::alloc::{AllocError, Global};
+use crate::edits::listed;
+use dmf_net::{Arc, Edit, NetFault, PlanFault, State, plan_cap, plan_close};
+use std::alloc::Global;
 use std::test::Fail;
-
-/// Moves, each given by the number of its arc and the flow before and after.
-pub fn listed(alloc: Global, moves: &[(u32, u64, u64)]) -> Result<Vec<Move>, AllocError> {
-    let mut listed = Vec::new(alloc);
-    for &(arc, from, to) in moves {
-        listed.push(Move { arc, from, to })?;
-    }
-    Ok(listed)
-}
 
 #[test]
 fn a_self_loop_is_drained(rt: HostRuntime) -> Result<(), Fail> {

@@ -1,42 +1,16 @@
 //! Tests of shutting nodes.
-use crate::agreement::network;
-use crate::revert_tests::{apply, revert};
-use crate::{
-    Edit, Move, PlanFault, Shutting, State, plan_close, plan_shut, plan_solve, side_after,
-};
-use std::alloc::Global;
+use crate::edits::{apply, revert, shut_edit};
+use crate::networks::{network, solved_example};
+use dmf_net::{PlanFault, plan_close, plan_shut, side_after};
 use std::test::Fail;
-
-/// The edit that closes these arcs, each given by its number and its old capacity, and makes these moves, each given by the
-/// number of its arc and the flow before and after.
-fn shutting(alloc: Global, closed: &[(u32, u64)], moved: &[(u32, u64, u64)]) -> Result<Edit, Fail> {
-    let mut arcs = Vec::new(alloc);
-    for &(arc, old) in closed {
-        arcs.push(Shutting { arc, old })?;
-    }
-    let mut moves = Vec::new(alloc);
-    for &(arc, from, to) in moved {
-        moves.push(Move { arc, from, to })?;
-    }
-    Ok(Edit::Shut { arcs, moves })
-}
-
-/// The network of four nodes and five arcs that the documentation uses, solved.
-fn solved(alloc: Global) -> Result<State, Fail> {
-    let arcs = [(1, 2, 3), (1, 3, 2), (2, 3, 5), (2, 4, 2), (3, 4, 3)];
-    let mut state = network(alloc, 4, 1, 4, &arcs)?;
-    let solve = plan_solve(alloc, &state)?;
-    state.apply(&solve)?;
-    Ok(state)
-}
 
 #[test]
 fn a_node_is_shut_and_opened_again(rt: HostRuntime) -> Result<(), Fail> {
     let alloc = rt.alloc();
-    let mut state = solved(alloc)?;
+    let mut state = solved_example(alloc)?;
     let edit = plan_shut(alloc, &state, 3)?;
     let moves = [(1, 3, 2), (2, 2, 0), (3, 1, 0), (5, 3, 0)];
-    assert_eq!(rt; edit, shutting(alloc, &[(2, 2), (3, 5), (5, 3)], &moves)?);
+    assert_eq!(rt; edit, shut_edit(alloc, &[(2, 2), (3, 5), (5, 3)], &moves)?);
     let side = side_after(alloc, &state, &edit)?;
     assert!(rt; side.ids().eq([1, 2].iter().copied()));
     assert_eq!(rt; side.capacity(), 2);
@@ -54,14 +28,14 @@ fn a_node_is_shut_and_opened_again(rt: HostRuntime) -> Result<(), Fail> {
 fn the_source_and_the_sink_are_shut(rt: HostRuntime) -> Result<(), Fail> {
     let alloc = rt.alloc();
     let moves = [(1, 3, 0), (2, 2, 0), (3, 1, 0), (4, 2, 0), (5, 3, 0)];
-    let mut state = solved(alloc)?;
+    let mut state = solved_example(alloc)?;
     let edit = plan_shut(alloc, &state, 1)?;
-    assert_eq!(rt; edit, shutting(alloc, &[(1, 3), (2, 2)], &moves)?);
+    assert_eq!(rt; edit, shut_edit(alloc, &[(1, 3), (2, 2)], &moves)?);
     let before = apply(alloc, &mut state, &edit)?;
     assert_eq!(rt; (state.value(), state.open_count()), (0, 3));
     revert(&rt, &mut state, &edit, &before);
     let edit = plan_shut(alloc, &state, 4)?;
-    assert_eq!(rt; edit, shutting(alloc, &[(4, 2), (5, 3)], &moves)?);
+    assert_eq!(rt; edit, shut_edit(alloc, &[(4, 2), (5, 3)], &moves)?);
     state.apply(&edit)?;
     assert_eq!(rt; (state.value(), state.open_count()), (0, 3));
     Ok(())
@@ -71,10 +45,10 @@ fn the_source_and_the_sink_are_shut(rt: HostRuntime) -> Result<(), Fail> {
 fn a_node_without_open_arcs_is_shut(rt: HostRuntime) -> Result<(), Fail> {
     let alloc = rt.alloc();
     let mut state = network(alloc, 4, 1, 4, &[(1, 2, 3), (2, 2, 1), (1, 4, 1)])?;
-    let nothing = shutting(alloc, &[], &[])?;
+    let nothing = shut_edit(alloc, &[], &[])?;
     assert_eq!(rt; plan_shut(alloc, &state, 3)?, nothing);
     let edit = plan_shut(alloc, &state, 2)?;
-    assert_eq!(rt; edit, shutting(alloc, &[(1, 3), (2, 1)], &[])?);
+    assert_eq!(rt; edit, shut_edit(alloc, &[(1, 3), (2, 1)], &[])?);
     state.apply(&edit)?;
     let again = plan_shut(alloc, &state, 2)?;
     assert_eq!(rt; again, nothing);
@@ -102,7 +76,7 @@ fn a_node_with_parallel_arcs_and_a_self_loop_is_shut(rt: HostRuntime) -> Result<
     let edit = plan_shut(alloc, &state, 2)?;
     let closed = [(1, 4), (2, 9), (3, 7), (4, 9)];
     let moves = [(1, 4, 0), (2, 5, 0), (3, 2, 0), (4, 6, 0)];
-    assert_eq!(rt; edit, shutting(alloc, &closed, &moves)?);
+    assert_eq!(rt; edit, shut_edit(alloc, &closed, &moves)?);
     let before = apply(alloc, &mut state, &edit)?;
     assert!(rt; state.flows() == [0, 0, 0, 0, 1, 1].as_slice());
     revert(&rt, &mut state, &edit, &before);
@@ -113,7 +87,7 @@ fn a_node_with_parallel_arcs_and_a_self_loop_is_shut(rt: HostRuntime) -> Result<
 #[test]
 fn only_nodes_are_shut(rt: HostRuntime) -> Result<(), Fail> {
     let alloc = rt.alloc();
-    let state = solved(alloc)?;
+    let state = solved_example(alloc)?;
     for node in [0, 5, (1 << 32) + 1, u64::MAX] {
         assert_eq!(rt; plan_shut(alloc, &state, node), Err(PlanFault::NoSuchNode));
     }

@@ -1,6 +1,6 @@
 //! Solving and draining by their rules alone, as a second computation that tests compare with: for each path all steps are
 //! listed anew, and the path is looked for in rounds over all of them.
-use crate::{Arc, Move, Shutting, State};
+use dmf_net::{Arc, Move, Shutting, State};
 use std::alloc::Global;
 use std::test::Fail;
 

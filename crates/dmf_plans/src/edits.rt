@@ -1,0 +1,56 @@
+//! Edits that tests expect, and what tests do with edits.
+ghost use Rattle.std.specs.Prelude.{◌≡◌, IfOk};
+ghost use Rattle.dmf_net.specs.Edit.{applied, Fits};
+
+use dmf_net::{Edit, Move, Shutting, State, reverting_gives_back};
+use std::alloc::{AllocError, Global};
+use std::process::Abort;
+use std::test::Fail;
+
+/// Moves, each given by the number of its arc and the flow before and after.
+pub fn listed(alloc: Global, moves: &[(u32, u64, u64)]) -> Result<Vec<Move>, AllocError> {
+    let mut listed = Vec::new(alloc);
+    for &(arc, from, to) in moves {
+        listed.push(Move { arc, from, to })?;
+    }
+    Ok(listed)
+}
+
+/// The edit that closes these arcs, each given by its number and its old capacity, and makes these moves.
+pub fn shut_edit(
+    alloc: Global,
+    closed: &[(u32, u64)],
+    moves: &[(u32, u64, u64)],
+) -> Result<Edit, AllocError> {
+    let mut arcs = Vec::new(alloc);
+    for &(arc, old) in closed {
+        arcs.push(Shutting { arc, old })?;
+    }
+    let moves = listed(alloc, moves)?;
+    Ok(Edit::Shut { arcs, moves })
+}
+
+/// Applies the edit. What is given is a copy of the state before it.
+pub fn apply(alloc: Global, state: &mut State, edit: &Edit) -> Result<State, Fail>
+    requires { Fits edit.now state.old }
+    ensures before { IfOk result (λ before. before ≡ state.old) }
+    ensures after { IfOk result (λ before. state.new ≡ applied edit.now before) }
+{
+    let before = state.copy(alloc)?;
+    state.apply(edit)?;
+    Ok(before)
+}
+
+/// Takes the edit back, and compares what is left with the state before it.
+pub fn revert(rt: &impl Abort, state: &mut State, edit: &Edit, before: &State)
+    requires fits { Fits edit.now before.now }
+    requires stands { state.old ≡ applied edit.now before.now }
+    ensures { state.new ≡ before.now }
+{
+    reverting_gives_back();
+    let value = before.value();
+    state.revert(edit);
+    assert!(rt; *state == *before);
+    assert_eq!(rt; state.value(), value);
+    assert_eq!(rt; state.open_count(), before.open_count());
+}
