@@ -8,7 +8,8 @@ use Rattle.dmf_net.specs.declared.moves.FlowLink.TheVariants.{Against}
 use Rattle.dmf_net.specs.declared.arc.Arc.{Arc}
 use Rattle.dmf_net.specs.Arc.{no_arc}
 use Rattle.dmf_net.specs.Flow.{AreWithinCapacities}
-use Rattle.dmf_net.specs.Pairs.{flow_read, flows_read, flow_left, residual_pair, residual_pairs}
+use Rattle.dmf_net.specs.ResidualNetwork.{residual_pair, residual_pairs}
+use Rattle.dmf_net.specs.Pairs.{flow_read, flows_read, flow_left}
 
 -- There is one for each flow before,
 pub length-flows_read : (link : FlowLink) (firsts : List ℕ) (pairs : List (Option Pair)) → length firsts ≤ length pairs → length (flows_read link firsts pairs) ≡ length firsts

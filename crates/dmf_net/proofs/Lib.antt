@@ -39,6 +39,7 @@ pub mod RoomLeaving
 pub mod FlowsRead
 pub mod FlowFaults
 pub mod SolvingSearch
+pub mod SolvedEdit
 pub mod LoweredValue
 pub mod CarryingPairs
 pub mod LoweredPairs

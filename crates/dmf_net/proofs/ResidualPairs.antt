@@ -14,7 +14,7 @@ use Rattle.dmf_path.proofs.Loops.{AreWithoutLoops}
 use Rattle.dmf_net.specs.declared.arc.Arc.{Arc}
 use Rattle.dmf_net.specs.Flow.{AreWithinCapacities}
 use Rattle.dmf_net.specs.Residual.{forward, backward, residual_from, residual_steps, augmented_from, augmented}
-use Rattle.dmf_net.specs.Pairs.{residual_pair, residual_pairs}
+use Rattle.dmf_net.specs.ResidualNetwork.{residual_pair, residual_pairs}
 use Rattle.dmf_net.specs.Arc.{no_arc}
 use Rattle.dmf_net.proofs.Augmenting.{bottleneck_up_to-le}
 use Rattle.dmf_net.proofs.ResidualSteps.{along, against, in-optional, residual-contained}

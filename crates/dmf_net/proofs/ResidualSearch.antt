@@ -15,7 +15,7 @@ use Rattle.dmf_net.specs.Flow.{AreWithinCapacities}
 use Rattle.dmf_net.specs.Network.{Network}
 use Rattle.dmf_net.specs.NetworkState.{NetworkState, IsState}
 use Rattle.dmf_net.specs.Residual.{residual_steps}
-use Rattle.dmf_net.specs.Pairs.{residual_pair, residual_pairs, residual_search}
+use Rattle.dmf_net.specs.ResidualNetwork.{residual_pair, residual_pairs, residual_search}
 use Rattle.dmf_net.proofs.ResidualPairs.{residual-without_loops}
 
 -- there are as many as arcs

@@ -11,7 +11,7 @@ use Rattle.dmf_net.specs.declared.arc.Arc.{Arc}
 use Rattle.dmf_net.specs.Flow.{AreWithinCapacities, outflow, inflow}
 use Rattle.dmf_net.specs.NetworkState.{NetworkState, IsState, with_flows}
 use Rattle.dmf_net.specs.Residual.{residual_steps, augmented}
-use Rattle.dmf_net.specs.Pairs.{residual_pair, residual_pairs}
+use Rattle.dmf_net.specs.ResidualNetwork.{residual_pair, residual_pairs}
 use Rattle.dmf_net.proofs.Augmenting.{room-positive, augmented-value}
 
 -- the rooms of the links of a pair that leave node `v`

@@ -10,7 +10,8 @@ use Rattle.dmf_net.specs.Flow.{IsFlow, flow_value}
 use Rattle.dmf_net.specs.Cut.{cut_capacity, IsMinimumCut, IsInEveryMinimumCut}
 use Rattle.dmf_net.specs.Side.{CutSide, has_node, IsSmallestSide}
 use Rattle.dmf_path.specs.Search.{Searched}
-use Rattle.dmf_net.specs.Pairs.{residual_search, IsReachedSide}
+use Rattle.dmf_net.specs.ResidualNetwork.{residual_search}
+use Rattle.dmf_net.specs.Pairs.{IsReachedSide}
 use Rattle.dmf_net.proofs.ResidualSearch.{reached-residual}
 use Rattle.dmf_path.specs.Path.{HasNoPath}
 use Rattle.dmf_net.specs.Residual.{residual_steps}

@@ -20,10 +20,12 @@ use Rattle.dmf_net.specs.Flow.{AreWithinCapacities, IsFlow, flow_value}
 use Rattle.dmf_net.specs.NetworkState.{NetworkState, IsState, with_flows}
 use Rattle.dmf_net.specs.Residual.{residual_steps, augmented}
 use Rattle.dmf_net.specs.Solve.{Solves}
-use Rattle.dmf_net.specs.Pairs.{residual_pair, residual_pairs, residual_search, flow_read, flows_read, reached_flows, IsSolved}
+use Rattle.dmf_net.specs.ResidualNetwork.{residual_pair, residual_pairs, residual_search}
+use Rattle.dmf_net.specs.Pairs.{flow_read, flows_read, reached_flows, IsSolved}
 use Rattle.dmf_net.specs.declared.moves.FlowLink.TheVariants.{Against}
 use Rattle.dmf_net.proofs.Augmenting.{augmented-value, value-le-capacities}
 use Rattle.dmf_net.proofs.AugmentedPushed.{get_or-augmented_from}
+use Rattle.dmf_net.proofs.FlowsRead.{length-flows_read}
 use Rattle.dmf_net.proofs.ResidualPairs.{is_loop, residual-without_loops, step-of_least, residual_pairs-augmented}
 use Rattle.dmf_net.proofs.ResidualSearch.{length-residual_pairs, flow-within}
 use Rattle.dmf_net.proofs.ResidualSteps.{IsResidual, along, against, in-optional, residual-contained}
@@ -191,9 +193,15 @@ solving-done s value old new state is none same =
       value_is = subst (λ flows. pos value ≡ flow_value n flows) read is.value_is;
     }
 
--- There is a pair, or the place of one, for each flow.
-pub solved-long : (s : NetworkState) (search : Searched) (value : ℕ) → IsState s → IsSolved s search value → length search.pairs ≡ length s.flows
-solved-long s search value state is =
-    ap (λ (o : Searched). length o.pairs) is.search_is
-    ∙ length-residual_pairs s.network.arcs (reached_flows s search) is.state.flow.within
+-- There is a pair, or the place of one, for each flow,
+pub pairs-long : (s : NetworkState) (search : Searched) → IsState s → search ≡ residual_search s.network (reached_flows s search) → AreWithinCapacities s.network.arcs (reached_flows s search) → length search.pairs ≡ length s.flows
+pairs-long s search state is within =
+    ap (λ (o : Searched). length o.pairs) is
+    ∙ length-residual_pairs s.network.arcs (reached_flows s search) within
     ∙ sym (AllZip-long _ s.network.arcs s.flows state.flow.within)
+
+-- and a flow that is reached.
+pub reached-long : (s : NetworkState) (search : Searched) → IsState s → search ≡ residual_search s.network (reached_flows s search) → AreWithinCapacities s.network.arcs (reached_flows s search) → length (reached_flows s search) ≡ length s.flows
+reached-long s search state is within =
+    let long = pairs-long s search state is within in
+    length-flows_read Against s.flows search.pairs (omega (arith, long))

@@ -17,6 +17,7 @@ pub mod Equality
 pub mod Revert
 pub mod Direction
 pub mod Laws
+pub mod ResidualNetwork
 pub mod Pairs
 pub mod Moves
 pub mod Edited

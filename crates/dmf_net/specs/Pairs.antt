@@ -16,27 +16,10 @@ use Rattle.dmf_net.specs.declared.moves.FlowLink.TheVariants.{Along, Against}
 use Rattle.dmf_net.specs.Network.{Network}
 use Rattle.dmf_net.specs.Flow.{flow_value}
 use Rattle.dmf_net.specs.NetworkState.{NetworkState, IsState, with_flows}
+use Rattle.dmf_net.specs.ResidualNetwork.{residual_search}
 use Rattle.dmf_net.specs.Solve.{Solves}
 use Rattle.dmf_net.specs.Side.{CutSide, has_node}
 use Rattle.dmf_net.specs.Drain.{value_or_zero}
-
--- The pair of an arc for its residual steps: along it what more can flow, and against it what flows. An arc that comes back
--- to its tail has none; one on which nothing may flow has a pair without room.
-abbrev pub residual_pair : Arc → ℕ → Option Pair
-residual_pair arc flow =
-    if arc.tail == arc.head then None
-    else Some (record { tail = arc.tail; head = arc.head; along = arc.cap - flow; against = flow })
-
--- the pairs of the arcs, in order
-abbrev pub residual_pairs : List Arc → List ℕ → List (Option Pair)
-residual_pairs [] flows = []
-residual_pairs (arc ∷ arcs) [] = []
-residual_pairs (arc ∷ arcs) (flow ∷ flows) = residual_pair arc flow ∷ residual_pairs arcs flows
-
--- the search for augmenting paths: from the source to the sink, and what is pushed along an arc can be pushed back
-abbrev pub residual_search : Network → List ℕ → Searched
-residual_search n flows =
-    record { nodes = n.nodes; pairs = residual_pairs n.arcs flows; start = n.source; goal = n.sink; takes_back = true }
 
 -- The pair of an arc for its carrying step: along it what flows. An arc that comes back to its tail has none, nor has one
 -- on which nothing flowed at first.

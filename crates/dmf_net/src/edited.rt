@@ -2,7 +2,7 @@
 ghost use Rattle.std.specs.Prelude.{◌≡◌, IfOk, pos};
 ghost use Rattle.dmf_net.specs.Edit.{applied, moved, moves_of, Fits, MovesFit};
 ghost use Rattle.dmf_net.specs.Flow.{flow_value};
-ghost use Rattle.dmf_net.specs.Pairs.{residual_search};
+ghost use Rattle.dmf_net.specs.ResidualNetwork.{residual_search};
 
 use crate::edit::{Edit, Move};
 use crate::edited_pairs::EditedPairs;

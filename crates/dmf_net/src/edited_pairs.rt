@@ -21,7 +21,7 @@ pub struct EditedPairs<'a> {
 }
 
 impl Pairs for EditedPairs<'_> {
-    ghost use Rattle.dmf_net.specs.Pairs.{residual_pairs};
+    ghost use Rattle.dmf_net.specs.ResidualNetwork.{residual_pairs};
 
     ghost pairs = { λ p. residual_pairs (applied p.edit.now p.state.now).network.arcs p.flows.now };
 

@@ -14,6 +14,7 @@ pub use plan::{
     plan_add, plan_cap, plan_close, plan_shut, plan_solve, plan_solve_watched,
     plan_solve_with_side, plan_solve_with_side_watched,
 };
+pub use residual_network::ResidualNetwork;
 pub use side::{Side, side_after, smallest_side};
 pub use side_ids::SideIds;
 pub use solve::is_greatest;
@@ -33,6 +34,7 @@ mod limits;
 mod moves;
 mod plan;
 mod residual;
+mod residual_network;
 mod revert;
 mod shut;
 mod side;

@@ -14,6 +14,7 @@ ghost use Rattle.dmf_net.specs.Side.{IsSmallestSide};
 use crate::drain::drain;
 use crate::edit::Edit;
 use crate::fault::PlanFault;
+use crate::residual::residual_search;
 use crate::shut::{open_arcs_at, shutting_moves};
 use crate::side::{Side, solved_side};
 use crate::solve::{Solved, solve};
@@ -146,7 +147,7 @@ pub fn plan_solve_watched<W: Watch>(
     ensures refused { IsOkUnless result PlanFault.NoMemory }
     ensures edit { IfOk result (PlansSolve state.now) }
 {
-    let solved = solve(alloc, state, watch)?;
+    let solved = solve(residual_search(alloc, state)?, state, watch);
     solve_edit(alloc, state, solved)
 }
 
@@ -174,7 +175,7 @@ pub fn plan_solve_with_side_watched<W: Watch>(
     ensures side { IfOk result (λ planned. IsSmallestSide state.now.network planned.1) }
     ensures value { IfOk result (λ planned. pos planned.1.capacity ≡ flow_value state.now.network (applied planned.0 state.now).flows) }
 {
-    let solved = solve(alloc, state, watch)?;
+    let solved = solve(residual_search(alloc, state)?, state, watch);
     let side = solved_side(alloc, state, &solved)?;
     let edit = solve_edit(alloc, state, solved)?;
     Ok((edit, side))

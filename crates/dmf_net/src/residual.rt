@@ -1,6 +1,6 @@
 ghost use Rattle.std.specs.Prelude.{◌≡◌, IfOk};
 ghost use Rattle.dmf_net.specs.NetworkState.{IsState};
-ghost use Rattle.dmf_net.specs.Pairs.{residual_pair, residual_search};
+ghost use Rattle.dmf_net.specs.ResidualNetwork.{residual_pair, IsResidualOf};
 
 use crate::arc::Arc;
 use crate::state::State;
@@ -10,7 +10,7 @@ use std::alloc::{AllocError, Global};
 /// A search for augmenting paths of the state's flow, from the source to the sink. Takes memory for two links an arc and
 /// some numbers a node.
 pub fn residual_search(alloc: Global, state: &State) -> Result<Search, AllocError>
-    ensures search { IfOk result (λ search. search ≡ residual_search state.now.network state.now.flows) }
+    ensures search { IfOk result (IsResidualOf state.now) }
     ensures state { IsState state.now }
 {
     Search::new(
@@ -31,7 +31,7 @@ struct ResidualPairs<'a> {
 }
 
 impl Pairs for ResidualPairs<'_> {
-    ghost use Rattle.dmf_net.specs.Pairs.{residual_pairs};
+    ghost use Rattle.dmf_net.specs.ResidualNetwork.{residual_pairs};
 
     ghost pairs = { λ p. residual_pairs p.state.now.network.arcs p.state.now.flows };
 

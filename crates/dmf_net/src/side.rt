@@ -8,6 +8,7 @@ ghost use Rattle.dmf_net.specs.Greatest.{IsGreatest, IsSurpassed};
 ghost use Rattle.dmf_net.specs.Side.{has_node, IsSmallestSide};
 ghost use Rattle.dmf_net.specs.Pairs.{IsReachedSide, IsSolved};
 ghost use Rattle.dmf_net.specs.Edit.{applied, Fits};
+ghost use Rattle.dmf_net.specs.ResidualNetwork.{IsResidualOf};
 
 use crate::edit::Edit;
 use crate::edited::edited_search;
@@ -99,7 +100,18 @@ pub fn smallest_side(alloc: Global, state: &State) -> Result<Side, CutFault>
     ensures fault { IfErr result (λ fault. fault ≡ CutFault.NotGreatest → IsSurpassed state.now.network state.now.flows) }
 {
     let search = residual_search(alloc, state)?;
-    let side = reached_side(alloc, &search, state.value())?;
+    side_along(alloc, &search, state)
+}
+
+/// The same, along links that are there.
+pub fn side_along(alloc: Global, search: &Search, state: &State) -> Result<Side, CutFault>
+    requires { IsResidualOf state.now search.now }
+    ensures side { IfOk result (λ side. IsSmallestSide state.now.network side) }
+    ensures value { IfOk result (λ side. pos side.capacity ≡ flow_value state.now.network state.now.flows) }
+    ensures greatest { OnOk result (IsGreatest state.now.network state.now.flows) }
+    ensures fault { IfErr result (λ fault. fault ≡ CutFault.NotGreatest → IsSurpassed state.now.network state.now.flows) }
+{
+    let side = reached_side(alloc, search, state.value())?;
     if side.contains(state.sink()) {
         return Err(CutFault::NotGreatest);
     }

@@ -1,13 +1,15 @@
 ghost use Rattle.std.specs.Prelude.{◌≡◌, ◌↔◌, false, IfOk, IsTrue};
+ghost use Rattle.dmf_net.specs.NetworkState.{IsState};
 ghost use Rattle.dmf_net.specs.Greatest.{IsGreatest, IsSurpassed};
 ghost use Rattle.dmf_net.specs.Pairs.{IsSolved};
+ghost use Rattle.dmf_net.specs.ResidualNetwork.{IsResidualOf};
 
 use crate::fault::NoMemory;
 use crate::residual::residual_search;
 use crate::state::State;
 use crate::watch::Watch;
 use dmf_path::Search;
-use std::alloc::{AllocError, Global};
+use std::alloc::Global;
 
 /// A search for augmenting paths that has none left, and the value of the flow that it has reached.
 #[derive(Drop)]
@@ -17,16 +19,17 @@ pub struct Solved {
 }
 
 /// Augments along least paths, from the flow of the state on, until none is left; the watch is told of each.
-pub fn solve<W: Watch>(alloc: Global, state: &State, watch: &mut W) -> Result<Solved, AllocError>
-    ensures { IfOk result (λ solved. IsSolved state.now solved.search solved.value) }
+pub fn solve<W: Watch>(mut search: Search, state: &State, watch: &mut W) -> Solved
+    requires { IsResidualOf state.now search }
+    ensures solved { IsSolved state.now result.search result.value }
+    ensures state { IsState state.now }
 {
-    let mut search = residual_search(alloc, state)?;
     let mut value = state.value();
     while let Some(amount) = search.augment(u64::MAX) {
         value += amount;
         watch.augmented(value);
     }
-    Ok(Solved { search, value })
+    Solved { search, value }
 }
 
 /// Whether no flow of the state's network has a larger value than the state's flow. Takes memory for two links an arc and

@@ -1,8 +1,9 @@
 //! The flows that a search for augmenting paths has reached, and the moves that lead to them.
-ghost use Rattle.std.specs.Prelude.{◌≡◌, ◌^◌, ◌≤◌, length, IfOk};
+ghost use Rattle.std.specs.Prelude.{◌≡◌, ◌^◌, ◌≤◌, ◌<◌, length, slice_index, IfOk};
 ghost use Rattle.dmf_net.specs.Edit.{differences};
 ghost use Rattle.dmf_net.specs.Flow.{AreWithinCapacities};
-ghost use Rattle.dmf_net.specs.Pairs.{flow_left, reached_flows, residual_search};
+ghost use Rattle.dmf_net.specs.ResidualNetwork.{residual_search};
+ghost use Rattle.dmf_net.specs.Pairs.{flow_left, reached_flows};
 
 use crate::arc::Arc;
 use crate::edit::Move;
@@ -20,19 +21,28 @@ pub fn into_flows(alloc: Global, state: &State, search: Search) -> Result<Vec<u6
     read_flows(alloc, state, &search)
 }
 
-/// The flows that a search has reached: on an arc flows its capacity less the room that is left along it.
+/// The flows that a search for augmenting paths has reached.
 fn read_flows(alloc: Global, state: &State, search: &Search) -> Result<Vec<u64>, AllocError>
     requires search { search.now ≡ residual_search state.now.network (reached_flows state.now search.now) }
     requires within { AreWithinCapacities state.now.network.arcs (reached_flows state.now search.now) }
     ensures { IfOk result (λ flows. flows.items ≡ reached_flows state.now search.now) }
 {
-    let arcs = state.arcs();
-    let before = state.flows();
-    let mut flows = Vec::with_capacity(alloc, before.len())?;
-    for (i, &first) in before.iter().enumerate() {
-        flows.push(flow_left(arcs[i], first, search.along(i)))?;
+    let count = state.flows().len();
+    let mut flows = Vec::with_capacity(alloc, count)?;
+    for i in 0..count {
+        flows.push(flow_reached(state, search, i))?;
     }
     Ok(flows)
+}
+
+/// What flows on the arc at index `i`, as far as a search for augmenting paths has come.
+fn flow_reached(state: &State, search: &Search, i: usize) -> u64
+    requires search { search.now ≡ residual_search state.now.network (reached_flows state.now search.now) }
+    requires within { AreWithinCapacities state.now.network.arcs (reached_flows state.now search.now) }
+    requires arc { i < length state.now.flows }
+    ensures { result ≡ slice_index (reached_flows state.now search.now) i }
+{
+    flow_left(state.arcs()[i], state.flows()[i], search.along(i))
 }
 
 /// What flows on an arc with this room along its pair; where it has no pair, what flowed at first.
@@ -43,6 +53,24 @@ fn flow_left(arc: Arc, first: u64, along: Option<u64>) -> u64
         Some(room) => arc.cap.saturating_sub(room),
         None => first,
     }
+}
+
+/// The moves of the arcs on which a search for augmenting paths has reached another flow than that of the state, in the order
+/// of their numbers. Takes memory for them alone, beside the search.
+pub fn list_reached(alloc: Global, state: &State, search: &Search) -> Result<Vec<Move>, AllocError>
+    requires search { search.now ≡ residual_search state.now.network (reached_flows state.now search.now) }
+    requires within { AreWithinCapacities state.now.network.arcs (reached_flows state.now search.now) }
+    ensures { IfOk result (λ moves. moves.items ≡ differences 1 state.now.flows (reached_flows state.now search.now)) }
+{
+    let mut moves = Vec::new(alloc);
+    for (i, &from) in state.flows().iter().enumerate() {
+        let to = flow_reached(state, search, i);
+        if from != to {
+            let arc = i as u32 + 1;
+            moves.push(Move { arc, from, to })?;
+        }
+    }
+    Ok(moves)
 }
 
 /// The moves of the arcs whose flow differs, in the order of their numbers.

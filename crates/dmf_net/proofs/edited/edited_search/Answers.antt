@@ -2,7 +2,7 @@ use Rattle.std.proofs.Common.{List, ℕ, true, ap, sym, ◌∙◌, length, subst
 use Rattle.std.proofs.lemmas.Slice.Zip.{AllZip-long}
 use Rattle.dmf_path.specs.Pair.{ArePairs}
 use Rattle.dmf_net.specs.Edit.{applied}
-use Rattle.dmf_net.specs.Pairs.{residual_pairs}
+use Rattle.dmf_net.specs.ResidualNetwork.{residual_pairs}
 use Rattle.dmf_net.proofs.EditedState.{nodes-after, source-after, sink-after, increasing-fits}
 use Rattle.dmf_net.proofs.ResidualSearch.{ArePairs-residual}
 use Rattle.dmf_net.proofs.edited.edited_search.Goals as goal

@@ -4,5 +4,5 @@ use Rattle.dmf_net.proofs.plan.plan_solve_with_side_watched.Goals as goal
 
 pub returns-clause-value : goal.returns-clause-value
 returns-clause-value g c =
-    ap pos c.in_ok-side.ensures.value ∙ c.in_ok-solved.ensures.value_is
+    ap pos c.in_ok-side.ensures.value ∙ c.solve-solved.ensures.solved.value_is
     ∙ ap (flow_value c.args.state.now.network) (sym c.in_ok-edit.ensures.flows)

@@ -18,7 +18,7 @@ loop-amount-smaller g c = (next g c).falls
 pub loop-amount-preserved : goal.loop-amount-preserved
 loop-amount-preserved g c = (next g c).solving
 
-pub returns : goal.returns
-returns g c =
+pub returns-clause-solved : goal.returns-clause-solved
+returns-clause-solved g c =
     let none = c.in_default.ensures in
     solving-done c.args.state.now c.loop-amount.value c.loop-amount.search c.augment.new.self c.value-value.ensures.state c.loop-amount.invariant none.0 none.1

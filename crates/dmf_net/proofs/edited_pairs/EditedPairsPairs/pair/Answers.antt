@@ -2,7 +2,7 @@ use Rattle.std.proofs.Common.{◌≡◌, ap, sym, ◌∙◌, arith, get_or, Some
 use Rattle.dmf_net.specs.Arc.{no_arc}
 use Rattle.dmf_net.specs.Edit.{applied}
 use Rattle.dmf_net.specs.Edited.{arc_after}
-use Rattle.dmf_net.specs.Pairs.{residual_pair}
+use Rattle.dmf_net.specs.ResidualNetwork.{residual_pair}
 use Rattle.dmf_net.proofs.EditedState.{arc-after, arc-added, arcs-most}
 use Rattle.dmf_net.proofs.ClosedTogether.{increasing-tail}
 use Rattle.dmf_net.proofs.ResidualSearch.{slice_get-residual_pairs, index-within}

@@ -3,14 +3,14 @@ use Rattle.dmf_net.specs.Side.{has_node}
 use Rattle.dmf_net.proofs.LargerFlow.{surpassed-from_path}
 use Rattle.dmf_net.proofs.GreatestFlow.{greatest-from_no_path}
 use Rattle.dmf_net.proofs.SmallestSide.{reached-by_search, no_path-by_search, IsSmallestSide-by_search}
-use Rattle.dmf_net.proofs.side.smallest_side.Goals as goal
+use Rattle.dmf_net.proofs.side.side_along.Goals as goal
 
 pub returns-then-contains-clause-fault : goal.returns-then-contains-clause-fault
 returns-then-contains-clause-fault c same =
     let n = c.args.state.now.network in
     let state = c.sink.ensures.state in
     let inside = ap (has_node c.in_ok-side.side.ids) (sym c.sink.ensures.value) ∙ sym c.contains.ensures ∙ c.if-contains.true in
-    let reached = reached-by_search n c.args.state.now.flows c.in_ok-search.search c.value.result c.in_ok-side.side c.in_ok-search.ensures.search c.in_ok-side.ensures in
+    let reached = reached-by_search n c.args.state.now.flows c.args.search.now c.value.result c.in_ok-side.side c.requires c.in_ok-side.ensures in
     let path = reached.reached n.sink inside in
     surpassed-from_path n c.args.state.now.flows path.0 state.network state.flow path.1
 
@@ -20,9 +20,9 @@ returns-clause-side c =
     let flows = c.args.state.now.flows in
     let state = c.sink.ensures.state in
     let outside = ap (has_node c.in_ok-side.side.ids) (sym c.sink.ensures.value) ∙ sym c.contains.ensures ∙ c.if-contains.false in
-    let reached = reached-by_search n flows c.in_ok-search.search c.value.result c.in_ok-side.side c.in_ok-search.ensures.search c.in_ok-side.ensures in
+    let reached = reached-by_search n flows c.args.search.now c.value.result c.in_ok-side.side c.requires c.in_ok-side.ensures in
     let none = no_path-by_search n flows (has_node c.in_ok-side.side.ids) state.network reached outside in
-    IsSmallestSide-by_search n flows c.in_ok-search.search c.value.result c.in_ok-side.side state.network state.flow none c.in_ok-search.ensures.search c.value.ensures.value c.in_ok-side.ensures
+    IsSmallestSide-by_search n flows c.args.search.now c.value.result c.in_ok-side.side state.network state.flow none c.requires c.value.ensures.value c.in_ok-side.ensures
 
 pub returns-clause-greatest : goal.returns-clause-greatest
 returns-clause-greatest c =
@@ -30,5 +30,5 @@ returns-clause-greatest c =
     let flows = c.args.state.now.flows in
     let state = c.sink.ensures.state in
     let outside = ap (has_node c.in_ok-side.side.ids) (sym c.sink.ensures.value) ∙ sym c.contains.ensures ∙ c.if-contains.false in
-    let reached = reached-by_search n flows c.in_ok-search.search c.value.result c.in_ok-side.side c.in_ok-search.ensures.search c.in_ok-side.ensures in
+    let reached = reached-by_search n flows c.args.search.now c.value.result c.in_ok-side.side c.requires c.in_ok-side.ensures in
     greatest-from_no_path n flows state.network state.flow (no_path-by_search n flows (has_node c.in_ok-side.side.ids) state.network reached outside)

@@ -1,0 +1,30 @@
+-- The residual network as pairs of opposite links, one pair for each arc, over which solving looks for paths.
+-- Public: a public contract says no more than this.
+use Rattle.std.specs.Prelude.{ℕ, ◌≡◌, ◌-◌, ◌==◌, true, if◌then◌else◌, List, [], ◌∷◌, Option, Some, None}
+use Rattle.dmf_path.specs.declared.pair.Pair.{Pair}
+use Rattle.dmf_path.specs.Search.{Searched}
+use Rattle.dmf_net.specs.declared.arc.Arc.{Arc}
+use Rattle.dmf_net.specs.Network.{Network}
+use Rattle.dmf_net.specs.NetworkState.{NetworkState}
+
+-- The pair of an arc for its residual steps: along it what more can flow, and against it what flows. An arc that comes back
+-- to its tail has none; one on which nothing may flow has a pair without room.
+abbrev pub residual_pair : Arc → ℕ → Option Pair
+residual_pair arc flow =
+    if arc.tail == arc.head then None
+    else Some (record { tail = arc.tail; head = arc.head; along = arc.cap - flow; against = flow })
+
+-- the pairs of the arcs, in order
+abbrev pub residual_pairs : List Arc → List ℕ → List (Option Pair)
+residual_pairs [] flows = []
+residual_pairs (arc ∷ arcs) [] = []
+residual_pairs (arc ∷ arcs) (flow ∷ flows) = residual_pair arc flow ∷ residual_pairs arcs flows
+
+-- the search for augmenting paths: from the source to the sink, and what is pushed along an arc can be pushed back
+abbrev pub residual_search : Network → List ℕ → Searched
+residual_search n flows =
+    record { nodes = n.nodes; pairs = residual_pairs n.arcs flows; start = n.source; goal = n.sink; takes_back = true }
+
+-- The links are those of the state's residual network, with the rooms that its flow leaves.
+abbrev pub IsResidualOf : NetworkState → Searched → Type 0
+IsResidualOf s links = links ≡ residual_search s.network s.flows

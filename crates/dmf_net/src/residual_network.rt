@@ -1,0 +1,112 @@
+ghost use Rattle.std.specs.Prelude.{◌≡◌, pos, IfErr, IfOk, IfSome, IsOkUnless, OnOk};
+ghost use Rattle.dmf_net.specs.Edit.{applied, Fits};
+ghost use Rattle.dmf_net.specs.Flow.{flow_value};
+ghost use Rattle.dmf_net.specs.Greatest.{IsGreatest, IsSurpassed};
+ghost use Rattle.dmf_net.specs.Planning.{PlansSolve};
+ghost use Rattle.dmf_net.specs.ResidualNetwork.{IsResidualOf};
+ghost use Rattle.dmf_net.specs.Side.{IsSmallestSide};
+
+use crate::edit::Edit;
+use crate::fault::{CutFault, NoMemory, PlanFault};
+use crate::residual::residual_search;
+use crate::side::{Side, side_along, solved_side};
+use crate::solve::{Solved, solve};
+use crate::solved_moves::list_reached;
+use crate::state::State;
+use crate::watch::Watch;
+use dmf_path::Search;
+use std::alloc::Global;
+use std::marker::Model;
+
+/// The residual network of a state: the links that solves go along. A caller that solves again and again keeps it in step
+/// with the state's changes, so that its links are not made anew each time.
+#[derive(Drop)]
+pub struct ResidualNetwork {
+    search: Search,
+}
+
+impl Model for ResidualNetwork {
+    ghost use Rattle.dmf_path.specs.Search.{Searched};
+
+    ghost Value = { Searched };
+
+    ghost view = { λ a. a.search };
+}
+
+impl ResidualNetwork {
+    /// That of the state. Takes memory for two links an arc and some numbers a node.
+    pub fn new(alloc: Global, state: &State) -> Result<ResidualNetwork, NoMemory>
+        ensures { IfOk result (IsResidualOf state.now) }
+    {
+        let search = residual_search(alloc, state)?;
+        Ok(ResidualNetwork { search })
+    }
+
+    /// Plans what [`plan_solve`](crate::plan_solve) plans, and gives the links as they are once it is applied. The watch is
+    /// told of each path on the way.
+    ///
+    /// Takes memory for the moves; where it is refused, the answer is [`PlanFault::NoMemory`].
+    pub fn plan_solve<W: Watch>(
+        self,
+        alloc: Global,
+        state: &State,
+        watch: &mut W,
+    ) -> Result<(Edit, ResidualNetwork), PlanFault>
+        requires { IsResidualOf state.now self }
+        ensures refused { IsOkUnless result PlanFault.NoMemory }
+        ensures edit { IfOk result (λ planned. PlansSolve state.now planned.0) }
+        ensures kept { IfOk result (λ planned. IsResidualOf (applied planned.0 state.now) planned.1) }
+    {
+        let Solved { search, .. } = solve(self.search, state, watch);
+        let moves = list_reached(alloc, state, &search)?;
+        Ok((Edit::Solve { moves }, ResidualNetwork { search }))
+    }
+
+    /// Plans the same, and tells the smallest side of the network, which does not change by it.
+    ///
+    /// Takes memory for the side too, and for marks and flags while it is looked for; where it is refused, the answer is
+    /// [`PlanFault::NoMemory`].
+    pub fn plan_solve_with_side<W: Watch>(
+        self,
+        alloc: Global,
+        state: &State,
+        watch: &mut W,
+    ) -> Result<(Edit, Side, ResidualNetwork), PlanFault>
+        requires { IsResidualOf state.now self }
+        ensures refused { IsOkUnless result PlanFault.NoMemory }
+        ensures edit { IfOk result (λ planned. PlansSolve state.now planned.0) }
+        ensures side { IfOk result (λ planned. IsSmallestSide state.now.network planned.1) }
+        ensures value { IfOk result (λ planned. pos planned.1.capacity ≡ flow_value state.now.network (applied planned.0 state.now).flows) }
+        ensures kept { IfOk result (λ planned. IsResidualOf (applied planned.0 state.now) planned.2) }
+    {
+        let solved = solve(self.search, state, watch);
+        let side = solved_side(alloc, state, &solved)?;
+        let Solved { search, .. } = solved;
+        let moves = list_reached(alloc, state, &search)?;
+        Ok((Edit::Solve { moves }, side, ResidualNetwork { search }))
+    }
+
+    /// The smallest side of the state's network, whose flow must be greatest, as [`smallest_side`](crate::smallest_side) tells
+    /// it.
+    ///
+    /// Refused by [`CutFault::NotGreatest`] where some flow has a larger value. Takes memory for the side, a mark a node and
+    /// a flag a link; where it is refused, the answer is [`CutFault::NoMemory`].
+    pub fn smallest_side(&self, alloc: Global, state: &State) -> Result<Side, CutFault>
+        requires { IsResidualOf state.now self.now }
+        ensures side { IfOk result (λ side. IsSmallestSide state.now.network side) }
+        ensures value { IfOk result (λ side. pos side.capacity ≡ flow_value state.now.network state.now.flows) }
+        ensures greatest { OnOk result (IsGreatest state.now.network state.now.flows) }
+        ensures fault { IfErr result (λ fault. fault ≡ CutFault.NotGreatest → IsSurpassed state.now.network state.now.flows) }
+    {
+        side_along(alloc, &self.search, state)
+    }
+
+    /// That of the state as an edit leaves it; none where the links are to be made anew. Takes no memory.
+    pub fn follow(self, state: &State, edit: &Edit) -> Option<ResidualNetwork>
+        requires residual { IsResidualOf state.now self }
+        requires fits { Fits edit.now state.now }
+        ensures { IfSome result (λ kept. IsResidualOf (applied edit.now state.now) kept) }
+    {
+        None
+    }
+}
