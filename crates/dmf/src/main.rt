@@ -8,14 +8,14 @@ mod progress;
 mod words;
 
 use dmf_run::{
-    EngineFault, MAX_BYTES, Mode, Status, WordsFault, read_words, run_check, run_session_bounded,
-    run_solve, run_solve_watched, status_of,
+    EngineFault, MAX_BYTES, Mode, Status, WordsFault, read_words, run_check, run_session_watched,
+    run_solve_watched, status_of,
 };
 use dmf_text::{StdSink, StdSource};
 use fault::Fault;
-use progress::{Progress, WatchedSink, WatchedSolve, WatchedSource};
+use progress::{Progress, WatchedCommands, WatchedSink, WatchedSolve, WatchedSource};
 use std::fs::File;
-use std::io::{BufWriter, IsTerminal};
+use std::io::BufWriter;
 use std::process::ExitCode;
 use std::rt::Stdout;
 
@@ -45,32 +45,16 @@ fn run(rt: &HostRuntime) -> Result<Status, Fault> {
     }
 }
 
-/// Solves the problem on standard input, and tells the cut where it is wanted. Where standard error is a terminal, it tells
-/// there how far the solve is.
+/// Solves the problem on standard input, and tells the cut where it is wanted.
 #[inline(never)]
 fn solve(rt: &HostRuntime, want_cut: bool) -> Result<Status, Fault> {
-    if rt.stderr().is_terminal() {
-        let progress = Progress::new(rt, false);
-        let outcome = solve_watched(rt, want_cut, &progress);
-        progress.erase();
-        return outcome;
-    }
-    let mut out = output(rt)?;
-    let mut problem = StdSource::new(rt.stdin());
-    run_solve(rt.alloc(), &mut problem, &mut out, want_cut).map_err(Fault::Run)
-}
-
-/// Does the same, and tells how far it is.
-#[inline(never)]
-fn solve_watched(
-    rt: &HostRuntime,
-    want_cut: bool,
-    progress: &Progress<'_>,
-) -> Result<Status, Fault> {
-    let mut out = WatchedSink::new(output(rt)?, progress);
-    let mut problem = WatchedSource::new(StdSource::new(rt.stdin()), progress);
-    let mut solve = WatchedSolve::new(progress);
-    run_solve_watched(rt.alloc(), &mut problem, &mut out, want_cut, &mut solve).map_err(Fault::Run)
+    let progress = Progress::new(rt, false);
+    let mut out = WatchedSink::new(output(rt)?, &progress);
+    let mut problem = WatchedSource::new(StdSource::new(rt.stdin()), &progress);
+    let mut watch = WatchedSolve::new(&progress);
+    let outcome = run_solve_watched(rt.alloc(), &mut problem, &mut out, want_cut, &mut watch);
+    progress.end();
+    outcome.map_err(Fault::Run)
 }
 
 /// Holds a session on the problem in the file at the path, with the commands from standard input, and tells the cut of
@@ -79,27 +63,36 @@ fn solve_watched(
 fn hold_session(rt: &HostRuntime, path: &str, want_cut: bool, bound: u32) -> Result<Status, Fault>
     requires { bound ≤ 1000000 }
 {
-    let mut problem = StdSource::new(open_problem(rt, path)?);
-    let mut out = output(rt)?;
-    let mut commands = StdSource::new(rt.stdin());
-    run_session_bounded(
+    let progress = Progress::new(rt, false);
+    let file = open_problem(rt, path)?;
+    let mut problem = WatchedSource::new(StdSource::new(file), &progress);
+    let mut out = WatchedSink::new(output(rt)?, &progress);
+    let mut commands = WatchedCommands::new(StdSource::new(rt.stdin()), &progress);
+    let mut watch = WatchedSolve::new(&progress);
+    let outcome = run_session_watched(
         rt.alloc(),
         &mut problem,
         &mut commands,
         &mut out,
         want_cut,
         bound,
-    )
-    .map_err(Fault::Run)
+        &mut watch,
+    );
+    progress.end();
+    outcome.map_err(Fault::Run)
 }
 
 /// Checks the solution on standard input of the problem in the file at the path.
 #[inline(never)]
 fn check(rt: &HostRuntime, path: &str) -> Result<Status, Fault> {
-    let mut problem = StdSource::new(open_problem(rt, path)?);
-    let mut out = output(rt)?;
-    let mut solution = StdSource::new(rt.stdin());
-    run_check(rt.alloc(), &mut problem, &mut solution, &mut out).map_err(Fault::Run)
+    let progress = Progress::new(rt, false);
+    let file = open_problem(rt, path)?;
+    let mut problem = WatchedSource::new(StdSource::new(file), &progress);
+    let mut out = WatchedSink::new(output(rt)?, &progress);
+    let mut solution = WatchedSource::new(StdSource::new(rt.stdin()), &progress);
+    let outcome = run_check(rt.alloc(), &mut problem, &mut solution, &mut out);
+    progress.end();
+    outcome.map_err(Fault::Run)
 }
 
 /// Standard output, behind a buffer.

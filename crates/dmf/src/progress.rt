@@ -1,5 +1,5 @@
-//! How far a solve is, told on standard error: one line, which each next word replaces and which is erased before the
-//! solution comes. Nothing else depends on it, and where it cannot be told, the run goes on.
+//! How far a run is, told on standard error: one line, which each next word replaces and which is erased before anything is
+//! answered or asked for. Nothing else depends on it, and where it cannot be told, the run goes on.
 ghost use Rattle.std.specs.Prelude.{◌≡◌};
 
 use dmf_net::Watch;
@@ -9,7 +9,7 @@ use std::io::IsTerminal;
 use std::rt::HostRuntime;
 use std::time::{Duration, Instant};
 
-/// How long a run is silent at first, where nobody asked for progress, in milliseconds.
+/// How long a task is silent at first, where nobody asked for progress, in milliseconds.
 const PATIENCE: u64 = 500;
 
 /// The least time between two words, in milliseconds.
@@ -20,23 +20,57 @@ const CALLS: u64 = 64;
 
 const MEGABYTE: u64 = 1_000_000;
 
-/// The line on standard error.
+/// The line on standard error. What it tells of is a task: to read a text, to solve, or to write an answer.
 #[derive(Drop)]
 pub struct Progress<'a> {
     rt: &'a HostRuntime,
+    /// How long a task is silent at first, in milliseconds; none, where nothing is told at all.
+    patience: Option<u64>,
     /// When the next word may come.
     due: Cell<Option<Instant>>,
     is_shown: Cell<bool>,
+    /// Whether a task has begun that has not ended.
+    is_busy: Cell<bool>,
 }
 
 impl<'a> Progress<'a> {
-    /// A line that is still empty. It comes at once where it was asked for, and else after a while.
+    /// A line that is still empty. It comes at once where it was asked for, else after a while, and never on what is no
+    /// terminal.
     pub fn new(rt: &'a HostRuntime, is_asked_for: bool) -> Self {
-        let wait = if is_asked_for { 0 } else { PATIENCE };
+        let patience = if is_asked_for {
+            Some(0)
+        } else if rt.stderr().is_terminal() {
+            Some(PATIENCE)
+        } else {
+            None
+        };
         Progress {
             rt,
-            due: Cell::new(after(rt, wait)),
+            patience,
+            due: Cell::new(None),
             is_shown: Cell::new(false),
+            is_busy: Cell::new(false),
+        }
+    }
+
+    /// Begins a task, unless one goes on. Whether it is a new one.
+    fn begin(&self) -> bool {
+        if self.is_busy.get() {
+            return false;
+        }
+        self.is_busy.set(true);
+        if let Some(patience) = self.patience {
+            self.due.set(after(self.rt, patience));
+        }
+        true
+    }
+
+    /// The task has ended: the line is erased, if there is one.
+    pub fn end(&self) {
+        self.is_busy.set(false);
+        if self.is_shown.get() {
+            self.is_shown.set(false);
+            let _ = eprint!(self.rt; "\r\x1b[K");
         }
     }
 
@@ -55,14 +89,6 @@ impl<'a> Progress<'a> {
         self.is_shown.set(true);
         true
     }
-
-    /// Erases the line, if there is one.
-    pub fn erase(&self) {
-        if self.is_shown.get() {
-            self.is_shown.set(false);
-            let _ = eprint!(self.rt; "\r\x1b[K");
-        }
-    }
 }
 
 /// The time that it is so many milliseconds later, if the clock tells.
@@ -72,7 +98,7 @@ fn after(rt: &HostRuntime, wait: u64) -> Option<Instant> {
         .checked_add(Duration::from_millis(wait))
 }
 
-/// A source whose reads are told.
+/// A source whose reads are told: a text that is read as a whole.
 #[derive(Drop)]
 pub struct WatchedSource<'a, S> {
     source: S,
@@ -96,6 +122,7 @@ impl<S: Source> Source for WatchedSource<'_, S> {
     ghost has_failed = { λ s. S.has_failed s.source };
 
     fn read(&mut self, buffer: &mut [u8]) -> Result<usize, Failed> {
+        self.progress.begin();
         let given = self.source.read(buffer)?;
         self.bytes = self.bytes.saturating_add(given as u64);
         if given > 0 && self.progress.is_due() {
@@ -105,32 +132,71 @@ impl<S: Source> Source for WatchedSource<'_, S> {
     }
 }
 
-/// A solve whose paths are told.
+/// A source of commands: whatever was told is erased before it is asked for more.
+#[derive(Drop)]
+pub struct WatchedCommands<'a, S> {
+    source: S,
+    progress: &'a Progress<'a>,
+}
+
+impl<'a, S: Source> WatchedCommands<'a, S> {
+    pub fn new(source: S, progress: &'a Progress<'a>) -> Self {
+        WatchedCommands { source, progress }
+    }
+}
+
+impl<S: Source> Source for WatchedCommands<'_, S> {
+    ghost remaining = { λ s. S.remaining s.source };
+
+    ghost has_failed = { λ s. S.has_failed s.source };
+
+    fn read(&mut self, buffer: &mut [u8]) -> Result<usize, Failed> {
+        self.progress.end();
+        self.source.read(buffer)
+    }
+}
+
+/// Solves whose paths are told, one after the other.
 #[derive(Drop)]
 pub struct WatchedSolve<'a> {
     progress: &'a Progress<'a>,
     paths: u64,
+    phases: u32,
+    /// The number of links of the last path.
+    links: u32,
 }
 
 impl<'a> WatchedSolve<'a> {
     pub fn new(progress: &'a Progress<'a>) -> Self {
-        WatchedSolve { progress, paths: 0 }
+        WatchedSolve {
+            progress,
+            paths: 0,
+            phases: 0,
+            links: 0,
+        }
     }
 }
 
 impl Watch for WatchedSolve<'_> {
-    fn augmented(&mut self, value: u64) {
+    fn augmented(&mut self, value: u64, links: u32) {
+        if self.progress.begin() {
+            *self = WatchedSolve::new(self.progress);
+        }
+        let is_new_phase = links != self.links;
         self.paths = self.paths.saturating_add(1);
-        if self.paths % CALLS == 1 && self.progress.is_due() {
+        self.phases = self.phases.saturating_add(u32::from(is_new_phase));
+        self.links = links;
+        if (is_new_phase || self.paths % CALLS == 1) && self.progress.is_due() {
             let _ = eprint!(self.progress.rt;
-                "\r\x1b[Kdmf: solving, value {value}, {} augmenting paths",
-                self.paths
+                "\r\x1b[Kdmf: solving, value {value}, phase {}, {} paths",
+                self.phases, self.paths
             );
         }
     }
 }
 
-/// A sink before whose first byte the line is erased. What is written then is told where it does not go to the terminal.
+/// A sink before the first byte of whose answers the line is erased. What is written then is told where it does not go to the
+/// terminal.
 #[derive(Drop)]
 pub struct WatchedSink<'a, W> {
     sink: W,
@@ -159,7 +225,8 @@ impl<W: Sink> Sink for WatchedSink<'_, W> {
 
     fn put(&mut self, bytes: &[u8]) -> Result<usize, Failed> {
         if self.puts == 0 {
-            self.progress.erase();
+            self.progress.end();
+            self.progress.begin();
         }
         self.puts = self.puts.saturating_add(1);
         let taken = self.sink.put(bytes)?;
@@ -171,7 +238,9 @@ impl<W: Sink> Sink for WatchedSink<'_, W> {
     }
 
     fn flush(&mut self) -> Result<(), Failed> {
-        self.progress.erase();
+        self.progress.end();
+        self.bytes = 0;
+        self.puts = 0;
         self.sink.flush()
     }
 }

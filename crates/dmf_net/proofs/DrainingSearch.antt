@@ -10,6 +10,7 @@ use Rattle.dmf_path.specs.declared.pair.Pair.{Pair}
 use Rattle.dmf_path.specs.Step.{Step}
 use Rattle.dmf_path.specs.Path.{IsPath, HasNoPath, IsLeastPath, has_rank, bottleneck_up_to}
 use Rattle.dmf_path.specs.Pair.{steps_of, pushed_pair, pushed_from, pushed_pairs}
+use Rattle.dmf_path.specs.declared.search.AugmentingPath.{AugmentingPath}
 use Rattle.dmf_path.specs.Search.{Searched, aimed, along_at, with_pairs, Augments, HasAlong, lowered_along}
 use Rattle.dmf_path.proofs.Loops.{least-without_loops, no_path-without_loops}
 use Rattle.dmf_path.proofs.ShortestPaths.{IsShortestPath, IsShortestPath-least, IsShortestPath-tail}
@@ -230,12 +231,13 @@ pub record DrainsOnce (s : NetworkState) (unpaired first : List ℕ) (j limit le
   pub room : HasAlong next.pairs (j - 1) amount
   pub draining : IsDraining s unpaired first j limit (left - amount) (with_pairs next (lowered_along next.pairs (j - 1) amount))
 
-pub draining-once : (s : NetworkState) (unpaired first : List ℕ) (j limit left amount : ℕ) (search next : Searched) → has_arc s.network j ≡ true → (arc_number s.network j).head ≢ (arc_number s.network j).tail → 0 < left → IsDraining s unpaired first j limit left search → Augments left amount search next → DrainsOnce s unpaired first j limit left amount next
-draining-once s unpaired first j limit left amount search next has apart some draining augments =
+pub draining-once : (s : NetworkState) (unpaired first : List ℕ) (j limit left : ℕ) (found : AugmentingPath) (search next : Searched) → has_arc s.network j ≡ true → (arc_number s.network j).head ≢ (arc_number s.network j).tail → 0 < left → IsDraining s unpaired first j limit left search → Augments left found search next → DrainsOnce s unpaired first j limit left found.amount next
+draining-once s unpaired first j limit left found search next has apart some draining augments =
+    let amount : ℕ = found.amount in
     let n : Network = s.network in
     let flows : List ℕ = draining.flows in
     let old : Searched = carrying_search n j s.flows flows in
-    let own : Augments left amount old next = subst (λ x. Augments left amount x next) draining.search_is augments in
+    let own : Augments left found old next = subst (λ x. Augments left found x next) draining.search_is augments in
     let path : List Step = own.path in
     let state = draining.so_far.state in
     let above : limit < flow_on flows j = omega (arith, some, draining.left_is) in

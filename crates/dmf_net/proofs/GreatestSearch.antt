@@ -4,6 +4,7 @@ use Rattle.std.specs.Bool.{IsTrue}
 use Rattle.std.specs.Option.{MatchOption, is_some}
 use Rattle.dmf_path.specs.Path.{HasNoPath}
 use Rattle.dmf_path.specs.Pair.{steps_of}
+use Rattle.dmf_path.specs.declared.search.AugmentingPath.{AugmentingPath}
 use Rattle.dmf_path.specs.Search.{Searched, Augments}
 use Rattle.dmf_path.proofs.Loops.{least-without_loops, no_path-without_loops}
 use Rattle.dmf_net.specs.Greatest.{IsGreatest, IsSurpassed}
@@ -28,8 +29,8 @@ no-of true e = cc
 no-of false e = refl
 
 -- No path is found where the flow is greatest, and else one.
-pub found-answers : (s : NetworkState) (limit : ℕ) (found : Option ℕ) (old new : Searched) (answer : Bool) → IsState s → old ≡ residual_search s.network s.flows
-    → MatchOption found (HasNoPath (steps_of old.pairs) old.start old.goal × (new ≡ old)) (λ amount. Augments limit amount old new) → is_some found ≡ not answer → IsAnswer s answer
+pub found-answers : (s : NetworkState) (limit : ℕ) (found : Option AugmentingPath) (old new : Searched) (answer : Bool) → IsState s → old ≡ residual_search s.network s.flows
+    → MatchOption found (HasNoPath (steps_of old.pairs) old.start old.goal × (new ≡ old)) (λ path. Augments limit path old new) → is_some found ≡ not answer → IsAnswer s answer
 found-answers s limit None old new answer state is told e =
     let yes = yes-of answer e in
     let n = s.network in
@@ -40,11 +41,11 @@ found-answers s limit None old new answer state is told e =
       yes = (λ told. greatest, λ is. yes);
       no = (λ told. absurd (let wrong : ⊥ = cc in wrong), λ larger. absurd (not-surpassed n s.flows greatest larger));
     }
-found-answers s limit (Some amount) old new answer state is told e =
+found-answers s limit (Some found) old new answer state is told e =
     let no = no-of answer e in
     let n = s.network in
     let without = residual-without_loops n.arcs s.flows in
-    let push = subst (λ o. Augments limit amount o new) is told in
+    let push = subst (λ o. Augments limit found o new) is told in
     let least = least-without_loops (residual_steps n.arcs s.flows) (steps_of (residual_pairs n.arcs s.flows)) n.source n.sink push.path without push.least in
     let larger = surpassed n s.flows push.path state.network state.flow least in
     record {

@@ -11,6 +11,7 @@ use Rattle.dmf_path.specs.declared.pair.Pair.{Pair}
 use Rattle.dmf_path.specs.Step.{Step}
 use Rattle.dmf_path.specs.Path.{has_rank, IsPath, HasNoPath, bottleneck, bottleneck_up_to}
 use Rattle.dmf_path.specs.Pair.{pair_steps, steps_from, steps_of, pushed_pairs}
+use Rattle.dmf_path.specs.declared.search.AugmentingPath.{AugmentingPath}
 use Rattle.dmf_path.specs.Search.{Searched, Augments}
 use Rattle.dmf_path.proofs.Loops.{least-without_loops, no_path-without_loops}
 use Rattle.dmf_net.specs.declared.arc.Arc.{Arc}
@@ -131,11 +132,11 @@ pub record IsNext (s : NetworkState) (old new : Searched) (value : ℕ) : Type 0
   pub falls : room_leaving new.pairs s.network.source < room_leaving old.pairs s.network.source
 
 -- one path more
-pub solving-more : (s : NetworkState) (limit amount value : ℕ) (old new : Searched) → limit + 1 ≡ 2 ^ 64 → IsSolving s old value → Augments limit amount old new → IsNext s old new (value + amount)
-solving-more s limit amount value old new all is augments =
+pub solving-more : (s : NetworkState) (limit value : ℕ) (found : AugmentingPath) (old new : Searched) → limit + 1 ≡ 2 ^ 64 → IsSolving s old value → Augments limit found old new → IsNext s old new (value + found.amount)
+solving-more s limit value found old new all is augments =
     let n = s.network in
     let state = is.reached.state in
-    let push = subst (λ o. Augments limit amount o new) is.search_is augments in
+    let push = subst (λ o. Augments limit found o new) is.search_is augments in
     let path = push.path in
     let least = least-without_loops (residual_steps n.arcs is.flows) (steps_of (residual_pairs n.arcs is.flows)) n.source n.sink path (residual-without_loops n.arcs is.flows) push.least in
     let same = push.amount_is ∙ bottleneck_up_to-least n is.flows limit path all state.network state.flow least.leads in
@@ -146,7 +147,7 @@ solving-more s limit amount value old new all is augments =
     let next = push.gives ∙ ap (λ (made : List (Option Pair)). record { nodes = n.nodes; pairs = made; start = n.source; goal = n.sink; takes_back = true }) pairs in
     let reached = reached-more s is.flows path is.reached least in
     let grown = augmented-value n is.flows path state.network state.flow least in
-    let value_is : pos (value + amount) ≡ flow_value n (augmented path is.flows) = omega (arith, ints, grown, is.value_is, same) in
+    let value_is : pos (value + found.amount) ≡ flow_value n (augmented path is.flows) = omega (arith, ints, grown, is.value_is, same) in
     let most = value-le-capacities n (augmented path is.flows) reached.state.flow in
     record {
       solving = record {

@@ -82,7 +82,8 @@ pub fn drain_along(state: &State, j: u32, limit: u64, search: &mut Search)
     search.aim(arc.head, arc.tail);
     while 0 < left {
         match search.augment(left) {
-            Some(amount) => {
+            Some(found) => {
+                let amount = found.amount;
                 search.lower(i, amount);
                 left -= amount;
             }

@@ -25,9 +25,9 @@ pub fn solve<W: Watch>(mut search: Search, state: &State, watch: &mut W) -> Solv
     ensures state { IsState state.now }
 {
     let mut value = state.value();
-    while let Some(amount) = search.augment(u64::MAX) {
-        value += amount;
-        watch.augmented(value);
+    while let Some(found) = search.augment(u64::MAX) {
+        value += found.amount;
+        watch.augmented(value, found.links);
     }
     Solved { search, value }
 }

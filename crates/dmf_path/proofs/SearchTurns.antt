@@ -6,6 +6,7 @@ use Rattle.dmf_path.specs.Node.{IsNode}
 use Rattle.dmf_path.specs.Links.{Links, AreLinks, ArePlaces, AreRooms, AreFlags}
 use Rattle.dmf_path.specs.Walk.{AreValid, IsTrail, end_of}
 use Rattle.dmf_path.specs.Held.{Way, places_of, walked_slots, settled, rooms_with, emptied, with_slots}
+use Rattle.dmf_path.specs.declared.search.AugmentingPath.{AugmentingPath}
 use Rattle.dmf_path.specs.Search.{Searched, Augments}
 use Rattle.dmf_path.specs.Searching.{IsUnderWay, IsHolding, IsSearch, searched}
 use Rattle.dmf_path.proofs.Pushed.{OpensUpwards, AreValid-opens, ArePassed-opens}
@@ -178,5 +179,5 @@ IsSearch-aimed l takes_back places rooms flags labels current w queue_room slots
 pub same-searched : (l : Links) (places rooms others : List ℕ) (start from goal to : ℕ) (takes_back : Bool) → rooms ≡ others → start ≡ from → goal ≡ to → searched l places rooms start goal takes_back ≡ searched l places others from to takes_back
 same-searched l places rooms others start from goal to takes_back same starts goals = λ i. searched l places (same i) (starts i) (goals i) takes_back
 
-pub augments-between : (limit amount : ℕ) (old new from to : Searched) → old ≡ from → new ≡ to → Augments limit amount old new → Augments limit amount from to
-augments-between limit amount old new from to before after augments = subst (λ s. Augments limit amount s to) before (subst (λ s. Augments limit amount old s) after augments)
+pub augments-between : (limit : ℕ) (found : AugmentingPath) (old new from to : Searched) → old ≡ from → new ≡ to → Augments limit found old new → Augments limit found from to
+augments-between limit found old new from to before after augments = subst (λ s. Augments limit found s to) before (subst (λ s. Augments limit found old s) after augments)

@@ -1,5 +1,6 @@
 -- What a search keeps, as it finds paths and pushes along them.
 use Rattle.std.proofs.Common.{ℕ, ◌≡◌, ◌+◌, ◌%◌, ◌^◌, Bool, List, length, get_or, ap, sym, ◌∙◌, subst, arith}
+use Rattle.std.proofs.lemmas.List.{length-map}
 use Rattle.dmf_path.specs.declared.trail.Slot.{Slot}
 use Rattle.dmf_path.specs.Path.{HasNoPath}
 use Rattle.dmf_path.specs.Pair.{steps_of}
@@ -9,7 +10,7 @@ use Rattle.dmf_path.specs.Walk.{IsWalking, end_of, bottleneck_on, pushed}
 use Rattle.dmf_path.specs.Held.{Way, places_of, walked_slots, filled_slots, settled, rooms_with, HaveLeft, least_left}
 use Rattle.dmf_path.specs.Search.{Augments}
 use Rattle.dmf_path.specs.Searching.{IsSearch, IsUnlabelled, searched}
-use Rattle.dmf_path.proofs.Steps.{path_on, bottleneck_up_to-path_on}
+use Rattle.dmf_path.proofs.Steps.{path_on, step_on, bottleneck_up_to-path_on}
 use Rattle.dmf_path.proofs.LeastTrail.{least-trail}
 use Rattle.dmf_path.proofs.Reaching.{no_path-unlabelled}
 use Rattle.dmf_path.proofs.Pushed.{FallsOn-trail, OpensUpwards, opens-pushed}
@@ -27,7 +28,7 @@ pub record CanAugment (l : Links) (takes_back : Bool) (places rooms labels curre
   pub can : CanSend w.sent amount w.slots
   pub made : settled l takes_back ((w.sent + amount) % 2 ^ 64) w.slots rooms ≡ pushed l takes_back amount (places_of w.slots) (rooms_with l takes_back w rooms)
   pub opens : OpensUpwards l labels (rooms_with l takes_back w rooms) (settled l takes_back ((w.sent + amount) % 2 ^ 64) w.slots rooms)
-  pub augments : Augments limit amount (searched l places (rooms_with l takes_back w rooms) w.start w.goal takes_back)
+  pub augments : Augments limit (record { amount = amount; links = length w.slots }) (searched l places (rooms_with l takes_back w rooms) w.start w.goal takes_back)
       (searched l places (settled l takes_back ((w.sent + amount) % 2 ^ 64) w.slots rooms) w.start w.goal takes_back)
 
 pub can-augment : (l : Links) (takes_back : Bool) (places rooms flags labels current : List ℕ) (w : Way) (queue_room slots_room limit amount : ℕ) → IsSearch l takes_back places rooms flags labels current w queue_room slots_room
@@ -60,6 +61,7 @@ can-augment l takes_back places rooms flags labels current w queue_room slots_ro
         least = least-trail l places after labels current (places_of w.slots) w.start w.goal is.links is.places_are is.start_is is.valid walking whole.ends;
         amount_is = least ∙ sym (bottleneck-settled l takes_back labels w.sent limit rooms w.slots (get_or labels w.start 0) 0 is.links long descends have)
             ∙ ap (λ rs. bottleneck_on rs limit (places_of w.slots)) (sym told) ∙ sym (bottleneck_up_to-path_on l places after (places_of w.slots) limit);
+        links_are = sym (length-map (places_of w.slots) (step_on l places after) ∙ length-map w.slots (λ s. s.place));
         gives = ap (λ pairs. record { nodes = l.nodes; pairs = pairs; start = w.start; goal = w.goal; takes_back = takes_back })
             (ap (pairs_at l places) made ∙ pushed_pairs-pushed l takes_back places after labels current (places_of w.slots) w.start amount is.links is.places_are after_long is.start_is whole.trail);
       };

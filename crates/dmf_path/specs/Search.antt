@@ -1,7 +1,8 @@
 -- What a search is to its callers: pairs of links between nodes, and the nodes between which it looks for least paths.
 -- Public: a public contract says no more than this.
-use Rattle.std.specs.Prelude.{ℕ, ◌≡◌, ◌-◌, ◌≤◌, Bool, List, Option, Some, None, slice_index_or, slice_get, slice_set, option_map}
+use Rattle.std.specs.Prelude.{ℕ, ◌≡◌, ◌-◌, ◌≤◌, Bool, List, length, Option, Some, None, slice_index_or, slice_get, slice_set, option_map}
 use Rattle.dmf_path.specs.declared.pair.Pair.{Pair}
+use Rattle.dmf_path.specs.declared.search.AugmentingPath.{AugmentingPath}
 use Rattle.dmf_path.specs.Step.{Step}
 use Rattle.dmf_path.specs.Path.{IsLeastPath, bottleneck_up_to}
 use Rattle.dmf_path.specs.Pair.{steps_of, pushed_pairs}
@@ -24,12 +25,13 @@ abbrev pub aimed : Searched → ℕ → ℕ → Searched
 aimed s start goal = record { nodes = s.nodes; pairs = s.pairs; start = start; goal = goal; takes_back = s.takes_back }
 
 -- The amount, which is the least of the limit and the rooms on the least path from the start to the goal, is pushed along
--- that path.
-pub record Augments (limit amount : ℕ) (old new : Searched) : Type 0 where
+-- that path, and its links are counted.
+pub record Augments (limit : ℕ) (found : AugmentingPath) (old new : Searched) : Type 0 where
   pub path : List Step
   pub least : IsLeastPath (steps_of old.pairs) old.start old.goal path
-  pub amount_is : amount ≡ bottleneck_up_to limit path
-  pub gives : new ≡ with_pairs old (pushed_pairs old.takes_back amount path old.pairs)
+  pub amount_is : found.amount ≡ bottleneck_up_to limit path
+  pub links_are : found.links ≡ length path
+  pub gives : new ≡ with_pairs old (pushed_pairs old.takes_back found.amount path old.pairs)
 
 -- the pair at index `k`
 abbrev pub pair_number : List (Option Pair) → ℕ → Option Pair

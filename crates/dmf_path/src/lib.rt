@@ -2,7 +2,7 @@
 #![tactic(auto)]
 
 pub use pair::{Pair, Pairs};
-pub use search::Search;
+pub use search::{AugmentingPath, Search};
 
 mod label;
 mod links;

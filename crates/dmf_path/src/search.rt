@@ -19,6 +19,15 @@ use crate::trail::{Trail, bottleneck, cut, free_slots, put_on_rooms, settle};
 use std::alloc::{AllocError, Global};
 use std::marker::Model;
 
+/// What was pushed along a path.
+#[derive(Clone, Copy)]
+pub struct AugmentingPath {
+    /// How much was pushed.
+    pub amount: u64,
+    /// How many links the path has.
+    pub links: u32,
+}
+
 /// A search for least paths between two nodes, over the links of some pairs, from whose rooms what is pushed along a path
 /// is taken.
 ///
@@ -101,11 +110,11 @@ impl Search {
     }
 
     /// Pushes along the least path from the start to the goal as much as the limit and its rooms allow, and answers how
-    /// much that is; nothing, where no path is left. Takes no memory.
-    pub fn augment(&mut self, limit: u64) -> Option<u64>
+    /// much that is, and how long the path; nothing, where no path is left. Takes no memory.
+    pub fn augment(&mut self, limit: u64) -> Option<AugmentingPath>
         ensures { MatchOption result
             (HasNoPath (steps_of self.old.pairs) self.old.start self.old.goal × (self.new ≡ self.old))
-            (λ amount. Augments limit amount self.old self.new) }
+            (λ found. Augments limit found self.old self.new) }
     {
         let found = find(
             &self.table,
@@ -121,6 +130,7 @@ impl Search {
             return None;
         }
         let amount = bottleneck(&self.trail.slots, self.trail.sent, limit);
+        let links = self.trail.slots.len() as u32;
         self.trail.sent = self.trail.sent.wrapping_add(amount);
         cut(
             &self.table,
@@ -129,7 +139,7 @@ impl Search {
             &mut self.flags,
             &mut self.trail,
         );
-        Some(amount)
+        Some(AugmentingPath { amount, links })
     }
 
     /// The room of the link against the pair at index `k`, and nothing where there is no pair. Takes no memory.

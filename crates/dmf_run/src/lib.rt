@@ -11,7 +11,10 @@ pub use laws::{
     steps_are_answers, written_is_optimal,
 };
 pub use refusal::refusal_text;
-pub use session::{MAX_LINES, run_commands, run_session, run_session_bounded};
+pub use session::{
+    MAX_LINES, run_commands, run_commands_watched, run_session, run_session_bounded,
+    run_session_watched,
+};
 pub use solve::{run_solve, run_solve_watched};
 pub use words::{Mode, WordsFault, read_words};
 

@@ -11,6 +11,7 @@ use crate::input::{Input, Next};
 use crate::kept_line::KeptLine;
 use crate::problem::read_state;
 use crate::reply::{Answer, refuse, show};
+use dmf_net::{Unwatched, Watch};
 use dmf_session::{Command, DeltaHistory, History, MAX_BOUND, Session};
 use dmf_text::{Sink, Source, WriteFault};
 use std::alloc::Global;
@@ -39,6 +40,25 @@ pub fn run_commands<H: History + Drop, C: Source, W: Sink>(
         (streams_of (reader_of C.remaining C.has_failed commands.new) (writer_of W.contents W.has_failed out.new))
         result }
 {
+    run_commands_watched(alloc, session, commands, out, want_cut, &mut Unwatched)
+}
+
+/// Does the same, and tells the watch of each path along which a solve augments the flow.
+pub fn run_commands_watched<H: History + Drop, C: Source, W: Sink, V: Watch>(
+    alloc: Global,
+    session: Session<H>,
+    commands: &mut C,
+    out: &mut W,
+    want_cut: bool,
+    watch: &mut V,
+) -> Result<Status, EngineFault>
+    requires at_first { (H.timeline session).place ≡ 0 }
+    requires one_state { length (H.timeline session).states ≡ 1 }
+    ensures { RunsCommands want_cut (H.timeline session)
+        (streams_of (reader_of C.remaining C.has_failed commands.old) (writer_of W.contents W.has_failed out.old))
+        (streams_of (reader_of C.remaining C.has_failed commands.new) (writer_of W.contents W.has_failed out.new))
+        result }
+{
     let mut session = session;
     let mut input = Input::new();
     let mut line = KeptLine::new();
@@ -47,12 +67,12 @@ pub fn run_commands<H: History + Drop, C: Source, W: Sink>(
         match input.next_line(commands, &mut line)? {
             Next::Line => {
                 let meaning = meaning_of(&line, true);
-                let answer = answer(alloc, &mut session, number, meaning, out, want_cut)?;
+                let answer = answer(alloc, &mut session, number, meaning, out, want_cut, watch)?;
                 is_refused |= answer.is_refusal();
             }
             Next::Last => {
                 let meaning = meaning_of(&line, false);
-                let answer = answer(alloc, &mut session, number, meaning, out, want_cut)?;
+                let answer = answer(alloc, &mut session, number, meaning, out, want_cut, watch)?;
                 is_refused |= answer.is_refusal();
                 return Ok(status(is_refused));
             }
@@ -101,9 +121,37 @@ pub fn run_session_bounded<P: Source, C: Source, W: Sink>(
         (streams_of (reader_of C.remaining C.has_failed commands.new) (writer_of W.contents W.has_failed out.new))
         result }
 {
+    run_session_watched(
+        alloc,
+        problem,
+        commands,
+        out,
+        want_cut,
+        bound,
+        &mut Unwatched,
+    )
+}
+
+/// Does the same, and tells the watch of each path along which a solve augments the flow.
+pub fn run_session_watched<P: Source, C: Source, W: Sink, V: Watch>(
+    alloc: Global,
+    problem: &mut P,
+    commands: &mut C,
+    out: &mut W,
+    want_cut: bool,
+    bound: u32,
+    watch: &mut V,
+) -> Result<Status, EngineFault>
+    requires { bound ≤ 1000000 }
+    ensures { RunsSession want_cut bound
+        (reader_of P.remaining P.has_failed problem.old) (reader_of P.remaining P.has_failed problem.new)
+        (streams_of (reader_of C.remaining C.has_failed commands.old) (writer_of W.contents W.has_failed out.old))
+        (streams_of (reader_of C.remaining C.has_failed commands.new) (writer_of W.contents W.has_failed out.new))
+        result }
+{
     let state = read_state(alloc, problem)?;
     let history = DeltaHistory::with_bound(alloc, state, bound);
-    run_commands(alloc, Session::new(history), commands, out, want_cut)
+    run_commands_watched(alloc, Session::new(history), commands, out, want_cut, watch)
 }
 
 fn status(is_refused: bool) -> Status
@@ -117,36 +165,38 @@ fn status(is_refused: bool) -> Status
 }
 
 /// Carries out a line, and writes and flushes its reply, if it has one.
-fn answer<H: History, W: Sink>(
+fn answer<H: History, W: Sink, V: Watch>(
     alloc: Global,
     session: &mut Session<H>,
     number: u32,
     meaning: Meaning,
     out: &mut W,
     want_cut: bool,
+    watch: &mut V,
 ) -> Result<Answer, WriteFault>
     ensures { WritesLine want_cut W.contents W.has_failed out.old out.new number
         (H.timeline session.old) meaning (H.timeline session.new) result }
 {
     match meaning {
         Ok(None) => Ok(Answer::Accepted),
-        Ok(Some(command)) => answer_command(alloc, session, number, command, out, want_cut),
+        Ok(Some(command)) => answer_command(alloc, session, number, command, out, want_cut, watch),
         Err(refusal) => refuse(number, &refusal, out),
     }
 }
 
-fn answer_command<H: History, W: Sink>(
+fn answer_command<H: History, W: Sink, V: Watch>(
     alloc: Global,
     session: &mut Session<H>,
     number: u32,
     command: Command,
     out: &mut W,
     want_cut: bool,
+    watch: &mut V,
 ) -> Result<Answer, WriteFault>
     ensures { WritesLine want_cut W.contents W.has_failed out.old out.new number
         (H.timeline session.old) (Ok (Some command)) (H.timeline session.new) result }
 {
-    match session.step(alloc, command, want_cut) {
+    match session.step_watched(alloc, command, want_cut, watch) {
         Ok(reply) => {
             show(command, &reply, session.present(), out)?;
             Ok(Answer::Accepted)

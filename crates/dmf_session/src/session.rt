@@ -8,8 +8,8 @@ use crate::command::{Command, Refusal, Reply};
 use crate::history::{History, RedoFault};
 use crate::laws::greatest_is_optimal;
 use dmf_net::{
-    State, plan_add, plan_cap, plan_close, plan_shut, plan_solve, plan_solve_with_side,
-    smallest_side,
+    State, Unwatched, Watch, plan_add, plan_cap, plan_close, plan_shut, plan_solve_watched,
+    plan_solve_with_side_watched, smallest_side,
 };
 use std::alloc::Global;
 use std::marker::Model;
@@ -81,12 +81,26 @@ impl<H: History> Session<H> {
         ensures answer { Answers want_cut (H.timeline self.old) command result (H.timeline self.new) }
         ensures optimal { command ≡ Solve → OnOk result (HasOptimalPresent (H.timeline self.new)) }
     {
+        self.step_watched(alloc, command, want_cut, &mut Unwatched)
+    }
+
+    /// Does the same, and tells the watch of each path along which a solve augments the flow.
+    pub fn step_watched<W: Watch>(
+        &mut self,
+        alloc: Global,
+        command: Command,
+        want_cut: bool,
+        watch: &mut W,
+    ) -> Result<Reply, Refusal>
+        ensures answer { Answers want_cut (H.timeline self.old) command result (H.timeline self.new) }
+        ensures optimal { command ≡ Solve → OnOk result (HasOptimalPresent (H.timeline self.new)) }
+    {
         match command {
             Command::Cap { arc, cap } => self.cap(alloc, arc, cap),
             Command::Add { tail, head, cap } => self.add(tail, head, cap),
             Command::Close { arc } => self.close(alloc, arc),
             Command::Shut { node } => self.shut(alloc, node),
-            Command::Solve => self.solve(alloc, want_cut),
+            Command::Solve => self.solve(alloc, want_cut, watch),
             Command::Undo(steps) => self.undo(steps),
             Command::Redo(steps) => self.redo(steps),
             Command::PrintProblem => Ok(Reply::Problem),
@@ -129,17 +143,22 @@ impl<H: History> Session<H> {
     }
 
     // A side that is wanted is made before the solve is recorded: where memory is refused for it, nothing has changed.
-    fn solve(&mut self, alloc: Global, want_cut: bool) -> Result<Reply, Refusal>
+    fn solve<W: Watch>(
+        &mut self,
+        alloc: Global,
+        want_cut: bool,
+        watch: &mut W,
+    ) -> Result<Reply, Refusal>
         ensures answer { Answers want_cut (H.timeline self.old) Solve result (H.timeline self.new) }
         ensures optimal { OnOk result (HasOptimalPresent (H.timeline self.new)) }
     {
         greatest_is_optimal();
         let present = self.history.present();
         let (edit, side) = if want_cut {
-            let (edit, side) = plan_solve_with_side(alloc, present)?;
+            let (edit, side) = plan_solve_with_side_watched(alloc, present, watch)?;
             (edit, Some(side))
         } else {
-            (plan_solve(alloc, present)?, None)
+            (plan_solve_watched(alloc, present, watch)?, None)
         };
         self.history.append(edit)?;
         Ok(Reply::Solution(side))

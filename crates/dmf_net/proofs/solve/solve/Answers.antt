@@ -4,21 +4,21 @@ use Rattle.dmf_net.proofs.solve.solve.Given.{Over}
 use Rattle.dmf_net.proofs.solve.solve.Goals as goal
 
 -- one path more
-next : (g : Over) (c : goal.After-augmented g) → IsNext c.args.state.now c.loop-amount.search c.augment.new.self (c.loop-amount.value + c.in-Some.amount)
-next g c = solving-more c.args.state.now _ c.in-Some.amount c.loop-amount.value c.loop-amount.search c.augment.new.self refl c.loop-amount.invariant c.in-Some.ensures
+next : (g : Over) (c : goal.After-augmented g) → IsNext c.args.state.now c.loop-found.search c.augment.new.self (c.loop-found.value + c.in-Some.found.amount)
+next g c = solving-more c.args.state.now _ c.loop-found.value c.in-Some.found c.loop-found.search c.augment.new.self refl c.loop-found.invariant c.in-Some.ensures
 
 pub overflow_add-value : goal.overflow_add-value
 overflow_add-value g c = record {
-  fits = (solving-more c.args.state.now _ c.in-Some.amount c.loop-amount.value c.loop-amount.search c.augment.new.self refl c.loop-amount.invariant c.in-Some.ensures).small;
+  fits = (solving-more c.args.state.now _ c.loop-found.value c.in-Some.found c.loop-found.search c.augment.new.self refl c.loop-found.invariant c.in-Some.ensures).small;
 }
 
-pub loop-amount-smaller : goal.loop-amount-smaller
-loop-amount-smaller g c = (next g c).falls
+pub loop-found-smaller : goal.loop-found-smaller
+loop-found-smaller g c = (next g c).falls
 
-pub loop-amount-preserved : goal.loop-amount-preserved
-loop-amount-preserved g c = (next g c).solving
+pub loop-found-preserved : goal.loop-found-preserved
+loop-found-preserved g c = (next g c).solving
 
 pub returns-clause-solved : goal.returns-clause-solved
 returns-clause-solved g c =
     let none = c.in_default.ensures in
-    solving-done c.args.state.now c.loop-amount.value c.loop-amount.search c.augment.new.self c.value-value.ensures.state c.loop-amount.invariant none.0 none.1
+    solving-done c.args.state.now c.loop-found.value c.loop-found.search c.augment.new.self c.value-value.ensures.state c.loop-found.invariant none.0 none.1

@@ -1,5 +1,5 @@
 -- A path is found, or none is left; what is sent along it, and the cut.
-use Rattle.std.proofs.Common.{◌≡◌, ◌+◌, ◌-◌, ◌%◌, ◌^◌, sym, ◌∙◌, arith, get_or}
+use Rattle.std.proofs.Common.{◌≡◌, ◌+◌, ◌-◌, ◌%◌, ◌^◌, length, sym, ◌∙◌, arith, get_or}
 use Rattle.std.specs.Vec.{with_items}
 use Rattle.std.proofs.lemmas.List.{with_items_is}
 use Rattle.dmf_path.specs.Links.{links_of}
@@ -122,8 +122,9 @@ returns c =
     let start = cut-start l c.self.inside.takes_back (sent_on w c.bottleneck-amount.result) (way_of c.cut.new.trail) c.find-found.new.rooms c.cut.new.rooms way in
     let end = cut-goal l c.self.inside.takes_back (sent_on w c.bottleneck-amount.result) (way_of c.cut.new.trail) c.find-found.new.rooms c.cut.new.rooms way in
     let rooms_cut = with_items_is (with_items c.self.inside.rooms c.find-found.new.rooms) c.cut.new.rooms (c.cut.auto.rooms ∙ c.deref_mut-5.ensures.len) in
-    rw (← c.self.view_is, rooms_cut)
-    (augments-between c.args.limit c.bottleneck-amount.result _ _ _ _
+    let links : c.len-links.result ≡ length w.slots = omega (arith, c.len-links.ensures, c.find-found.new.trail.slots.ok.0) in
+    rw (← c.self.view_is, rooms_cut, links)
+    (augments-between c.args.limit (record { amount = c.bottleneck-amount.result; links = length w.slots }) _ _ _ _
     (same-searched l c.self.inside.places.items _ _ _ _ _ _ c.self.inside.takes_back (rw c.deref_mut-3.ensures.value at c.find-found.ensures.same) c.find-found.ensures.start c.find-found.ensures.goal)
     (same-searched l c.self.inside.places.items _ _ _ _ _ _ c.self.inside.takes_back (sym cut.same) (sym start) (sym end))
     can.augments)

@@ -1,7 +1,7 @@
 use Rattle.std.proofs.Common.{ap, subst}
 use Rattle.dmf_session.specs.Timeline.{Appends}
 use Rattle.dmf_session.proofs.Optimal.{planned-optimal}
-use Rattle.dmf_session.proofs.session.Session.solve.Goals.{then-want_cut+in_ok-edit, else-want_cut+in_ok-plan_solve}
+use Rattle.dmf_session.proofs.session.Session.solve.Goals.{then-want_cut+in_ok-edit, else-want_cut+in_ok-plan_solve_watched}
 use Rattle.dmf_session.proofs.session.Session.solve.Goals as goal
 
 pub returns-clause-optimal : goal.returns-clause-optimal
@@ -16,7 +16,7 @@ returns-clause-optimal g c =
       | then-want_cut+in_ok-edit w ↦
           let plans = w.in_ok-edit.ensures.edit in
           planned-optimal law t u s w.in_ok-edit.edit present plans.fits plans.becomes plans.greatest (subst (λ e. Appends e t u) (ap (λ p. p.0) w.edit-is) appends)
-      | else-want_cut+in_ok-plan_solve w ↦
-          let plans = w.in_ok-plan_solve.ensures in
-          planned-optimal law t u s w.in_ok-plan_solve.field-0 present plans.fits plans.becomes plans.greatest (subst (λ e. Appends e t u) (ap (λ p. p.0) w.edit-is) appends)
+      | else-want_cut+in_ok-plan_solve_watched w ↦
+          let plans = w.in_ok-plan_solve_watched.ensures.edit in
+          planned-optimal law t u s w.in_ok-plan_solve_watched.field-0 present plans.fits plans.becomes plans.greatest (subst (λ e. Appends e t u) (ap (λ p. p.0) w.edit-is) appends)
     ]

@@ -7,7 +7,7 @@ use Rattle.dmf_run.specs.Run.{LineRuns}
 use Rattle.dmf_run.specs.Outcome.{RunsCommands}
 use Rattle.dmf_run.proofs.Progress.{Carried, Progress, Progress-none, Progress-more, streams}
 use Rattle.dmf_run.proofs.Endings.{Broken, RunsCommands-end, RunsCommands-refused, RunsCommands-past, RunsCommands-last, RunsCommands-write, RunsCommands-write_last}
-use Rattle.dmf_run.proofs.session.run_commands.Goals as goal
+use Rattle.dmf_run.proofs.session.run_commands_watched.Goals as goal
 
 pub loop-number-init : goal.loop-number-init
 loop-number-init g c =

@@ -2,7 +2,7 @@ use Rattle.std.proofs.Common.{[]}
 use Rattle.dmf_run.specs.Streams.{reader_of, writer_of}
 use Rattle.dmf_run.specs.Input.{input_over}
 use Rattle.dmf_run.proofs.Progress.{Progress}
-use Rattle.dmf_run.proofs.session.run_commands.Given as goal
+use Rattle.dmf_run.proofs.session.run_commands_watched.Given as goal
 
 -- the lines before this one were carried out
 abbrev pub invariant-loop-number : goal.invariant-loop-number
