@@ -84,9 +84,12 @@ def in_parallel(judge, items, size=1):
 
 
 def report(judge, items, size=1):
-    """Judges each item by a function that says what is wrong with it, if something is. Names what failed, ends with the line
-    'N passed, M failed', and gives the script's status."""
-    said = list(in_parallel(judge, items, size))
+    """Judges each item by a function that says what is wrong with it, if something is, and tells the judgements."""
+    return tell(list(in_parallel(judge, items, size)))
+
+
+def tell(said):
+    """Names what failed of these judgements, ends with the line 'N passed, M failed', and gives the script's status."""
     failed = [wrong for wrong in said if wrong]
     for wrong in failed:
         print(f"failed: {wrong}")

@@ -15,6 +15,8 @@ import sys
 import tempfile
 import time
 
+from built import tell
+
 SECONDS = 20
 PROBLEM = "an odd.max"
 # What a shell is told before it is typed to: a listing is shown at once, and whole.
@@ -133,11 +135,7 @@ def main(shell, file):
         for name in PROBLEM, "one.max":
             open(name, "w").close()
         said = [judge(shell, file, *case) for case in cases()]
-    failed = [wrong for wrong in said if wrong]
-    for wrong in failed:
-        print(f"failed: {wrong}")
-    print(f"{len(said) - len(failed)} passed, {len(failed)} failed")
-    return len(failed) > 0
+    return tell(said)
 
 
 if __name__ == "__main__":

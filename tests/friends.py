@@ -15,6 +15,7 @@ from concurrent.futures import ThreadPoolExecutor
 from random import Random
 from typing import NamedTuple
 
+from built import tell
 from oracle.problem import problem_text
 from random_cases import network
 
@@ -121,11 +122,7 @@ def main():
         said = list(pool.map(lambda item: wrong_page(folder, *item), there.items()))
         names = problems(folder)
         said += pool.map(lambda case: judge(folder, *case), [(*item, problem) for item in there.items() for problem in names])
-    failed = [wrong for wrong in said if wrong]
-    for wrong in failed:
-        print(f"failed: {wrong}")
-    print(f"{len(said) - len(failed)} passed, {len(failed)} failed")
-    return len(failed) > 0
+    return tell(said)
 
 
 sys.exit(main())

@@ -11,6 +11,8 @@ import subprocess
 import sys
 import tempfile
 
+from built import tell
+
 # What writes the problem of each picture. What is drawn is its solution with the cut.
 PICTURES = {"town": "cat examples/town.max", "water": "tools/dmf-problem Reservoir Harbour <examples/water/pipes.csv"}
 HEAD = 'digraph dmf {\n  rankdir=LR\n  node [fontname="Helvetica"]\n  edge [fontname="Helvetica", fontsize=11]\n'
@@ -20,6 +22,19 @@ UNUSED = 'color="#8f8f8f", fontcolor="#8f8f8f"'
 TWO = "p max 2 1\nn 1 s\nn 2 t\n"
 PARALLEL = "p max 3 4\nn 1 s\nn 3 t\na 1 2 2\na 1 2 3\na 2 2 9\na 2 3 4\n"
 CHAIN = "p max 5 4\nn 1 s\nn 5 t\na 1 2 9\na 2 3 1\na 3 4 9\na 4 5 9\n"
+
+
+def parallel(first, second):
+    """What is drawn of the parallel arcs, by what is said of the first two arcs."""
+    return f"""  1 [label="1", peripheries=2]
+  2 [label="2"]
+  3 [label="3", peripheries=2]
+  1 -> 2 [{first}]
+  1 -> 2 [{second}]
+  2 -> 2 [label="0/9", {UNUSED}]
+  2 -> 3 [label="3/4"]
+"""
+
 
 # What is drawn of a problem and answers: the nodes' lines and the arcs'.
 DRAWN = {
@@ -55,42 +70,21 @@ DRAWN = {
         PARALLEL,
         ["s 3\nf 1 2 0\nf 1 2 3\nf 2 2 0\nf 2 3 3\n"],
         [],
-        f"""  1 [label="1", peripheries=2]
-  2 [label="2"]
-  3 [label="3", peripheries=2]
-  1 -> 2 [label="0/2", {UNUSED}]
-  1 -> 2 [label="3/3", penwidth=2.5]
-  2 -> 2 [label="0/9", {UNUSED}]
-  2 -> 3 [label="3/4"]
-""",
+        parallel(f'label="0/2", {UNUSED}', 'label="3/3", penwidth=2.5'),
     ),
     # No such lines: 3 from 1 to 2 fill the first arc, and 1 is left for the second.
     "lines by their ends": (
         PARALLEL,
         ["f 2 3 3\nf 1 2 1\nf 1 2 2\ns 3\n"],
         [],
-        f"""  1 [label="1", peripheries=2]
-  2 [label="2"]
-  3 [label="3", peripheries=2]
-  1 -> 2 [label="2/2", penwidth=2.5]
-  1 -> 2 [label="1/3"]
-  2 -> 2 [label="0/9", {UNUSED}]
-  2 -> 3 [label="3/4"]
-""",
+        parallel('label="2/2", penwidth=2.5', 'label="1/3"'),
     ),
     # There is a line for each arc in order, but the first arc cannot carry what its line says.
     "lines in the order of the arcs, of which one is too much for its arc": (
         PARALLEL,
         ["s 3\nf 1 2 3\nf 1 2 0\nf 2 2 0\nf 2 3 3\n"],
         [],
-        f"""  1 [label="1", peripheries=2]
-  2 [label="2"]
-  3 [label="3", peripheries=2]
-  1 -> 2 [label="2/2", penwidth=2.5]
-  1 -> 2 [label="1/3"]
-  2 -> 2 [label="0/9", {UNUSED}]
-  2 -> 3 [label="3/4"]
-""",
+        parallel('label="2/2", penwidth=2.5', 'label="1/3"'),
     ),
     "nodes without arcs, more than are drawn": (
         "p max 16777216 1\nn 1 s\nn 2 t\na 5 2 3\n",
@@ -234,11 +228,7 @@ def main(words):
         said += wrong_pictures()
     else:
         print("skipped: Graphviz is not there, so no picture was made")
-    failed = [wrong for wrong in said if wrong]
-    for wrong in failed:
-        print(f"failed: {wrong}")
-    print(f"{len(said) - len(failed)} passed, {len(failed)} failed")
-    return len(failed) > 0
+    return tell(said)
 
 
 sys.exit(main(sys.argv[1:]))

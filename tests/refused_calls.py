@@ -12,6 +12,7 @@ import sys
 import tempfile
 from itertools import count
 
+from built import tell
 from oracle import changes
 from oracle.network import Arc, State
 from oracle.session import MOST_KEPT, Session
@@ -163,11 +164,7 @@ def main():
     with open(STDOUT) as file:
         said = [file.read() != ample() and "crates/dmf_calls/stdout is not what the second implementation tells"]
     said += [judge(sys.argv[1], row) for row in (1, 2)] + [judge_many(sys.argv[1])]
-    failed = [wrong for wrong in said if wrong]
-    for wrong in failed:
-        print(f"failed: {wrong}")
-    print(f"{len(said) - len(failed)} passed, {len(failed)} failed")
-    return len(failed) > 0
+    return tell(said)
 
 
 if __name__ == "__main__":
