@@ -6,6 +6,8 @@ mod calls;
 #[cfg(test)]
 mod checking;
 #[cfg(test)]
+mod commands;
+#[cfg(test)]
 mod cutting;
 #[cfg(test)]
 mod draining;

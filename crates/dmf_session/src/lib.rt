@@ -13,11 +13,7 @@ pub use whole::WholeHistory;
 
 mod command;
 mod delta;
-#[cfg(test)]
-mod delta_tests;
 mod history;
 mod laws;
 mod session;
-#[cfg(test)]
-mod tests;
 mod whole;

@@ -10,17 +10,11 @@ mod line;
 mod line_buffer;
 mod pairs;
 mod problem;
-#[cfg(test)]
-mod problem_tests;
 mod reader;
 mod reading;
 mod solution;
 mod solution_reading;
-#[cfg(test)]
-mod solution_tests;
 mod terminal;
-#[cfg(test)]
-mod tests;
 mod writer;
 mod written;
 

@@ -1,17 +1,14 @@
-use super::{SolutionFault, SolutionFaultKind, read_problem, read_solution};
+//! Tests of solution texts: what is read, and what is told of faulty ones.
+use crate::texts::{LENIENT, NETWORK_A};
 use dmf_net::State;
+use dmf_text::{SolutionFault, SolutionFaultKind, read_problem, read_solution};
 use std::alloc::Global;
 use std::test::Fail;
 
-const A: &[u8] = b"p max 4 5\nn 1 s\nn 4 t\na 1 2 3\na 1 3 2\na 2 3 5\na 2 4 2\na 3 4 3\n";
-
-const LENIENT: &[u8] =
-    b"cNote\r\n\r\np  max\t3   5\r\nn 3 t\r\nn 1 s\r\na 1 2 4\r\n  a 2 2 9\r\na 1 2 007 \r\na 2 1 6\r\na 2 3 9";
-
-// The only arc leads into the source.
+/// The only arc leads into the source.
 const BACKWARDS: &[u8] = b"p max 2 1\nn 1 s\nn 2 t\na 2 1 5\n";
 
-// Parallel arcs that can carry the largest number together, beside one of capacity 0.
+/// Parallel arcs that can carry the largest number together, beside one of capacity 0.
 const FULL: &[u8] = b"p max 2 3\nn 1 s\nn 2 t\na 1 2 18446744073709551614\na 1 2 0\na 1 2 1\n";
 
 fn state(rt: &HostRuntime, text: &[u8]) -> Result<State, Fail> {
@@ -21,7 +18,7 @@ fn state(rt: &HostRuntime, text: &[u8]) -> Result<State, Fail> {
     Ok(state)
 }
 
-// What a solution is told to be wrong, and nothing where nothing is.
+/// What a solution is told to be wrong, and nothing where nothing is.
 fn told(alloc: Global, state: &State, solution: &[u8]) -> Result<String, Fail> {
     match read_solution(alloc, solution, state) {
         Ok(_) => Ok(String::new(alloc)),
@@ -29,7 +26,7 @@ fn told(alloc: Global, state: &State, solution: &[u8]) -> Result<String, Fail> {
     }
 }
 
-// Whether the solution gives the problem's network, with just these flows and this value.
+/// Whether the solution gives the problem's network, with just these flows and this value.
 fn gives(alloc: Global, state: &State, solution: &[u8], flows: &[u64], value: u64) -> bool {
     let Ok(solved) = read_solution(alloc, solution, state) else {
         return false;
@@ -48,7 +45,7 @@ fn gives(alloc: Global, state: &State, solution: &[u8], flows: &[u64], value: u6
     true
 }
 
-/// Solution texts of [`A`], each with what is told of it.
+/// Solution texts of [`NETWORK_A`], each with what is told of it.
 const FAULTY_SOLUTIONS: [(&[u8], &str); 38] = [
     (b"", "line 1: value line missing"),
     (b"c\n\n", "line 3: value line missing"),
@@ -103,7 +100,7 @@ const FAULTY_SOLUTIONS: [(&[u8], &str); 38] = [
 
 #[test]
 fn faults_of_solutions_are_told(rt: HostRuntime) -> Result<(), Fail> {
-    let state = state(&rt, A)?;
+    let state = state(&rt, NETWORK_A)?;
     for (solution, wanted) in FAULTY_SOLUTIONS {
         let told = told(rt.alloc(), &state, solution)?;
         assert_eq!(rt; told.as_str(), wanted, "{solution:?}");
@@ -113,7 +110,7 @@ fn faults_of_solutions_are_told(rt: HostRuntime) -> Result<(), Fail> {
 
 #[test]
 fn solutions_are_read(rt: HostRuntime) -> Result<(), Fail> {
-    let state = state(&rt, A)?;
+    let state = state(&rt, NETWORK_A)?;
     let table: [(&[u8], [u64; 5], u64); 7] = [
         (
             b"f 3 4 3\ns 5\nf 1 2 3\nf 2 4 2\nf 1 3 2\nf 2 3 1\n",

@@ -1,14 +1,11 @@
-use super::tests::SlowWriter;
-use super::{ProblemFault, ProblemFaultKind, StdSink, WriteFault, read_problem, write_problem};
+//! Tests of problem texts: what is read, what is told of faulty ones, and what is written.
+use crate::slow::SlowWriter;
+use crate::texts::{LENIENT, NETWORK_A};
+use dmf_text::{ProblemFault, ProblemFaultKind, StdSink, WriteFault, read_problem, write_problem};
 use std::alloc::Global;
 use std::test::Fail;
 
-const A: &[u8] = b"p max 4 5\nn 1 s\nn 4 t\na 1 2 3\na 1 3 2\na 2 3 5\na 2 4 2\na 3 4 3\n";
-
-const LENIENT: &[u8] =
-    b"cNote\r\n\r\np  max\t3   5\r\nn 3 t\r\nn 1 s\r\na 1 2 4\r\n  a 2 2 9\r\na 1 2 007 \r\na 2 1 6\r\na 2 3 9";
-
-// The line and the number of the fault, or 0 and 0 where there is none.
+/// The line and the number of the fault, or 0 and 0 where there is none.
 fn fault_in(alloc: Global, text: &[u8]) -> (u64, u8) {
     match read_problem(alloc, text) {
         Ok(_) => (0, 0),
@@ -66,7 +63,7 @@ fn faults_are_told(rt: HostRuntime) -> Result<(), Fail> {
 
 #[test]
 fn a_cut_text_is_refused(rt: HostRuntime) -> Result<(), Fail> {
-    assert_eq!(rt; A.len(), 62);
+    assert_eq!(rt; NETWORK_A.len(), 62);
     let told = [
         (0, 1, 1),
         (1, 1, 5),
@@ -78,12 +75,12 @@ fn a_cut_text_is_refused(rt: HostRuntime) -> Result<(), Fail> {
         (62, 0, 0),
     ];
     for (len, line, number) in told {
-        if let Some(front) = A.get(..len) {
+        if let Some(front) = NETWORK_A.get(..len) {
             assert_eq!(rt; fault_in(rt.alloc(), front), (line, number), "{len} bytes");
         }
     }
     for len in 0..61 {
-        if let Some(front) = A.get(..len) {
+        if let Some(front) = NETWORK_A.get(..len) {
             assert!(rt; read_problem(rt.alloc(), front).is_err(), "{len} bytes");
         }
     }
@@ -92,9 +89,7 @@ fn a_cut_text_is_refused(rt: HostRuntime) -> Result<(), Fail> {
 
 #[test]
 fn a_lenient_text_is_read(rt: HostRuntime) -> Result<(), Fail> {
-    let text =
-        b"cNote\r\n\r\np  max\t3   5\r\nn 3 t\r\nn 1 s\r\na 1 2 4\r\n  a 2 2 9\r\na 1 2 007 \r\na 2 1 6\r\na 2 3 9";
-    let state = read_problem(rt.alloc(), text)?;
+    let state = read_problem(rt.alloc(), LENIENT)?;
     assert_eq!(rt; (state.nodes(), state.source(), state.sink()), (3, 1, 3));
     let arcs = [(1, 2, 4), (2, 2, 9), (1, 2, 7), (2, 1, 6), (2, 3, 9)];
     assert_eq!(rt; state.arcs().len(), arcs.len());

@@ -1,5 +1,6 @@
-use crate::{Command, History, Refusal, Reply, Session, WholeHistory};
-use dmf_net::{Arc, NetFault, State};
+//! Sessions by their commands: what is answered, and which states are there then.
+use dmf_net::{Arc, NetFault, State, plan_cap};
+use dmf_session::{Command, DeltaHistory, History, Refusal, Reply, Session, WholeHistory};
 use std::alloc::Global;
 use std::process::Abort;
 use std::test::Fail;
@@ -176,5 +177,23 @@ fn cuts_are_told_of_greatest_flows(rt: HostRuntime) -> Result<(), Fail> {
     ];
     expect(&rt, rt.alloc(), &mut session, &undone);
     assert_eq!(rt; (session.past(), session.future()), (0, 1));
+    Ok(())
+}
+
+#[test]
+fn changes_that_alter_nothing_are_kept(rt: HostRuntime) -> Result<(), Fail> {
+    let alloc = rt.alloc();
+    let mut state = State::new(alloc, 4, 1, 4);
+    state.push_arc(1, 2, 3)?;
+    let mut history = DeltaHistory::new(alloc, state);
+    for _ in 0..200 {
+        let edit = plan_cap(alloc, history.present(), 1, 3)?;
+        history.append(edit)?;
+    }
+    assert_eq!(rt; (history.past(), history.future()), (200, 0));
+    for _ in 0..200 {
+        history.undo()?;
+    }
+    assert_eq!(rt; (history.past(), history.future()), (0, 200));
     Ok(())
 }
