@@ -1,26 +1,36 @@
-"""What the built program tells on a terminal while it solves: how far it is, on one line that is erased before the solution comes.
-The terminal is a pseudo terminal. The problem is given in pieces with pauses between them, and the solution is not taken at once,
-so that the program reads, solves and writes after a pause each."""
+"""What the built program tells on a terminal of how far it is, on one line that is erased before anything is answered or asked for.
+The terminal is a pseudo terminal. Texts are given in pieces with pauses between them, and an answer is not taken at once, so that
+the program reads and writes after a pause; a network that takes some seconds is solved in sessions."""
 
 import os
 import pty
 import re
 import subprocess
 import sys
+import tempfile
+import termios
 import threading
 import time
 
 from built import BUILT
 
 PAUSE = 0.8
+SECONDS = 60
 ERASED = "\r\x1b[K"
-WORDS = re.compile(r"dmf: (reading|solving|writing), [^\r]*")
+WORD = re.compile(r"dmf: (?:(reading|writing), \d+ MB|(solving), value (\d+), phase (\d+), (\d+) paths)")
+SMALL = b"p max 2 1\nn 1 s\nn 2 t\na 1 2 3\n"
+SMALL_SOLUTION = b"s 3\nf 1 2 3\n"
 
 
-def feed(pipe, problem):
-    """Gives the problem in two pieces, with a pause before each and before the end."""
-    half = len(problem) // 2
-    for piece in (problem[:half], problem[half:]):
+def network(*words):
+    maker = os.path.join(os.path.dirname(os.path.abspath(__file__)), "make_network.py")
+    return subprocess.run([sys.executable, maker, *map(str, words)], capture_output=True, check=True).stdout
+
+
+def feed(pipe, text):
+    """Gives a text in two pieces, with a pause before each and before the end."""
+    half = len(text) // 2
+    for piece in (text[:half], text[half:]):
         time.sleep(PAUSE)
         pipe.write(piece)
         pipe.flush()
@@ -28,73 +38,177 @@ def feed(pipe, problem):
     pipe.close()
 
 
-def drain(file, held):
-    """Reads all that a terminal gets."""
-    while True:
-        try:
-            piece = os.read(file, 65536)
-        except OSError:  # a terminal whose other end is closed
-            return
-        if not piece:
-            return
-        held.append(piece)
+class Terminal:
+    """A terminal, and what it gets. What is typed there is not shown."""
+
+    def __init__(self):
+        self.own, self.end = pty.openpty()
+        modes = termios.tcgetattr(self.end)
+        modes[3] &= ~termios.ECHO
+        termios.tcsetattr(self.end, termios.TCSANOW, modes)
+        self.pieces = []
+        self.reader = threading.Thread(target=self.drain)
+        self.reader.start()
+
+    def drain(self):
+        while True:
+            try:
+                piece = os.read(self.own, 65536)
+            except OSError:  # the other end is closed
+                return
+            if not piece:
+                return
+            self.pieces.append(piece)
+
+    def told(self):
+        return b"".join(self.pieces).decode().replace("\r\n", "\n")
+
+    def wait_for(self, holds):
+        """Waits until something holds of what it got. Whether it came to that."""
+        until = time.monotonic() + SECONDS
+        while time.monotonic() < until:
+            if holds(self.told()):
+                return True
+            time.sleep(0.05)
+        return False
+
+    def close(self):
+        """What it got in all."""
+        os.close(self.end)
+        self.reader.join()
+        os.close(self.own)
+        return self.told()
 
 
-def solve(problem, err, out, wait):
-    """Runs a solve whose streams are these, and gives its status and what it wrote."""
-    running = subprocess.Popen([BUILT, "solve"], stdin=subprocess.PIPE, stdout=out, stderr=err)
+def on_terminal(words, text, both, wait):
+    """Runs the program where standard error is a terminal, and standard output too, or a pipe. Gives its status, what it wrote to
+    the pipe and what the terminal got."""
+    terminal = Terminal()
+    out = terminal.end if both else subprocess.PIPE
+    running = subprocess.Popen([BUILT, *words], stdin=subprocess.PIPE, stdout=out, stderr=terminal.end)
     if wait:
-        threading.Thread(target=feed, args=(running.stdin, problem)).start()
+        threading.Thread(target=feed, args=(running.stdin, text)).start()
     else:
-        running.stdin.write(problem)
+        running.stdin.write(text)
         running.stdin.close()
-    solution = b""
-    if out == subprocess.PIPE:
+    answer = b""
+    if not both:
         time.sleep(5 * PAUSE if wait else 0)
-        solution = running.stdout.read()
-    return running.wait(timeout=60), solution
+        answer = running.stdout.read()
+    status = running.wait(timeout=SECONDS)
+    return status, answer, terminal.close()
 
 
-def on_terminal(problem, both, wait):
-    """The same where standard error is a terminal, and standard output too, or a pipe. Gives what the terminal got besides."""
-    terminal, end = pty.openpty()
-    held = []
-    reader = threading.Thread(target=drain, args=(terminal, held))
-    reader.start()
-    status, solution = solve(problem, end, end if both else subprocess.PIPE, wait)
-    os.close(end)
-    reader.join()
-    os.close(terminal)
-    return status, solution, b"".join(held).decode().replace("\r\n", "\n")
+def typed(words, lines):
+    """Runs the program with all its standard streams on a terminal, at which each line is typed after a pause. Gives its status and
+    what the terminal got."""
+    terminal = Terminal()
+    running = subprocess.Popen([BUILT, *words], stdin=terminal.end, stdout=terminal.end, stderr=terminal.end)
+    for line in lines:
+        time.sleep(PAUSE)
+        os.write(terminal.own, line)
+    os.write(terminal.own, b"\x04")
+    return running.wait(timeout=SECONDS), terminal.close()
+
+
+def words_of(told):
+    """The words of a text of which nothing else is left: each stands on an erased line, and the last is erased."""
+    pieces = told.split(ERASED)
+    words = [WORD.fullmatch(piece) for piece in pieces if piece]
+    return [] if pieces[0] or pieces[-1] or not all(words) else words
+
+
+def tasks_of(told):
+    """What the words tell of, in their order, each once."""
+    return [*dict.fromkeys(word[1] or word[2] for word in words_of(told))]
+
+
+def solves_of(told):
+    """The words of each solve: value, phase and paths. A solve begins with fewer paths than the one before had."""
+    solves = []
+    for word in words_of(told):
+        far = tuple(map(int, word.groups()[2:]))
+        if not solves or far[2] < solves[-1][-1][2]:
+            solves.append([])
+        solves[-1].append(far)
+    return solves
+
+
+def is_on_its_way(solve):
+    """Whether values, phases and paths never fall, and there is a path or more for each phase, and a unit for each path."""
+    return all(
+        all(a <= b for a, b in zip(one, next)) for one, next in zip(solve, solve[1:])
+    ) and all(1 <= phase <= paths <= value for value, phase, paths in solve)
+
+
+def expect_of_solve(expect):
+    problem = network(64, 60, 3, 100, 1990)
+    piped = subprocess.run([BUILT, "solve"], input=problem, capture_output=True)
+    expect("nothing is told where standard error is no terminal", (piped.returncode, piped.stderr) == (0, b""))
+    status, solution, told = on_terminal(["solve"], problem, both=False, wait=True)
+    expect("a slow solve on a terminal writes the same solution", (status, solution) == (0, piped.stdout))
+    expect("it tells that it reads, solves and writes, and erases that", tasks_of(told) == ["reading", "solving", "writing"])
+    status, _, told = on_terminal(["solve"], problem, both=True, wait=True)
+    told, _, solution = told.rpartition(ERASED)
+    expect("on one terminal the line is erased before the solution", (status, solution.encode()) == (0, piped.stdout))
+    expect("nothing is told there while it writes", tasks_of(told + ERASED) == ["reading", "solving"])
+    status, solution, told = on_terminal(["solve"], SMALL, both=False, wait=False)
+    expect("a quick solve tells nothing", (status, solution, told) == (0, SMALL_SOLUTION, ""))
+    status, solution, told = on_terminal(["solve"], problem[:-2] + b"x\n", both=False, wait=True)
+    fault = told.rpartition(ERASED)[2]
+    expect("a fault is told on a line of its own", status == 3 and fault.startswith("dmf: line ") and solution == b"")
+
+
+def expect_of_sessions(expect):
+    with open("long.max", "wb") as file:
+        file.write(network(100, 800, 3, 1000, 1990))
+    with open("small.max", "wb") as file:
+        file.write(SMALL)
+    commands = b"solve\nundo\nsolve\n"
+    piped = subprocess.run([BUILT, "session", "long.max"], input=commands, capture_output=True)
+    expect("a session tells nothing where standard error is no terminal", (piped.returncode, piped.stderr) == (0, b""))
+    status, replies, told = on_terminal(["session", "long.max"], commands, both=False, wait=False)
+    solves = solves_of(told)
+    expect("a session on a terminal writes the same replies", (status, replies) == (0, piped.stdout))
+    expect("it tells of each long solve, from its first path on", len(solves) == 2 and all(map(is_on_its_way, solves)))
+    status, told = typed(["session", "long.max"], [commands])
+    told, _, last = told.rpartition(ERASED)
+    expect("on one terminal the line is erased before each reply", status == 0 and piped.stdout.endswith(last.encode()))
+    expect("and the replies there are the same", WORD.sub("", told).replace(ERASED, "").encode() + last.encode() == piped.stdout)
+    status, told = typed(["session", "small.max"], [b"so", b"lve\n", b"print flow\n"])
+    expect("a session that only waits tells nothing", (status, told.encode()) == (0, 2 * SMALL_SOLUTION))
+
+
+def expect_of_slow_texts(expect):
+    os.mkfifo("slow.max")
+    terminal = Terminal()
+    words = [BUILT, "session", "slow.max"]
+    running = subprocess.Popen(words, stdin=subprocess.PIPE, stdout=subprocess.PIPE, stderr=terminal.end)
+    feed(open("slow.max", "wb"), SMALL)
+    read = terminal.wait_for(lambda told: tasks_of(told) == ["reading"])
+    expect("what a session told of its problem is erased before it waits for commands", read)
+    out, _ = running.communicate(b"solve\n", timeout=SECONDS)
+    expect("and it goes on", (running.returncode, out, tasks_of(terminal.close())) == (0, SMALL_SOLUTION, ["reading"]))
+    status, verdict, told = on_terminal(["check", "small.max"], SMALL_SOLUTION, both=False, wait=True)
+    expect("a check tells that it reads", (status, verdict, tasks_of(told)) == (0, b"c greatest 3\n", ["reading"]))
 
 
 def main():
-    maker = os.path.join(os.path.dirname(os.path.abspath(__file__)), "make_network.py")
-    problem = subprocess.run([sys.executable, maker, "64", "60", "3", "100", "1990"], capture_output=True, check=True).stdout
-    piped = subprocess.run([BUILT, "solve"], input=problem, capture_output=True)
-    wrong = []
+    said = []
 
     def expect(name, holds):
+        said.append(holds)
         if not holds:
-            wrong.append(name)
+            print(f"failed: {name}")
 
-    expect("nothing is told where standard error is no terminal", (piped.returncode, piped.stderr) == (0, b""))
-    status, solution, told = on_terminal(problem, both=False, wait=True)
-    expect("a slow solve on a terminal writes the same solution", (status, solution) == (0, piped.stdout))
-    expect("it tells that it reads, solves and writes", [*dict.fromkeys(WORDS.findall(told))] == ["reading", "solving", "writing"])
-    expect("each word is erased", told.endswith(ERASED) and not WORDS.sub("", told).replace(ERASED, ""))
-    status, _, told = on_terminal(problem, both=True, wait=True)
-    expect("on one terminal the line is erased before the solution", told.rpartition(ERASED)[2].encode() == piped.stdout)
-    expect("nothing is told there while it writes", {*WORDS.findall(told)} == {"reading", "solving"} and status == 0)
-    status, solution, told = on_terminal(b"p max 2 1\nn 1 s\nn 2 t\na 1 2 3\n", both=False, wait=False)
-    expect("a quick solve tells nothing", (status, solution, told) == (0, b"s 3\nf 1 2 3\n", ""))
-    status, solution, told = on_terminal(problem[:-2] + b"x\n", both=False, wait=True)
-    fault = told.rpartition(ERASED)[2]
-    expect("a fault is told on a line of its own", status == 3 and fault.startswith("dmf: line ") and solution == b"")
-    for name in wrong:
-        print(f"failed: {name}")
-    print(f"{8 - len(wrong)} passed, {len(wrong)} failed")
-    return len(wrong) > 0
+    with tempfile.TemporaryDirectory() as folder:
+        os.chdir(folder)
+        expect_of_solve(expect)
+        expect_of_sessions(expect)
+        expect_of_slow_texts(expect)
+        os.chdir("/")
+    print(f"{said.count(True)} passed, {said.count(False)} failed")
+    return not all(said)
 
 
 if __name__ == "__main__":

@@ -38,7 +38,7 @@ try dmf-names 0 \
 try dmf-names 1 $'value 1\n' $'dmf-names: line 2 of the answer: not a number\n' "$work/problem.max" <<<$'s 1\nf 1 2 x'
 printf 'p max 2 1\na 1 2\n' >"$work/faulty.max"
 try dmf-names 1 "" $'dmf-names: line 2 of the problem: wrong number of fields\n' "$work/faulty.max" </dev/null
-try dmf-names 1 "" "dmf-names: [Errno 2] No such file or directory: '$work/missing'"$'\n' "$work/missing" </dev/null
+try dmf-names 1 "" "dmf-names: cannot read $work/missing: No such file or directory"$'\n' "$work/missing" </dev/null
 try dmf-names 2 "" "$(tools/dmf-names --help)"$'\n' </dev/null
 
 finish
