@@ -211,7 +211,10 @@ def command_lines(state, random):
     """A script of commands. Most of them can be carried out."""
     count = random.choice([3, 8, 20, 60, 200])
     odd_share = random.choice([0, 0.02, 0.3])
-    words = random.choices([*FIELDS, b"print"], [5, 3, 1, 0.5, 4, 2, 2, 2, random.randrange(9)], k=random.randint(1, count))
+    # A session keeps what it solves over from change to change, but not over an addition or a step back: some scripts have few.
+    rest = random.choice([1, 1, 0.1])
+    weights = [5, 3 * rest, 1, 0.5, 4, 2 * rest, 2 * rest, 2, random.randrange(9)]
+    words = random.choices([*FIELDS, b"print"], weights, k=random.randint(1, count))
     arc_count = len(state.arcs)
     lines = []
     for word in words:

@@ -108,6 +108,13 @@ appends-past edit t s present full =
           ∙ sym (within_bound-past (extended t (applied edit s)) (omega (arith, full)));
     }
 
+-- What was planned on the present state and appended is the present state.
+pub now-present : (t u : Timeline) (s p : NetworkState) (edit : Edit) → IsPresent t s → Appends edit t u → IsPresent u p → p ≡ applied edit s
+now-present t u s p edit present appends shown =
+    let same : appends.state ≡ s = one-present t appends.state s appends.present present in
+    let gives : u ≡ appended t (applied edit s) = appends.gives ∙ ap (λ x. appended t (applied edit x)) same in
+    one-present (appended t (applied edit s)) p (applied edit s) (subst (λ v. IsPresent v p) gives shown) (appended-present t (applied edit s) (slice_get_within t.states t.place s present))
+
 -- A change that was planned on the present state and appended; the reply tells of the state that is present then.
 IsChanged-told : (t u : Timeline) (s p : NetworkState) (edit : Edit) (change : Change) (reply : NetworkState → Reply) (told : Reply) → t.place < length t.states → IsPresent t s → Becomes s change (applied edit s) → Appends edit t u → IsPresent u p → told ≡ reply p → IsChanged t s change reply (Ok told) u
 IsChanged-told t u s p edit change reply told within present becomes appends shown tells =

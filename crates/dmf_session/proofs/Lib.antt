@@ -4,3 +4,4 @@ pub mod Answering
 pub mod OneAnswer
 pub mod Edits
 pub mod Undoing
+pub mod Keeping

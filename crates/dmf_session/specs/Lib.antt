@@ -1,4 +1,5 @@
 pub mod Timeline
+pub mod Kept
 pub mod Delta
 pub mod Optimal
 pub mod Step

@@ -1,29 +1,38 @@
-ghost use Rattle.std.specs.Prelude.{◌≡◌, ◌≤◌, Bool, OnOk};
+ghost use Rattle.std.specs.Prelude.{◌≡◌, ◌≤◌, Bool, Some, IfOk, IsOkUnless, OnOk, OnErr};
 ghost use Rattle.dmf_session.specs.declared.command.Command.TheVariants.{Cap, Add, Close, Shut, Solve, Undo, Redo, PrintCut};
-ghost use Rattle.dmf_session.specs.Timeline.{IsTimeline, IsPresent, future_of, back};
-ghost use Rattle.dmf_session.specs.Step.{Answers};
+ghost use Rattle.dmf_session.specs.Timeline.{IsTimeline, IsPresent, future_of, back, FitsPresent, Appends};
+ghost use Rattle.dmf_session.specs.Step.{Answers, IsSideWanted};
+ghost use Rattle.dmf_session.specs.Kept.{KeepsPresent, KeepsApplied};
+ghost use Rattle.dmf_net.specs.ResidualNetwork.{IsResidualOf};
+ghost use Rattle.dmf_net.specs.Edit.{applied};
+ghost use Rattle.dmf_net.specs.Planning.{PlansSolve};
 ghost use Rattle.dmf_session.specs.Optimal.{HasOptimalPresent};
 
 use crate::command::{Command, Refusal, Reply};
 use crate::history::{History, RedoFault};
 use crate::laws::greatest_is_optimal;
 use dmf_net::{
-    State, Unwatched, Watch, plan_add, plan_cap, plan_close, plan_shut, plan_solve_watched,
-    plan_solve_with_side_watched, smallest_side,
+    Edit, NoMemory, PlanFault, ResidualNetwork, Side, State, Unwatched, Watch, plan_add, plan_cap,
+    plan_close, plan_shut, smallest_side,
 };
 use std::alloc::Global;
 use std::marker::Model;
 
 /// A network that is changed by commands, over the history that keeps its states.
 #[derive(Drop)]
-pub struct Session<H> {
+pub struct Session<H: History> {
     history: H,
+    kept: Option<ResidualNetwork>,
 }
 
-impl<H> Model for Session<H> {
+impl<H: History> Model for Session<H> {
+    ghost use Rattle.dmf_session.specs.Kept.{KeepsPresent};
+
     ghost Value = { H };
 
     ghost view = { λ s. s.history };
+
+    ghost invariant = { λ s. KeepsPresent (H.timeline s.history) s.kept };
 }
 
 impl<H: History> Session<H> {
@@ -31,7 +40,10 @@ impl<H: History> Session<H> {
     pub fn new(history: H) -> Self
         ensures { result ≡ history }
     {
-        Session { history }
+        Session {
+            history,
+            kept: None,
+        }
     }
 
     /// The present state.
@@ -112,34 +124,34 @@ impl<H: History> Session<H> {
     fn cap(&mut self, alloc: Global, arc: u64, cap: u64) -> Result<Reply, Refusal>
         ensures { (want_cut : Bool) → Answers want_cut (H.timeline self.old) (Cap arc cap) result (H.timeline self.new) }
     {
-        let edit = plan_cap(alloc, self.history.present(), arc, cap)?;
-        self.history.append(edit)?;
-        Ok(Reply::Value(self.history.present().value()))
+        let edit = plan_cap(alloc, self.present(), arc, cap)?;
+        self.change(edit)?;
+        Ok(Reply::Value(self.present().value()))
     }
 
     fn add(&mut self, tail: u64, head: u64, cap: u64) -> Result<Reply, Refusal>
         ensures { (want_cut : Bool) → Answers want_cut (H.timeline self.old) (Add tail head cap) result (H.timeline self.new) }
     {
-        let edit = plan_add(self.history.present(), tail, head, cap)?;
-        self.history.append(edit)?;
-        let present = self.history.present();
+        let edit = plan_add(self.present(), tail, head, cap)?;
+        self.change(edit)?;
+        let present = self.present();
         Ok(Reply::Added(present.arcs().len() as u32, present.value()))
     }
 
     fn close(&mut self, alloc: Global, arc: u64) -> Result<Reply, Refusal>
         ensures { (want_cut : Bool) → Answers want_cut (H.timeline self.old) (Close arc) result (H.timeline self.new) }
     {
-        let edit = plan_close(alloc, self.history.present(), arc)?;
-        self.history.append(edit)?;
-        Ok(Reply::Value(self.history.present().value()))
+        let edit = plan_close(alloc, self.present(), arc)?;
+        self.change(edit)?;
+        Ok(Reply::Value(self.present().value()))
     }
 
     fn shut(&mut self, alloc: Global, node: u64) -> Result<Reply, Refusal>
         ensures { (want_cut : Bool) → Answers want_cut (H.timeline self.old) (Shut node) result (H.timeline self.new) }
     {
-        let edit = plan_shut(alloc, self.history.present(), node)?;
-        self.history.append(edit)?;
-        Ok(Reply::Value(self.history.present().value()))
+        let edit = plan_shut(alloc, self.present(), node)?;
+        self.change(edit)?;
+        Ok(Reply::Value(self.present().value()))
     }
 
     // A side that is wanted is made before the solve is recorded: where memory is refused for it, nothing has changed.
@@ -153,46 +165,85 @@ impl<H: History> Session<H> {
         ensures optimal { OnOk result (HasOptimalPresent (H.timeline self.new)) }
     {
         greatest_is_optimal();
-        let present = self.history.present();
-        let (edit, side) = if want_cut {
-            let (edit, side) = plan_solve_with_side_watched(alloc, present, watch)?;
-            (edit, Some(side))
-        } else {
-            (plan_solve_watched(alloc, present, watch)?, None)
-        };
-        self.history.append(edit)?;
+        let network = self.take_network(alloc)?;
+        let (edit, side, solved) = plan_wanted(network, alloc, self.present(), want_cut, watch)?;
+        self.append(edit, Some(solved))?;
         Ok(Reply::Solution(side))
     }
 
     fn cut(&self, alloc: Global) -> Result<Reply, Refusal>
         ensures { (want_cut : Bool) → Answers want_cut (H.timeline self.now) PrintCut result (H.timeline self.now) }
     {
-        Ok(Reply::Cut(smallest_side(alloc, self.history.present())?))
+        let present = self.history.present();
+        let side = match &self.kept {
+            Some(network) => network.smallest_side(alloc, present)?,
+            None => smallest_side(alloc, present)?,
+        };
+        Ok(Reply::Cut(side))
     }
 
     fn undo(&mut self, steps: u64) -> Result<Reply, Refusal>
         ensures { (want_cut : Bool) → Answers want_cut (H.timeline self.old) (Undo steps) result (H.timeline self.new) }
     {
-        if steps > u64::from(self.history.past()) {
+        if steps > u64::from(self.past()) {
             return Err(Refusal::NothingToUndo);
         }
         self.go_back(steps as u32);
-        Ok(Reply::Value(self.history.present().value()))
+        Ok(Reply::Value(self.present().value()))
     }
 
     fn redo(&mut self, steps: u64) -> Result<Reply, Refusal>
         ensures { (want_cut : Bool) → Answers want_cut (H.timeline self.old) (Redo steps) result (H.timeline self.new) }
     {
-        if steps > u64::from(self.history.future()) {
+        if steps > u64::from(self.future()) {
             return Err(Refusal::NothingToRedo);
         }
         for taken in 0..steps as u32 {
+            self.kept = None;
             if let Err(_) = self.history.redo() {
                 self.go_back(taken);
                 return Err(Refusal::NoMemory);
             }
         }
-        Ok(Reply::Value(self.history.present().value()))
+        Ok(Reply::Value(self.present().value()))
+    }
+
+    /// Makes the change of an edit that fits the present state. A kept network follows it where it can.
+    fn change(&mut self, edit: Edit) -> Result<(), NoMemory>
+        requires fits { FitsPresent edit (H.timeline self.old) }
+        ensures ok { OnOk result (Appends edit (H.timeline self.old) (H.timeline self.new)) }
+        ensures err { OnErr result (H.timeline self.new ≡ H.timeline self.old) }
+    {
+        let kept = match self.kept.take() {
+            Some(network) => network.follow(self.history.present(), &edit),
+            None => None,
+        };
+        self.append(edit, kept)
+    }
+
+    /// Appends what an edit makes of the present state, and keeps this network, which is that of the new state. Where memory
+    /// is refused, none is kept.
+    fn append(&mut self, edit: Edit, kept: Option<ResidualNetwork>) -> Result<(), NoMemory>
+        requires fits { FitsPresent edit (H.timeline self.old) }
+        requires kept { KeepsApplied edit (H.timeline self.old) kept }
+        ensures ok { OnOk result (Appends edit (H.timeline self.old) (H.timeline self.new)) }
+        ensures err { OnErr result (H.timeline self.new ≡ H.timeline self.old) }
+    {
+        self.kept = None;
+        self.history.append(edit)?;
+        self.kept = kept;
+        Ok(())
+    }
+
+    /// The residual network of the present state: the one that is kept, which is then let go, or else a new one.
+    fn take_network(&mut self, alloc: Global) -> Result<ResidualNetwork, NoMemory>
+        ensures unchanged { self.new ≡ self.old }
+        ensures network { IfOk result (λ network. KeepsPresent (H.timeline self.old) (Some network)) }
+    {
+        match self.kept.take() {
+            Some(network) => Ok(network),
+            None => ResidualNetwork::new(alloc, self.history.present()),
+        }
     }
 
     /// Goes so many states back.
@@ -201,7 +252,32 @@ impl<H: History> Session<H> {
         ensures { H.timeline self.new ≡ back (H.timeline self.old) steps }
     {
         for _ in 0..steps {
+            self.kept = None;
             let _ = self.history.undo();
         }
+    }
+}
+
+/// Plans a solve of the state along its residual network, with the smallest side where it is wanted, and gives the network
+/// of the solved state.
+fn plan_wanted<W: Watch>(
+    network: ResidualNetwork,
+    alloc: Global,
+    state: &State,
+    want_cut: bool,
+    watch: &mut W,
+) -> Result<(Edit, Option<Side>, ResidualNetwork), PlanFault>
+    requires { IsResidualOf state.now network }
+    ensures refused { IsOkUnless result PlanFault.NoMemory }
+    ensures edit { IfOk result (λ planned. PlansSolve state.now planned.0) }
+    ensures side { IfOk result (λ planned. IsSideWanted want_cut state.now.network planned.1) }
+    ensures kept { IfOk result (λ planned. IsResidualOf (applied planned.0 state.now) planned.2) }
+{
+    if want_cut {
+        let (edit, side, solved) = network.plan_solve_with_side(alloc, state, watch)?;
+        Ok((edit, Some(side), solved))
+    } else {
+        let (edit, solved) = network.plan_solve(alloc, state, watch)?;
+        Ok((edit, None, solved))
     }
 }

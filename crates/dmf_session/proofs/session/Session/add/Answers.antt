@@ -2,8 +2,7 @@ use Rattle.std.proofs.Common.{length, ap, subst, Ok, MatchOption}
 use Rattle.dmf_net.specs.NetworkState.{NetworkState}
 use Rattle.dmf_net.specs.Change as change
 use Rattle.dmf_session.specs.declared.command.Reply.TheVariants.{Added}
-use Rattle.dmf_session.specs.Timeline.{IsPresent}
-use Rattle.dmf_session.specs.Step.{Changes, IsChanged, IsRefused, refusal_of, value_of}
+use Rattle.dmf_session.specs.Step.{IsChanged, IsRefused, refusal_of, value_of}
 use Rattle.dmf_session.proofs.Appending.{IsChanged-added}
 use Rattle.dmf_session.proofs.session.Session.add.Goals as goal
 
@@ -14,7 +13,7 @@ returns g c want_cut =
     let s = c.present.result.now in
     let reply = λ (new : NetworkState). Added (length new.network.arcs) (value_of new) in
     let result = Ok (Added (length c.arcs.result.now) c.value.result) in
-    let u = timeline c.append.new.self in
-    let changed = IsChanged-added (timeline c.self.inside.history) u s _ c.in_ok-edit.edit addition _ _ c.present.ensures.timeline.place c.present.ensures.state c.in_ok-edit.ensures.becomes c.in_ok-append.ensures.ok c.present-present.ensures.state (ap length c.arcs.ensures.value) c.value.ensures.value in
-    subst (λ h. (x : NetworkState) × IsPresent (timeline h) x × Changes (timeline h) x addition reply result u) c.self.view_is
-    (s, c.present.ensures.state, subst (λ o. MatchOption o (IsChanged (timeline c.self.inside.history) s addition reply result u) (λ fault. IsRefused (timeline c.self.inside.history) (refusal_of fault) result u)) c.in_ok-edit.ensures.refused changed)
+    let t = timeline c.args.self.now in
+    let u = timeline c.change.new.self in
+    let changed = IsChanged-added t u s _ c.in_ok-edit.edit addition _ _ c.present.ensures.timeline.place c.present.ensures.state c.in_ok-edit.ensures.becomes c.in_ok-change.ensures.ok c.present-present.ensures.state (ap length c.arcs.ensures.value) c.value.ensures.value in
+    (s, c.present.ensures.state, subst (λ o. MatchOption o (IsChanged t s addition reply result u) (λ fault. IsRefused t (refusal_of fault) result u)) c.in_ok-edit.ensures.refused changed)
