@@ -10,6 +10,10 @@ pub mod Running
 pub mod OneRun
 pub mod OptimalRuns
 pub mod Table
+pub mod WordWalk
+pub mod BoundLemmas
+pub mod SessionWords
+pub mod SessionOrders
 pub mod Reading
 pub mod CommandLemmas
 pub mod NeverForgotten

@@ -3,7 +3,7 @@ use Rattle.std.proofs.Common.{ℕ, ◌≡◌, ◌≢◌, ◌⊎◌, ◌∙◌, a
 use Rattle.clap.specs.Kinds.{Kinds, IsAmong}
 use Rattle.clap.specs.Values.{bool_text}
 use Rattle.clap.specs.declared.error.kind.ErrorKind.{ErrorKind}
-use Rattle.clap.specs.declared.error.kind.ErrorKind.TheVariants.{DisplayHelp, DisplayVersion, UnknownArgument, InvalidSubcommand, MissingRequiredArgument, OutOfMemory}
+use Rattle.clap.specs.declared.error.kind.ErrorKind.TheVariants.{DisplayHelp, DisplayVersion, UnknownArgument, InvalidSubcommand, MissingRequiredArgument, OutOfMemory, ValueValidation}
 use Rattle.dmf_run.specs.declared.words.Mode.{Mode}
 use Rattle.dmf_run.specs.declared.words.WordsFault.{WordsFault}
 use Rattle.dmf_run.specs.declared.words.WordsFault.TheVariants.{NoMemory}
@@ -11,6 +11,7 @@ use Rattle.dmf_run.specs.Matches.{Asked, asked_of}
 use Rattle.clap.specs.Words.{Row, first_of, one_of}
 use Rattle.dmf_run.specs.Words.{Text, Gives, IsBound, IsHelp, IsUsage, IsVersion, ReadsWords, solving, holding, checking}
 use Rattle.dmf_run.proofs.Table.{faults_in, asked_in, most_text, history_alone_refused, solve_history_refused, check_history_refused, nothing_taken, nothing_asked, solve_taken, solve_asked, solve_cut_taken, solve_cut_asked, session_taken, session_asked, cut_first_taken, cut_first_asked, cut_last_taken, cut_last_asked, check_taken, check_asked, help_asked, solve_help_asked, session_help_asked, check_help_asked, version_asked, cut_alone_refused, session_alone_refused, check_alone_refused, solve_path_refused, session_second_refused, check_second_refused, check_cut_refused, unknown_refused}
+use Rattle.dmf_run.proofs.SessionOrders.{cut_history_asks, history_asks, no_bound_refused}
 
 -- a list of no kinds has no first one
 no_kinds : {k : ErrorKind} {ks : Kinds} → [] ≡ k ∷ ks → ⊥
@@ -46,6 +47,18 @@ module _ (words : List Text) (asked : Asked) (result : Result Mode WordsFault)
       | inl first ↦ session true most_text 1000000 path (finds _ _ first (cut_first_asked path plain)) most-bound
       | inr last ↦ session true most_text 1000000 path (finds _ _ last (cut_last_asked path plain)) most-bound
     ];
+    session_history = λ text path bound written plain is. elim is [
+      | inl first ↦
+          let asks = history_asks text path bound _ written plain (inl refl) in
+          session false text bound path (finds _ _ first asks.asked) written
+      | inr last ↦
+          let asks = history_asks text path bound _ written plain (inr refl) in
+          session false text bound path (finds _ _ last asks.asked) written
+    ];
+    session_cut_history = λ text path bound rest written plain order is.
+        let asks = cut_history_asks text path bound rest written plain order in
+        session true text bound path (finds _ _ is asks.asked) written;
+    no_bound = λ text path word plain none is. absurd (untaken _ is (no_bound_refused text path word plain none));
     check = λ path plain is. check None None path (finds _ _ is (check_asked path plain));
     help = λ is. absurd (untaken _ is help_asked);
     solve_help = λ is. absurd (untaken _ is solve_help_asked);
@@ -111,6 +124,9 @@ module _ (words : List Text) (kind : ErrorKind) (fault : WordsFault)
   missing : (row : List Text) → words ≡ row → faults_in row ≡ MissingRequiredArgument ∷ [] → IsUsage fault
   missing row = refused row MissingRequiredArgument (λ e. cc) (λ e. cc)
 
+  not_valid : (row : List Text) → words ≡ row → faults_in row ≡ ValueValidation ∷ [] → IsUsage fault
+  not_valid row = refused row ValueValidation (λ e. cc) (λ e. cc)
+
   unknown : (row : List Text) → words ≡ row → faults_in row ≡ UnknownArgument ∷ InvalidSubcommand ∷ [] → IsUsage fault
   unknown row is known = elim among [
     | inl no_memory ↦ subst IsUsage (sym (memory no_memory)) tt
@@ -131,6 +147,13 @@ module _ (words : List Text) (kind : ErrorKind) (fault : WordsFault)
       | inl first ↦ short _ first (cut_first_taken path plain)
       | inr last ↦ short _ last (cut_last_taken path plain)
     ];
+    session_history = λ text path bound written plain is. elim is [
+      | inl first ↦ short _ first (history_asks text path bound _ written plain (inl refl)).taken
+      | inr last ↦ short _ last (history_asks text path bound _ written plain (inr refl)).taken
+    ];
+    session_cut_history = λ text path bound rest written plain order is.
+        short _ is (cut_history_asks text path bound rest written plain order).taken;
+    no_bound = λ text path word plain none is. not_valid _ is (no_bound_refused text path word plain none);
     check = λ path plain is. short _ is (check_taken path plain);
     help = λ is. helped _ is help_asked;
     solve_help = λ is. helped _ is solve_help_asked;

@@ -1,6 +1,6 @@
 -- The words of the command line: what they ask for.
 -- Public: a public contract says no more than this.
-use Rattle.std.specs.Prelude.{ℕ, ◌≡◌, ◌≢◌, ◌⊎◌, ◌==◌, ◌≤◌, Bool, true, false, List, [], ◌∷◌, Result, MatchResult, IsErrAnd, codes, ⊤}
+use Rattle.std.specs.Prelude.{ℕ, ◌≡◌, ◌≢◌, ◌⊎◌, ◌==◌, ◌≤◌, Bool, true, false, List, [], ◌∷◌, ◌++◌, Result, MatchResult, IsErrAnd, codes, ⊤}
 use Rattle.std.specs.Str.Parse.{IsNumeral, digits_value, without_leading_plus}
 use Rattle.dmf_run.specs.declared.words.Mode.{Mode}
 use Rattle.dmf_run.specs.declared.words.Mode.TheVariants as mode
@@ -81,6 +81,11 @@ pub record IsNoCommand (word : Text) : Type 0 where
   pub check : word ≢ codes "check"
   pub help : word ≢ codes "help"
 
+-- The words are those of the three lists, one behind another, in any order.
+abbrev pub InAnyOrder : List Text → List Text → List Text → List Text → Type 0
+InAnyOrder a b c words = (words ≡ a ++ b ++ c) ⊎ (words ≡ a ++ c ++ b) ⊎ (words ≡ b ++ a ++ c) ⊎ (words ≡ b ++ c ++ a)
+    ⊎ (words ≡ c ++ a ++ b) ⊎ (words ≡ c ++ b ++ a)
+
 -- What reading gives, by the words behind the program's name. The path of a problem is any word that does not begin with
 -- a dash. The bound of a session's history is 1,000,000 where none is written.
 pub record ReadsWords (words : List Text) (result : Result Mode WordsFault) : Type 0 where
@@ -91,6 +96,14 @@ pub record ReadsWords (words : List Text) (result : Result Mode WordsFault) : Ty
   pub session_cut : (path : Text) → IsPlain path
       → (words ≡ codes "session" ∷ codes "--cut" ∷ path ∷ []) ⊎ (words ≡ codes "session" ∷ path ∷ codes "--cut" ∷ [])
       → Gives (holding true 1000000 path) result
+  pub session_history : (text path : Text) (bound : ℕ) → IsBound text bound → IsPlain path
+      → (words ≡ codes "session" ∷ codes "--history" ∷ text ∷ path ∷ []) ⊎ (words ≡ codes "session" ∷ path ∷ codes "--history" ∷ text ∷ [])
+      → Gives (holding false bound path) result
+  pub session_cut_history : (text path : Text) (bound : ℕ) (rest : List Text) → IsBound text bound → IsPlain path
+      → InAnyOrder (codes "--cut" ∷ []) (codes "--history" ∷ text ∷ []) (path ∷ []) rest → words ≡ codes "session" ∷ rest
+      → Gives (holding true bound path) result
+  pub no_bound : (text path : Text) → IsPlain text → IsPlain path → ((bound : ℕ) → IsBound text bound → ⊥)
+      → words ≡ codes "session" ∷ codes "--history" ∷ text ∷ path ∷ [] → GivesUsage result
   pub check : (path : Text) → IsPlain path → words ≡ codes "check" ∷ path ∷ [] → Gives (checking path) result
   pub help : words ≡ codes "--help" ∷ [] → GivesHelp result
   pub solve_help : words ≡ codes "solve" ∷ codes "--help" ∷ [] → GivesHelp result

@@ -1,0 +1,181 @@
+-- What the parser makes of the words behind `session`.
+use Rattle.std.proofs.Common.{ℕ, ◌≡◌, ◌∙◌, ap, ap₂, sym, refl, Bool, true, false, List, [], ◌∷◌, Option, Some, None, codes, find, is_some, unwrap_or}
+use Rattle.std.specs.Prelude.{◌&&◌, if◌then◌else◌}
+use Rattle.clap.specs.Kinds.{Kinds, or_else}
+use Rattle.clap.specs.Faults.{check_fault, defaults_fault, entered_fault, level_fault, settle_fault, step_fault, turn_fault, use_fault, walk_fault}
+use Rattle.clap.specs.Simple.{Shape, built, entered, help_rule, help_shape, label_of, names_of, rows_at}
+use Rattle.clap.specs.Walk.{Held, Row, Rule, Step, Walk, after_step, answers_to, arg_by_id, finished, has_row, idle, nothing_held, option, settled, settled_rows, used, walk, walk_from}
+use Rattle.clap.specs.declared.error.kind.ErrorKind.{ErrorKind}
+use Rattle.clap.specs.declared.error.kind.ErrorKind.TheVariants.{ArgumentConflict, ValueValidation}
+use Rattle.clap.proofs.FaultLemmas.{past, stopped_fault}
+use Rattle.clap.proofs.OnLiterals.{clap_on_literals}
+use Rattle.clap.proofs.WalkLemmas.{walk_stopped}
+use Rattle.dmf_run.specs.Matches.{asked_of, arguments}
+use Rattle.dmf_run.specs.Words.{Text}
+use Rattle.dmf_run.proofs.Table.{faults_in, asked_in}
+use Rattle.dmf_run.proofs.BoundLemmas.{passes}
+use Rattle.dmf_run.proofs.WordWalk.{Goes, IsWord, Turn, fault_behind, fault_here, clean_idle, clean_option, met_idle, met_option, standing}
+
+-- the command `session`, as the parser built it
+abbrev pub session_shape : Shape
+session_shape = unwrap_or (find (λ s. answers_to (codes "session") (label_of s)) (built arguments).subs) help_shape
+
+abbrev pub session_rules : List Rule
+session_rules = session_shape.rules
+
+abbrev pub start : Walk
+start = walk_from nothing_held
+
+-- the walk over the program's own words stops at `session`
+session_stops : (rest : List Text)
+    → ◌≡◌ {A = Walk} (record start { stopped = Some (codes "session", rest) }) (walk (built arguments).top.rules (names_of (built arguments)) nothing_held (codes "session" ∷ rest))
+unfolding clap_on_literals
+session_stops rest = walk_stopped (built arguments).top.rules (names_of (built arguments)) start (codes "session") [] rest
+
+asked_below : (rest : List Text) → asked_in (codes "session" ∷ rest) ≡ asked_of (Some (rows_at session_shape rest))
+asked_below rest = ap (λ (w : Walk). asked_of (entered (built arguments) w.stopped)) (sym (session_stops rest))
+
+or_nothing : (kinds : Kinds) → or_else kinds [] ≡ kinds
+or_nothing [] = refl
+or_nothing (k ∷ ks) = refl
+
+no_fault_above : (rest : List Text)
+    → walk_fault (built arguments).top (names_of (built arguments)) start (codes "session" ∷ rest) ≡ []
+unfolding clap_on_literals
+no_fault_above rest = stopped_fault (built arguments).top (names_of (built arguments)) start (codes "session", []) rest
+
+faults_below : (rest : List Text)
+    → faults_in (codes "session" ∷ rest) ≡ level_fault session_shape [] nothing_held rest false []
+unfolding clap_on_literals
+faults_below rest =
+    let top = (built arguments).top in
+    let below : Kinds = level_fault session_shape [] nothing_held rest false [] in
+    let above : Walk → Kinds = λ w. or_else (walk_fault top (names_of (built arguments)) start (codes "session" ∷ rest))
+    (or_else (entered_fault (built arguments) w.stopped) (or_else (settle_fault top.rules top.args_override_self w.held)
+    (or_else (defaults_fault (settled top.rules w.held).rows top.rules)
+    (check_fault top (finished top.rules w.held) (is_some (entered (built arguments) w.stopped)))))) in
+    ap above (sym (session_stops rest)) ∙ (past _ _ (no_fault_above rest) ∙ or_nothing below)
+
+-- what is found after the last word
+abbrev last_fault : Held → Kinds
+last_fault h = or_else (defaults_fault (settled session_rules h).rows session_rules)
+    (check_fault session_shape (finished session_rules h) false)
+
+abbrev end_fault : Held → Kinds
+end_fault h = or_else (settle_fault session_rules false h) (last_fault h)
+
+pub taken_below : (rest : List Text) (after : Walk) → Goes session_shape start rest after → end_fault after.held ≡ []
+    → faults_in (codes "session" ∷ rest) ≡ []
+taken_below rest after goes ended =
+    faults_below rest ∙ (past _ _ goes.clean ∙ (ap (λ (w : Walk). end_fault w.held) goes.goes ∙ ended))
+
+pub asks_below : (rest : List Text) (after : Walk) → Goes session_shape start rest after
+    → asked_in (codes "session" ∷ rest) ≡ asked_of (Some (codes "session", finished session_rules after.held))
+asks_below rest after goes =
+    asked_below rest ∙ ap (λ (w : Walk). asked_of (Some (codes "session", finished session_rules w.held))) goes.goes
+
+-- the rows and the values between two words
+abbrev pub holding : List Row → Option (Text × List Text) → Held
+holding rows pending = record { rows = rows; pending = pending; skip = 0 }
+
+-- ---- the words, each at any rows
+
+pub history_turn : (rows : List Row) (pending : Option (Text × List Text)) (position : ℕ)
+    → settle_fault session_rules false (holding rows pending) ≡ []
+    → Turn session_shape (standing rows pending idle position) (codes "--history")
+    (standing (settled_rows session_rules pending rows) (Some (codes "history", [])) (option (codes "history")) position)
+unfolding clap_on_literals
+history_turn rows pending position settled = record {
+  clean = ap (λ (f : Kinds). or_else f []) settled;
+  goes = refl;
+}
+
+pub bound_turn : (rows : List Row) (position : ℕ) (text : Text) → IsWord text
+    → Turn session_shape (standing rows (Some (codes "history", [])) (option (codes "history")) position) text
+    (standing rows (Some (codes "history", text ∷ [])) idle position)
+unfolding clap_on_literals
+bound_turn rows position text is =
+    let h : Held = holding rows (Some (codes "history", [])) in
+    let w : Walk = standing rows (Some (codes "history", [])) (option (codes "history")) position in
+    let met = met_option text is session_rules (codes "history") position h in
+    record {
+      clean = ap₂ (λ (f : Kinds) (m : Held × Step). or_else f (step_fault session_shape position m.0 m.1))
+          (clean_option text is session_shape (codes "history") h) met;
+      goes = ap (λ (m : Held × Step). after_step session_rules text w m.0 m.1) met;
+    }
+
+abbrev pub cut : Rule
+cut = unwrap_or (arg_by_id session_rules (codes "cut")) help_rule
+
+pub cut_turn : (rows : List Row) (pending : Option (Text × List Text)) (position : ℕ)
+    → settle_fault session_rules false (holding rows pending) ≡ []
+    → use_fault false cut [] (settled_rows session_rules pending rows) ≡ []
+    → Turn session_shape (standing rows pending idle position) (codes "--cut")
+    (standing (used cut [] (settled_rows session_rules pending rows)) None idle position)
+unfolding clap_on_literals
+cut_turn rows pending position settled fresh = record {
+  clean = ap₂ (λ (f g : Kinds). or_else (or_else f g) []) settled fresh;
+  goes = refl;
+}
+
+pub path_first : (rows : List Row) (path : Text) → IsWord path
+    → Turn session_shape (standing rows None idle 1) path (standing rows (Some (codes "problem", path ∷ [])) idle 2)
+unfolding clap_on_literals
+path_first rows path is =
+    let h : Held = holding rows None in
+    let met = met_idle path is session_rules 1 h in
+    record {
+      clean = ap₂ (λ (f : Kinds) (m : Held × Step). or_else f (step_fault session_shape 1 m.0 m.1)) (clean_idle path is session_shape h) met;
+      goes = ap (λ (m : Held × Step). after_step session_rules path (standing rows None idle 1) m.0 m.1) met;
+    }
+
+-- the fault of a path behind the bound is that of the bound
+pub path_then : (rows : List Row) (text path : Text) (kinds : Kinds) → IsWord path
+    → settle_fault session_rules false (holding rows (Some (codes "history", text ∷ []))) ≡ kinds
+    → turn_fault session_shape [] (standing rows (Some (codes "history", text ∷ [])) idle 1) path ≡ kinds
+unfolding clap_on_literals
+path_then rows text path kinds is settled =
+    let h : Held = holding rows (Some (codes "history", text ∷ [])) in
+    ap₂ (λ (f : Kinds) (m : Held × Step). or_else f (step_fault session_shape 1 m.0 m.1)) (clean_idle path is session_shape h)
+    (met_idle path is session_rules 1 h) ∙ settled
+
+pub path_turn : (rows : List Row) (text path : Text) → IsWord path
+    → settle_fault session_rules false (holding rows (Some (codes "history", text ∷ []))) ≡ []
+    → Turn session_shape (standing rows (Some (codes "history", text ∷ [])) idle 1) path
+    (standing (settled_rows session_rules (Some (codes "history", text ∷ [])) rows) (Some (codes "problem", path ∷ [])) idle 2)
+unfolding clap_on_literals
+path_turn rows text path is settled =
+    let h : Held = holding rows (Some (codes "history", text ∷ [])) in
+    let w : Walk = standing rows (Some (codes "history", text ∷ [])) idle 1 in
+    record {
+      clean = path_then rows text path [] is settled;
+      goes = ap (λ (m : Held × Step). after_step session_rules path w m.0 m.1) (met_idle path is session_rules 1 h);
+    }
+
+-- ---- the text of a bound
+
+-- a text is used as a bound without a fault where it passes the parser's test, and no other was used before
+pub bound_settles : (rows : List Row) (text : Text) → has_row (codes "history") rows ≡ false → passes text ≡ true
+    → settle_fault session_rules false (holding rows (Some (codes "history", text ∷ []))) ≡ []
+bound_settles rows text fresh good = ap₂ (λ (again ok : Bool). or_else (if again && true then ArgumentConflict ∷ [] else [])
+    (or_else (if ok then [] else ValueValidation ∷ []) [])) fresh good
+
+pub bound_refused : (text : Text) → passes text ≡ false
+    → settle_fault session_rules false (holding [] (Some (codes "history", text ∷ []))) ≡ ValueValidation ∷ []
+bound_refused text bad = ap (λ (ok : Bool). or_else (if ok then [] else ValueValidation ∷ []) []) bad
+
+pub bound_ends : (rows : List Row) (text : Text) → has_row (codes "history") rows ≡ false → passes text ≡ true
+    → last_fault (holding rows (Some (codes "history", text ∷ []))) ≡ []
+    → end_fault (holding rows (Some (codes "history", text ∷ []))) ≡ []
+bound_ends rows text fresh good last = past _ _ (bound_settles rows text fresh good) ∙ last
+
+first_fault : (a b : Kinds) (k : ErrorKind) (ks : Kinds) → a ≡ k ∷ ks → or_else a b ≡ k ∷ ks
+first_fault a b k ks is = ap (λ (x : Kinds). or_else x b) is
+
+pub bad_bound_refused : (text path : Text) → IsWord text → IsWord path → passes text ≡ false
+    → faults_in (codes "session" ∷ codes "--history" ∷ text ∷ path ∷ []) ≡ ValueValidation ∷ []
+bad_bound_refused text path number plain bad =
+    let w : Walk = standing [] (Some (codes "history", text ∷ [])) idle 1 in
+    let here = fault_here session_shape w path [] _ (path_then [] text path _ plain (bound_refused text bad)) in
+    faults_below (codes "--history" ∷ text ∷ path ∷ [])
+    ∙ first_fault _ _ _ _ (fault_behind _ _ _ _ _ _ (history_turn [] None 1 refl) (fault_behind _ _ _ _ _ _ (bound_turn [] 1 text number) here))
