@@ -36,4 +36,6 @@ mod solving;
 #[cfg(test)]
 mod streams;
 #[cfg(test)]
+mod watching;
+#[cfg(test)]
 mod words;

@@ -1,0 +1,55 @@
+//! What a watch is told of the solves of a session.
+use crate::networks::NETWORK_A;
+use dmf_net::Watch;
+use dmf_run::{Status, run_session_watched};
+use dmf_session::MAX_BOUND;
+use dmf_text::{StdSink, StdSource};
+use std::test::Fail;
+
+/// Keeps the first paths that it is told of: the value that each leads to, and how many links it has.
+#[derive(Drop)]
+struct Paths {
+    told: [(u64, u32); 8],
+    count: usize,
+}
+
+impl Watch for Paths {
+    fn augmented(&mut self, value: u64, links: u32) {
+        if self.count < self.told.len() {
+            self.told[self.count] = (value, links);
+            self.count += 1;
+        }
+    }
+}
+
+/// The first solve goes along 1 2 4, 1 3 4 and 1 2 3 4; the second along the new arc before these.
+#[test]
+fn each_path_of_each_solve_is_told(rt: HostRuntime) -> Result<(), Fail> {
+    let mut written = Vec::new(rt.alloc());
+    let mut paths = Paths {
+        told: [(0, 0); 8],
+        count: 0,
+    };
+    let outcome = run_session_watched(
+        rt.alloc(),
+        &mut StdSource::new(NETWORK_A),
+        &mut StdSource::new(b"solve\nundo\nadd 1 4 7\nsolve\n".as_slice()),
+        &mut StdSink::new(&mut written),
+        false,
+        MAX_BOUND,
+        &mut paths,
+    );
+    assert_eq!(rt; outcome, Ok(Status::Well));
+    let wanted = [
+        (2, 2),
+        (4, 2),
+        (5, 3),
+        (7, 1),
+        (9, 2),
+        (11, 2),
+        (12, 3),
+        (0, 0),
+    ];
+    assert_eq!(rt; paths.told, wanted);
+    Ok(())
+}
