@@ -2,6 +2,7 @@
 
 - the examples of README.md and of each library's README are the tests that they are;
 - docs/FILES.md has each file of definitions and lemmas with its first words (--write puts them there);
+- each link between pages leads to a file, and to a heading of it where it names one;
 - each definition and lemma is named by the rest of its file, or by a file that names its file.
 
 Prints what it finds, and then 'N passed, M failed'."""
@@ -16,6 +17,7 @@ FILES = Path("docs/FILES.md")
 CODE = re.compile(r"^```rust\n(.*?)^```$", re.MULTILINE | re.DOTALL)
 # A definition or lemma begins in the first column with its name and its type.
 HEAD = re.compile(r"^(?:[a-z]+ )*([^\s:(]+)(?= *[:(])")
+LINK = re.compile(r"\]\((?![a-z]+:)([^)#]*)#?([^)]*)\)")
 WORD = re.compile(r"[^\s(){}\[\],;.`\"]+")
 
 
@@ -55,6 +57,21 @@ def wrong_files():
     """Whether docs/FILES.md is another text."""
     if FILES.read_text() != files_text():
         yield f"{FILES} has not what the files say: python3 tests/documents.py --write"
+
+
+def headings(page):
+    """The names of the headings of a page in links."""
+    for heading in re.findall(r"^#+ (.*)$", page.read_text(), re.MULTILINE):
+        yield re.sub(r"[^\w -]", "", heading.lower()).replace(" ", "-")
+
+
+def dead_links():
+    """The links between pages that lead nowhere."""
+    for page in sorted(it for it in Path().rglob("*.md") if "out" not in it.parts):
+        for path, heading in LINK.findall(page.read_text()):
+            file = page.parent / path if path else page
+            if not file.exists() or heading and heading not in headings(file):
+                yield f"{page}: nothing is at {path}{heading and '#' + heading}"
 
 
 def words(text):
@@ -101,7 +118,7 @@ def main():
     if sys.argv[1:] == ["--write"]:
         FILES.write_text(files_text())
     pages = [("session", Path("README.md")), *((it, Path(f"crates/dmf_{it}/README.md")) for it in LIBRARIES)]
-    checks = [*([*wrong_examples(*page)] for page in pages), [*wrong_files()], [*unused()]]
+    checks = [*([*wrong_examples(*page)] for page in pages), [*wrong_files()], [*dead_links()], [*unused()]]
     for found in checks:
         print(*found, sep="\n", end="\n" if found else "")
     failed = sum(map(bool, checks))
