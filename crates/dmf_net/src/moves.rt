@@ -1,4 +1,5 @@
-ghost use Rattle.std.specs.Prelude.{◌≡◌, ◌+◌, ◌-◌, ◌^◌, ◌<◌, ◌≤◌, true, if◌then◌else◌, length, IfOk};
+ghost use Rattle.std.specs.Prelude.{◌≡◌, ◌+◌, ◌-◌, ◌^◌, ◌<◌, ◌≤◌, true, if◌then◌else◌, length, slice_index, IfOk};
+ghost use Rattle.std.specs.List.{AllZip};
 ghost use Rattle.dmf_net.specs.Arc.{capacity_sum};
 ghost use Rattle.dmf_net.specs.Flow.{AreWithinCapacities};
 ghost use Rattle.dmf_net.specs.FlowSums.{IsNodeFlow};
@@ -21,7 +22,7 @@ pub enum FlowLink {
 }
 
 /// The moves of the arcs on which the flow that a search has reached differs from that before, in the order of their
-/// numbers. Where an arc has no pair, `unpaired` has its flow.
+/// numbers; on no arc flows more than before. Where an arc has no pair, `unpaired` has its flow.
 pub fn list_moves(
     alloc: Global,
     before: &[u64],
@@ -32,17 +33,37 @@ pub fn list_moves(
     requires unpaired { length unpaired.now ≡ length before.now }
     requires one_each { length before.now ≤ length search.now.pairs }
     requires at_most_arcs { length before.now ≤ 2 ^ 27 }
+    requires no_more { AllZip (λ x y. y ≤ x) before.now (flows_read link unpaired.now search.now.pairs) }
     ensures { IfOk result (λ moves. moves.items ≡ differences 1 before.now (flows_read link unpaired.now search.now.pairs)) }
 {
     let mut moves = Vec::new(alloc);
     for (i, &from) in before.iter().enumerate() {
-        let to = flow_read(search, i, link, unpaired[i]);
+        let to = flow_left_of(from, search, i, link, unpaired);
         if from != to {
             let arc = i as u32 + 1;
             moves.push(Move { arc, from, to })?;
         }
     }
     Ok(moves)
+}
+
+/// The flow that a search has reached on the arc at index `k`, of so much before. Where that was nothing, nothing is looked at.
+fn flow_left_of(
+    before: u64,
+    search: &Search,
+    k: usize,
+    link: FlowLink,
+    unpaired: &[u64],
+) -> u64
+    requires pairs { k < length search.now.pairs }
+    requires unpaired { k < length unpaired.now }
+    requires no_more { flow_read link (slice_index unpaired.now k) (pair_number search.now.pairs k) ≤ before }
+    ensures { result ≡ flow_read link (slice_index unpaired.now k) (pair_number search.now.pairs k) }
+{
+    if before == 0 {
+        return 0;
+    }
+    flow_read(search, k, link, unpaired[k])
 }
 
 /// The flow that a search has reached on the arc at index `k`: where the arc has no pair, `unpaired`.

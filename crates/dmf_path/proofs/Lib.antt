@@ -36,7 +36,8 @@ pub mod Labelled
 pub mod Marks
 pub mod Counting
 pub mod CountingLinks
-pub mod Listed
+pub mod Listing
+pub mod Spread
 pub mod Sums
 pub mod Starts
 pub mod Putting

@@ -5,6 +5,7 @@ pub mod Steps
 pub mod Pair
 pub mod Links
 pub mod Building
+pub mod Listed
 pub mod Labels
 pub mod Walk
 pub mod Held

@@ -6,6 +6,7 @@ pub use search::{AugmentingPath, Search};
 
 mod label;
 mod links;
+mod listed;
 mod pair;
 mod phase;
 mod push;

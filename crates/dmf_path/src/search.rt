@@ -11,6 +11,7 @@ ghost use Rattle.dmf_path.specs.Searching.{IsHolding, IsUnderWay};
 
 use crate::label::{NO_LABEL, label_nodes};
 use crate::links::{LinkTable, NO_PLACE, build, open_flag};
+use crate::listed::{list_pairs, spread_places};
 use crate::pair::Pairs;
 use crate::phase::find;
 use crate::push::push_once;
@@ -107,6 +108,35 @@ impl Search {
             },
             takes_back,
         })
+    }
+
+    /// The same search, for pairs of which few are there: these are listed first, and the others are not asked for again. Takes
+    /// memory for the list too.
+    pub fn new_sparse<P: Pairs>(
+        alloc: Global,
+        nodes: u32,
+        pairs: &P,
+        start: u32,
+        goal: u32,
+        takes_back: bool,
+    ) -> Result<Search, AllocError>
+        requires nodes { nodes ≤ 2 ^ 24 }
+        requires pairs { ArePairs nodes (P.pairs pairs.now) }
+        requires start { IsNode nodes start }
+        requires goal { IsNode nodes goal }
+        requires apart { start ≢ goal }
+        ensures { IfOk result (λ search. search ≡ record {
+          nodes = nodes;
+          pairs = P.pairs pairs.now;
+          start = start;
+          goal = goal;
+          takes_back = takes_back;
+        }) }
+    {
+        let listed = list_pairs(alloc, pairs)?;
+        let mut search = Search::new(alloc, nodes, &listed, start, goal, takes_back)?;
+        search.places = spread_places(alloc, &search.places, &listed.indices, pairs.len())?;
+        Ok(search)
     }
 
     /// Pushes along the least path from the start to the goal as much as the limit and its rooms allow, and answers how

@@ -40,6 +40,12 @@ list_moves-requires-clause-one_each c =
     let drained = c.drain_along.ensures s.flows c.in_ok-search.ensures.carrying in
     rw c.flows-before.ensures.value (length-carries s s.flows _ c.drain_along.new.search drained.0)
 
+pub list_moves-requires-clause-no_more : goal.list_moves-requires-clause-no_more
+list_moves-requires-clause-no_more c =
+    let s = c.args.state.now in
+    let drained = c.drain_along.ensures s.flows c.in_ok-search.ensures.carrying in
+    rw c.flows-before.ensures.value drained.0.no_more.no_more
+
 pub returns-clause-moves : goal.returns-clause-moves
 returns-clause-moves c =
     let s = c.args.state.now in

@@ -42,6 +42,10 @@ pub list_moves-requires-clause-one_each : goal.list_moves-requires-clause-one_ea
 list_moves-requires-clause-one_each c =
     rw c.flows-before.ensures.value (length-carries c.args.state.now c.loop-shutting.unpaired.items _ c.loop-shutting.search c.loop-shutting.invariant.carrying)
 
+pub list_moves-requires-clause-no_more : goal.list_moves-requires-clause-no_more
+list_moves-requires-clause-no_more c =
+    rw (c.deref.ensures.value, c.flows-before.ensures.value) c.loop-shutting.invariant.carrying.no_more.no_more
+
 pub returns : goal.returns
 returns c =
     let s = c.args.state.now in

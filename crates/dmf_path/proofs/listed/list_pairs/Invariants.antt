@@ -1,0 +1,5 @@
+use Rattle.dmf_path.specs.Listed.{AreListed}
+use Rattle.dmf_path.proofs.listed.list_pairs.Given as goal
+
+abbrev pub invariant-loop-k : goal.invariant-loop-k
+invariant-loop-k g l = AreListed (g.P.Pairs.pairs l.pairs) l.k l.indices.items l.listed.items
