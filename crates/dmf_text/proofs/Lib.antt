@@ -4,6 +4,7 @@ pub mod JudgingLemmas
 pub mod LineLemmas
 pub mod NumberLemmas
 pub mod PairLemmas
+pub mod PlaceLemmas
 pub mod PassedJudgements
 pub mod ProblemLemmas
 pub mod ReadingLemmas

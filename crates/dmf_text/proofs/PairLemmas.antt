@@ -1,35 +1,24 @@
--- Lemmas on the pairs of arcs, and on what a map keeps of them.
-use Rattle.std.proofs.Common.{◌≡◌, ℕ, suc, ◌+◌, ◌-◌, ◌<◌, ◌≤◌, ◌^◌, ◌⊎◌, min, List, [], ◌∷◌, ◌++◌, length, take, drop, get_or, Bool, true, false, ◌||◌, if◌then◌else◌, Option, Some, None, is_some, Ok, Err, refl, sym, ap, ◌∙◌, subst, ⊎_elim, arith, drop-cons}
-use Rattle.std.proofs.lemmas.Bool.{cases_Bool, cond-true, cond-false, and_parts, and_from, eqb-true, eq-eqb, le-leb, lt-leb}
-use Rattle.std.proofs.lemmas.List.{take_more}
+-- Lemmas on the pairs of arcs, and on what is kept of them.
+use Rattle.std.proofs.Common.{◌≡◌, ℕ, zero, suc, ◌+◌, ◌-◌, ◌<◌, ◌≤◌, ◌^◌, ◌⊎◌, min, List, [], ◌∷◌, ◌++◌, length, take, drop, get_or, map, replicate, Bool, true, false, ◌||◌, if◌then◌else◌, Option, Some, None, is_some, Ok, Err, refl, sym, ap, ◌∙◌, subst, ⊎_elim, arith, drop-cons}
+use Rattle.std.proofs.lemmas.Bool.{cases_Bool, cond-true, cond-false, eqb-true, le-leb, lt-leb, or_left, or_right, true≢false}
+use Rattle.std.proofs.lemmas.List.{take_more, length-replicate}
 use Rattle.std.proofs.lemmas.List.Elements.{All-weaker}
-use Rattle.std.proofs.lemmas.List.Folds.{list_any-append}
+use Rattle.std.proofs.lemmas.List.Sorted.{list_any-IsPermutation}
 use Rattle.std.proofs.lemmas.List.Sums.{sum_by-append, sum_by-cons, sum_by_more_le_part}
-use Rattle.std.specs.HashMap.{HashMap, get, IsEmpty, Updates}
 use Rattle.dmf_net.specs.declared.arc.Arc.{Arc}
-use Rattle.std.specs.List.{All}
+use Rattle.std.specs.List.{All, list_any, slice_get}
+use Rattle.std.specs.List.Sorted.{IsPermutation}
 use Rattle.dmf_net.specs.Arc.{IsArc, no_arc, capacity_sum}
 use Rattle.dmf_net.specs.Flow.{AreWithinCapacities}
 use Rattle.dmf_text.specs.declared.fault.SolutionFaultKind.{SolutionFaultKind}
 use Rattle.dmf_text.specs.declared.pairs.PairFlow.{PairFlow}
+use Rattle.dmf_text.specs.declared.pairs.Pairs.{Pairs}
+use Rattle.dmf_text.specs.PairOrder.{first_place}
 use Rattle.dmf_text.specs.Solution.{Pair, same_pair, ends, has_pair, pair_capacity, pair_flow, Facts, flow_fits, put_behind}
-use Rattle.dmf_text.specs.SolutionReading.{cap_of, flow_of, HasSmallEnds, KeepsPairs, AddsFlow, CannotAdd}
+use Rattle.dmf_text.specs.SolutionReading.{known_of, cap_of, flow_of, HasSmallEnds, KeepsCounted, KeepsPairs, Updates, AddsFlow, CannotAdd}
+use Rattle.dmf_text.proofs.PlaceLemmas.{same-is, same-self, some-first, none-counted}
 
 -- ---- pairs
-
-pub same-is : (p q : Pair) → same_pair p q ≡ true → p ≡ q
-same-is p q same = let parts = and_parts _ _ same in λ i. (eqb-true p.0 q.0 parts.0 i, eqb-true p.1 q.1 parts.1 i)
-
-pub same-self : (p : Pair) → same_pair p p ≡ true
-same-self p = and_from _ _ (eq-eqb p.0 p.0 refl) (eq-eqb p.1 p.1 refl)
-
-or-last : (b : Bool) → (b || (true || false)) ≡ true
-or-last true = refl
-or-last false = refl
-
-or-none : (b : Bool) → (b || (false || false)) ≡ b
-or-none true = refl
-or-none false = refl
 
 -- no arc has a pair with a number that is too large for its ends
 none-same : (arc : Arc) (pair : Pair) → HasSmallEnds arc → (2 ^ 32 ≤ pair.0) ⊎ (2 ^ 32 ≤ pair.1) → same_pair (ends arc) pair ≡ false
@@ -64,9 +53,6 @@ small-ends nodes arcs few are = All-weaker (IsArc nodes) HasSmallEnds (λ (arc :
 
 -- one more arc
 module _ (arcs : List Arc) (arc : Arc) where
-  has-more : (pair : Pair) → has_pair (arcs ++ arc ∷ []) pair ≡ (has_pair arcs pair || (same_pair (ends arc) pair || false))
-  has-more pair = list_any-append (λ a. same_pair (ends a) pair) arcs (arc ∷ [])
-
   pub capacity-more : (pair : Pair) → pair_capacity (arcs ++ arc ∷ []) pair ≡ pair_capacity arcs pair + (if same_pair (ends arc) pair then arc.cap else 0)
   capacity-more pair =
       let cap : Arc → ℕ = λ a. if same_pair (ends a) pair then a.cap else 0 in
@@ -92,110 +78,134 @@ bad-at arcs facts pair flow kind (Some known) has cap before cannot =
     let past : pair_capacity arcs pair < pair_flow facts.flows pair + flow = omega (arith, cap, before, over) in
     rw (sym has, lt-leb (pair_flow facts.flows pair + flow) (pair_capacity arcs pair) past) (ap (λ k. Err k) (sym cannot.1))
 
--- ---- what a map keeps
+-- ---- what is kept of pairs
 
-module _ {S : Type 0} where
-  pub keeps-none : (pairs : HashMap Pair PairFlow S) → IsEmpty pairs → KeepsPairs [] (λ _. 0) pairs
-  keeps-none pairs empty = record {
-    there = λ pair. rw empty refl;
-    caps = λ pair. rw empty refl;
-    flows = λ pair. rw empty refl;
-  }
+any-ends : (arcs : List Arc) (pair : Pair) → list_any (λ p. same_pair p pair) (map ends arcs) ≡ has_pair arcs pair
+any-ends [] pair = refl
+any-ends (arc ∷ arcs) pair = ap (λ b. same_pair (ends arc) pair || b) (any-ends arcs pair)
 
-  module _ (arcs later : List Arc) (flow more : Pair → ℕ) (old new : HashMap Pair PairFlow S) (pair : Pair) (known : PairFlow)
-      (kept : KeepsPairs arcs flow old) (updates : Updates same_pair old new pair (Some known)) where
-    -- A pair's entry is changed, and nothing else differs.
-    pub keeps-updated : has_pair later pair ≡ true → known.cap ≡ pair_capacity later pair → known.flow ≡ more pair
-        → ((q : Pair) → same_pair pair q ≡ false → has_pair arcs q ≡ has_pair later q)
-        → ((q : Pair) → same_pair pair q ≡ false → pair_capacity arcs q ≡ pair_capacity later q)
-        → ((q : Pair) → same_pair pair q ≡ false → flow q ≡ more q)
-        → KeepsPairs later more new
-    keeps-updated has cap flows has-others cap-others flow-others = record {
-      there = λ q. ⊎_elim
-          (λ here. subst (λ p. is_some (get same_pair new p) ≡ has_pair later p) (same-is pair q here) (ap is_some updates.1 ∙ sym has))
-          (λ other. ap is_some (updates.2 q other) ∙ kept.there q ∙ has-others q other)
-          (cases_Bool (same_pair pair q));
-      caps = λ q. ⊎_elim
-          (λ here. subst (λ p. cap_of (get same_pair new p) ≡ pair_capacity later p) (same-is pair q here) (ap cap_of updates.1 ∙ cap))
-          (λ other. ap cap_of (updates.2 q other) ∙ kept.caps q ∙ cap-others q other)
-          (cases_Bool (same_pair pair q));
-      flows = λ q. ⊎_elim
-          (λ here. subst (λ p. flow_of (get same_pair new p) ≡ more p) (same-is pair q here) (ap flow_of updates.1 ∙ flows))
-          (λ other. ap flow_of (updates.2 q other) ∙ kept.flows q ∙ flow-others q other)
-          (cases_Bool (same_pair pair q));
+-- an arc has its own pair
+has-own : (arcs : List Arc) (i : ℕ) (d : Arc) → i < length arcs → has_pair arcs (ends (get_or arcs i d)) ≡ true
+has-own [] i d below = absurd (omega (arith, below))
+has-own (arc ∷ arcs) zero d below = or_left _ _ (same-self (ends arc))
+has-own (arc ∷ arcs) (suc i) d below = or_right _ _ (has-own arcs i d (omega (arith, below)))
+
+some-of : (o : Option PairFlow) → is_some o ≡ true → (known : PairFlow) × (o ≡ Some known)
+some-of None none = absurd (true≢false (sym none))
+some-of (Some known) some = (known, refl)
+
+-- No arc is counted.
+pub keeps-none : (arcs : List Arc) (pairs : Pairs) → IsPermutation (map ends arcs) pairs.ends.items
+    → pairs.known.items ≡ replicate (length pairs.ends.items) (record { cap = 0; flow = 0 }) → KeepsCounted arcs [] (λ _. 0) pairs
+keeps-none arcs pairs same none =
+    let at : (pair : Pair) → known_of pairs pair ≡ slice_get (replicate (length pairs.ends.items) (record { cap = 0; flow = 0 })) (first_place pairs.ends.items pair)
+    = λ pair. ap (λ l. slice_get l (first_place pairs.ends.items pair)) none in
+    record {
+      there = λ pair. some-first (λ p. same_pair p pair) pairs.ends.items pairs.known.items (ap length none ∙ length-replicate (length pairs.ends.items) _)
+          ∙ sym (list_any-IsPermutation (λ p. same_pair p pair) (map ends arcs) pairs.ends.items same) ∙ any-ends arcs pair;
+      caps = λ pair. ap cap_of (at pair) ∙ (none-counted (length pairs.ends.items) (first_place pairs.ends.items pair)).0;
+      flows = λ pair. ap flow_of (at pair) ∙ (none-counted (length pairs.ends.items) (first_place pairs.ends.items pair)).1;
     }
 
-  -- One arc more is counted.
-  pub keeps-more : (arcs : List Arc) (arc : Arc) (cap : ℕ) (old new : HashMap Pair PairFlow S) → KeepsPairs arcs (λ _. 0) old
-      → cap ≡ cap_of (get same_pair old (ends arc)) + arc.cap
-      → Updates same_pair old new (ends arc) (Some (record { cap = cap; flow = 0 }))
-      → KeepsPairs (arcs ++ arc ∷ []) (λ _. 0) new
-  keeps-more arcs arc cap old new kept is updates =
-      let pair = ends arc in
-      let count = capacity-more arcs arc pair in
-      let full : (if same_pair pair pair then arc.cap else 0) ≡ arc.cap = cond-true _ _ _ (same-self pair) in
-      let before = kept.caps pair in
-      keeps-updated arcs (arcs ++ arc ∷ []) (λ _. 0) (λ _. 0) old new pair (record { cap = cap; flow = 0 }) kept updates
-      (has-more arcs arc pair ∙ ap (λ b. has_pair arcs pair || (b || false)) (same-self pair) ∙ or-last (has_pair arcs pair))
-      (omega (arith, is, count, full, before))
-      refl
-      (λ q other. sym (has-more arcs arc q ∙ ap (λ b. has_pair arcs q || (b || false)) other ∙ or-none (has_pair arcs q)))
-      (λ q other. let more = capacity-more arcs arc q in
-      let none : (if same_pair pair q then arc.cap else 0) ≡ 0 = cond-false _ _ _ other in
-      omega (arith, more, none))
-      (λ q other. refl)
+module _ (arcs counted later : List Arc) (flow more : Pair → ℕ) (old new : Pairs) (pair : Pair) (known : PairFlow)
+    (kept : KeepsCounted arcs counted flow old) (updates : Updates old pair known new) where
+  -- A pair's entry is changed, and nothing else differs.
+  pub keeps-updated : has_pair arcs pair ≡ true → known.cap ≡ pair_capacity later pair → known.flow ≡ more pair
+      → ((q : Pair) → same_pair pair q ≡ false → pair_capacity counted q ≡ pair_capacity later q)
+      → ((q : Pair) → same_pair pair q ≡ false → flow q ≡ more q)
+      → KeepsCounted arcs later more new
+  keeps-updated has cap flow cap-others flow-others = record {
+    there = λ q. ⊎_elim
+        (λ here. subst (λ p. is_some (known_of new p) ≡ has_pair arcs p) (same-is pair q here) (ap is_some updates.here ∙ sym has))
+        (λ other. ap is_some (updates.others q other) ∙ kept.there q)
+        (cases_Bool (same_pair pair q));
+    caps = λ q. ⊎_elim
+        (λ here. subst (λ p. cap_of (known_of new p) ≡ pair_capacity later p) (same-is pair q here) (ap cap_of updates.here ∙ cap))
+        (λ other. ap cap_of (updates.others q other) ∙ kept.caps q ∙ cap-others q other)
+        (cases_Bool (same_pair pair q));
+    flows = λ q. ⊎_elim
+        (λ here. subst (λ p. flow_of (known_of new p) ≡ more p) (same-is pair q here) (ap flow_of updates.here ∙ flow))
+        (λ other. ap flow_of (updates.others q other) ∙ kept.flows q ∙ flow-others q other)
+        (cases_Bool (same_pair pair q));
+  }
 
-  -- A flow is added to that of its pair.
-  pub keeps-added : (arcs : List Arc) (flows : List (Pair × ℕ)) (old new : HashMap Pair PairFlow S) (pair : Pair) (flow : ℕ)
-      → KeepsPairs arcs (pair_flow flows) old → AddsFlow old pair flow new → KeepsPairs arcs (pair_flow (flows ++ (pair, flow) ∷ [])) new
-  keeps-added arcs flows old new pair flow kept added =
-      let known = added.known in
-      let cap : known.cap ≡ pair_capacity arcs pair = sym (ap cap_of added.is_there) ∙ kept.caps pair in
-      let before : known.flow ≡ pair_flow flows pair = sym (ap flow_of added.is_there) ∙ kept.flows pair in
-      let count = flow-more flows pair flow pair in
-      let full : (if same_pair pair pair then flow else 0) ≡ flow = cond-true _ _ _ (same-self pair) in
-      keeps-updated arcs arcs (pair_flow flows) (pair_flow (flows ++ (pair, flow) ∷ [])) old new pair (record { cap = known.cap; flow = known.flow + flow })
-      kept added.updates
-      (sym (kept.there pair) ∙ ap is_some added.is_there)
-      cap
-      (omega (arith, before, count, full))
-      (λ q other. refl)
-      (λ q other. refl)
-      (λ q other. let more = flow-more flows pair flow q in
-      let none : (if same_pair pair q then flow else 0) ≡ 0 = cond-false _ _ _ other in
-      omega (arith, more, none))
+-- One arc more is counted.
+pub keeps-more : (arcs : List Arc) (i : ℕ) (old new : Pairs) → i < length arcs → KeepsCounted arcs (take i arcs) (λ _. 0) old
+    → ((known : PairFlow) → known_of old (ends (get_or arcs i no_arc)) ≡ Some known
+    → Updates old (ends (get_or arcs i no_arc)) (record { cap = known.cap + (get_or arcs i no_arc).cap; flow = known.flow }) new)
+    → KeepsCounted arcs (take (i + 1) arcs) (λ _. 0) new
+keeps-more arcs i old new below kept counts =
+    let arc = get_or arcs i no_arc in
+    let pair = ends arc in
+    let has = has-own arcs i no_arc below in
+    let some = some-of (known_of old pair) (kept.there pair ∙ has) in
+    let known = some.0 in
+    let before : known.cap ≡ pair_capacity (take i arcs) pair = sym (ap cap_of some.1) ∙ kept.caps pair in
+    let none : known.flow ≡ 0 = sym (ap flow_of some.1) ∙ kept.flows pair in
+    let longer : (q : Pair) → pair_capacity (take (i + 1) arcs) q ≡ pair_capacity (take i arcs) q + (if same_pair pair q then arc.cap else 0)
+    = λ q. ap (λ l. pair_capacity l q) (take_more arcs i no_arc below) ∙ capacity-more (take i arcs) arc q in
+    let count = longer pair in
+    let full : (if same_pair pair pair then arc.cap else 0) ≡ arc.cap = cond-true _ _ _ (same-self pair) in
+    keeps-updated arcs (take i arcs) (take (i + 1) arcs) (λ _. 0) (λ _. 0) old new pair (record { cap = known.cap + arc.cap; flow = known.flow })
+    kept (counts known some.1)
+    has
+    (omega (arith, before, count, full))
+    none
+    (λ q other. let more = longer q in
+    let nothing : (if same_pair pair q then arc.cap else 0) ≡ 0 = cond-false _ _ _ other in
+    omega (arith, more, nothing))
+    (λ q other. refl)
 
-  -- The judgement of a flow that was added.
-  pub fits-good : (arcs : List Arc) (facts : Facts) (old new : HashMap Pair PairFlow S) (pair : Pair) (flow : ℕ)
-      → KeepsPairs arcs (pair_flow facts.flows) old → AddsFlow old pair flow new → flow_fits arcs facts pair flow ≡ Ok tt
-  fits-good arcs facts old new pair flow kept added =
-      let known = added.known in
-      let has : has_pair arcs pair ≡ true = sym (kept.there pair) ∙ ap is_some added.is_there in
-      let cap : known.cap ≡ pair_capacity arcs pair = sym (ap cap_of added.is_there) ∙ kept.caps pair in
-      let before : known.flow ≡ pair_flow facts.flows pair = sym (ap flow_of added.is_there) ∙ kept.flows pair in
-      let fits = added.fits in
-      let room : pair_flow facts.flows pair + flow ≤ pair_capacity arcs pair = omega (arith, cap, before, fits) in
-      rw (has, le-leb (pair_flow facts.flows pair + flow) (pair_capacity arcs pair) room) refl
+-- A flow is added to that of its pair.
+pub keeps-added : (arcs : List Arc) (flows : List (Pair × ℕ)) (old new : Pairs) (pair : Pair) (flow : ℕ)
+    → KeepsPairs arcs (pair_flow flows) old → AddsFlow old pair flow new → KeepsPairs arcs (pair_flow (flows ++ (pair, flow) ∷ [])) new
+keeps-added arcs flows old new pair flow kept added =
+    let known = added.known in
+    let cap : known.cap ≡ pair_capacity arcs pair = sym (ap cap_of added.is_there) ∙ kept.caps pair in
+    let before : known.flow ≡ pair_flow flows pair = sym (ap flow_of added.is_there) ∙ kept.flows pair in
+    let count = flow-more flows pair flow pair in
+    let full : (if same_pair pair pair then flow else 0) ≡ flow = cond-true _ _ _ (same-self pair) in
+    keeps-updated arcs arcs arcs (pair_flow flows) (pair_flow (flows ++ (pair, flow) ∷ [])) old new pair (record { cap = known.cap; flow = known.flow + flow })
+    kept added.updates
+    (sym (kept.there pair) ∙ ap is_some added.is_there)
+    cap
+    (omega (arith, before, count, full))
+    (λ q other. refl)
+    (λ q other. let more = flow-more flows pair flow q in
+    let none : (if same_pair pair q then flow else 0) ≡ 0 = cond-false _ _ _ other in
+    omega (arith, more, none))
 
-  -- And of one that was not.
-  pub fits-bad : (arcs : List Arc) (facts : Facts) (old : HashMap Pair PairFlow S) (pair : Pair) (flow : ℕ) (kind : SolutionFaultKind)
-      → KeepsPairs arcs (pair_flow facts.flows) old → CannotAdd (get same_pair old pair) flow kind → flow_fits arcs facts pair flow ≡ Err kind
-  fits-bad arcs facts old pair flow kind kept cannot =
-      bad-at arcs facts pair flow kind (get same_pair old pair) (kept.there pair) (kept.caps pair) (kept.flows pair) cannot
+-- The judgement of a flow that was added.
+pub fits-good : (arcs : List Arc) (facts : Facts) (old new : Pairs) (pair : Pair) (flow : ℕ)
+    → KeepsPairs arcs (pair_flow facts.flows) old → AddsFlow old pair flow new → flow_fits arcs facts pair flow ≡ Ok tt
+fits-good arcs facts old new pair flow kept added =
+    let known = added.known in
+    let has : has_pair arcs pair ≡ true = sym (kept.there pair) ∙ ap is_some added.is_there in
+    let cap : known.cap ≡ pair_capacity arcs pair = sym (ap cap_of added.is_there) ∙ kept.caps pair in
+    let before : known.flow ≡ pair_flow facts.flows pair = sym (ap flow_of added.is_there) ∙ kept.flows pair in
+    let fits = added.fits in
+    let room : pair_flow facts.flows pair + flow ≤ pair_capacity arcs pair = omega (arith, cap, before, fits) in
+    rw (has, le-leb (pair_flow facts.flows pair + flow) (pair_capacity arcs pair) room) refl
 
-  -- What is counted of a pair and one arc more are within the capacities of all arcs.
-  pub capacity-fits : (arcs : List Arc) (i : ℕ) (old : HashMap Pair PairFlow S) → KeepsPairs (take i arcs) (λ _. 0) old → i < length arcs
-      → cap_of (get same_pair old (ends (get_or arcs i no_arc))) + (get_or arcs i no_arc).cap ≤ capacity_sum arcs
-  capacity-fits arcs i old kept below =
-      let arc = get_or arcs i no_arc in
-      let cap : Arc → ℕ = λ a. if same_pair (ends a) (ends arc) then a.cap else 0 in
-      let part : (a : Arc) → cap a ≤ a.cap = λ a. ⊎_elim
-      (λ here. let is : cap a ≡ a.cap = cond-true _ _ _ here in omega (arith, is))
-      (λ other. let is : cap a ≡ 0 = cond-false _ _ _ other in omega (arith, is))
-      (cases_Bool (same_pair (ends a) (ends arc))) in
-      let sums = sum_by_more_le_part cap (λ a. a.cap) arcs i no_arc below part in
-      let before = kept.caps (ends arc) in
-      omega (arith, sums, before)
+-- And of one that was not.
+pub fits-bad : (arcs : List Arc) (facts : Facts) (old : Pairs) (pair : Pair) (flow : ℕ) (kind : SolutionFaultKind)
+    → KeepsPairs arcs (pair_flow facts.flows) old → CannotAdd (known_of old pair) flow kind → flow_fits arcs facts pair flow ≡ Err kind
+fits-bad arcs facts old pair flow kind kept cannot =
+    bad-at arcs facts pair flow kind (known_of old pair) (kept.there pair) (kept.caps pair) (kept.flows pair) cannot
+
+-- What is counted of a pair and one arc more are within the capacities of all arcs.
+pub capacity-fits : (arcs : List Arc) (i : ℕ) (old : Pairs) → KeepsCounted arcs (take i arcs) (λ _. 0) old → i < length arcs
+    → cap_of (known_of old (ends (get_or arcs i no_arc))) + (get_or arcs i no_arc).cap ≤ capacity_sum arcs
+capacity-fits arcs i old kept below =
+    let arc = get_or arcs i no_arc in
+    let cap : Arc → ℕ = λ a. if same_pair (ends a) (ends arc) then a.cap else 0 in
+    let part : (a : Arc) → cap a ≤ a.cap = λ a. ⊎_elim
+    (λ here. let is : cap a ≡ a.cap = cond-true _ _ _ here in omega (arith, is))
+    (λ other. let is : cap a ≡ 0 = cond-false _ _ _ other in omega (arith, is))
+    (cases_Bool (same_pair (ends a) (ends arc))) in
+    let sums = sum_by_more_le_part cap (λ a. a.cap) arcs i no_arc below part in
+    let before = kept.caps (ends arc) in
+    omega (arith, sums, before)
 
 -- ---- what is put on the arcs
 

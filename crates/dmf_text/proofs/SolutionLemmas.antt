@@ -4,7 +4,6 @@ use Rattle.std.proofs.lemmas.Bool.{cases_Bool}
 use Rattle.std.proofs.lemmas.Bool.Decides.{Decides-int_eq}
 use Rattle.std.proofs.lemmas.Int.{ints}
 use Rattle.std.proofs.lemmas.List.Elements.{filter_map-append}
-use Rattle.std.specs.HashMap.{get}
 use Rattle.std.specs.List.{cons_option, filter_map}
 use Rattle.std.specs.Option.{option_map, option_or, option_to_list}
 use Rattle.std.specs.Ordering.{int_eq}
@@ -22,8 +21,8 @@ use Rattle.dmf_text.specs.declared.fault.SolutionFaultKind.TheVariants.{NoMemory
 use Rattle.dmf_text.specs.declared.solution_reading.SolutionReading.{SolutionReading}
 use Rattle.dmf_text.specs.Number.{number_of}
 use Rattle.dmf_text.specs.Judging.{Line}
-use Rattle.dmf_text.specs.Solution.{same_pair, Facts, facts_of, value_in, flow_in, flow_fits, judged_flow, put_on, ended}
-use Rattle.dmf_text.specs.SolutionReading.{flow_kind, AddsFlow, CannotAdd, Keeps, with_line, TakesLine}
+use Rattle.dmf_text.specs.Solution.{Facts, facts_of, value_in, flow_in, flow_fits, judged_flow, put_on, ended}
+use Rattle.dmf_text.specs.SolutionReading.{flow_kind, known_of, AddsFlow, CannotAdd, Keeps, with_line, TakesLine}
 use Rattle.dmf_text.proofs.JudgingLemmas.{first_fact-push}
 use Rattle.dmf_text.proofs.PairLemmas.{keeps-added, fits-good, fits-bad, none-large, put-within}
 
@@ -53,7 +52,7 @@ module _ (arcs : List Arc) (facts : Facts) (reading now : SolutionReading) (f g 
   line-says = rw (first, second, third) (λ i. record { value = or-nothing facts.value i; flows = facts.flows ++ ((tail, head), flow) ∷ [] })
 
   pub line-taken : (result : Result (Unit {0}) SolutionFaultKind)
-      → MatchResult result (λ _. AddsFlow reading.pairs (tail, head) flow now.pairs) (CannotAdd (get same_pair reading.pairs (tail, head)) flow)
+      → MatchResult result (λ _. AddsFlow reading.pairs (tail, head) flow now.pairs) (CannotAdd (known_of reading.pairs (tail, head)) flow)
       → TakesLine arcs facts (codes "f" ∷ f ∷ g ∷ h ∷ []) (judged_flow arcs facts (f ∷ g ∷ h ∷ [])) now result
   line-taken (Ok done) added =
       let pairs = keeps-added arcs facts.flows reading.pairs now.pairs (tail, head) flow kept.pairs added in

@@ -10,4 +10,5 @@ pub mod LineField
 pub mod Written
 pub mod Terminal
 pub mod Reading
+pub mod PairOrder
 pub mod SolutionReading

@@ -1,16 +1,17 @@
 -- What the reader of a solution text keeps of the network, and of the lines that it took.
 -- Private: only contracts inside the crate and proofs use this.
-use Rattle.std.specs.Prelude.{ℕ, ◌≡◌, ◌+◌, ◌^◌, ◌<◌, ◌≤◌, All, List, ◌++◌, Option, Some, None, is_some, Result, Ok, Err, MatchResult}
+use Rattle.std.specs.Prelude.{ℕ, ◌≡◌, ◌+◌, ◌^◌, ◌<◌, ◌≤◌, All, List, ◌++◌, Bool, false, Option, Some, None, is_some, slice_get, Result, Ok, Err, MatchResult}
 use Rattle.std.specs.Option.{option_or, option_to_list}
-use Rattle.std.specs.HashMap.{HashMap, get, Updates}
 use Rattle.dmf_net.specs.declared.arc.Arc.{Arc}
 use Rattle.dmf_net.specs.declared.fault.FlowFault.{FlowFault}
 use Rattle.dmf_net.specs.declared.fault.FlowFault.TheVariants as flow
 use Rattle.dmf_text.specs.declared.fault.SolutionFaultKind.{SolutionFaultKind}
 use Rattle.dmf_text.specs.declared.fault.SolutionFaultKind.TheVariants.{NoSuchPair, OverCapacity, NotConserved, ValueDiffers, NoMemory}
 use Rattle.dmf_text.specs.declared.pairs.PairFlow.{PairFlow}
+use Rattle.dmf_text.specs.declared.pairs.Pairs.{Pairs}
 use Rattle.dmf_text.specs.declared.solution_reading.SolutionReading.{SolutionReading}
 use Rattle.dmf_text.specs.Judging.{Line}
+use Rattle.dmf_text.specs.PairOrder.{first_place}
 use Rattle.dmf_text.specs.Solution.{Pair, same_pair, has_pair, pair_capacity, pair_flow, Facts, value_in, flow_in}
 
 -- the fault of a text whose flows are not taken
@@ -20,7 +21,11 @@ flow_kind (flow.NotConserved node) = NotConserved node
 flow_kind flow.Negative = ValueDiffers
 flow_kind flow.NoMemory = NoMemory
 
--- what a map has of a pair: a capacity and a flow, 0 where it has none
+-- what is known of a pair: it is kept at the pair's first place
+abbrev pub known_of : Pairs → Pair → Option PairFlow
+known_of pairs pair = slice_get pairs.known.items (first_place pairs.ends.items pair)
+
+-- a capacity and a flow of a pair, 0 where nothing is known of it
 abbrev pub cap_of : Option PairFlow → ℕ
 cap_of None = 0
 cap_of (Some known) = known.cap
@@ -29,18 +34,28 @@ abbrev pub flow_of : Option PairFlow → ℕ
 flow_of None = 0
 flow_of (Some known) = known.flow
 
--- The map has just the pairs of these arcs, each with the capacities of its arcs together and with its flow.
-pub record KeepsPairs {S : Type 0} (arcs : List Arc) (flow : Pair → ℕ) (pairs : HashMap Pair PairFlow S) : Type 0 where
-  pub there : (pair : Pair) → is_some (get same_pair pairs pair) ≡ has_pair arcs pair
-  pub caps : (pair : Pair) → cap_of (get same_pair pairs pair) ≡ pair_capacity arcs pair
-  pub flows : (pair : Pair) → flow_of (get same_pair pairs pair) ≡ flow pair
+-- Just the pairs of these arcs are known, each with the capacities of its arcs together, as far as they are counted, and with
+-- its flow.
+pub record KeepsCounted (arcs counted : List Arc) (flow : Pair → ℕ) (pairs : Pairs) : Type 0 where
+  pub there : (pair : Pair) → is_some (known_of pairs pair) ≡ has_pair arcs pair
+  pub caps : (pair : Pair) → cap_of (known_of pairs pair) ≡ pair_capacity counted pair
+  pub flows : (pair : Pair) → flow_of (known_of pairs pair) ≡ flow pair
+
+-- The same, where all arcs are counted.
+abbrev pub KeepsPairs : List Arc → (Pair → ℕ) → Pairs → Type 0
+KeepsPairs arcs flow pairs = KeepsCounted arcs arcs flow pairs
+
+-- This is known of the pair now, and of others what was known before.
+pub record Updates (old : Pairs) (pair : Pair) (known : PairFlow) (new : Pairs) : Type 0 where
+  pub here : known_of new pair ≡ Some known
+  pub others : (other : Pair) → same_pair pair other ≡ false → known_of new other ≡ known_of old other
 
 -- The flow was added to that of its pair, which has room for it.
-pub record AddsFlow {S : Type 0} (old : HashMap Pair PairFlow S) (pair : Pair) (flow : ℕ) (new : HashMap Pair PairFlow S) : Type 0 where
+pub record AddsFlow (old : Pairs) (pair : Pair) (flow : ℕ) (new : Pairs) : Type 0 where
   pub known : PairFlow
-  pub is_there : get same_pair old pair ≡ Some known
+  pub is_there : known_of old pair ≡ Some known
   pub fits : known.flow + flow ≤ known.cap
-  pub updates : Updates same_pair old new pair (Some (record { cap = known.cap; flow = known.flow + flow }))
+  pub updates : Updates old pair (record { cap = known.cap; flow = known.flow + flow }) new
 
 -- why the flow was not added
 abbrev pub CannotAdd : Option PairFlow → ℕ → SolutionFaultKind → Type 0

@@ -32,7 +32,7 @@ pub(crate) struct Body {
     arcs: u32,
     state: State,
     ghost at_most_arcs: { arcs ≤ 2 ^ 27 },
-    ghost room: { length state.network.arcs ≤ arcs },
+    ghost not_too_many: { length state.network.arcs ≤ arcs },
     ghost idle: { state.flows ≡ replicate (length state.network.arcs) 0 },
 }
 

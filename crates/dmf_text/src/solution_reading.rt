@@ -10,15 +10,14 @@ use crate::digits::number;
 use crate::exact_fields::{one_field, three_fields};
 use crate::fault::SolutionFaultKind;
 use crate::field::Fields;
-use crate::pairs::{PairFlow, Pairs, add_flow, pair_of, pairs_of, put_on};
+use crate::pairs::{Pairs, pair_of};
 use dmf_net::State;
 use std::alloc::{AllocError, Global};
-use std::collections::HashMap;
 
 /// What the lines of a solution text say that were taken so far.
 #[derive(Drop)]
 pub(crate) struct SolutionReading {
-    pairs: HashMap<(u32, u32), PairFlow>,
+    pairs: Pairs,
     value: Option<u64>,
 }
 
@@ -29,7 +28,7 @@ impl SolutionReading {
     pub(crate) fn new(alloc: Global, state: &State) -> Result<SolutionReading, AllocError>
         ensures { IfOk result (Keeps state.now.network.arcs (record { value = None; flows = [] })) }
     {
-        let pairs = pairs_of(alloc, state.arcs())?;
+        let pairs = Pairs::of_arcs(alloc, state.arcs())?;
         Ok(SolutionReading { pairs, value: None })
     }
 
@@ -79,7 +78,7 @@ impl SolutionReading {
         let Some(pair) = pair_of(tail, head) else {
             return Err(SolutionFaultKind::NoSuchPair);
         };
-        add_flow(&mut self.pairs, pair, flow)
+        self.pairs.add_flow(pair, flow)
     }
 
     /// The state that the lines stand for, at the end of the text: the network of this one with the flows that they say.
@@ -91,7 +90,7 @@ impl SolutionReading {
         let Some(value) = value else {
             return Err(SolutionFaultKind::ValueMissing);
         };
-        let flows = put_on(alloc, pairs, state.arcs())?;
+        let flows = pairs.put_on(alloc, state.arcs())?;
         let solution = state.with_flows(alloc, flows)?;
         if solution.value() != value {
             return Err(SolutionFaultKind::ValueDiffers);
