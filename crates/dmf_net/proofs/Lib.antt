@@ -40,6 +40,7 @@ pub mod FlowsRead
 pub mod FlowFaults
 pub mod SolvingSearch
 pub mod SolvedEdit
+pub mod Followed
 pub mod LoweredValue
 pub mod CarryingPairs
 pub mod LoweredPairs

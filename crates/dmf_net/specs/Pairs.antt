@@ -1,6 +1,6 @@
 -- The pairs of links among which paths are looked for.
 -- Private: only contracts inside the crate and proofs use this.
-use Rattle.std.specs.Prelude.{ℕ, ◌≡◌, ◌-◌, ◌<◌, ◌≤◌, ◌==◌, ◌||◌, ◌↔◌, true, false, length, slice_index, slice_index_or, if◌then◌else◌, List, [], ◌∷◌, ◌++◌, Option, Some, None, option_map, IsTrue, pos}
+use Rattle.std.specs.Prelude.{ℕ, ◌≡◌, ◌-◌, ◌<◌, ◌≤◌, ◌==◌, ◌||◌, ◌↔◌, true, false, length, slice_index, slice_index_or, slice_set, if◌then◌else◌, List, [], ◌∷◌, ◌++◌, Option, Some, None, option_map, IsTrue, pos}
 use Rattle.std.specs.Option.{unwrap_or}
 use Rattle.std.specs.List.{AllZip}
 use Rattle.std.specs.List.Sorted.{IsStrictlyIncreasing}
@@ -8,7 +8,7 @@ use Rattle.dmf_path.specs.declared.pair.Pair.{Pair}
 use Rattle.dmf_path.specs.Node.{IsNode}
 use Rattle.dmf_path.specs.Pair.{steps_of}
 use Rattle.dmf_path.specs.Path.{IsReachable}
-use Rattle.dmf_path.specs.Search.{Searched}
+use Rattle.dmf_path.specs.Search.{Searched, pair_number, pair_with}
 use Rattle.dmf_net.specs.declared.arc.Arc.{Arc}
 use Rattle.dmf_net.specs.Arc.{no_arc}
 use Rattle.dmf_net.specs.declared.moves.FlowLink.{FlowLink}
@@ -95,6 +95,14 @@ flow_left arc first (Some room) = arc.cap - room
 -- the flows that a search for augmenting paths has reached from those of the state
 abbrev pub reached_flows : NetworkState → Searched → List ℕ
 reached_flows s search = flows_read Against s.flows search.pairs
+
+-- a pair with the room that another capacity leaves along it
+abbrev pub recapped : ℕ → Pair → Pair
+recapped cap p = pair_with (cap - p.against) p.against p
+
+-- the pairs, with that at index `k` so, where there is one
+abbrev pub with_capacity : List (Option Pair) → ℕ → ℕ → List (Option Pair)
+with_capacity pairs k cap = slice_set pairs k (option_map (recapped cap) (pair_number pairs k))
 
 -- The search for augmenting paths has come to the outcome of solving, whose value is this.
 pub record IsSolved (s : NetworkState) (search : Searched) (value : ℕ) : Type 0 where

@@ -67,7 +67,7 @@ fn put_moves(flows: &mut [u64], moves: &[Move])
 }
 
 /// The moves of an edit.
-fn moves_of(edit: &Edit) -> &[Move]
+pub fn moves_of(edit: &Edit) -> &[Move]
     ensures { result.now ≡ moves_of edit.now }
 {
     match *edit {

@@ -29,6 +29,7 @@ mod edited;
 mod edited_pairs;
 mod fault;
 mod flow_sums;
+mod following;
 mod laws;
 mod limits;
 mod moves;

@@ -48,13 +48,7 @@ pub fn list_moves(
 }
 
 /// The flow that a search has reached on the arc at index `k`, of so much before. Where that was nothing, nothing is looked at.
-fn flow_left_of(
-    before: u64,
-    search: &Search,
-    k: usize,
-    link: FlowLink,
-    unpaired: &[u64],
-) -> u64
+fn flow_left_of(before: u64, search: &Search, k: usize, link: FlowLink, unpaired: &[u64]) -> u64
     requires pairs { k < length search.now.pairs }
     requires unpaired { k < length unpaired.now }
     requires no_more { flow_read link (slice_index unpaired.now k) (pair_number search.now.pairs k) ≤ before }

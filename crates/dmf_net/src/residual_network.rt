@@ -1,5 +1,5 @@
-ghost use Rattle.std.specs.Prelude.{◌≡◌, pos, IfErr, IfOk, IfSome, IsOkUnless, OnOk};
-ghost use Rattle.dmf_net.specs.Edit.{applied, Fits};
+ghost use Rattle.std.specs.Prelude.{◌≡◌, ◌↔◌, None, pos, IfErr, IfOk, IfSome, IsOkUnless, OnOk};
+ghost use Rattle.dmf_net.specs.Edit.{applied, AddsArc, Fits};
 ghost use Rattle.dmf_net.specs.Flow.{flow_value};
 ghost use Rattle.dmf_net.specs.Greatest.{IsGreatest, IsSurpassed};
 ghost use Rattle.dmf_net.specs.Planning.{PlansSolve};
@@ -7,7 +7,9 @@ ghost use Rattle.dmf_net.specs.ResidualNetwork.{IsResidualOf};
 ghost use Rattle.dmf_net.specs.Side.{IsSmallestSide};
 
 use crate::edit::Edit;
+use crate::edited::moves_of;
 use crate::fault::{CutFault, NoMemory, PlanFault};
+use crate::following::{put_capacities, put_flows};
 use crate::residual::residual_search;
 use crate::side::{Side, side_along, solved_side};
 use crate::solve::{Solved, solve};
@@ -101,12 +103,20 @@ impl ResidualNetwork {
         side_along(alloc, &self.search, state)
     }
 
-    /// That of the state as an edit leaves it; none where the links are to be made anew. Takes no memory.
+    /// That of the state as an edit leaves it, which fits the state; none where the edit adds an arc, since then the links are to
+    /// be made anew. Takes no memory, and time for the arcs that the edit names; the first call after a solve, for each node.
     pub fn follow(self, state: &State, edit: &Edit) -> Option<ResidualNetwork>
         requires residual { IsResidualOf state.now self }
         requires fits { Fits edit.now state.now }
-        ensures { IfSome result (λ kept. IsResidualOf (applied edit.now state.now) kept) }
+        ensures kept { IfSome result (λ kept. IsResidualOf (applied edit.now state.now) kept) }
+        ensures dropped { (result ≡ None) ↔ AddsArc edit.now }
     {
-        None
+        if let Edit::Add { .. } = *edit {
+            return None;
+        }
+        let mut search = self.search;
+        put_flows(&mut search, state, moves_of(edit));
+        put_capacities(&mut search, state, edit);
+        Some(ResidualNetwork { search })
     }
 }

@@ -45,3 +45,4 @@ pub mod Filling
 pub mod Built
 pub mod Searching
 pub mod Lowered
+pub mod RoomsSet

@@ -41,7 +41,7 @@ same-map f g (q ∷ qs) same =
     λ i. first i ∷ rest i
 
 -- one element of a list is another
-map-set : {X : Type 0} (f g : ℕ → X) (qs : List ℕ) (k : ℕ) (x : X) → k < length qs → f (get_or qs k 0) ≡ x → ((j : ℕ) → j < length qs → j ≢ k → f (get_or qs j 0) ≡ g (get_or qs j 0)) → map f qs ≡ set (map g qs) k x
+pub map-set : {X : Type 0} (f g : ℕ → X) (qs : List ℕ) (k : ℕ) (x : X) → k < length qs → f (get_or qs k 0) ≡ x → ((j : ℕ) → j < length qs → j ≢ k → f (get_or qs j 0) ≡ g (get_or qs j 0)) → map f qs ≡ set (map g qs) k x
 map-set f g [] k x within here others = absurd (omega (arith, within))
 map-set f g (q ∷ qs) zero x within here others =
     let rest : map f qs ≡ map g qs = same-map f g qs (λ j h. others (suc j) (omega (arith, h)) (λ e. omega (arith, e))) in

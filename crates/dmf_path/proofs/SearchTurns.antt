@@ -1,51 +1,61 @@
 -- What a search keeps, from one call to the next.
-use Rattle.std.proofs.Common.{ℕ, ◌≡◌, ◌≢◌, ◌+◌, ◌%◌, ◌^◌, ◌≤◌, Bool, List, [], length, get_or, set, take, drop, replicate, ap, sym, ◌∙◌, subst, arith}
-use Rattle.std.proofs.lemmas.List.{drop_all, get_or-replicate, length-replicate, get_or-set_same, get_or-set_other, length-set}
+use Rattle.std.proofs.Common.{ℕ, ◌≡◌, ◌≢◌, ◌+◌, ◌%◌, ◌^◌, ◌<◌, ◌≤◌, Bool, true, false, List, [], length, get_or, set, take, drop, replicate, refl, ap, sym, ◌∙◌, subst, arith}
+use Rattle.std.proofs.lemmas.List.{drop_all, length-drop, nil_from_length, get_or-replicate, length-replicate, get_or-set_same, get_or-set_other, length-set}
 use Rattle.dmf_path.specs.declared.trail.Slot.{Slot}
 use Rattle.dmf_path.specs.Node.{IsNode}
 use Rattle.dmf_path.specs.Links.{Links, AreLinks, ArePlaces, AreRooms, AreFlags}
 use Rattle.dmf_path.specs.Walk.{AreValid, IsTrail, end_of}
-use Rattle.dmf_path.specs.Held.{Way, places_of, walked_slots, settled, rooms_with, emptied, with_slots}
+use Rattle.dmf_path.specs.Held.{Way, places_of, walked_slots, rest_slots, settled, rooms_with, emptied, with_slots}
 use Rattle.dmf_path.specs.declared.search.AugmentingPath.{AugmentingPath}
 use Rattle.dmf_path.specs.Search.{Searched, Augments}
-use Rattle.dmf_path.specs.Searching.{IsUnderWay, IsHolding, IsSearch, searched}
+use Rattle.dmf_path.specs.Searching.{IsUnderWay, IsHolding, IsFresh, IsMarked, begun, fresh, IsSearch, searched}
 use Rattle.dmf_path.proofs.Pushed.{OpensUpwards, AreValid-opens, ArePassed-opens}
 use Rattle.dmf_path.proofs.SettledSent.{HaveLeft-sent}
 use Rattle.dmf_path.proofs.Settling.{rooms_with-free, holding-free, way-free}
 use Rattle.dmf_path.proofs.Searching.{CanAugment}
 use Rattle.dmf_path.proofs.Cutting.{IsSent, HasCut}
 
+-- with free slots, where nothing falls to the label of the start, and the current links of all nodes are their first ones
+free-search : (l : Links) (takes_back : Bool) (places rooms flags labels current : List ℕ) (w : Way) (queue_room slots_room : ℕ) → AreLinks l → ArePlaces l places → AreRooms l rooms → AreFlags l rooms flags → w.sent < 2 ^ 64
+    → length labels ≡ l.nodes + 1 → get_or labels w.start 0 ≡ 0 → get_or labels w.goal 0 ≡ 0 → current ≡ take (l.nodes + 1) l.first → IsNode l.nodes w.start → IsNode l.nodes w.goal → w.start ≢ w.goal → l.nodes + 1 ≤ queue_room → l.nodes ≤ slots_room
+    → IsSearch l takes_back places rooms flags labels current (with_slots w []) queue_room slots_room true
+free-search l takes_back places rooms flags labels current w queue_room slots_room links places_are sums told small one_label_each start_label goal_label first start_is goal_is apart queue_room_is slots_room_is = record {
+  links = links;
+  places_are = places_are;
+  holding = holding-free l w [] rooms flags sums told small;
+  one_label_each = one_label_each;
+  start_label = omega (arith, start_label);
+  valid = λ v p node lies room below. absurd (omega (arith, below, start_label));
+  under_way = subst (λ rs. IsUnderWay l labels rs current (with_slots w [])) (sym (rooms_with-free l takes_back w [] rooms)) (way-free l labels rooms current w [] links goal_is first (omega (arith, start_label)) goal_label);
+  start_is = start_is;
+  goal_is = goal_is;
+  apart = apart;
+  queue_room_is = queue_room_is;
+  slots_room_is = slots_room_is;
+  marked = fresh (record { label = start_label; first = first });
+}
+
+-- what a trail keeps, between other ends
+abbrev pub between : Way → ℕ → ℕ → Way
+between w start goal = record { slots = w.slots; walked = w.walked; rest = w.rest; joint = w.joint; sent = w.sent; start = start; goal = goal }
+
 -- at first
 pub IsSearch-new : (l : Links) (takes_back : Bool) (places rooms flags labels current : List ℕ) (slots : List Slot) (start goal queue_room slots_room : ℕ) → AreLinks l → ArePlaces l places → AreRooms l rooms → AreFlags l rooms flags
     → IsNode l.nodes start → IsNode l.nodes goal → start ≢ goal → labels ≡ replicate (l.nodes + 1) 0 → current ≡ take (l.nodes + 1) l.first → slots ≡ [] → l.nodes + 1 ≤ queue_room → l.nodes ≤ slots_room
-    → IsSearch l takes_back places rooms flags labels current (record { slots = slots; walked = 0; rest = 0; joint = goal; sent = 0; start = start; goal = goal }) queue_room slots_room
+    → IsSearch l takes_back places rooms flags labels current (record { slots = slots; walked = 0; rest = 0; joint = goal; sent = 0; start = start; goal = goal }) queue_room slots_room true
 IsSearch-new l takes_back places rooms flags labels current slots start goal queue_room slots_room links places_are sums told start_is goal_is apart zeros first none queue_room_is slots_room_is =
     let w : Way = record { slots = []; walked = 0; rest = 0; joint = goal; sent = 0; start = start; goal = goal } in
     let label : (v : ℕ) → v ≤ l.nodes → get_or labels v 0 ≡ 0 = λ v h. ap (λ xs. get_or xs v 0) zeros ∙ get_or-replicate (l.nodes + 1) v 0 0 (omega (arith, h)) in
-    let free : rooms_with l takes_back w rooms ≡ rooms = rooms_with-free l takes_back w [] rooms in
-    let at : IsSearch l takes_back places rooms flags labels current w queue_room slots_room = record {
-      links = links;
-      places_are = places_are;
-      holding = holding-free l w [] rooms flags sums told (omega arith);
-      one_label_each = ap length zeros ∙ length-replicate (l.nodes + 1) 0;
-      start_label = omega (arith, label start start_is.to_last);
-      valid = λ v p node lies room below. absurd (omega (arith, below, label start start_is.to_last));
-      under_way = subst (λ rs. IsUnderWay l labels rs current w) (sym free) (way-free l labels rooms current w [] links goal_is first (omega (arith, label start start_is.to_last)) (label goal goal_is.to_last));
-      start_is = start_is;
-      goal_is = goal_is;
-      apart = apart;
-      queue_room_is = queue_room_is;
-      slots_room_is = slots_room_is;
-    } in
-    subst (λ (ss : List Slot). IsSearch l takes_back places rooms flags labels current (record { slots = ss; walked = 0; rest = 0; joint = goal; sent = 0; start = start; goal = goal }) queue_room slots_room) (sym none) at
+    let at = free-search l takes_back places rooms flags labels current w queue_room slots_room links places_are sums told (omega arith) (ap length zeros ∙ length-replicate (l.nodes + 1) 0) (label start start_is.to_last) (label goal goal_is.to_last) first start_is goal_is apart queue_room_is slots_room_is in
+    subst (λ (ss : List Slot). IsSearch l takes_back places rooms flags labels current (record { slots = ss; walked = 0; rest = 0; joint = goal; sent = 0; start = start; goal = goal }) queue_room slots_room true) (sym none) at
 
 -- after looking for a path
-pub IsSearch-found : (l : Links) (takes_back : Bool) (places rooms flags labels current : List ℕ) (w : Way) (queue_room slots_room : ℕ) (new_rooms new_flags new_labels new_current : List ℕ) (new : Way) (new_queue_room new_slots_room : ℕ)
-    → IsSearch l takes_back places rooms flags labels current w queue_room slots_room
+pub IsSearch-found : {is_fresh : Bool} (l : Links) (takes_back : Bool) (places rooms flags labels current : List ℕ) (w : Way) (queue_room slots_room : ℕ) (new_rooms new_flags new_labels new_current : List ℕ) (new : Way) (new_queue_room new_slots_room : ℕ)
+    → IsSearch l takes_back places rooms flags labels current w queue_room slots_room is_fresh
     → length new_labels ≡ length labels → get_or new_labels w.start 0 ≤ l.nodes → IsHolding l new new_rooms new_flags → rooms_with l takes_back new new_rooms ≡ rooms_with l takes_back w rooms
     → AreValid l new_labels (rooms_with l takes_back w rooms) (get_or new_labels w.start 0) → IsUnderWay l new_labels (rooms_with l takes_back w rooms) new_current new
     → new.start ≡ w.start → new.goal ≡ w.goal → new_queue_room ≡ queue_room → new_slots_room ≡ slots_room
-    → IsSearch l takes_back places new_rooms new_flags new_labels new_current new new_queue_room new_slots_room
+    → IsSearch l takes_back places new_rooms new_flags new_labels new_current new new_queue_room new_slots_room false
 IsSearch-found l takes_back places rooms flags labels current w queue_room slots_room new_rooms new_flags new_labels new_current new new_queue_room new_slots_room is long label holding same valid way start goal queue_same slots_same = record {
   links = is.links;
   places_are = is.places_are;
@@ -59,6 +69,7 @@ IsSearch-found l takes_back places rooms flags labels current w queue_room slots
   apart = λ e. is.apart (sym start ∙ e ∙ goal);
   queue_room_is = omega (arith, is.queue_room_is, queue_same);
   slots_room_is = omega (arith, is.slots_room_is, slots_same);
+  marked = begun refl;
 }
 
 -- what a trail keeps once so much more is sent
@@ -66,7 +77,7 @@ abbrev pub sent_on : Way → ℕ → Way
 sent_on w amount = record { slots = w.slots; walked = w.walked; rest = w.rest; joint = w.joint; sent = (w.sent + amount) % 2 ^ 64; start = w.start; goal = w.goal }
 
 -- Along the path that was found more is sent.
-pub is-sent : (l : Links) (takes_back : Bool) (places rooms flags labels current : List ℕ) (w : Way) (queue_room slots_room limit amount : ℕ) → IsSearch l takes_back places rooms flags labels current w queue_room slots_room
+pub is-sent : {is_fresh : Bool} (l : Links) (takes_back : Bool) (places rooms flags labels current : List ℕ) (w : Way) (queue_room slots_room limit amount : ℕ) → IsSearch l takes_back places rooms flags labels current w queue_room slots_room is_fresh
     → end_of l w.start (places_of (walked_slots w)) ≡ w.joint → CanAugment l takes_back places rooms labels current w limit amount → IsSent l takes_back labels (rooms_with l takes_back w rooms) current (sent_on w amount) rooms
 is-sent l takes_back places rooms flags labels current w queue_room slots_room limit amount is joins can = record {
   links = is.links;
@@ -89,9 +100,9 @@ is-sent l takes_back places rooms flags labels current w queue_room slots_room l
 
 -- after the path is cut
 pub IsSearch-cut : (l : Links) (takes_back : Bool) (places rooms flags labels current : List ℕ) (w : Way) (queue_room slots_room limit amount : ℕ) (new_rooms new_flags : List ℕ) (new : Way) (new_slots_room : ℕ)
-    → IsSearch l takes_back places rooms flags labels current w queue_room slots_room → CanAugment l takes_back places rooms labels current w limit amount
+    → IsSearch l takes_back places rooms flags labels current w queue_room slots_room false → CanAugment l takes_back places rooms labels current w limit amount
     → HasCut l takes_back labels (settled l takes_back ((w.sent + amount) % 2 ^ 64) w.slots rooms) current new new_rooms new_flags
-    → new.start ≡ w.start → new.goal ≡ w.goal → new_slots_room ≡ slots_room → IsSearch l takes_back places new_rooms new_flags labels current new queue_room new_slots_room
+    → new.start ≡ w.start → new.goal ≡ w.goal → new_slots_room ≡ slots_room → IsSearch l takes_back places new_rooms new_flags labels current new queue_room new_slots_room false
 IsSearch-cut l takes_back places rooms flags labels current w queue_room slots_room limit amount new_rooms new_flags new new_slots_room is can cut start goal slots_same =
     let after : List ℕ = settled l takes_back ((w.sent + amount) % 2 ^ 64) w.slots rooms in
     let valid = AreValid-opens l labels (rooms_with l takes_back w rooms) after (get_or labels w.start 0) can.opens is.valid in
@@ -108,16 +119,17 @@ IsSearch-cut l takes_back places rooms flags labels current w queue_room slots_r
       apart = λ e. is.apart (sym start ∙ e ∙ goal);
       queue_room_is = is.queue_room_is;
       slots_room_is = omega (arith, is.slots_room_is, slots_same);
+      marked = begun refl;
     }
 
 -- after all links have left and rooms have changed, where at most links that lead upwards gained some
-pub IsSearch-emptied : (l : Links) (takes_back : Bool) (places rooms flags labels current : List ℕ) (w : Way) (queue_room slots_room : ℕ) (new_rooms new_flags : List ℕ) (new : Way) (new_slots_room : ℕ)
-    → IsSearch l takes_back places rooms flags labels current w queue_room slots_room → OpensUpwards l labels (rooms_with l takes_back w rooms) new_rooms → AreRooms l new_rooms → AreFlags l new_rooms new_flags
-    → new ≡ emptied w → new_slots_room ≡ slots_room → IsSearch l takes_back places new_rooms new_flags labels current new queue_room new_slots_room
-IsSearch-emptied l takes_back places rooms flags labels current w queue_room slots_room new_rooms new_flags new new_slots_room is opens sums told empty slots_same =
+pub IsSearch-emptied : {is_fresh : Bool} (l : Links) (takes_back : Bool) (places rooms flags labels current : List ℕ) (w : Way) (queue_room slots_room : ℕ) (new_rooms new_flags : List ℕ) (new : Way) (new_slots_room : ℕ)
+    → IsSearch l takes_back places rooms flags labels current w queue_room slots_room is_fresh → OpensUpwards l labels (rooms_with l takes_back w rooms) new_rooms → AreRooms l new_rooms → AreFlags l new_rooms new_flags
+    → new ≡ emptied w → new_slots_room ≡ slots_room → IsSearch l takes_back places new_rooms new_flags labels current new queue_room new_slots_room is_fresh
+IsSearch-emptied {is_fresh = is_fresh} l takes_back places rooms flags labels current w queue_room slots_room new_rooms new_flags new new_slots_room is opens sums told empty slots_same =
     let none : drop (length w.slots) w.slots ≡ [] = drop_all (length w.slots) w.slots (omega arith) in
     let same : rooms_with l takes_back (emptied w) new_rooms ≡ new_rooms = rooms_with-free l takes_back w w.slots new_rooms in
-    let at : IsSearch l takes_back places new_rooms new_flags labels current (emptied w) queue_room new_slots_room = record {
+    let at : IsSearch l takes_back places new_rooms new_flags labels current (emptied w) queue_room new_slots_room is_fresh = record {
       links = is.links;
       places_are = is.places_are;
       holding = holding-free l w w.slots new_rooms new_flags sums told is.holding.small;
@@ -144,36 +156,53 @@ IsSearch-emptied l takes_back places rooms flags labels current w queue_room slo
       apart = is.apart;
       queue_room_is = is.queue_room_is;
       slots_room_is = omega (arith, is.slots_room_is, slots_same);
+      marked = is.marked;
     } in
-    subst (λ (u : Way). IsSearch l takes_back places new_rooms new_flags labels current u queue_room new_slots_room) (sym empty) at
+    subst (λ (u : Way). IsSearch l takes_back places new_rooms new_flags labels current u queue_room new_slots_room is_fresh) (sym empty) at
 
--- after all links have left and other ends are set
-pub IsSearch-aimed : (l : Links) (takes_back : Bool) (places rooms flags labels current : List ℕ) (w : Way) (queue_room slots_room start goal : ℕ) (new_rooms new_flags new_current : List ℕ) (new : Way) (slots : List Slot) (new_slots_room : ℕ)
-    → IsSearch l takes_back places rooms flags labels current w queue_room slots_room → AreRooms l new_rooms → AreFlags l new_rooms new_flags → IsNode l.nodes start → IsNode l.nodes goal → start ≢ goal
-    → new_current ≡ take (l.nodes + 1) l.first → length slots ≡ 0 → new ≡ with_slots (record { slots = w.slots; walked = 0; rest = length w.slots; joint = w.goal; sent = w.sent; start = start; goal = goal }) slots → new_slots_room ≡ slots_room
-    → IsSearch l takes_back places new_rooms new_flags (set (set labels start 0) goal 0) new_current new queue_room new_slots_room
-IsSearch-aimed l takes_back places rooms flags labels current w queue_room slots_room start goal new_rooms new_flags new_current new slots new_slots_room is sums told start_is goal_is apart first none same slots_same =
-    let aimed : Way = record { slots = w.slots; walked = 0; rest = length w.slots; joint = w.goal; sent = w.sent; start = start; goal = goal } in
+-- after all links have left and ends are set, the same ones or others
+pub IsSearch-anew : {is_fresh : Bool} (l : Links) (takes_back : Bool) (places rooms flags labels current : List ℕ) (w : Way) (queue_room slots_room start goal : ℕ) (new_rooms new_flags new_labels new_current : List ℕ) (new : Way) (new_slots_room : ℕ)
+    → IsSearch l takes_back places rooms flags labels current w queue_room slots_room is_fresh → AreRooms l new_rooms → AreFlags l new_rooms new_flags → IsNode l.nodes start → IsNode l.nodes goal → start ≢ goal
+    → new_labels ≡ set (set labels start 0) goal 0 → new_current ≡ take (l.nodes + 1) l.first → new ≡ with_slots (between w start goal) [] → new_slots_room ≡ slots_room
+    → IsSearch l takes_back places new_rooms new_flags new_labels new_current new queue_room new_slots_room true
+IsSearch-anew l takes_back places rooms flags labels current w queue_room slots_room start goal new_rooms new_flags new_labels new_current new new_slots_room is sums told start_is goal_is apart labelled first same slots_same =
     let labels_now : List ℕ = set (set labels start 0) goal 0 in
     let long : length labels_now ≡ length labels = length-set (set labels start 0) goal 0 ∙ length-set labels start 0 in
     let goal_label : get_or labels_now goal 0 ≡ 0 = get_or-set_same (set labels start 0) goal 0 0 (omega (arith, is.one_label_each, goal_is.to_last, length-set labels start 0)) in
     let start_label : get_or labels_now start 0 ≡ 0 = get_or-set_other (set labels start 0) goal start 0 0 apart ∙ get_or-set_same labels start 0 0 (omega (arith, is.one_label_each, start_is.to_last)) in
-    let free : rooms_with l takes_back (with_slots aimed slots) new_rooms ≡ new_rooms = rooms_with-free l takes_back aimed slots new_rooms in
-    let at : IsSearch l takes_back places new_rooms new_flags labels_now new_current (with_slots aimed slots) queue_room new_slots_room = record {
-      links = is.links;
-      places_are = is.places_are;
-      holding = holding-free l aimed slots new_rooms new_flags sums told is.holding.small;
-      one_label_each = long ∙ is.one_label_each;
-      start_label = omega (arith, start_label);
-      valid = λ v p node lies room below. absurd (omega (arith, below, start_label));
-      under_way = subst (λ rs. IsUnderWay l labels_now rs new_current (with_slots aimed slots)) (sym free) (way-free l labels_now new_rooms new_current aimed slots is.links goal_is first (omega (arith, none, start_label)) goal_label);
-      start_is = start_is;
-      goal_is = goal_is;
-      apart = apart;
-      queue_room_is = is.queue_room_is;
-      slots_room_is = omega (arith, is.slots_room_is, slots_same);
-    } in
-    subst (λ (u : Way). IsSearch l takes_back places new_rooms new_flags labels_now new_current u queue_room new_slots_room) (sym same) at
+    let at = free-search l takes_back places new_rooms new_flags labels_now new_current (between w start goal) queue_room new_slots_room is.links is.places_are sums told is.holding.small (long ∙ is.one_label_each) start_label goal_label first start_is goal_is apart is.queue_room_is (omega (arith, is.slots_room_is, slots_same)) in
+    subst (λ (u : Way). IsSearch l takes_back places new_rooms new_flags new_labels new_current u queue_room new_slots_room true) (sym same)
+    (subst (λ ls. IsSearch l takes_back places new_rooms new_flags ls new_current (with_slots (between w start goal) []) queue_room new_slots_room true) (sym labelled) at)
+
+-- what a search that is marked as fresh says
+fresh-mark : (l : Links) (labels current : List ℕ) (start : ℕ) → IsMarked l labels current start true → IsFresh l labels current start
+fresh-mark l labels current start (begun e) = absurd (cc)
+fresh-mark l labels current start (fresh is) = is
+
+-- a fresh search keeps no slots
+fresh-way : (l : Links) (takes_back : Bool) (places rooms flags labels current : List ℕ) (w : Way) (queue_room slots_room : ℕ) → IsSearch l takes_back places rooms flags labels current w queue_room slots_room true → w ≡ with_slots w []
+fresh-way l takes_back places rooms flags labels current w queue_room slots_room is =
+    let way = is.under_way in
+    let none : length w.slots ≡ 0 = way.one_slot_each ∙ (fresh-mark l labels current w.start is.marked).label in
+    let slots : w.slots ≡ [] = nil_from_length w.slots none in
+    let rest : rest_slots w ≡ [] = nil_from_length (rest_slots w) (omega (arith, length-drop w.rest w.slots, none)) in
+    let walked : w.walked ≡ 0 = omega (arith, way.order, way.within, none) in
+    let behind : w.rest ≡ 0 = omega (arith, way.within, none) in
+    let joint : w.joint ≡ w.goal = sym (ap (λ (ss : List Slot). end_of l w.joint (places_of ss)) rest) ∙ way.ends in
+    λ i. record { slots = slots i; walked = walked i; rest = behind i; joint = joint i; sent = w.sent; start = w.start; goal = w.goal }
+
+-- In a fresh search any rooms may stand,
+pub IsSearch-set : (l : Links) (takes_back : Bool) (places rooms flags labels current : List ℕ) (w : Way) (queue_room slots_room : ℕ) (new_rooms new_flags : List ℕ) → IsSearch l takes_back places rooms flags labels current w queue_room slots_room true
+    → AreRooms l new_rooms → AreFlags l new_rooms new_flags → IsSearch l takes_back places new_rooms new_flags labels current w queue_room slots_room true
+IsSearch-set l takes_back places rooms flags labels current w queue_room slots_room new_rooms new_flags is sums told =
+    let is_fresh = fresh-mark l labels current w.start is.marked in
+    let at = free-search l takes_back places new_rooms new_flags labels current w queue_room slots_room is.links is.places_are sums told is.holding.small is.one_label_each is_fresh.label is.under_way.goal_label is_fresh.first is.start_is is.goal_is is.apart is.queue_room_is is.slots_room_is in
+    subst (λ (u : Way). IsSearch l takes_back places new_rooms new_flags labels current u queue_room slots_room true) (sym (fresh-way l takes_back places rooms flags labels current w queue_room slots_room is)) at
+
+-- and nothing is held.
+pub rooms_with-fresh : (l : Links) (takes_back : Bool) (places rooms flags labels current : List ℕ) (w : Way) (queue_room slots_room : ℕ) (others : List ℕ) → IsSearch l takes_back places rooms flags labels current w queue_room slots_room true → rooms_with l takes_back w others ≡ others
+rooms_with-fresh l takes_back places rooms flags labels current w queue_room slots_room others is =
+    ap (λ (u : Way). rooms_with l takes_back u others) (fresh-way l takes_back places rooms flags labels current w queue_room slots_room is) ∙ rooms_with-free l takes_back w [] others
 
 -- The same search is told of the same rooms and ends.
 pub same-searched : (l : Links) (places rooms others : List ℕ) (start from goal to : ℕ) (takes_back : Bool) → rooms ≡ others → start ≡ from → goal ≡ to → searched l places rooms start goal takes_back ≡ searched l places others from to takes_back

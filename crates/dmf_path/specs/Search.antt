@@ -54,6 +54,14 @@ pub record HasAlong (pairs : List (Option Pair)) (k amount : ℕ) : Type 0 where
 abbrev pub lowered_pair : ℕ → Pair → Pair
 lowered_pair amount p = record { tail = p.tail; head = p.head; along = p.along - amount; against = p.against }
 
+-- a pair with these rooms
+abbrev pub pair_with : ℕ → ℕ → Pair → Pair
+pair_with along against p = record { tail = p.tail; head = p.head; along = along; against = against }
+
+-- the pairs, with these rooms of that at index `k`, where there is one
+abbrev pub with_rooms : List (Option Pair) → ℕ → ℕ → ℕ → List (Option Pair)
+with_rooms pairs k along against = slice_set pairs k (option_map (pair_with along against) (pair_number pairs k))
+
 -- the pairs, with so much less room along that at index `k`
 abbrev pub lowered_along : List (Option Pair) → ℕ → ℕ → List (Option Pair)
 lowered_along pairs k amount = slice_set pairs k (option_map (lowered_pair amount) (pair_number pairs k))

@@ -1,6 +1,6 @@
 -- What a search keeps.
 -- Private: only contracts inside the crate and proofs use this.
-use Rattle.std.specs.Prelude.{ℕ, ◌≡◌, ◌≢◌, ◌+◌, ◌^◌, ◌<◌, ◌≤◌, Bool, List, length, slice_index}
+use Rattle.std.specs.Prelude.{ℕ, ◌≡◌, ◌≢◌, ◌+◌, ◌^◌, ◌<◌, ◌≤◌, Bool, false, List, length, slice_index, take}
 use Rattle.dmf_path.specs.Node.{IsNode}
 use Rattle.dmf_path.specs.Links.{Links, AreLinks, ArePlaces, AreRooms, AreFlags, pairs_at}
 use Rattle.dmf_path.specs.Labels.{AreLabels, no_label}
@@ -27,9 +27,20 @@ pub record IsHolding (l : Links) (w : Way) (rooms flags : List ℕ) : Type 0 whe
   pub small : w.sent < 2 ^ 64
   pub have : HaveLeft w.sent rooms (filled_slots w)
 
+-- The search has not begun: nothing falls to the label of the start, so that there are no slots, and the current link of each node
+-- is its first one. So it stands whatever the rooms are.
+pub record IsFresh (l : Links) (labels current : List ℕ) (start : ℕ) : Type 0 where
+  pub label : slice_index labels start ≡ 0
+  pub first : current ≡ take (l.nodes + 1) l.first
+
+-- What is said of a search by whether it is marked as fresh.
+pub data IsMarked (l : Links) (labels current : List ℕ) (start : ℕ) (is_fresh : Bool) : Type 0 where
+  begun : is_fresh ≡ false → IsMarked l labels current start is_fresh
+  fresh : IsFresh l labels current start → IsMarked l labels current start is_fresh
+
 -- The vectors of a search fit together: links, the places of the pairs, rooms and flags, with what is held, labels that are
--- valid, and how far it has come.
-pub record IsSearch (l : Links) (takes_back : Bool) (places rooms flags labels current : List ℕ) (w : Way) (queue_room slots_room : ℕ) : Type 0 where
+-- valid, how far it has come, and whether it has not begun.
+pub record IsSearch (l : Links) (takes_back : Bool) (places rooms flags labels current : List ℕ) (w : Way) (queue_room slots_room : ℕ) (is_fresh : Bool) : Type 0 where
   pub links : AreLinks l
   pub places_are : ArePlaces l places
   pub holding : IsHolding l w rooms flags
@@ -42,6 +53,7 @@ pub record IsSearch (l : Links) (takes_back : Bool) (places rooms flags labels c
   pub apart : w.start ≢ w.goal
   pub queue_room_is : l.nodes + 1 ≤ queue_room
   pub slots_room_is : l.nodes ≤ slots_room
+  pub marked : IsMarked l labels current w.start is_fresh
 
 -- what callers see of it
 abbrev pub searched : Links → List ℕ → List ℕ → ℕ → ℕ → Bool → Searched

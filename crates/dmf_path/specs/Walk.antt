@@ -66,6 +66,10 @@ pushed_once l takes_back amount p rooms =
     let partner = slice_index l.partners p in
     if takes_back then slice_set taken partner (slice_index taken partner + amount) else taken
 
+-- the rooms with these of the link at place `p` and of its opposite
+abbrev pub rooms_set : Links → ℕ → ℕ → ℕ → List ℕ → List ℕ
+rooms_set l p along against rooms = slice_set (slice_set rooms p along) (slice_index l.partners p) against
+
 -- the rooms once an amount is pushed along these links
 abbrev pub pushed : Links → Bool → ℕ → List ℕ → List ℕ → List ℕ
 pushed l takes_back amount [] rooms = rooms

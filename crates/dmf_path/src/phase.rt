@@ -1,9 +1,9 @@
 //! The search for the next path: the walk goes on, or the nodes are labelled anew and it begins again.
-ghost use Rattle.std.specs.Prelude.{◌≡◌, ◌≢◌, ℕ, List, ◌+◌, ◌≤◌, true, false, length, slice_index, vec_capacity};
+ghost use Rattle.std.specs.Prelude.{◌≡◌, ◌≢◌, ℕ, List, ◌+◌, ◌≤◌, true, false, [], length, take, slice_index, slice_set, vec_capacity};
 ghost use Rattle.dmf_path.specs.Node.{IsNode};
 ghost use Rattle.dmf_path.specs.Links.{AreLinks, AreRooms, AreFlags, links_of};
 ghost use Rattle.dmf_path.specs.Walk.{AreValid, IsWalk, end_of};
-ghost use Rattle.dmf_path.specs.Held.{way_of, places_of, walked_slots, rooms_with, with_slots};
+ghost use Rattle.dmf_path.specs.Held.{way_of, places_of, walked_slots, rest_slots, rooms_with, with_slots, CanPut, put_each};
 ghost use Rattle.dmf_path.specs.Searching.{IsHolding, IsUnderWay, IsUnlabelled};
 
 use crate::label::{NO_LABEL, label_nodes};
@@ -102,4 +102,44 @@ fn relabel(
     }
     free_slots(trail, labels[start]);
     true
+}
+
+/// Begins anew: all links leave, the first link of each node is its current one, and a label that nothing falls to ends the
+/// next walk at once.
+pub fn begin_anew(
+    table: &LinkTable,
+    takes_back: bool,
+    rooms: &mut [u64],
+    flags: &mut [u8],
+    labels: &mut [u32],
+    current: &mut [u32],
+    trail: &mut Trail,
+)
+    requires links { AreLinks (links_of table.now) }
+    requires rooms { AreRooms (links_of table.now) rooms.old }
+    requires flags { AreFlags (links_of table.now) rooms.old flags.old }
+    requires one_label_each { length labels.old ≡ table.now.nodes + 1 }
+    requires one_current_each { length current.old ≡ table.now.nodes + 1 }
+    requires start { IsNode table.now.nodes trail.old.start }
+    requires goal { IsNode table.now.nodes trail.old.goal }
+    requires order { trail.old.walked ≤ trail.old.rest }
+    requires within { trail.old.rest ≤ length trail.old.slots.items }
+    requires walked { CanPut (links_of table.now) takes_back trail.old.sent (walked_slots (way_of trail.old)) rooms.old }
+    requires rest { CanPut (links_of table.now) takes_back trail.old.sent (rest_slots (way_of trail.old))
+        (put_each (links_of table.now) takes_back trail.old.sent (walked_slots (way_of trail.old)) rooms.old) }
+    ensures rooms { rooms.new ≡ put_each (links_of table.now) takes_back trail.old.sent (rest_slots (way_of trail.old))
+        (put_each (links_of table.now) takes_back trail.old.sent (walked_slots (way_of trail.old)) rooms.old) }
+    ensures sums { AreRooms (links_of table.now) rooms.new }
+    ensures flags { AreFlags (links_of table.now) rooms.new flags.new }
+    ensures labels { labels.new ≡ slice_set (slice_set labels.old trail.old.start 0) trail.old.goal 0 }
+    ensures current { current.new ≡ take (table.now.nodes + 1) table.now.first.items }
+    ensures none { trail.new.slots.items ≡ [] }
+    ensures way { way_of trail.new ≡ with_slots (way_of trail.old) [] }
+    ensures slots_room { vec_capacity trail.new.slots ≡ vec_capacity trail.old.slots }
+{
+    settle(table, takes_back, rooms, flags, trail);
+    labels[trail.start as usize] = 0;
+    labels[trail.goal as usize] = 0;
+    current.copy_from_slice(&table.first[..current.len()]);
+    free_slots(trail, 0);
 }

@@ -1,7 +1,7 @@
 //! Pushing along a link.
-ghost use Rattle.std.specs.Prelude.{◌≡◌, ◌+◌, ◌≤◌, ◌<◌, length, slice_index, slice_set};
+ghost use Rattle.std.specs.Prelude.{◌≡◌, ◌+◌, ◌^◌, ◌≤◌, ◌<◌, length, slice_index, slice_set};
 ghost use Rattle.dmf_path.specs.Links.{AreLinks, AreRooms, AreFlags, links_of, open_flag};
-ghost use Rattle.dmf_path.specs.Walk.{pushed_once};
+ghost use Rattle.dmf_path.specs.Walk.{pushed_once, rooms_set};
 
 use crate::links::{LinkTable, open_flag};
 
@@ -33,6 +33,34 @@ pub fn push_once(
         rooms[partner] = room + amount;
         renew_flag(flags, place, room, room + amount);
     }
+}
+
+/// Gives a link and its opposite these rooms.
+pub fn set_pair(
+    table: &LinkTable,
+    place: u32,
+    along: u64,
+    against: u64,
+    rooms: &mut [u64],
+    flags: &mut [u8],
+)
+    requires links { AreLinks (links_of table.now) }
+    requires rooms { AreRooms (links_of table.now) rooms.old }
+    requires flags { AreFlags (links_of table.now) rooms.old flags.old }
+    requires within { place < length table.now.heads.items }
+    requires fits { along + against < 2 ^ 64 }
+    ensures rooms { rooms.new ≡ rooms_set (links_of table.now) place along against rooms.old }
+    ensures sums { AreRooms (links_of table.now) rooms.new }
+    ensures flags { AreFlags (links_of table.now) rooms.new flags.new }
+{
+    let place = place as usize;
+    let partner = table.partners[place] as usize;
+    let before = rooms[place];
+    rooms[place] = along;
+    renew_flag(flags, partner, before, along);
+    let before = rooms[partner];
+    rooms[partner] = against;
+    renew_flag(flags, place, before, against);
 }
 
 /// Makes a flag tell of a room what it told of the room before. It is written only where it changes: mostly it does not,

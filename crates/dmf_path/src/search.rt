@@ -6,17 +6,17 @@ ghost use Rattle.dmf_path.specs.Pair.{ArePairs, steps_of};
 ghost use Rattle.dmf_path.specs.Links.{AreLinks, links_of, open_flag};
 ghost use Rattle.dmf_path.specs.Labels.{is_label};
 ghost use Rattle.dmf_path.specs.Held.{way_of, rooms_with};
-ghost use Rattle.dmf_path.specs.Search.{Augments, HasAlong, along_at, against_at, aimed, lowered_along, with_pairs};
+ghost use Rattle.dmf_path.specs.Search.{Augments, HasAlong, along_at, against_at, aimed, lowered_along, with_rooms, with_pairs};
 ghost use Rattle.dmf_path.specs.Searching.{IsHolding, IsUnderWay};
 
 use crate::label::{NO_LABEL, label_nodes};
 use crate::links::{LinkTable, NO_PLACE, build, open_flag};
 use crate::listed::{list_pairs, spread_places};
 use crate::pair::Pairs;
-use crate::phase::find;
-use crate::push::push_once;
+use crate::phase::{begin_anew, find};
+use crate::push::{push_once, set_pair};
 use crate::room::settled_room;
-use crate::trail::{Trail, bottleneck, cut, free_slots, put_on_rooms, settle};
+use crate::trail::{Trail, bottleneck, cut, put_on_rooms, settle};
 use std::alloc::{AllocError, Global};
 use std::marker::Model;
 
@@ -45,6 +45,8 @@ pub struct Search {
     queue: Vec<u32>,
     trail: Trail,
     takes_back: bool,
+    /// Whether no path was looked for since the search began, or began anew: then nothing is held, and no link is passed.
+    is_fresh: bool,
 }
 
 impl Model for Search {
@@ -60,7 +62,7 @@ impl Model for Search {
         a.trail.start a.trail.goal a.takes_back };
 
     ghost invariant = { λ a. IsSearch (links_of a.table) a.takes_back a.places.items a.rooms.items a.flags.items a.labels.items
-        a.current.items (way_of a.trail) (vec_capacity a.queue) (vec_capacity a.trail.slots) };
+        a.current.items (way_of a.trail) (vec_capacity a.queue) (vec_capacity a.trail.slots) a.is_fresh };
 }
 
 impl Search {
@@ -107,6 +109,7 @@ impl Search {
                 goal,
             },
             takes_back,
+            is_fresh: true,
         })
     }
 
@@ -146,6 +149,7 @@ impl Search {
             (HasNoPath (steps_of self.old.pairs) self.old.start self.old.goal × (self.new ≡ self.old))
             (λ found. Augments limit found self.old self.new) }
     {
+        self.is_fresh = false;
         let found = find(
             &self.table,
             self.takes_back,
@@ -241,21 +245,51 @@ impl Search {
         requires apart { start ≢ goal }
         ensures { self.new ≡ aimed self.old start goal }
     {
-        settle(
+        self.trail.start = start;
+        self.trail.goal = goal;
+        begin_anew(
             &self.table,
             self.takes_back,
             &mut self.rooms,
             &mut self.flags,
+            &mut self.labels,
+            &mut self.current,
             &mut self.trail,
         );
-        self.trail.start = start;
-        self.trail.goal = goal;
-        // A label that nothing falls to ends the next walk at once.
-        self.labels[start as usize] = 0;
-        self.labels[goal as usize] = 0;
-        let count = self.current.len();
-        self.current.copy_from_slice(&self.table.first[..count]);
-        free_slots(&mut self.trail, 0);
+        self.is_fresh = true;
+    }
+
+    /// Gives both links of the pair at index `k` these rooms, where there is one. Takes no memory. The first call after a path was
+    /// looked for takes time for each node, since the search then begins anew; each further one takes constant time.
+    pub fn set_rooms(&mut self, k: usize, along: u64, against: u64)
+        requires number { k < length self.old.pairs }
+        requires fits { along + against < 2 ^ 64 }
+        ensures { self.new ≡ with_pairs self.old (with_rooms self.old.pairs k along against) }
+    {
+        if !self.is_fresh {
+            begin_anew(
+                &self.table,
+                self.takes_back,
+                &mut self.rooms,
+                &mut self.flags,
+                &mut self.labels,
+                &mut self.current,
+                &mut self.trail,
+            );
+            self.is_fresh = true;
+        }
+        let place = self.places[k];
+        if place == NO_PLACE {
+            return;
+        }
+        set_pair(
+            &self.table,
+            place,
+            along,
+            against,
+            &mut self.rooms,
+            &mut self.flags,
+        );
     }
 
     /// Which nodes paths lead to from the start, that of node 1 first. Takes memory for a mark a node, and for a flag a link;

@@ -11,6 +11,12 @@ use Rattle.dmf_path.proofs.Searching.{can-augment, no_path-search}
 use Rattle.dmf_path.proofs.SearchTurns.{IsSearch-found, sent_on, is-sent, IsSearch-cut, same-searched, augments-between}
 use Rattle.dmf_path.proofs.search.Search.augment.Goals as goal
 
+pub find-found-requires-clause-valid : goal.find-found-requires-clause-valid
+find-found-requires-clause-valid c = rw (c.deref_mut.ensures.value, c.deref_mut-3.ensures.value) c.self.invariant.valid
+
+pub find-found-requires-clause-under_way : goal.find-found-requires-clause-under_way
+find-found-requires-clause-under_way c = rw (c.deref_mut.ensures.value, c.deref_mut-2.ensures.value, c.deref_mut-3.ensures.value) c.self.invariant.under_way
+
 pub invariant_of-self : goal.invariant_of-self
 invariant_of-self c =
     let l = links_of c.self.inside.table in

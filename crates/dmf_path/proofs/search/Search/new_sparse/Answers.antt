@@ -46,6 +46,7 @@ invariant_of-search g c =
       apart = is.apart;
       queue_room_is = is.queue_room_is;
       slots_room_is = is.slots_room_is;
+      marked = is.marked;
     }
 
 pub returns : goal.returns

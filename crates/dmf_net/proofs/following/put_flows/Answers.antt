@@ -1,0 +1,30 @@
+use Rattle.std.proofs.Common.{arith}
+use Rattle.std.proofs.lemmas.Slice.Zip.{AllZip-long}
+use Rattle.dmf_net.proofs.EditedState.{put-none}
+use Rattle.dmf_net.proofs.Followed.{move-within, followed-next, followed-all}
+use Rattle.dmf_net.proofs.following.put_flows.Goals as goal
+
+pub loop-m-init : goal.loop-m-init
+loop-m-init c =
+    let s = c.args.state.now in
+    record {
+      flows = s.flows;
+      put = put-none c.args.moves.now s.flows c.requires.fit;
+      one_each = AllZip-long _ s.network.arcs s.flows c.arcs-arcs.ensures.state.flow.within;
+      is = c.requires.residual;
+    }
+
+pub overflow_sub-k : goal.overflow_sub-k
+overflow_sub-k c = (move-within _ _ _ _ _ c.loop-m-test.true c.loop-m.invariant).0
+
+pub bounds-arcs-k : goal.bounds-arcs-k
+bounds-arcs-k c = rw c.arcs-arcs.ensures.value (move-within _ _ _ _ _ c.loop-m-test.true c.loop-m.invariant).1
+
+pub set_rooms-requires-clause-number : goal.set_rooms-requires-clause-number
+set_rooms-requires-clause-number c = (move-within _ _ _ _ _ c.loop-m-test.true c.loop-m.invariant).2
+
+pub loop-m-preserved : goal.loop-m-preserved
+loop-m-preserved c = followed-next _ _ _ _ _ _ c.loop-m-test.true c.loop-m.invariant (rw (c.saturating_sub.ensures, c.arcs-arcs.ensures.value) at c.set_rooms.ensures)
+
+pub returns : goal.returns
+returns c = followed-all _ _ _ _ _ c.loop-m-test.false c.loop-m.invariant

@@ -1,0 +1,20 @@
+use Rattle.std.proofs.Common.{◌≡◌, get_or, ◌∙◌, arith}
+use Rattle.std.proofs.lemmas.List.{get_or_default}
+use Rattle.dmf_path.specs.Links.{links_of}
+use Rattle.dmf_path.proofs.RoomsSet.{AreRooms-set, AreFlags-set}
+use Rattle.dmf_path.proofs.push.set_pair.Goals as goal
+
+pub returns-clause-sums : goal.returns-clause-sums
+returns-clause-sums c =
+    let q = c.requires in
+    let partner : c.index.result.now ≡ get_or c.args.table.now.partners.items c.args.place 0 =
+    c.index.ensures ∙ get_or_default c.args.table.now.partners.items c.args.place _ 0 (omega (arith, q.links.partners_long, q.within)) in
+    rw partner (AreRooms-set (links_of c.args.table.now) c.args.place c.args.along c.args.against c.args.rooms.now q.links q.rooms q.within q.fits)
+
+pub returns-clause-flags : goal.returns-clause-flags
+returns-clause-flags c =
+    let q = c.requires in
+    let partner : c.index.result.now ≡ get_or c.args.table.now.partners.items c.args.place 0 =
+    c.index.ensures ∙ get_or_default c.args.table.now.partners.items c.args.place _ 0 (omega (arith, q.links.partners_long, q.within)) in
+    rw (c.renew_flag-2.ensures, c.renew_flag.ensures, partner)
+    (AreFlags-set (links_of c.args.table.now) c.args.place c.args.along c.args.against c.args.rooms.now c.args.flags.now q.links q.rooms.0 q.flags q.within)
