@@ -17,14 +17,18 @@ from oracle.session import Refusals
 from worked import CROSSED, WORKED, text
 
 REFUSED = "memory", -1, -1
-# Lines that search the network wherever the cases carry them out, and so want memory there.
-SEARCHING = b"solve", b"print cut", b"shut 3"
+# Lines that search the network wherever the cases carry them out, and so want memory there. So does a session's first solve; a
+# later one may go along links that the session has kept, and move nothing.
+SEARCHING = b"print cut", b"shut 3"
 ADDING = "add 1 4 7 / add 2 4 1 / undo 2 / redo 2 / undo / add 1 3 9 / redo / print problem / solve / undo / redo / print flow"
 SHUTTING = "solve / shut 3 / undo / shut 2 / solve / undo 2 / redo 2 / shut 1 / print flow"
+KEEPING = "solve / cap 5 1 / solve / cap 5 3 / close 1 / solve / print cut / add 1 4 2 / solve / shut 3 / solve / print cut / undo / solve"
 CUTTING = "solve / print cut / undo / print cut / solve / print cut"
 MORE = [
     Case("arcs are added, taken back and added again", (b"session", PROBLEM), text(CROSSED), text(ADDING)),
     Case("nodes are shut", (b"session", PROBLEM), text(CROSSED), text(SHUTTING)),
+    Case("one solve comes after the other", (b"session", PROBLEM), text(CROSSED), text(KEEPING)),
+    Case("one solve comes after the other, each with its cut", (b"session", b"--cut", PROBLEM), text(CROSSED), text(KEEPING)),
     Case("cuts are printed", (b"session", b"--cut", PROBLEM), text(CROSSED), text(CUTTING)),
     Case("no state is kept", (b"session", b"--history", b"0", PROBLEM), text(CROSSED), text(ADDING)),
     Case("one state is kept", (b"session", b"--history", b"1", PROBLEM), text(CROSSED), text(ADDING)),
@@ -49,11 +53,12 @@ def ways_of(case, run, row):
 
 
 def searches(case):
-    """The lines that search the network."""
+    """The lines that search the network, and the first solve."""
     asked = Refusals()
     built.wanted(case, asked)
     lines = case.input.split(b"\n")
-    return {line for line in asked.possible if lines[line - 1] in SEARCHING}
+    solves = sorted(line for line in asked.possible if lines[line - 1] == b"solve")
+    return {line for line in asked.possible if lines[line - 1] in SEARCHING}.union(solves[:1])
 
 
 def judge(item, library):
