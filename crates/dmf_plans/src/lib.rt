@@ -8,6 +8,8 @@ mod draining;
 #[cfg(test)]
 mod edits;
 #[cfg(test)]
+mod keeping;
+#[cfg(test)]
 mod networks;
 #[cfg(test)]
 mod random;
