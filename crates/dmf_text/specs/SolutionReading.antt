@@ -1,6 +1,6 @@
 -- What the reader of a solution text keeps of the network, and of the lines that it took.
 -- Private: only contracts inside the crate and proofs use this.
-use Rattle.std.specs.Prelude.{ℕ, ◌≡◌, ◌+◌, ◌^◌, ◌<◌, ◌≤◌, All, List, ◌++◌, Bool, false, Option, Some, None, is_some, slice_get, Result, Ok, Err, MatchResult}
+use Rattle.std.specs.Prelude.{ℕ, ◌≡◌, ◌+◌, ◌^◌, ◌<◌, ◌≤◌, All, List, ◌++◌, false, Option, Some, None, is_some, slice_get, Result, Ok, Err, MatchResult}
 use Rattle.std.specs.Option.{option_or, option_to_list}
 use Rattle.dmf_net.specs.declared.arc.Arc.{Arc}
 use Rattle.dmf_net.specs.declared.fault.FlowFault.{FlowFault}
