@@ -108,30 +108,30 @@ appends-past edit t s present full =
           ∙ sym (within_bound-past (extended t (applied edit s)) (omega (arith, full)));
     }
 
--- What was planned on the present state and appended is the present state.
+-- What was appended of a timeline whose present state is `s` is what the edit makes of `s`.
+pub appends-applied : (t u : Timeline) (s : NetworkState) (edit : Edit) → IsPresent t s → Appends edit t u → u ≡ appended t (applied edit s)
+appends-applied t u s edit present appends = appends.gives ∙ ap (λ x. appended t (applied edit x)) (one-present t appends.state s appends.present present)
+
+-- And it is the present state then.
 pub now-present : (t u : Timeline) (s p : NetworkState) (edit : Edit) → IsPresent t s → Appends edit t u → IsPresent u p → p ≡ applied edit s
 now-present t u s p edit present appends shown =
-    let same : appends.state ≡ s = one-present t appends.state s appends.present present in
-    let gives : u ≡ appended t (applied edit s) = appends.gives ∙ ap (λ x. appended t (applied edit x)) same in
-    one-present (appended t (applied edit s)) p (applied edit s) (subst (λ v. IsPresent v p) gives shown) (appended-present t (applied edit s) (slice_get_within t.states t.place s present))
+    let new = applied edit s in
+    one-present (appended t new) p new (subst (λ v. IsPresent v p) (appends-applied t u s edit present appends) shown) (appended-present t new (slice_get_within t.states t.place s present))
 
 -- A change that was planned on the present state and appended; the reply tells of the state that is present then.
-IsChanged-told : (t u : Timeline) (s p : NetworkState) (edit : Edit) (change : Change) (reply : NetworkState → Reply) (told : Reply) → t.place < length t.states → IsPresent t s → Becomes s change (applied edit s) → Appends edit t u → IsPresent u p → told ≡ reply p → IsChanged t s change reply (Ok told) u
-IsChanged-told t u s p edit change reply told within present becomes appends shown tells =
-    let same : appends.state ≡ s = one-present t appends.state s appends.present present in
-    let gives : u ≡ appended t (applied edit s) = appends.gives ∙ ap (λ x. appended t (applied edit x)) same in
-    let new : p ≡ applied edit s = one-present (appended t (applied edit s)) p (applied edit s) (subst (λ v. IsPresent v p) gives shown) (appended-present t (applied edit s) within) in
+IsChanged-told : (t u : Timeline) (s p : NetworkState) (edit : Edit) (change : Change) (reply : NetworkState → Reply) (told : Reply) → IsPresent t s → Becomes s change (applied edit s) → Appends edit t u → IsPresent u p → told ≡ reply p → IsChanged t s change reply (Ok told) u
+IsChanged-told t u s p edit change reply told present becomes appends shown tells =
     record {
       new = applied edit s;
       becomes = becomes;
-      told = ap (λ r. Ok r) (tells ∙ ap reply new);
-      appends = gives;
+      told = ap (λ r. Ok r) (tells ∙ ap reply (now-present t u s p edit present appends shown));
+      appends = appends-applied t u s edit present appends;
     }
 
 -- an addition that was planned on the present state and appended
-pub IsChanged-added : (t u : Timeline) (s p : NetworkState) (edit : Edit) (change : Change) (count value : ℕ) → t.place < length t.states → IsPresent t s → Becomes s change (applied edit s) → Appends edit t u → IsPresent u p → count ≡ length p.network.arcs → pos value ≡ flow_value p.network p.flows → IsChanged t s change (λ new. Added (length new.network.arcs) (value_of new)) (Ok (Added count value)) u
-IsChanged-added t u s p edit change count value within present becomes appends shown counts valued =
-    IsChanged-told t u s p edit change (λ new. Added (length new.network.arcs) (value_of new)) (Added count value) within present becomes appends shown
+pub IsChanged-added : (t u : Timeline) (s p : NetworkState) (edit : Edit) (change : Change) (count value : ℕ) → IsPresent t s → Becomes s change (applied edit s) → Appends edit t u → IsPresent u p → count ≡ length p.network.arcs → pos value ≡ flow_value p.network p.flows → IsChanged t s change (λ new. Added (length new.network.arcs) (value_of new)) (Ok (Added count value)) u
+IsChanged-added t u s p edit change count value present becomes appends shown counts valued =
+    IsChanged-told t u s p edit change (λ new. Added (length new.network.arcs) (value_of new)) (Added count value) present becomes appends shown
     (ap (λ n. Added n value) counts ∙ ap (λ n. Added (length p.network.arcs) n) (ap nat_abs valued))
 
 -- where a plan was made, nothing refuses the change
@@ -140,7 +140,7 @@ planned-changes t u s edit change reply result None planned changed = changed
 planned-changes t u s edit change reply result (Some f) planned changed = absurd (cc)
 
 -- a change that was planned on the present state, unless memory was refused, and appended; the reply tells the value
-pub Changes-valued : (t u : Timeline) (s p : NetworkState) (edit : Edit) (change : Change) (value : ℕ) → t.place < length t.states → IsPresent t s → MatchOption (change_fault s change) (IsOkUnless (Ok edit) NoMemory) (λ f. Ok edit ≡ Err f) → Becomes s change (applied edit s) → Appends edit t u → IsPresent u p → pos value ≡ flow_value p.network p.flows → Changes t s change (λ new. Value (value_of new)) (Ok (Value value)) u
-Changes-valued t u s p edit change value within present planned becomes appends shown valued =
+pub Changes-valued : (t u : Timeline) (s p : NetworkState) (edit : Edit) (change : Change) (value : ℕ) → IsPresent t s → MatchOption (change_fault s change) (IsOkUnless (Ok edit) NoMemory) (λ f. Ok edit ≡ Err f) → Becomes s change (applied edit s) → Appends edit t u → IsPresent u p → pos value ≡ flow_value p.network p.flows → Changes t s change (λ new. Value (value_of new)) (Ok (Value value)) u
+Changes-valued t u s p edit change value present planned becomes appends shown valued =
     planned-changes t u s edit change (λ new. Value (value_of new)) (Ok (Value value)) (change_fault s change) planned
-    (IsChanged-told t u s p edit change (λ new. Value (value_of new)) (Value value) within present becomes appends shown (ap (λ n. Value n) (ap nat_abs valued)))
+    (IsChanged-told t u s p edit change (λ new. Value (value_of new)) (Value value) present becomes appends shown (ap (λ n. Value n) (ap nat_abs valued)))

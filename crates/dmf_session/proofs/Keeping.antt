@@ -2,7 +2,6 @@
 use Rattle.std.proofs.Common.{Option, Some, IfSome, sym, subst}
 use Rattle.dmf_path.specs.Search.{Searched}
 use Rattle.dmf_net.specs.declared.edit.Edit.{Edit}
-use Rattle.dmf_net.specs.Edit.{applied}
 use Rattle.dmf_net.specs.NetworkState.{NetworkState}
 use Rattle.dmf_net.specs.ResidualNetwork.{IsResidualOf}
 use Rattle.dmf_session.specs.Timeline.{Timeline, IsPresent, Appends}

@@ -14,7 +14,7 @@ use Rattle.dmf_net.specs.Laws.{SolvedIsGreatest, MaxFlowMinCut}
 use Rattle.dmf_session.specs.Timeline.{Timeline, IsPresent, appended, Appends}
 use Rattle.dmf_session.specs.Optimal.{IsOptimal, HasOptimalPresent}
 use Rattle.dmf_session.specs.Laws.{SolvedIsOptimal, GreatestIsOptimal}
-use Rattle.dmf_session.proofs.Appending.{appended-present, is-state, one-present}
+use Rattle.dmf_session.proofs.Appending.{appended-present, appends-applied, is-state}
 
 -- All minimum cuts have one capacity.
 one-capacity : (n : Network) (has other : ℕ → Bool) → IsMinimumCut n has → IsMinimumCut n other → cut_capacity n.arcs has ≡ cut_capacity n.arcs other
@@ -45,8 +45,7 @@ HasOptimalPresent-appended t u s new present appends optimal = record {
 -- What was planned on the present state as a greatest flow, and appended, is optimal.
 pub planned-optimal : GreatestIsOptimal → (t u : Timeline) (s : NetworkState) (edit : Edit) → IsPresent t s → Fits edit s → Becomes s change.Solve (applied edit s) → IsGreatest s.network (applied edit s).flows → Appends edit t u → HasOptimalPresent u
 planned-optimal law t u s edit present fits becomes greatest appends =
-    let gives : u ≡ appended t (applied edit s) = appends.gives ∙ ap (λ x. appended t (applied edit x)) (one-present t appends.state s appends.present present) in
-    HasOptimalPresent-appended t u s (applied edit s) present gives
+    HasOptimalPresent-appended t u s (applied edit s) present (appends-applied t u s edit present appends)
     (law (applied edit s) fits.applied.network (subst (λ n. IsGreatest n (applied edit s).flows) (sym becomes.0) greatest))
 
 -- After a solve that was not refused the present state is optimal.

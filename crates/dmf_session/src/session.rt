@@ -19,6 +19,9 @@ use std::alloc::Global;
 use std::marker::Model;
 
 /// A network that is changed by commands, over the history that keeps its states.
+///
+/// From the first solve on the residual network of the present state is kept too, so that the next solve need not make it
+/// anew. It is let go where an arc is added, at a step back or forward, and where memory is refused.
 #[derive(Drop)]
 pub struct Session<H: History> {
     history: H,
@@ -98,6 +101,21 @@ impl<H: History> Session<H> {
 
     /// Does the same, and tells the watch of each path along which a solve augments the flow.
     pub fn step_watched<W: Watch>(
+        &mut self,
+        alloc: Global,
+        command: Command,
+        want_cut: bool,
+        watch: &mut W,
+    ) -> Result<Reply, Refusal>
+        ensures answer { Answers want_cut (H.timeline self.old) command result (H.timeline self.new) }
+        ensures optimal { command ≡ Solve → OnOk result (HasOptimalPresent (H.timeline self.new)) }
+    {
+        let answer = self.carry_out(alloc, command, want_cut, watch);
+        self.let_go_if_refused(&answer);
+        answer
+    }
+
+    fn carry_out<W: Watch>(
         &mut self,
         alloc: Global,
         command: Command,
@@ -243,6 +261,15 @@ impl<H: History> Session<H> {
         match self.kept.take() {
             Some(network) => Ok(network),
             None => ResidualNetwork::new(alloc, self.history.present()),
+        }
+    }
+
+    /// Lets the kept network go where the answer tells that memory was refused, so that there is more for what comes next.
+    fn let_go_if_refused(&mut self, answer: &Result<Reply, Refusal>)
+        ensures { self.new ≡ self.old }
+    {
+        if let Err(Refusal::NoMemory) = answer {
+            self.kept = None;
         }
     }
 
