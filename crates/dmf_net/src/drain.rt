@@ -90,4 +90,5 @@ pub fn drain_along(state: &State, j: u32, limit: u64, search: &mut Search)
             None => unreachable!(),
         }
     }
+    search.settle();
 }

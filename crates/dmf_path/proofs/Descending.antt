@@ -3,6 +3,7 @@ use Rattle.std.proofs.Common.{ℕ, ◌≡◌, ◌≢◌, ◌+◌, ◌<◌, ◌�
 use Rattle.dmf_path.specs.Node.{IsNode}
 use Rattle.dmf_path.specs.Links.{Links, AreLinks, tail_of}
 use Rattle.dmf_path.specs.Walk.{IsTrail, end_of}
+use Rattle.dmf_path.specs.Held.{IsOff}
 use Rattle.dmf_path.proofs.LinkPlaces.{lies-within}
 
 -- The link at place `p` falls, from a label of at most `top`.
@@ -15,11 +16,6 @@ pub record FallsBelow (l : Links) (labels : List ℕ) (top p : ℕ) : Type 0 whe
 abbrev pub Descends : Links → List ℕ → ℕ → ℕ → List ℕ → Type 0
 Descends l labels top bottom [] = bottom ≤ top
 Descends l labels top bottom (p ∷ ps) = FallsBelow l labels top p × Descends l labels (get_or labels (get_or l.heads p 0) 0) bottom ps
-
--- The place is none of these.
-abbrev pub IsOff : ℕ → List ℕ → Type 0
-IsOff p [] = Unit {0}
-IsOff p (q ∷ qs) = (q ≢ p) × IsOff p qs
 
 pub descends-raised : (l : Links) (labels : List ℕ) (top higher bottom : ℕ) (ps : List ℕ) → top ≤ higher → Descends l labels top bottom ps → Descends l labels higher bottom ps
 descends-raised l labels top higher bottom [] more descends = omega arith

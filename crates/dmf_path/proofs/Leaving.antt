@@ -1,11 +1,11 @@
 -- Links leave their slots: what is held for them is put on, and the settled rooms stay.
-use Rattle.std.proofs.Common.{ℕ, ◌≡◌, ◌+◌, ◌-◌, Bool, List, [], ◌∷◌, ◌++◌, length, get_or, refl, ◌∙◌, arith}
+use Rattle.std.proofs.Common.{ℕ, ◌≡◌, ◌+◌, ◌-◌, Bool, true, false, List, [], ◌∷◌, ◌++◌, length, get_or, set, refl, ◌∙◌, arith, get_or-set_other}
 use Rattle.dmf_path.specs.declared.trail.Slot.{Slot}
 use Rattle.dmf_path.specs.Links.{Links, AreLinks, AreRooms, AreFlags}
 use Rattle.dmf_path.specs.Walk.{pushed_once}
-use Rattle.dmf_path.specs.Held.{room_left, places_of, settled, HaveLeft, IsSlot, put_once, put_each, CanPut}
-use Rattle.dmf_path.proofs.Pushing.{once-other, length-pushed_once}
-use Rattle.dmf_path.proofs.Descending.{Descends, IsOff, between, off-append, off-partner}
+use Rattle.dmf_path.specs.Held.{room_left, places_of, settled, HaveLeft, IsSlot, put_once, put_each, CanPut, IsOff}
+use Rattle.dmf_path.proofs.Pushing.{length-pushed_once}
+use Rattle.dmf_path.proofs.Descending.{Descends, between, off-append, off-partner}
 use Rattle.dmf_path.proofs.Settled.{places-append, settled-leave}
 
 -- Putting on what is held, as far as it has come: what is left to put on makes of the rooms what putting on all makes.
@@ -25,14 +25,16 @@ HaveLeft-split sent rooms (s ∷ slots) others have =
     let later = HaveLeft-split sent rooms slots others have.2 in
     ((have.0, have.1, later.0), later.1)
 
--- A push along a link leaves the rooms of the others.
+-- Another room of a link that is in none of these slots leaves them as they are,
+pub HaveLeft-set : (sent p x : ℕ) (rooms : List ℕ) (slots : List Slot) → IsOff p (places_of slots) → HaveLeft sent rooms slots → HaveLeft sent (set rooms p x) slots
+HaveLeft-set sent p x rooms [] off have = tt
+HaveLeft-set sent p x rooms (s ∷ slots) off have =
+    (have.0, omega (arith, have.1, get_or-set_other rooms p s.place x 0 off.0), HaveLeft-set sent p x rooms slots off.1 have.2)
+
+-- and so does a push along it.
 HaveLeft-other : (l : Links) (takes_back : Bool) (sent amount p : ℕ) (rooms : List ℕ) (slots : List Slot) → IsOff p (places_of slots) → IsOff (get_or l.partners p 0) (places_of slots) → HaveLeft sent rooms slots → HaveLeft sent (pushed_once l takes_back amount p rooms) slots
-HaveLeft-other l takes_back sent amount p rooms [] off partner_off have = tt
-HaveLeft-other l takes_back sent amount p rooms (s ∷ slots) off partner_off have = (
-  have.0,
-  omega (arith, have.1, once-other l takes_back amount p s.place rooms off.0 partner_off.0),
-  HaveLeft-other l takes_back sent amount p rooms slots off.1 partner_off.1 have.2,
-)
+HaveLeft-other l true sent amount p rooms slots off partner_off have = HaveLeft-set sent (get_or l.partners p 0) _ _ slots partner_off (HaveLeft-set sent p _ rooms slots off have)
+HaveLeft-other l false sent amount p rooms slots off partner_off have = HaveLeft-set sent p _ rooms slots off have
 
 -- One link leaves.
 pub record HasLeft (l : Links) (takes_back : Bool) (labels : List ℕ) (sent top bottom : ℕ) (before behind : List Slot) (s : Slot) (rooms : List ℕ) : Type 0 where

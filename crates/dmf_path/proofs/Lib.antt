@@ -46,3 +46,4 @@ pub mod Built
 pub mod Searching
 pub mod Lowered
 pub mod RoomsSet
+pub mod Released

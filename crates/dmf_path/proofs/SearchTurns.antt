@@ -11,7 +11,7 @@ use Rattle.dmf_path.specs.Search.{Searched, Augments}
 use Rattle.dmf_path.specs.Searching.{IsUnderWay, IsHolding, IsFresh, IsMarked, begun, fresh, IsSearch, searched}
 use Rattle.dmf_path.proofs.Pushed.{OpensUpwards, AreValid-opens, ArePassed-opens}
 use Rattle.dmf_path.proofs.SettledSent.{HaveLeft-sent}
-use Rattle.dmf_path.proofs.Settling.{rooms_with-free, holding-free, way-free}
+use Rattle.dmf_path.proofs.Settling.{rooms_with-free, holding-free, way-free, way-emptied}
 use Rattle.dmf_path.proofs.Searching.{CanAugment}
 use Rattle.dmf_path.proofs.Cutting.{IsSent, HasCut}
 
@@ -122,43 +122,41 @@ IsSearch-cut l takes_back places rooms flags labels current w queue_room slots_r
       marked = begun refl;
     }
 
--- after all links have left and rooms have changed, where at most links that lead upwards gained some
-pub IsSearch-emptied : {is_fresh : Bool} (l : Links) (takes_back : Bool) (places rooms flags labels current : List ℕ) (w : Way) (queue_room slots_room : ℕ) (new_rooms new_flags : List ℕ) (new : Way) (new_slots_room : ℕ)
-    → IsSearch l takes_back places rooms flags labels current w queue_room slots_room is_fresh → OpensUpwards l labels (rooms_with l takes_back w rooms) new_rooms → AreRooms l new_rooms → AreFlags l new_rooms new_flags
-    → new ≡ emptied w → new_slots_room ≡ slots_room → IsSearch l takes_back places new_rooms new_flags labels current new queue_room new_slots_room is_fresh
-IsSearch-emptied {is_fresh = is_fresh} l takes_back places rooms flags labels current w queue_room slots_room new_rooms new_flags new new_slots_room is opens sums told empty slots_same =
-    let none : drop (length w.slots) w.slots ≡ [] = drop_all (length w.slots) w.slots (omega arith) in
-    let same : rooms_with l takes_back (emptied w) new_rooms ≡ new_rooms = rooms_with-free l takes_back w w.slots new_rooms in
-    let at : IsSearch l takes_back places new_rooms new_flags labels current (emptied w) queue_room new_slots_room is_fresh = record {
-      links = is.links;
-      places_are = is.places_are;
-      holding = holding-free l w w.slots new_rooms new_flags sums told is.holding.small;
-      one_label_each = is.one_label_each;
-      start_label = is.start_label;
-      valid = subst (λ rs. AreValid l labels rs (get_or labels w.start 0)) (sym same) (AreValid-opens l labels (rooms_with l takes_back w rooms) new_rooms (get_or labels w.start 0) opens is.valid);
-      under_way = subst (λ rs. IsUnderWay l labels rs current (emptied w)) (sym same)
-          (record {
-            walking = record {
-              current_is = is.under_way.walking.current_is;
-              passed = ArePassed-opens l labels (rooms_with l takes_back w rooms) new_rooms w.goal current is.links opens is.under_way.walking.passed;
-              trail_is = tt;
-            };
-            rest_is = subst (λ (ss : List Slot). IsTrail l labels new_rooms current w.goal (places_of ss)) (sym none) tt;
-            ends = ap (λ (ss : List Slot). end_of l w.goal (places_of ss)) none;
-            joint_is = is.goal_is;
-            order = omega arith;
-            within = omega arith;
-            one_slot_each = is.under_way.one_slot_each;
-            goal_label = is.under_way.goal_label;
-          });
-      start_is = is.start_is;
-      goal_is = is.goal_is;
-      apart = is.apart;
-      queue_room_is = is.queue_room_is;
-      slots_room_is = omega (arith, is.slots_room_is, slots_same);
-      marked = is.marked;
-    } in
-    subst (λ (u : Way). IsSearch l takes_back places new_rooms new_flags labels current u queue_room new_slots_room is_fresh) (sym empty) at
+-- after all links have left, or some
+pub IsSearch-released : {is_fresh : Bool} (l : Links) (takes_back : Bool) (places rooms flags labels current : List ℕ) (w : Way) (queue_room slots_room : ℕ) (new_rooms new_flags : List ℕ) (new : Way) (new_slots_room : ℕ)
+    → IsSearch l takes_back places rooms flags labels current w queue_room slots_room is_fresh → IsHolding l new new_rooms new_flags → rooms_with l takes_back new new_rooms ≡ rooms_with l takes_back w rooms
+    → IsUnderWay l labels (rooms_with l takes_back w rooms) current new → new.start ≡ w.start → new.goal ≡ w.goal → new_slots_room ≡ slots_room
+    → IsSearch l takes_back places new_rooms new_flags labels current new queue_room new_slots_room is_fresh
+IsSearch-released {is_fresh = is_fresh} l takes_back places rooms flags labels current w queue_room slots_room new_rooms new_flags new new_slots_room is holding same way start goal slots_same =
+    let found = IsSearch-found l takes_back places rooms flags labels current w queue_room slots_room new_rooms new_flags labels current new queue_room new_slots_room is refl is.start_label holding same is.valid way start goal refl slots_same in
+    record {
+      links = found.links;
+      places_are = found.places_are;
+      holding = found.holding;
+      one_label_each = found.one_label_each;
+      start_label = found.start_label;
+      valid = found.valid;
+      under_way = found.under_way;
+      start_is = found.start_is;
+      goal_is = found.goal_is;
+      apart = found.apart;
+      queue_room_is = found.queue_room_is;
+      slots_room_is = found.slots_room_is;
+      marked = subst (λ v. IsMarked l labels current v is_fresh) (sym start) is.marked;
+    }
+
+pub IsSearch-settled : {is_fresh : Bool} (l : Links) (takes_back : Bool) (places rooms flags labels current : List ℕ) (w : Way) (queue_room slots_room : ℕ) (new_rooms new_flags : List ℕ) (new : Way) (new_slots_room : ℕ)
+    → IsSearch l takes_back places rooms flags labels current w queue_room slots_room is_fresh → new_rooms ≡ rooms_with l takes_back w rooms → AreRooms l new_rooms → AreFlags l new_rooms new_flags
+    → new ≡ emptied w → new_slots_room ≡ slots_room
+    → IsSearch l takes_back places new_rooms new_flags labels current new queue_room new_slots_room is_fresh × (rooms_with l takes_back new new_rooms ≡ rooms_with l takes_back w rooms)
+IsSearch-settled l takes_back places rooms flags labels current w queue_room slots_room new_rooms new_flags new new_slots_room is put sums told empty slots_same =
+    let same : rooms_with l takes_back new new_rooms ≡ rooms_with l takes_back w rooms = ap (λ (u : Way). rooms_with l takes_back u new_rooms) empty ∙ rooms_with-free l takes_back w w.slots new_rooms ∙ put in (
+      IsSearch-released l takes_back places rooms flags labels current w queue_room slots_room new_rooms new_flags new new_slots_room is
+          (subst (λ (u : Way). IsHolding l u new_rooms new_flags) (sym empty) (holding-free l w w.slots new_rooms new_flags sums told is.holding.small)) same
+          (subst (λ (u : Way). IsUnderWay l labels (rooms_with l takes_back w rooms) current u) (sym empty) (way-emptied l labels (rooms_with l takes_back w rooms) current w is.goal_is is.under_way))
+          (ap (λ (u : Way). u.start) empty) (ap (λ (u : Way). u.goal) empty) slots_same,
+      same,
+    )
 
 -- after all links have left and ends are set, the same ones or others
 pub IsSearch-anew : {is_fresh : Bool} (l : Links) (takes_back : Bool) (places rooms flags labels current : List ℕ) (w : Way) (queue_room slots_room start goal : ℕ) (new_rooms new_flags new_labels new_current : List ℕ) (new : Way) (new_slots_room : ℕ)

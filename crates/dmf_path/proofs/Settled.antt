@@ -5,10 +5,10 @@ use Rattle.std.proofs.lemmas.List.{ext_get_or}
 use Rattle.std.proofs.lemmas.List.FromFn.{get_or-map-range_with_len, length-map-range_with_len}
 use Rattle.dmf_path.specs.declared.trail.Slot.{Slot}
 use Rattle.dmf_path.specs.Links.{Links, AreLinks, AreRooms}
-use Rattle.dmf_path.specs.Held.{room_left, places_of, held_for, settled_room, settled, put_once}
+use Rattle.dmf_path.specs.Held.{room_left, places_of, held_for, settled_room, settled, put_once, IsOff}
 use Rattle.dmf_path.proofs.LinkPlaces.{partner-other}
 use Rattle.dmf_path.proofs.Pushing.{own, partner, other, is_beside, once-own, once-partner, once-other, length-pushed_once}
-use Rattle.dmf_path.proofs.Descending.{Descends, IsOff, between, off-append, off-partner}
+use Rattle.dmf_path.proofs.Descending.{Descends, between, off-append, off-partner}
 
 pub length-settled : (l : Links) (takes_back : Bool) (sent : ℕ) (slots : List Slot) (rooms : List ℕ) → length (settled l takes_back sent slots rooms) ≡ length rooms
 length-settled l takes_back sent slots rooms = length-map-range_with_len (settled_room l takes_back sent slots rooms) 0 (length rooms)

@@ -5,12 +5,12 @@ use Rattle.std.proofs.lemmas.List.{ext_get_or}
 use Rattle.dmf_path.specs.declared.trail.Slot.{Slot}
 use Rattle.dmf_path.specs.Links.{Links, AreLinks, tail_of}
 use Rattle.dmf_path.specs.Walk.{bottleneck_on, pushed}
-use Rattle.dmf_path.specs.Held.{room_left, places_of, held_for, settled, HaveLeft, least_left}
+use Rattle.dmf_path.specs.Held.{room_left, places_of, held_for, settled, HaveLeft, least_left, IsOff}
 use Rattle.dmf_path.proofs.RoomLeft.{room_left-sent}
 use Rattle.dmf_path.proofs.Pushing.{length-pushed}
 use Rattle.dmf_path.proofs.Pushed.{FallsOn}
 use Rattle.dmf_path.proofs.PushedPairs.{loss, room-pushed}
-use Rattle.dmf_path.proofs.Descending.{Descends, IsOff, off-rising, off-partner}
+use Rattle.dmf_path.proofs.Descending.{Descends, off-rising, off-partner}
 use Rattle.dmf_path.proofs.Settled.{length-settled, room-settled, held-off}
 
 -- So much can be sent.

@@ -5,7 +5,7 @@ use Rattle.dmf_path.specs.declared.trail.Slot.{Slot}
 use Rattle.dmf_path.specs.Node.{IsNode}
 use Rattle.dmf_path.specs.Links.{Links, AreLinks, AreRooms, AreFlags}
 use Rattle.dmf_path.specs.Walk.{IsTrail, end_of}
-use Rattle.dmf_path.specs.Held.{Way, places_of, walked_slots, rest_slots, settled, rooms_with, HaveLeft, put_each, CanPut, with_slots}
+use Rattle.dmf_path.specs.Held.{Way, places_of, walked_slots, rest_slots, settled, rooms_with, HaveLeft, put_each, CanPut, emptied, with_slots}
 use Rattle.dmf_path.specs.Searching.{IsUnderWay, IsHolding}
 use Rattle.dmf_path.proofs.Descending.{Descends, descends-behind}
 use Rattle.dmf_path.proofs.Settled.{places-append, length-settled, room-settled, nothing}
@@ -79,4 +79,19 @@ way-free l labels after current w slots links goal first count label =
       within = omega arith;
       one_slot_each = count;
       goal_label = label;
+    }
+
+-- Once all links have left it goes on from the start.
+pub way-emptied : (l : Links) (labels after current : List ℕ) (w : Way) → IsNode l.nodes w.goal → IsUnderWay l labels after current w → IsUnderWay l labels after current (emptied w)
+way-emptied l labels after current w goal way =
+    let none : drop (length w.slots) w.slots ≡ [] = drop_all (length w.slots) w.slots (omega arith) in
+    record {
+      walking = record { current_is = way.walking.current_is; passed = way.walking.passed; trail_is = tt };
+      rest_is = subst (λ (ss : List Slot). IsTrail l labels after current w.goal (places_of ss)) (sym none) tt;
+      ends = ap (λ (ss : List Slot). end_of l w.goal (places_of ss)) none;
+      joint_is = goal;
+      order = omega arith;
+      within = omega arith;
+      one_slot_each = way.one_slot_each;
+      goal_label = way.goal_label;
     }

@@ -4,11 +4,11 @@ use Rattle.std.proofs.lemmas.List.{get_or-set_other, length-take-le, length-drop
 use Rattle.dmf_path.specs.Node.{IsNode}
 use Rattle.dmf_path.specs.Links.{Links, LiesAt, AreLinks, tail_of}
 use Rattle.dmf_path.specs.Walk.{IsTrail, end_of}
-use Rattle.dmf_path.specs.Held.{Way, places_of, walked_slots, rest_slots, filled_slots, rooms_with}
+use Rattle.dmf_path.specs.Held.{Way, places_of, walked_slots, rest_slots, filled_slots, rooms_with, IsOff}
 use Rattle.dmf_path.specs.Searching.{IsUnderWay}
 use Rattle.dmf_path.proofs.LinkPlaces.{lies-within}
 use Rattle.dmf_path.proofs.Walking.{label-trail}
-use Rattle.dmf_path.proofs.Descending.{Descends, IsOff, descends-raised, descends-append, descends-trail, off-above, off-below, off-append, off-partner}
+use Rattle.dmf_path.proofs.Descending.{Descends, descends-raised, descends-append, descends-trail, off-above, off-below, off-append, off-partner}
 use Rattle.dmf_path.proofs.Settled.{places-append, room-off}
 
 -- Another current link, of a node from which the trail does not begin and that is not lower, leaves the trail.

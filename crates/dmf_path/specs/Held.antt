@@ -15,6 +15,11 @@ room_left sent full_at = (full_at + (2 ^ 64 - sent)) % 2 ^ 64
 abbrev pub places_of : List Slot → List ℕ
 places_of slots = map (λ s. s.place) slots
 
+-- The place is none of these.
+abbrev pub IsOff : ℕ → List ℕ → Type 0
+IsOff p [] = Unit {0}
+IsOff p (q ∷ qs) = (q ≢ p) × IsOff p qs
+
 -- how much is held for the link at place `p`
 abbrev pub held_for : ℕ → List ℕ → List Slot → ℕ → ℕ
 held_for sent rooms [] p = 0

@@ -10,6 +10,7 @@ mod listed;
 mod pair;
 mod phase;
 mod push;
+mod release;
 mod room;
 mod search;
 mod trail;

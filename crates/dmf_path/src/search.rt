@@ -15,6 +15,7 @@ use crate::listed::{list_pairs, spread_places};
 use crate::pair::Pairs;
 use crate::phase::{begin_anew, find};
 use crate::push::{push_once, set_pair};
+use crate::release::release;
 use crate::room::settled_room;
 use crate::trail::{Trail, bottleneck, cut, put_on_rooms, settle};
 use std::alloc::{AllocError, Global};
@@ -220,14 +221,16 @@ impl Search {
         requires { HasAlong self.old.pairs k amount }
         ensures { self.new ≡ with_pairs self.old (lowered_along self.old.pairs k amount) }
     {
-        settle(
+        let place = self.places[k];
+        release(
             &self.table,
             self.takes_back,
+            &self.labels,
+            place,
             &mut self.rooms,
             &mut self.flags,
             &mut self.trail,
         );
-        let place = self.places[k];
         push_once(
             &self.table,
             place,
@@ -235,6 +238,20 @@ impl Search {
             false,
             &mut self.rooms,
             &mut self.flags,
+        );
+    }
+
+    /// Puts on all links what is held for them, so that each room is read at once, and not looked for on the path. Takes no
+    /// memory.
+    pub fn settle(&mut self)
+        ensures { self.new ≡ self.old }
+    {
+        settle(
+            &self.table,
+            self.takes_back,
+            &mut self.rooms,
+            &mut self.flags,
+            &mut self.trail,
         );
     }
 

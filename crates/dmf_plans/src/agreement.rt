@@ -139,6 +139,31 @@ fn a_flow_that_is_given_agrees(rt: HostRuntime) -> Result<(), Fail> {
     solve_and_close(&rt, alloc, &mut state)
 }
 
+/// Parallel arcs in a row of arcs: what flows on one is drained along several paths of one length, each of which has most of
+/// the links of the one before.
+#[test]
+fn paths_that_share_links_agree(rt: HostRuntime) -> Result<(), Fail> {
+    let alloc = rt.alloc();
+    let row = [
+        (1, 2, 6),
+        (2, 3, 2),
+        (2, 3, 4),
+        (3, 4, 6),
+        (4, 5, 1),
+        (4, 5, 5),
+        (5, 6, 6),
+        (6, 7, 3),
+        (6, 7, 3),
+        (7, 8, 6),
+    ];
+    let mut state = network(alloc, 8, 1, 8, &row)?;
+    solve_and_shut(&rt, alloc, &mut state)?;
+    for index in 0..state.arcs().len() {
+        halve_and_close(&rt, alloc, &mut state.copy(alloc)?, index)?;
+    }
+    Ok(())
+}
+
 #[test]
 fn random_networks_agree(rt: HostRuntime) -> Result<(), Fail> {
     let alloc = rt.alloc();

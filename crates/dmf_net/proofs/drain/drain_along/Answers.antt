@@ -61,4 +61,4 @@ pub unreachable-requires : goal.unreachable-requires
 unreachable-requires c = draining-has_path c.args.state.now c.requires.carrying.0 _ c.args.j c.args.limit _ _ c.requires.is_there c.loop-left-test.true (c.loop-left.invariant c.requires.carrying.0 c.requires.carrying.1) c.in-None.ensures.0
 
 pub returns : goal.returns
-returns c = λ unpaired carries. draining-done c.args.state.now unpaired _ c.args.j c.args.limit _ _ c.loop-left-test.false (c.loop-left.invariant unpaired carries)
+returns c = λ unpaired carries. rw c.settle.ensures (draining-done c.args.state.now unpaired _ c.args.j c.args.limit _ _ c.loop-left-test.false (c.loop-left.invariant unpaired carries))
