@@ -45,6 +45,8 @@ refuse_words "no problem is named" session
 refuse_words "two problems are named" session examples/a.max examples/b.max
 refuse_words "no problem is checked" check
 refuse_words "a cut of a check" check --cut examples/a.max
+refuse_words "progress alone" --progress
+refuse_words "progress of a check" check --progress examples/a.max
 refuse_words "a history alone" --history 1
 refuse_words "a history of a solve" solve --history 1
 refuse_words "a history of a check" check --history 1 examples/a.max

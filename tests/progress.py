@@ -1,4 +1,5 @@
-"""What the built program tells on a terminal of how far it is, on one line that is erased before anything is answered or asked for.
+"""What the built program tells of how far it is, on one line that is erased before anything is answered or asked for: on a
+terminal, and where it is asked for.
 The terminal is a pseudo terminal. Texts are given in pieces with pauses between them, and an answer is not taken at once, so that
 the program reads and writes after a pause; a network that takes some seconds is solved in sessions."""
 
@@ -193,6 +194,17 @@ def expect_of_slow_texts(expect):
     expect("a check tells that it reads", (status, verdict, tasks_of(told)) == (0, b"c greatest 3\n", ["reading"]))
 
 
+def expect_of_asking(expect):
+    problem = network(64, 60, 3, 100, 1990)
+    silent = subprocess.run([BUILT, "solve", "--cut"], input=problem, capture_output=True)
+    asked = subprocess.run([BUILT, "solve", "--cut", "--progress"], input=problem, capture_output=True)
+    expect("asked for, a solve tells without a terminal that it reads", tasks_of(asked.stderr.decode())[:1] == ["reading"])
+    expect("and writes the same solution", (asked.returncode, asked.stdout) == (0, silent.stdout))
+    asked = subprocess.run([BUILT, "session", "--progress", "small.max"], input=b"solve\n", capture_output=True)
+    expect("asked for, a quick session tells that it reads and solves", tasks_of(asked.stderr.decode())[:2] == ["reading", "solving"])
+    expect("and writes the same replies", (asked.returncode, asked.stdout) == (0, SMALL_SOLUTION))
+
+
 def main():
     said = []
 
@@ -206,6 +218,7 @@ def main():
         expect_of_solve(expect)
         expect_of_sessions(expect)
         expect_of_slow_texts(expect)
+        expect_of_asking(expect)
         os.chdir("/")
     print(f"{said.count(True)} passed, {said.count(False)} failed")
     return not all(said)

@@ -50,6 +50,7 @@ REFUSED_WORDS = Outcome(USAGE, b"", re.compile(rb"error: .*\nUsage: dmf.*\n", re
 REFUSED_VALUE = Outcome(USAGE, b"", re.compile(rb"error: .*\n", re.DOTALL))
 NO_TEXT = Outcome(USAGE, b"", told("a word is not UTF-8"))
 COMMANDS = ("solve", "session", "check")
+FLAGS = ("--cut", "--progress")
 
 
 def help_on(words):
@@ -138,7 +139,7 @@ def bound_of(text):
 def asked_of(command, words):
     """What the words behind a command ask for."""
     path_count = 0 if command == "solve" else 1
-    paths, want_cut, bound, are_flags = [], False, None, True
+    paths, flags, bound, are_flags = [], set(), None, True
     words = iter(words)
     for word in words:
         if are_flags and command == "session" and bound is None and (word == "--history" or word.startswith("--history=")):
@@ -149,8 +150,8 @@ def asked_of(command, words):
             return help_on([command])
         elif are_flags and word == "--":
             are_flags = False
-        elif are_flags and word == "--cut" and command != "check" and not want_cut:
-            want_cut = True
+        elif are_flags and word in FLAGS and command != "check" and word not in flags:
+            flags.add(word)
         elif are_flags and word.startswith("-") and word != "-":
             return REFUSED_WORDS
         else:
@@ -159,7 +160,7 @@ def asked_of(command, words):
             return REFUSED_WORDS
     if len(paths) < path_count:
         return REFUSED_WORDS
-    return command, want_cut, MOST_KEPT if bound is None else bound, *(paths or [None])
+    return command, "--cut" in flags, MOST_KEPT if bound is None else bound, *(paths or [None])
 
 
 def run(words, standard_input, refusals=None):

@@ -30,14 +30,15 @@ fn main(rt: HostRuntime) -> ExitCode {
 
 fn run(rt: &HostRuntime) -> Result<Status, Fault> {
     match read_words(rt.alloc(), words::words(rt)?) {
-        Ok(Mode::Solve { cut }) => solve(rt, cut),
+        Ok(Mode::Solve { cut, progress }) => solve(rt, cut, progress),
         Ok(
             Mode::Session {
                 cut,
+                progress,
                 history,
                 problem,
             },
-        ) => hold_session(rt, problem.as_str(), cut, history),
+        ) => hold_session(rt, problem.as_str(), cut, progress, history),
         Ok(Mode::Check { problem }) => check(rt, problem.as_str()),
         Err(WordsFault::Help(text) | WordsFault::Version(text)) => print(rt, text.as_str()),
         Err(WordsFault::Usage(text)) => Err(Fault::Usage(text)),
@@ -47,8 +48,8 @@ fn run(rt: &HostRuntime) -> Result<Status, Fault> {
 
 /// Solves the problem on standard input, and tells the cut where it is wanted.
 #[inline(never)]
-fn solve(rt: &HostRuntime, want_cut: bool) -> Result<Status, Fault> {
-    let progress = Progress::new(rt, false);
+fn solve(rt: &HostRuntime, want_cut: bool, want_progress: bool) -> Result<Status, Fault> {
+    let progress = Progress::new(rt, want_progress);
     let mut out = WatchedSink::new(output(rt)?, &progress);
     let mut problem = WatchedSource::new(StdSource::new(rt.stdin()), &progress);
     let mut watch = WatchedSolve::new(&progress);
@@ -60,10 +61,16 @@ fn solve(rt: &HostRuntime, want_cut: bool) -> Result<Status, Fault> {
 /// Holds a session on the problem in the file at the path, with the commands from standard input, and tells the cut of
 /// each solve where it is wanted. At most `bound` states are kept before the present one.
 #[inline(never)]
-fn hold_session(rt: &HostRuntime, path: &str, want_cut: bool, bound: u32) -> Result<Status, Fault>
+fn hold_session(
+    rt: &HostRuntime,
+    path: &str,
+    want_cut: bool,
+    want_progress: bool,
+    bound: u32,
+) -> Result<Status, Fault>
     requires { bound ≤ 1000000 }
 {
-    let progress = Progress::new(rt, false);
+    let progress = Progress::new(rt, want_progress);
     let file = open_problem(rt, path)?;
     let mut problem = WatchedSource::new(StdSource::new(file), &progress);
     let mut out = WatchedSink::new(output(rt)?, &progress);

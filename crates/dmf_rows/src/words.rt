@@ -13,14 +13,29 @@ fn read(alloc: Global, line: &str) -> Result<Result<Mode, WordsFault>, AllocErro
     Ok(read_words(alloc, words))
 }
 
+fn solve(cut: bool, progress: bool) -> Mode {
+    Mode::Solve { cut, progress }
+}
+
 fn session(alloc: Global, cut: bool, problem: &str) -> Result<Mode, AllocError> {
     bounded(alloc, cut, 1_000_000, problem)
+}
+
+/// A session that tells its progress.
+fn watched(alloc: Global, cut: bool, history: u32, problem: &str) -> Result<Mode, AllocError> {
+    Ok(Mode::Session {
+        cut,
+        progress: true,
+        history,
+        problem: String::from_str(alloc, problem)?,
+    })
 }
 
 /// A session whose history has this bound.
 fn bounded(alloc: Global, cut: bool, history: u32, problem: &str) -> Result<Mode, AllocError> {
     Ok(Mode::Session {
         cut,
+        progress: false,
         history,
         problem: String::from_str(alloc, problem)?,
     })
@@ -33,9 +48,12 @@ fn words_ask_for_a_run(rt: HostRuntime) -> Result<(), Fail> {
         problem: String::from_str(alloc, "P")?,
     };
     for (line, wanted) in [
-        ("", Mode::Solve { cut: false }),
-        ("solve", Mode::Solve { cut: false }),
-        ("solve --cut", Mode::Solve { cut: true }),
+        ("", solve(false, false)),
+        ("solve", solve(false, false)),
+        ("solve --cut", solve(true, false)),
+        ("solve --progress", solve(false, true)),
+        ("solve --cut --progress", solve(true, true)),
+        ("solve --progress --cut", solve(true, true)),
         ("session P", session(alloc, false, "P")?),
         ("session --cut P", session(alloc, true, "P")?),
         ("session P --cut", session(alloc, true, "P")?),
@@ -53,6 +71,18 @@ fn words_ask_for_a_run(rt: HostRuntime) -> Result<(), Fail> {
             "session --cut --history 1000000 P",
             bounded(alloc, true, 1_000_000, "P")?,
         ),
+        (
+            "session --progress P",
+            watched(alloc, false, 1_000_000, "P")?,
+        ),
+        (
+            "session --cut P --progress",
+            watched(alloc, true, 1_000_000, "P")?,
+        ),
+        (
+            "session --history 3 --progress P --cut",
+            watched(alloc, true, 3, "P")?,
+        ),
         ("check P", check),
     ] {
         let read = read(alloc, line)?;
@@ -65,7 +95,7 @@ fn words_ask_for_a_run(rt: HostRuntime) -> Result<(), Fail> {
 fn no_words_at_all_ask_for_solving(rt: HostRuntime) {
     let alloc = rt.alloc();
     let read = read_words(alloc, Vec::new(alloc));
-    assert!(rt; read == Ok(Mode::Solve { cut: false }));
+    assert!(rt; read == Ok(solve(false, false)));
 }
 
 #[test]
@@ -74,12 +104,17 @@ fn words_are_refused_with_a_text(rt: HostRuntime) -> Result<(), Fail> {
     // What the words are, and what their text has.
     for (line, part) in [
         ("--cut", "unexpected argument '--cut' found"),
+        ("--progress", "unexpected argument '--progress' found"),
         ("session", "<PROBLEM>"),
         ("session --cut", "<PROBLEM>"),
         ("check", "<PROBLEM>"),
         ("solve P", "unexpected argument 'P' found"),
         ("session P Q", "unexpected argument 'Q' found"),
         ("check --cut P", "unexpected argument '--cut' found"),
+        (
+            "check --progress P",
+            "unexpected argument '--progress' found",
+        ),
         ("check P Q", "unexpected argument 'Q' found"),
         ("wash", "unrecognized subcommand 'wash'"),
         ("Solve", "unrecognized subcommand 'Solve'"),
@@ -131,8 +166,8 @@ fn bounds_are_refused_with_a_text(rt: HostRuntime) -> Result<(), Fail> {
 }
 
 // How the program is used, by which words that it does not take are answered.
-const USAGE: &str = "Usage: dmf [solve [--cut]] <FILE
-       dmf session [--cut] [--history N] PROBLEM
+const USAGE: &str = "Usage: dmf [solve [--cut] [--progress]] <FILE
+       dmf session [--cut] [--history N] [--progress] PROBLEM
        dmf check PROBLEM <SOLUTION
 ";
 
@@ -143,10 +178,13 @@ fn refused_words_are_told_the_right_form(rt: HostRuntime) -> Result<(), Fail> {
     for (line, form) in [
         ("--cut", USAGE),
         ("net.max", USAGE),
-        ("solve net.max", "Usage: dmf solve [--cut] <FILE\n"),
+        (
+            "solve net.max",
+            "Usage: dmf solve [--cut] [--progress] <FILE\n",
+        ),
         (
             "session",
-            "Usage: dmf session [--cut] [--history N] PROBLEM\n",
+            "Usage: dmf session [--cut] [--history N] [--progress] PROBLEM\n",
         ),
         ("check", "Usage: dmf check PROBLEM <SOLUTION\n"),
     ] {
@@ -161,8 +199,8 @@ fn refused_words_are_told_the_right_form(rt: HostRuntime) -> Result<(), Fail> {
 const HELP: &str =
     "Solve maximum-flow problems in the DIMACS format, and hold what-if sessions on them
 
-Usage: dmf [solve [--cut]] <FILE
-       dmf session [--cut] [--history N] PROBLEM
+Usage: dmf [solve [--cut] [--progress]] <FILE
+       dmf session [--cut] [--history N] [--progress] PROBLEM
        dmf check PROBLEM <SOLUTION
 
 Commands:
@@ -193,8 +231,8 @@ Each command's --help has an example of its replies. man dmf has the formats.
 #[test]
 fn help_is_told(rt: HostRuntime) -> Result<(), Fail> {
     let alloc = rt.alloc();
-    let solve = "Usage: dmf solve [--cut] <FILE\n";
-    let session = "Usage: dmf session [--cut] [--history N] PROBLEM\n";
+    let solve = "Usage: dmf solve [--cut] [--progress] <FILE\n";
+    let session = "Usage: dmf session [--cut] [--history N] [--progress] PROBLEM\n";
     let check = "Usage: dmf check PROBLEM <SOLUTION\n";
     // What the words are, and what the text has.
     for (line, part) in [
@@ -204,11 +242,15 @@ fn help_is_told(rt: HostRuntime) -> Result<(), Fail> {
         ("solve --help", solve),
         (
             "solve --help",
-            "--cut   Write the smallest minimum cut after the solution\n",
+            "--cut       Write the smallest minimum cut after the solution\n",
         ),
         (
             "solve --help",
             "\n  $ dmf solve --cut <network.max\n  s 5\n",
+        ),
+        (
+            "solve --help",
+            "--progress  Tell on standard error how far it is\n",
         ),
         ("session --help", session),
         (
@@ -218,6 +260,10 @@ fn help_is_told(rt: HostRuntime) -> Result<(), Fail> {
         (
             "session --help",
             "--history <N>  Keep at most N changes for undo [default: 1000000]\n",
+        ),
+        (
+            "session --help",
+            "--progress     Tell on standard error how far it is\n",
         ),
         ("session --help", "\n  undo [K]    "),
         ("session --help", "  c undo value VALUE\n"),

@@ -10,8 +10,8 @@ use Rattle.dmf_run.specs.declared.words.WordsFault.TheVariants.{NoMemory}
 use Rattle.dmf_run.specs.Matches.{Asked, asked_of}
 use Rattle.clap.specs.Words.{Row, first_of, one_of}
 use Rattle.dmf_run.specs.Words.{Text, Gives, IsBound, IsHelp, IsUsage, IsVersion, ReadsWords, solving, holding, checking}
-use Rattle.dmf_run.proofs.Table.{faults_in, asked_in, most_text, history_alone_refused, solve_history_refused, check_history_refused, nothing_taken, nothing_asked, solve_taken, solve_asked, solve_cut_taken, solve_cut_asked, session_taken, session_asked, cut_first_taken, cut_first_asked, cut_last_taken, cut_last_asked, check_taken, check_asked, help_asked, solve_help_asked, session_help_asked, check_help_asked, version_asked, cut_alone_refused, session_alone_refused, check_alone_refused, solve_path_refused, session_second_refused, check_second_refused, check_cut_refused, unknown_refused}
-use Rattle.dmf_run.proofs.SessionOrders.{cut_history_asks, history_asks, no_bound_refused}
+use Rattle.dmf_run.proofs.Table.{faults_in, asked_in, most_text, history_alone_refused, solve_history_refused, check_history_refused, nothing_taken, nothing_asked, solve_taken, solve_asked, solve_cut_taken, solve_cut_asked, solve_progress_taken, solve_progress_asked, solve_cut_progress_taken, solve_cut_progress_asked, solve_progress_cut_taken, solve_progress_cut_asked, progress_alone_refused, check_progress_refused, session_taken, session_asked, cut_first_taken, cut_first_asked, cut_last_taken, cut_last_asked, check_taken, check_asked, help_asked, solve_help_asked, session_help_asked, check_help_asked, version_asked, cut_alone_refused, session_alone_refused, check_alone_refused, solve_path_refused, session_second_refused, check_second_refused, check_cut_refused, unknown_refused}
+use Rattle.dmf_run.proofs.SessionOrders.{cut_history_asks, cut_progress_asks, history_asks, no_bound_refused, progress_asks, progress_history_asks}
 
 -- a list of no kinds has no first one
 no_kinds : {k : ErrorKind} {ks : Kinds} → [] ≡ k ∷ ks → ⊥
@@ -31,35 +31,50 @@ module _ (words : List Text) (asked : Asked) (result : Result Mode WordsFault)
   finds : (row : List Text) (what : Asked) → words ≡ row → asked_in row ≡ what → asked ≡ what
   finds row what is known = found ∙ (ap asked_in is ∙ known)
 
-  pub taken_reads : (asked ≡ None → Gives (solving false) result)
-      → ((cut : Bool) (text path : Option Text) → asked ≡ Some (codes "solve", Some (bool_text cut), text, path)
-      → Gives (solving cut) result)
-      → ((cut : Bool) (text : Text) (bound : ℕ) (path : Text) → asked ≡ Some (codes "session", Some (bool_text cut), Some text, Some path)
-      → IsBound text bound → Gives (holding cut bound path) result)
-      → ((cut text : Option Text) (path : Text) → asked ≡ Some (codes "check", cut, text, Some path) → Gives (checking path) result)
+  pub taken_reads : (asked ≡ None → Gives (solving false false) result)
+      → ((cut progress : Bool) (text path : Option Text) → asked ≡ Some (codes "solve", Some (bool_text cut), Some (bool_text progress), text, path)
+      → Gives (solving cut progress) result)
+      → ((cut progress : Bool) (text : Text) (bound : ℕ) (path : Text)
+      → asked ≡ Some (codes "session", Some (bool_text cut), Some (bool_text progress), Some text, Some path)
+      → IsBound text bound → Gives (holding cut progress bound path) result)
+      → ((cut progress text : Option Text) (path : Text) → asked ≡ Some (codes "check", cut, progress, text, Some path) → Gives (checking path) result)
       → ReadsWords words result
   taken_reads nothing solve session check = record {
     nothing = λ is. nothing (finds _ _ is nothing_asked);
-    solve = λ is. solve false None None (finds _ _ is solve_asked);
-    solve_cut = λ is. solve true None None (finds _ _ is solve_cut_asked);
-    session = λ path plain is. session false most_text 1000000 path (finds _ _ is (session_asked path plain)) most-bound;
-    session_cut = λ path plain is. elim is [
-      | inl first ↦ session true most_text 1000000 path (finds _ _ first (cut_first_asked path plain)) most-bound
-      | inr last ↦ session true most_text 1000000 path (finds _ _ last (cut_last_asked path plain)) most-bound
+    solve = λ is. solve false false None None (finds _ _ is solve_asked);
+    solve_cut = λ is. solve true false None None (finds _ _ is solve_cut_asked);
+    solve_progress = λ is. solve false true None None (finds _ _ is solve_progress_asked);
+    solve_cut_progress = λ is. elim is [
+      | inl first ↦ solve true true None None (finds _ _ first solve_cut_progress_asked)
+      | inr last ↦ solve true true None None (finds _ _ last solve_progress_cut_asked)
     ];
+    session = λ path plain is. session false false most_text 1000000 path (finds _ _ is (session_asked path plain)) most-bound;
+    session_cut = λ path plain is. elim is [
+      | inl first ↦ session true false most_text 1000000 path (finds _ _ first (cut_first_asked path plain)) most-bound
+      | inr last ↦ session true false most_text 1000000 path (finds _ _ last (cut_last_asked path plain)) most-bound
+    ];
+    session_progress = λ path plain is. elim is [
+      | inl first ↦ session false true most_text 1000000 path (finds _ _ first (progress_asks path _ plain (inl refl)).asked) most-bound
+      | inr last ↦ session false true most_text 1000000 path (finds _ _ last (progress_asks path _ plain (inr refl)).asked) most-bound
+    ];
+    session_cut_progress = λ path rest plain order is.
+        session true true most_text 1000000 path (finds _ _ is (cut_progress_asks path rest plain order).asked) most-bound;
     session_history = λ text path bound written plain is. elim is [
       | inl first ↦
           let asks = history_asks text path bound _ written plain (inl refl) in
-          session false text bound path (finds _ _ first asks.asked) written
+          session false false text bound path (finds _ _ first asks.asked) written
       | inr last ↦
           let asks = history_asks text path bound _ written plain (inr refl) in
-          session false text bound path (finds _ _ last asks.asked) written
+          session false false text bound path (finds _ _ last asks.asked) written
     ];
     session_cut_history = λ text path bound rest written plain order is.
         let asks = cut_history_asks text path bound rest written plain order in
-        session true text bound path (finds _ _ is asks.asked) written;
+        session true false text bound path (finds _ _ is asks.asked) written;
+    session_progress_history = λ text path bound rest written plain order is.
+        let asks = progress_history_asks text path bound rest written plain order in
+        session false true text bound path (finds _ _ is asks.asked) written;
     no_bound = λ text path word plain none is. absurd (untaken _ is (no_bound_refused text path word plain none));
-    check = λ path plain is. check None None path (finds _ _ is (check_asked path plain));
+    check = λ path plain is. check None None None path (finds _ _ is (check_asked path plain));
     help = λ is. absurd (untaken _ is help_asked);
     solve_help = λ is. absurd (untaken _ is solve_help_asked);
     session_help = λ is. absurd (untaken _ is session_help_asked);
@@ -68,6 +83,8 @@ module _ (words : List Text) (asked : Asked) (result : Result Mode WordsFault)
     history_alone = λ rest is. absurd (untaken _ is (history_alone_refused rest));
     solve_history = λ text is. absurd (untaken _ is (solve_history_refused text));
     check_history = λ text path is. absurd (untaken _ is (check_history_refused text path));
+    progress_alone = λ rest is. absurd (untaken _ is (progress_alone_refused rest));
+    check_progress = λ path is. absurd (untaken _ is (check_progress_refused path));
     cut_alone = λ rest is. absurd (untaken _ is (cut_alone_refused rest));
     no_problem = λ is. elim is [
       | inl held ↦ absurd (untaken _ held session_alone_refused)
@@ -142,17 +159,29 @@ module _ (words : List Text) (kind : ErrorKind) (fault : WordsFault)
     nothing = λ is. short _ is nothing_taken;
     solve = λ is. short _ is solve_taken;
     solve_cut = λ is. short _ is solve_cut_taken;
+    solve_progress = λ is. short _ is solve_progress_taken;
+    solve_cut_progress = λ is. elim is [
+      | inl first ↦ short _ first solve_cut_progress_taken
+      | inr last ↦ short _ last solve_progress_cut_taken
+    ];
     session = λ path plain is. short _ is (session_taken path plain);
     session_cut = λ path plain is. elim is [
       | inl first ↦ short _ first (cut_first_taken path plain)
       | inr last ↦ short _ last (cut_last_taken path plain)
     ];
+    session_progress = λ path plain is. elim is [
+      | inl first ↦ short _ first (progress_asks path _ plain (inl refl)).taken
+      | inr last ↦ short _ last (progress_asks path _ plain (inr refl)).taken
+    ];
+    session_cut_progress = λ path rest plain order is. short _ is (cut_progress_asks path rest plain order).taken;
     session_history = λ text path bound written plain is. elim is [
       | inl first ↦ short _ first (history_asks text path bound _ written plain (inl refl)).taken
       | inr last ↦ short _ last (history_asks text path bound _ written plain (inr refl)).taken
     ];
     session_cut_history = λ text path bound rest written plain order is.
         short _ is (cut_history_asks text path bound rest written plain order).taken;
+    session_progress_history = λ text path bound rest written plain order is.
+        short _ is (progress_history_asks text path bound rest written plain order).taken;
     no_bound = λ text path word plain none is. not_valid _ is (no_bound_refused text path word plain none);
     check = λ path plain is. short _ is (check_taken path plain);
     help = λ is. helped _ is help_asked;
@@ -163,6 +192,8 @@ module _ (words : List Text) (kind : ErrorKind) (fault : WordsFault)
     history_alone = λ rest is. stray _ is (history_alone_refused rest);
     solve_history = λ text is. stray _ is (solve_history_refused text);
     check_history = λ text path is. stray _ is (check_history_refused text path);
+    progress_alone = λ rest is. stray _ is (progress_alone_refused rest);
+    check_progress = λ path is. stray _ is (check_progress_refused path);
     cut_alone = λ rest is. stray _ is (cut_alone_refused rest);
     no_problem = λ is. elim is [ inl held ↦ missing _ held session_alone_refused | inr checked ↦ missing _ checked check_alone_refused ];
     solve_path = λ path plain is. stray _ is (solve_path_refused path plain);
@@ -175,25 +206,30 @@ module _ (words : List Text) (kind : ErrorKind) (fault : WordsFault)
   }
 
 -- What was asked of the rows of a command that was found.
-pub record AskedRows (rows : List Row) (flag bound path : Option Text) : Type 0 where
+pub record AskedRows (rows : List Row) (flag progress bound path : Option Text) : Type 0 where
   pub flag_is : one_of (codes "cut") rows ≡ flag
+  pub progress_is : one_of (codes "progress") rows ≡ progress
   pub bound_is : one_of (codes "history") rows ≡ bound
   pub path_is : first_of (codes "problem") rows ≡ path
 
-pub asked_rows : (found : Option (Text × List Row)) (rows : List Row) (name : Text) (flag bound path : Option Text)
-    → Some rows ≡ option_map (λ p. p.1) found → asked_of found ≡ Some (name, flag, bound, path) → AskedRows rows flag bound path
-asked_rows None rows name flag bound path has asked = cc
-asked_rows (Some p) rows name flag bound path has asked =
+pub asked_rows : (found : Option (Text × List Row)) (rows : List Row) (name : Text) (flag progress bound path : Option Text)
+    → Some rows ≡ option_map (λ p. p.1) found → asked_of found ≡ Some (name, flag, progress, bound, path)
+    → AskedRows rows flag progress bound path
+asked_rows None rows name flag progress bound path has asked = cc
+asked_rows (Some p) rows name flag progress bound path has asked =
     let same : rows ≡ p.1 = cc in
-    let parts : (p.0, one_of (codes "cut") p.1, one_of (codes "history") p.1, first_of (codes "problem") p.1) ≡ (name, flag, bound, path) = cc in
+    let parts : (p.0, one_of (codes "cut") p.1, one_of (codes "progress") p.1, one_of (codes "history") p.1, first_of (codes "problem") p.1)
+    ≡ (name, flag, progress, bound, path) = cc in
     rw same (record {
-      flag_is = ap (λ (q : Text × Option Text × Option Text × Option Text). q.1) parts;
-      bound_is = ap (λ (q : Text × Option Text × Option Text × Option Text). q.2) parts;
-      path_is = ap (λ (q : Text × Option Text × Option Text × Option Text). q.3) parts;
+      flag_is = ap (λ (q : Text × Option Text × Option Text × Option Text × Option Text). q.1) parts;
+      progress_is = ap (λ (q : Text × Option Text × Option Text × Option Text × Option Text). q.2) parts;
+      bound_is = ap (λ (q : Text × Option Text × Option Text × Option Text × Option Text). q.3) parts;
+      path_is = ap (λ (q : Text × Option Text × Option Text × Option Text × Option Text). q.4) parts;
     })
 
-pub same-holding : {cut wanted : Bool} {n bound : ℕ} {problem path : Text} → cut ≡ wanted → n ≡ bound → problem ≡ path → holding cut n problem ≡ holding wanted bound path
-same-holding c n p = cc
+pub same-holding : {cut wanted progress told : Bool} {n bound : ℕ} {problem path : Text} → cut ≡ wanted → progress ≡ told → n ≡ bound
+    → problem ≡ path → holding cut progress n problem ≡ holding wanted told bound path
+same-holding c t n p = cc
 
 -- a flag reads as its text says
 pub flag_reads : (cut read : Bool) (text : Option Text) → (text ≡ Some (codes "true") → read ≡ true)

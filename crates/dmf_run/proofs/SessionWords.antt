@@ -61,7 +61,7 @@ abbrev last_fault : Held → Kinds
 last_fault h = or_else (defaults_fault (settled session_rules h).rows session_rules)
     (check_fault session_shape (finished session_rules h) false)
 
-abbrev end_fault : Held → Kinds
+abbrev pub end_fault : Held → Kinds
 end_fault h = or_else (settle_fault session_rules false h) (last_fault h)
 
 pub taken_below : (rest : List Text) (after : Walk) → Goes session_shape start rest after → end_fault after.held ≡ []
@@ -114,6 +114,20 @@ pub cut_turn : (rows : List Row) (pending : Option (Text × List Text)) (positio
     (standing (used cut [] (settled_rows session_rules pending rows)) None idle position)
 unfolding clap_on_literals
 cut_turn rows pending position settled fresh = record {
+  clean = ap₂ (λ (f g : Kinds). or_else (or_else f g) []) settled fresh;
+  goes = refl;
+}
+
+abbrev pub progress : Rule
+progress = unwrap_or (arg_by_id session_rules (codes "progress")) help_rule
+
+pub progress_turn : (rows : List Row) (pending : Option (Text × List Text)) (position : ℕ)
+    → settle_fault session_rules false (holding rows pending) ≡ []
+    → use_fault false progress [] (settled_rows session_rules pending rows) ≡ []
+    → Turn session_shape (standing rows pending idle position) (codes "--progress")
+    (standing (used progress [] (settled_rows session_rules pending rows)) None idle position)
+unfolding clap_on_literals
+progress_turn rows pending position settled fresh = record {
   clean = ap₂ (λ (f g : Kinds). or_else (or_else f g) []) settled fresh;
   goes = refl;
 }

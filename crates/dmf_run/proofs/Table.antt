@@ -47,7 +47,7 @@ pub solve_taken : faults_in (codes "solve" ∷ []) ≡ []
 unfolding clap_on_literals
 solve_taken = refl
 
-pub solve_asked : asked_in (codes "solve" ∷ []) ≡ Some (codes "solve", Some (bool_text false), None, None)
+pub solve_asked : asked_in (codes "solve" ∷ []) ≡ Some (codes "solve", Some (bool_text false), Some (bool_text false), None, None)
 unfolding clap_on_literals
 solve_asked = refl
 
@@ -55,9 +55,36 @@ pub solve_cut_taken : faults_in (codes "solve" ∷ codes "--cut" ∷ []) ≡ []
 unfolding clap_on_literals
 solve_cut_taken = refl
 
-pub solve_cut_asked : asked_in (codes "solve" ∷ codes "--cut" ∷ []) ≡ Some (codes "solve", Some (bool_text true), None, None)
+pub solve_cut_asked : asked_in (codes "solve" ∷ codes "--cut" ∷ []) ≡ Some (codes "solve", Some (bool_text true), Some (bool_text false), None, None)
 unfolding clap_on_literals
 solve_cut_asked = refl
+
+pub solve_progress_taken : faults_in (codes "solve" ∷ codes "--progress" ∷ []) ≡ []
+unfolding clap_on_literals
+solve_progress_taken = refl
+
+pub solve_progress_asked : asked_in (codes "solve" ∷ codes "--progress" ∷ [])
+    ≡ Some (codes "solve", Some (bool_text false), Some (bool_text true), None, None)
+unfolding clap_on_literals
+solve_progress_asked = refl
+
+pub solve_cut_progress_taken : faults_in (codes "solve" ∷ codes "--cut" ∷ codes "--progress" ∷ []) ≡ []
+unfolding clap_on_literals
+solve_cut_progress_taken = refl
+
+pub solve_cut_progress_asked : asked_in (codes "solve" ∷ codes "--cut" ∷ codes "--progress" ∷ [])
+    ≡ Some (codes "solve", Some (bool_text true), Some (bool_text true), None, None)
+unfolding clap_on_literals
+solve_cut_progress_asked = refl
+
+pub solve_progress_cut_taken : faults_in (codes "solve" ∷ codes "--progress" ∷ codes "--cut" ∷ []) ≡ []
+unfolding clap_on_literals
+solve_progress_cut_taken = refl
+
+pub solve_progress_cut_asked : asked_in (codes "solve" ∷ codes "--progress" ∷ codes "--cut" ∷ [])
+    ≡ Some (codes "solve", Some (bool_text true), Some (bool_text true), None, None)
+unfolding clap_on_literals
+solve_progress_cut_asked = refl
 
 pub session_taken : (path : Text) → IsPlain path → faults_in (codes "session" ∷ path ∷ []) ≡ []
 unfolding clap_on_literals
@@ -65,7 +92,7 @@ session_taken [] plain = refl
 session_taken (x ∷ xs) plain = rw (plain, plain) refl
 
 pub session_asked : (path : Text) → IsPlain path
-    → asked_in (codes "session" ∷ path ∷ []) ≡ Some (codes "session", Some (bool_text false), Some most_text, Some path)
+    → asked_in (codes "session" ∷ path ∷ []) ≡ Some (codes "session", Some (bool_text false), Some (bool_text false), Some most_text, Some path)
 unfolding clap_on_literals
 session_asked [] plain = refl
 session_asked (x ∷ xs) plain = rw (plain, plain) refl
@@ -76,7 +103,7 @@ cut_first_taken [] plain = refl
 cut_first_taken (x ∷ xs) plain = rw (plain, plain) refl
 
 pub cut_first_asked : (path : Text) → IsPlain path
-    → asked_in (codes "session" ∷ codes "--cut" ∷ path ∷ []) ≡ Some (codes "session", Some (bool_text true), Some most_text, Some path)
+    → asked_in (codes "session" ∷ codes "--cut" ∷ path ∷ []) ≡ Some (codes "session", Some (bool_text true), Some (bool_text false), Some most_text, Some path)
 unfolding clap_on_literals
 cut_first_asked [] plain = refl
 cut_first_asked (x ∷ xs) plain = rw (plain, plain) refl
@@ -87,7 +114,7 @@ cut_last_taken [] plain = refl
 cut_last_taken (x ∷ xs) plain = rw (plain, plain) refl
 
 pub cut_last_asked : (path : Text) → IsPlain path
-    → asked_in (codes "session" ∷ path ∷ codes "--cut" ∷ []) ≡ Some (codes "session", Some (bool_text true), Some most_text, Some path)
+    → asked_in (codes "session" ∷ path ∷ codes "--cut" ∷ []) ≡ Some (codes "session", Some (bool_text true), Some (bool_text false), Some most_text, Some path)
 unfolding clap_on_literals
 cut_last_asked [] plain = refl
 cut_last_asked (x ∷ xs) plain = rw (plain, plain) refl
@@ -98,7 +125,7 @@ check_taken [] plain = refl
 check_taken (x ∷ xs) plain = rw (plain, plain) refl
 
 pub check_asked : (path : Text) → IsPlain path
-    → asked_in (codes "check" ∷ path ∷ []) ≡ Some (codes "check", None, None, Some path)
+    → asked_in (codes "check" ∷ path ∷ []) ≡ Some (codes "check", None, None, None, Some path)
 unfolding clap_on_literals
 check_asked [] plain = refl
 check_asked (x ∷ xs) plain = rw (plain, plain) refl
@@ -132,6 +159,14 @@ version_asked = refl
 pub cut_alone_refused : (rest : List Text) → faults_in (codes "--cut" ∷ rest) ≡ UnknownArgument ∷ []
 unfolding clap_on_literals
 cut_alone_refused rest = refl
+
+pub progress_alone_refused : (rest : List Text) → faults_in (codes "--progress" ∷ rest) ≡ UnknownArgument ∷ []
+unfolding clap_on_literals
+progress_alone_refused rest = refl
+
+pub check_progress_refused : (path : Text) → faults_in (codes "check" ∷ codes "--progress" ∷ path ∷ []) ≡ UnknownArgument ∷ []
+unfolding clap_on_literals
+check_progress_refused path = refl
 
 pub history_alone_refused : (rest : List Text) → faults_in (codes "--history" ∷ rest) ≡ UnknownArgument ∷ []
 unfolding clap_on_literals

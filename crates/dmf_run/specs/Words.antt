@@ -10,16 +10,16 @@ use Rattle.dmf_run.specs.declared.words.WordsFault.TheVariants.{Help, Version, U
 abbrev pub Text : Type 0
 Text = List ℕ
 
--- what the program is asked to do, with the path of the problem's file; a test says whether the cut is wanted, and a session
--- has the bound of its history
+-- what the program is asked to do, with the path of the problem's file: of a solve and of a session, whether the cut is wanted,
+-- and whether progress is told also where standard error is no terminal; a session has the bound of its history
 pub data Task : Type 0 where
-  solving : Bool → Task
-  holding : Bool → ℕ → Text → Task
+  solving : Bool → Bool → Task
+  holding : Bool → Bool → ℕ → Text → Task
   checking : Text → Task
 
 abbrev pub task_of : Mode → Task
-task_of (mode.Solve cut) = solving cut
-task_of (mode.Session cut history problem) = holding cut history problem.bytes.items
+task_of (mode.Solve cut progress) = solving cut progress
+task_of (mode.Session cut progress history problem) = holding cut progress history problem.bytes.items
 task_of (mode.Check problem) = checking problem.bytes.items
 
 -- Reading the words gave this task, or memory was refused.
@@ -33,8 +33,8 @@ IsPlain (byte ∷ rest) = (byte == 45) ≡ false
 
 -- The bound of a session's history is at most 1,000,000.
 abbrev pub HasBound : Mode → Type 0
-HasBound (mode.Solve cut) = ⊤
-HasBound (mode.Session cut history problem) = history ≤ 1000000
+HasBound (mode.Solve cut progress) = ⊤
+HasBound (mode.Session cut progress history problem) = history ≤ 1000000
 HasBound (mode.Check problem) = ⊤
 
 -- The text writes this bound: decimal digits, behind a plus or not, of a number that is at most 1,000,000.
@@ -89,19 +89,31 @@ InAnyOrder a b c words = (words ≡ a ++ b ++ c) ⊎ (words ≡ a ++ c ++ b) ⊎
 -- What reading gives, by the words behind the program's name. The path of a problem is any word that does not begin with
 -- a dash. The bound of a session's history is 1,000,000 where none is written.
 pub record ReadsWords (words : List Text) (result : Result Mode WordsFault) : Type 0 where
-  pub nothing : words ≡ [] → Gives (solving false) result
-  pub solve : words ≡ codes "solve" ∷ [] → Gives (solving false) result
-  pub solve_cut : words ≡ codes "solve" ∷ codes "--cut" ∷ [] → Gives (solving true) result
-  pub session : (path : Text) → IsPlain path → words ≡ codes "session" ∷ path ∷ [] → Gives (holding false 1000000 path) result
+  pub nothing : words ≡ [] → Gives (solving false false) result
+  pub solve : words ≡ codes "solve" ∷ [] → Gives (solving false false) result
+  pub solve_cut : words ≡ codes "solve" ∷ codes "--cut" ∷ [] → Gives (solving true false) result
+  pub solve_progress : words ≡ codes "solve" ∷ codes "--progress" ∷ [] → Gives (solving false true) result
+  pub solve_cut_progress : (words ≡ codes "solve" ∷ codes "--cut" ∷ codes "--progress" ∷ [])
+      ⊎ (words ≡ codes "solve" ∷ codes "--progress" ∷ codes "--cut" ∷ []) → Gives (solving true true) result
+  pub session : (path : Text) → IsPlain path → words ≡ codes "session" ∷ path ∷ [] → Gives (holding false false 1000000 path) result
   pub session_cut : (path : Text) → IsPlain path
       → (words ≡ codes "session" ∷ codes "--cut" ∷ path ∷ []) ⊎ (words ≡ codes "session" ∷ path ∷ codes "--cut" ∷ [])
-      → Gives (holding true 1000000 path) result
+      → Gives (holding true false 1000000 path) result
+  pub session_progress : (path : Text) → IsPlain path
+      → (words ≡ codes "session" ∷ codes "--progress" ∷ path ∷ []) ⊎ (words ≡ codes "session" ∷ path ∷ codes "--progress" ∷ [])
+      → Gives (holding false true 1000000 path) result
+  pub session_cut_progress : (path : Text) (rest : List Text) → IsPlain path
+      → InAnyOrder (codes "--cut" ∷ []) (codes "--progress" ∷ []) (path ∷ []) rest → words ≡ codes "session" ∷ rest
+      → Gives (holding true true 1000000 path) result
   pub session_history : (text path : Text) (bound : ℕ) → IsBound text bound → IsPlain path
       → (words ≡ codes "session" ∷ codes "--history" ∷ text ∷ path ∷ []) ⊎ (words ≡ codes "session" ∷ path ∷ codes "--history" ∷ text ∷ [])
-      → Gives (holding false bound path) result
+      → Gives (holding false false bound path) result
   pub session_cut_history : (text path : Text) (bound : ℕ) (rest : List Text) → IsBound text bound → IsPlain path
       → InAnyOrder (codes "--cut" ∷ []) (codes "--history" ∷ text ∷ []) (path ∷ []) rest → words ≡ codes "session" ∷ rest
-      → Gives (holding true bound path) result
+      → Gives (holding true false bound path) result
+  pub session_progress_history : (text path : Text) (bound : ℕ) (rest : List Text) → IsBound text bound → IsPlain path
+      → InAnyOrder (codes "--progress" ∷ []) (codes "--history" ∷ text ∷ []) (path ∷ []) rest → words ≡ codes "session" ∷ rest
+      → Gives (holding false true bound path) result
   pub no_bound : (text path : Text) → IsPlain text → IsPlain path → ((bound : ℕ) → IsBound text bound → ⊥)
       → words ≡ codes "session" ∷ codes "--history" ∷ text ∷ path ∷ [] → GivesUsage result
   pub check : (path : Text) → IsPlain path → words ≡ codes "check" ∷ path ∷ [] → Gives (checking path) result
@@ -118,5 +130,7 @@ pub record ReadsWords (words : List Text) (result : Result Mode WordsFault) : Ty
   pub solve_path : (path : Text) → IsPlain path → words ≡ codes "solve" ∷ path ∷ [] → GivesUsage result
   pub second_path : (command path other : Text) → (command ≡ codes "session") ⊎ (command ≡ codes "check")
       → IsPlain path → IsPlain other → words ≡ command ∷ path ∷ other ∷ [] → GivesUsage result
+  pub progress_alone : (rest : List Text) → words ≡ codes "--progress" ∷ rest → GivesUsage result
+  pub check_progress : (path : Text) → words ≡ codes "check" ∷ codes "--progress" ∷ path ∷ [] → GivesUsage result
   pub check_cut : (path : Text) → words ≡ codes "check" ∷ codes "--cut" ∷ path ∷ [] → GivesUsage result
   pub unknown : (word : Text) (rest : List Text) → IsNoCommand word → words ≡ word ∷ rest → GivesUsage result

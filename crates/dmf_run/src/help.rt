@@ -4,15 +4,15 @@
 pub const VERSION: &str = "0.1.0";
 
 /// How the program is used.
-pub const USAGE: &str = "dmf [solve [--cut]] <FILE
-       dmf session [--cut] [--history N] PROBLEM
+pub const USAGE: &str = "dmf [solve [--cut] [--progress]] <FILE
+       dmf session [--cut] [--history N] [--progress] PROBLEM
        dmf check PROBLEM <SOLUTION";
 
 /// How `dmf solve` is used.
-pub const SOLVE_USAGE: &str = "dmf solve [--cut] <FILE";
+pub const SOLVE_USAGE: &str = "dmf solve [--cut] [--progress] <FILE";
 
 /// How `dmf session` is used.
-pub const SESSION_USAGE: &str = "dmf session [--cut] [--history N] PROBLEM";
+pub const SESSION_USAGE: &str = "dmf session [--cut] [--history N] [--progress] PROBLEM";
 
 /// How `dmf check` is used.
 pub const CHECK_USAGE: &str = "dmf check PROBLEM <SOLUTION";

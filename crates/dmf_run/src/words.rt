@@ -3,7 +3,7 @@ ghost use Rattle.std.specs.Prelude.{ℕ, ◌≡◌, ◌≢◌, ◌≤◌, IfOk, 
 ghost use Rattle.clap.specs.Words.{app_of, first_value, found_of, kind_of, one_text, rule_of, subcommand_rows_of};
 ghost use Rattle.clap.specs.Values.{bool_text};
 ghost use Rattle.clap.specs.declared.builder.command.Command.TheViews.{out-Command as fields_of};
-ghost use Rattle.dmf_run.specs.Matches.{asked_of, check_line, arguments, cut_rule, history_rule, problem_rule, program_line, session_line, solve_line};
+ghost use Rattle.dmf_run.specs.Matches.{asked_of, check_line, arguments, cut_rule, history_rule, problem_rule, progress_rule, program_line, session_line, solve_line};
 ghost use Rattle.dmf_run.specs.Words.{Gives, HasBound, IsBound, IsHelp, IsUsage, IsVersion, ReadsWords, Text, solving, holding, checking};
 ghost use Rattle.dmf_run.specs.declared.words.WordsFault.TheVariants.{NoMemory};
 
@@ -16,14 +16,17 @@ use std::alloc::{AllocError, Global};
 /// What the program is asked to do.
 #[derive(Debug, Drop, PartialEq, Eq)]
 pub enum Mode {
-    /// Solve the problem on standard input, with the cut after its solution where that is wanted.
+    /// Solve the problem on standard input, with the cut after its solution where that is wanted. Progress is told also where
+    /// standard error is no terminal, if that is wanted.
     Solve {
         cut: bool,
+        progress: bool,
     },
-    /// Hold a session on the problem in the file at this path, with the cut after each solution where that is wanted, and at
-    /// most so many states kept before the present one.
+    /// Hold a session on the problem in the file at this path, with the cut after each solution where that is wanted, with
+    /// progress told as in a solve, and with at most so many states kept before the present one.
     Session {
         cut: bool,
+        progress: bool,
         history: u32,
         problem: String,
     },
@@ -49,9 +52,9 @@ pub enum WordsFault {
 /// Reads the words of a command line, of which the first is the program's name.
 ///
 /// No words behind it, or `solve`, ask for [`Mode::Solve`]; `session PROBLEM` asks for [`Mode::Session`], and
-/// `check PROBLEM` for [`Mode::Check`]. The flag `--cut` may stand behind `solve` and `session`, `--history N` behind `session`
-/// alone, with a number up to [`MAX_BOUND`], which is what stands for it where it is absent, and `--help` behind each command and
-/// alone: it is answered by [`WordsFault::Help`], and so is `help`, alone or before a command. `--version` alone
+/// `check PROBLEM` for [`Mode::Check`]. The flags `--cut` and `--progress` may stand behind `solve` and `session`, `--history N`
+/// behind `session` alone, with a number up to [`MAX_BOUND`], which is what stands for it where it is absent, and `--help` behind
+/// each command and alone: it is answered by [`WordsFault::Help`], and so is `help`, alone or before a command. `--version` alone
 /// is answered by [`WordsFault::Version`]. A PROBLEM that begins with a dash stands behind `--`. All other words are refused
 /// by [`WordsFault::Usage`]; the texts are those of `clap`. [`WordsFault::NoMemory`] may come in place of any answer.
 #[inline(never)]
@@ -102,7 +105,8 @@ fn solve<'a>(alloc: Global) -> Result<Command<'a>, AllocError>
         .about("Solve the problem on standard input (without a command, dmf does so too)")
         .override_usage(help::SOLVE_USAGE)
         .after_help(help::SOLVE_NOTES)
-        .arg(cut(alloc, "Write the smallest minimum cut after the solution"))
+        .arg(cut(alloc, "Write the smallest minimum cut after the solution"))?
+        .arg(progress(alloc))
 }
 
 /// The command `session`.
@@ -117,6 +121,7 @@ fn session<'a>(alloc: Global) -> Result<Command<'a>, AllocError>
         .after_help(help::SESSION_NOTES)
         .arg(cut(alloc, "Write the smallest minimum cut after each solution"))?
         .arg(history(alloc))?
+        .arg(progress(alloc))?
         .arg(problem(alloc))
 }
 
@@ -142,6 +147,17 @@ fn cut<'a>(alloc: Global, help: &'a str) -> Arg<'a>
         .long("cut")
         .action(ArgAction::SetTrue)
         .help(help)
+}
+
+/// The flag with which progress is told also where standard error is no terminal.
+fn progress<'a>(alloc: Global) -> Arg<'a>
+    ensures rule { rule_of result ≡ progress_rule }
+    ensures local { result.global ≡ false }
+{
+    Arg::new(alloc, "progress")
+        .long("progress")
+        .action(ArgAction::SetTrue)
+        .help("Tell on standard error how far it is")
 }
 
 /// The option that says how many states are kept before the present one.
@@ -171,15 +187,16 @@ fn problem<'a>(alloc: Global) -> Arg<'a>
 
 /// What the words that the command line took ask for.
 fn mode_of(alloc: Global, matches: &ArgMatches<'_>) -> Result<Mode, WordsFault>
-    ensures nothing { asked_of (subcommand_rows_of matches.now) ≡ None → Gives (solving false) result }
-    ensures solve { (cut : Bool) (text path : Option Text)
-        → asked_of (subcommand_rows_of matches.now) ≡ Some (codes "solve", Some (bool_text cut), text, path)
-        → Gives (solving cut) result }
-    ensures session { (cut : Bool) (text : Text) (bound : ℕ) (path : Text)
-        → asked_of (subcommand_rows_of matches.now) ≡ Some (codes "session", Some (bool_text cut), Some text, Some path)
-        → IsBound text bound → Gives (holding cut bound path) result }
-    ensures check { (cut text : Option Text) (path : Text)
-        → asked_of (subcommand_rows_of matches.now) ≡ Some (codes "check", cut, text, Some path)
+    ensures nothing { asked_of (subcommand_rows_of matches.now) ≡ None → Gives (solving false false) result }
+    ensures solve { (cut progress : Bool) (text path : Option Text)
+        → asked_of (subcommand_rows_of matches.now) ≡ Some (codes "solve", Some (bool_text cut), Some (bool_text progress), text, path)
+        → Gives (solving cut progress) result }
+    ensures session { (cut progress : Bool) (text : Text) (bound : ℕ) (path : Text)
+        → asked_of (subcommand_rows_of matches.now)
+        ≡ Some (codes "session", Some (bool_text cut), Some (bool_text progress), Some text, Some path)
+        → IsBound text bound → Gives (holding cut progress bound path) result }
+    ensures check { (cut progress text : Option Text) (path : Text)
+        → asked_of (subcommand_rows_of matches.now) ≡ Some (codes "check", cut, progress, text, Some path)
         → Gives (checking path) result }
     ensures bound { IfOk result HasBound }
 {
@@ -190,6 +207,7 @@ fn mode_of(alloc: Global, matches: &ArgMatches<'_>) -> Result<Mode, WordsFault>
             };
             Ok(Mode::Session {
                 cut: session.get_flag("cut"),
+                progress: session.get_flag("progress"),
                 history: bound_of(session),
                 problem,
             })
@@ -202,8 +220,12 @@ fn mode_of(alloc: Global, matches: &ArgMatches<'_>) -> Result<Mode, WordsFault>
         }
         Some((_, solve)) => Ok(Mode::Solve {
             cut: solve.get_flag("cut"),
+            progress: solve.get_flag("progress"),
         }),
-        None => Ok(Mode::Solve { cut: false }),
+        None => Ok(Mode::Solve {
+            cut: false,
+            progress: false,
+        }),
     }
 }
 

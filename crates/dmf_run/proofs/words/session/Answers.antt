@@ -10,7 +10,8 @@ returns-clause-line c =
     ∙ (ap app_of_fields c.override_usage.ensures ∙ (ap app_of_fields c.about.ensures ∙ c.new.ensures.app)) in
     let one = line_with _ _ _ _ _ c.in_ok-arg.ensures c.cut.ensures.local start c.cut.ensures.rule in
     let two = line_with _ _ _ _ _ c.in_ok-arg-2.ensures c.history.ensures.local one c.history.ensures.rule in
-    IfOk-weaker c.arg-3.result _ _ (λ m h. line_with _ _ _ _ _ h c.problem.ensures.local two c.problem.ensures.rule) c.arg-3.ensures
+    let three = line_with _ _ _ _ _ c.in_ok-arg-3.ensures c.progress.ensures.local two c.progress.ensures.rule in
+    IfOk-weaker c.arg-4.result _ _ (λ m h. line_with _ _ _ _ _ h c.problem.ensures.local three c.problem.ensures.rule) c.arg-4.ensures
 
 pub returns-clause-local : goal.returns-clause-local
 returns-clause-local c =
@@ -18,4 +19,5 @@ returns-clause-local c =
     ∙ (ap has_globals c.override_usage.ensures ∙ (ap has_globals c.about.ensures ∙ c.new.ensures.local)) in
     let one = local_with _ _ _ c.in_ok-arg.ensures c.cut.ensures.local start in
     let two = local_with _ _ _ c.in_ok-arg-2.ensures c.history.ensures.local one in
-    IfOk-weaker c.arg-3.result _ _ (λ m h. local_with _ _ _ h c.problem.ensures.local two) c.arg-3.ensures
+    let three = local_with _ _ _ c.in_ok-arg-3.ensures c.progress.ensures.local two in
+    IfOk-weaker c.arg-4.result _ _ (λ m h. local_with _ _ _ h c.problem.ensures.local three) c.arg-4.ensures
