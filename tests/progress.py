@@ -155,6 +155,8 @@ def expect_of_solve(expect):
     expect("nothing is told there while it writes", tasks_of(told + ERASED) == ["reading", "solving"])
     status, solution, told = on_terminal(["solve"], SMALL, both=False, wait=False)
     expect("a quick solve tells nothing", (status, solution, told) == (0, SMALL_SOLUTION, ""))
+    status, told = typed(["solve"], SMALL.splitlines(keepends=True))
+    expect("nothing is told between lines that are typed", (status, told.encode()) == (0, SMALL_SOLUTION))
     status, solution, told = on_terminal(["solve"], problem[:-2] + b"x\n", both=False, wait=True)
     fault = told.rpartition(ERASED)[2]
     expect("a fault is told on a line of its own", status == 3 and fault.startswith("dmf: line ") and solution == b"")

@@ -51,7 +51,7 @@ fn run(rt: &HostRuntime) -> Result<Status, Fault> {
 fn solve(rt: &HostRuntime, want_cut: bool, want_progress: bool) -> Result<Status, Fault> {
     let progress = Progress::new(rt, want_progress);
     let mut out = WatchedSink::new(output(rt)?, &progress);
-    let mut problem = WatchedSource::new(StdSource::new(rt.stdin()), &progress);
+    let mut problem = WatchedSource::of_input(StdSource::new(rt.stdin()), &progress);
     let mut watch = WatchedSolve::new(&progress);
     let outcome = run_solve_watched(rt.alloc(), &mut problem, &mut out, want_cut, &mut watch);
     progress.end();
@@ -72,7 +72,7 @@ fn hold_session(
 {
     let progress = Progress::new(rt, want_progress);
     let file = open_problem(rt, path)?;
-    let mut problem = WatchedSource::new(StdSource::new(file), &progress);
+    let mut problem = WatchedSource::of_file(StdSource::new(file), &progress);
     let mut out = WatchedSink::new(output(rt)?, &progress);
     let mut commands = WatchedCommands::new(StdSource::new(rt.stdin()), &progress);
     let mut watch = WatchedSolve::new(&progress);
@@ -94,9 +94,9 @@ fn hold_session(
 fn check(rt: &HostRuntime, path: &str) -> Result<Status, Fault> {
     let progress = Progress::new(rt, false);
     let file = open_problem(rt, path)?;
-    let mut problem = WatchedSource::new(StdSource::new(file), &progress);
+    let mut problem = WatchedSource::of_file(StdSource::new(file), &progress);
     let mut out = WatchedSink::new(output(rt)?, &progress);
-    let mut solution = WatchedSource::new(StdSource::new(rt.stdin()), &progress);
+    let mut solution = WatchedSource::of_input(StdSource::new(rt.stdin()), &progress);
     let outcome = run_check(rt.alloc(), &mut problem, &mut solution, &mut out);
     progress.end();
     outcome.map_err(Fault::Run)

@@ -98,19 +98,32 @@ fn after(rt: &HostRuntime, wait: u64) -> Option<Instant> {
         .checked_add(Duration::from_millis(wait))
 }
 
-/// A source whose reads are told: a text that is read as a whole.
+/// A source whose reads are told, unless it is typed: a text that is read as a whole.
 #[derive(Drop)]
 pub struct WatchedSource<'a, S> {
     source: S,
     progress: &'a Progress<'a>,
+    is_told: bool,
     bytes: u64,
 }
 
 impl<'a, S: Source> WatchedSource<'a, S> {
-    pub fn new(source: S, progress: &'a Progress<'a>) -> Self {
+    /// That of a file.
+    pub fn of_file(source: S, progress: &'a Progress<'a>) -> Self {
         WatchedSource {
             source,
             progress,
+            is_told: true,
+            bytes: 0,
+        }
+    }
+
+    /// That of standard input. At a terminal nothing is told between the lines that somebody types.
+    pub fn of_input(source: S, progress: &'a Progress<'a>) -> Self {
+        WatchedSource {
+            source,
+            progress,
+            is_told: !progress.rt.stdin().is_terminal(),
             bytes: 0,
         }
     }
@@ -122,6 +135,9 @@ impl<S: Source> Source for WatchedSource<'_, S> {
     ghost has_failed = { λ s. S.has_failed s.source };
 
     fn read(&mut self, buffer: &mut [u8]) -> Result<usize, Failed> {
+        if !self.is_told {
+            return self.source.read(buffer);
+        }
         self.progress.begin();
         let given = self.source.read(buffer)?;
         self.bytes = self.bytes.saturating_add(given as u64);
