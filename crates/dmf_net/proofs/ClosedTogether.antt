@@ -22,12 +22,13 @@ use Rattle.dmf_net.proofs.OpenArcs.{listed_from, numbers-listed, open-listed}
 pub IsNetwork-closed : (n : Network) (j : ℕ) → IsNetwork n → has_arc n j ≡ true → IsNetwork (closed_at n j)
 IsNetwork-closed n j network has = IsNetwork-with_arc n j (closed_arc (arc_number n j)) network has refl refl (λ closed. refl) (omega (arith, network.capacities))
 
--- It has the same arcs.
+-- A network with as many arcs has arcs of the same numbers.
+pub HasArcs-long : (n m : Network) (js : List ℕ) → length m.arcs ≡ length n.arcs → HasArcs n js → HasArcs m js
+HasArcs-long n m [] long has = tt
+HasArcs-long n m (j ∷ js) long has = (rw long has.0, HasArcs-long n m js long has.1)
+
 pub HasArcs-closed : (n : Network) (j : ℕ) (js : List ℕ) → HasArcs n js → HasArcs (closed_at n j) js
-HasArcs-closed n j [] has = tt
-HasArcs-closed n j (i ∷ js) has =
-    let long = length-set n.arcs (j - 1) (closed_arc (arc_number n j)) in
-    (rw long has.0, HasArcs-closed n j js has.1)
+HasArcs-closed n j js has = HasArcs-long n (closed_at n j) js (length-set n.arcs (j - 1) (closed_arc (arc_number n j))) has
 
 -- The network has the arcs that are open at a node.
 pub HasArcs-at : (v : ℕ) (n : Network) → HasArcs n (open_arcs_at v 1 n.arcs)

@@ -6,7 +6,7 @@ ghost use Rattle.dmf_net.specs.FlowSums.{IsNodeFlow};
 ghost use Rattle.dmf_net.specs.Edit.{MovesFit, moved, differences};
 ghost use Rattle.dmf_net.specs.Pairs.{flow_read, flows_read};
 ghost use Rattle.dmf_path.specs.Search.{pair_number};
-ghost use Rattle.dmf_net.specs.Direction.{step_along, along};
+ghost use Rattle.dmf_net.specs.Direction.{step_along, along, cap_along};
 
 use crate::arc::Arc;
 use crate::edit::Move;
@@ -72,7 +72,7 @@ fn flow_read(search: &Search, k: usize, link: FlowLink, unpaired: u64) -> u64
     room.unwrap_or(unpaired)
 }
 
-/// Whether moves are made or taken back.
+/// Whether an edit is made or taken back.
 #[derive(Clone, Copy)]
 pub enum Direction {
     Forward,
@@ -81,7 +81,7 @@ pub enum Direction {
 
 impl Direction {
     /// The move, or the one that takes it back.
-    fn step(self, m: &Move) -> Move
+    pub fn step(self, m: &Move) -> Move
         ensures { result ≡ step_along self m.now }
     {
         match self {
@@ -91,6 +91,16 @@ impl Direction {
                 from: m.to,
                 to: m.from,
             },
+        }
+    }
+
+    /// The capacity after a change, or the one before it.
+    pub fn cap(self, before: u64, after: u64) -> u64
+        ensures { result ≡ cap_along self before after }
+    {
+        match self {
+            Direction::Forward => after,
+            Direction::Back => before,
         }
     }
 }

@@ -1,15 +1,18 @@
 ghost use Rattle.std.specs.Prelude.{◌≡◌, ◌↔◌, None, pos, IfErr, IfOk, IfSome, IsOkUnless, OnOk};
+ghost use Rattle.dmf_net.specs.Direction.{edited_along, FitsAlong};
 ghost use Rattle.dmf_net.specs.Edit.{applied, AddsArc, Fits};
 ghost use Rattle.dmf_net.specs.Flow.{flow_value};
 ghost use Rattle.dmf_net.specs.Greatest.{IsGreatest, IsSurpassed};
 ghost use Rattle.dmf_net.specs.Planning.{PlansSolve};
 ghost use Rattle.dmf_net.specs.ResidualNetwork.{IsResidualOf};
+ghost use Rattle.dmf_net.specs.Revert.{reverted, Stands};
 ghost use Rattle.dmf_net.specs.Side.{IsSmallestSide};
 
 use crate::edit::Edit;
 use crate::edited::moves_of;
 use crate::fault::{CutFault, NoMemory, PlanFault};
 use crate::following::{put_capacities, put_flows};
+use crate::moves::Direction;
 use crate::residual::residual_search;
 use crate::side::{Side, side_along, solved_side};
 use crate::solve::{Solved, solve};
@@ -111,12 +114,38 @@ impl ResidualNetwork {
         ensures kept { IfSome result (λ kept. IsResidualOf (applied edit.now state.now) kept) }
         ensures dropped { (result ≡ None) ↔ AddsArc edit.now }
     {
+        self.follow_along(state, edit, Direction::Forward)
+    }
+
+    /// That of the state before an edit, which stands in this state; none where the edit added an arc, since then the links are to
+    /// be made anew. Takes no memory, and time for the arcs that the edit names; the first call after a solve, for each node.
+    pub fn follow_back(self, state: &State, edit: &Edit) -> Option<ResidualNetwork>
+        requires residual { IsResidualOf state.now self }
+        requires stands { Stands edit.now state.now }
+        ensures kept { IfSome result (λ kept. IsResidualOf (reverted edit.now state.now) kept) }
+        ensures dropped { (result ≡ None) ↔ AddsArc edit.now }
+    {
+        self.follow_along(state, edit, Direction::Back)
+    }
+
+    /// That of the state as an edit leaves it, or of the one before the edit; none where the edit adds an arc.
+    fn follow_along(
+        self,
+        state: &State,
+        edit: &Edit,
+        direction: Direction,
+    ) -> Option<ResidualNetwork>
+        requires residual { IsResidualOf state.now self }
+        requires fits { FitsAlong direction edit.now state.now }
+        ensures kept { IfSome result (λ kept. IsResidualOf (edited_along direction edit.now state.now) kept) }
+        ensures dropped { (result ≡ None) ↔ AddsArc edit.now }
+    {
         if let Edit::Add { .. } = *edit {
             return None;
         }
         let mut search = self.search;
-        put_flows(&mut search, state, moves_of(edit));
-        put_capacities(&mut search, state, edit);
+        put_flows(&mut search, state, moves_of(edit), direction);
+        put_capacities(&mut search, state, edit, direction);
         Some(ResidualNetwork { search })
     }
 }
