@@ -29,7 +29,7 @@ pub record AreSpread (l : Links) (opens : List ℕ) (root : ℕ) (labels queue :
   pub scanned : (k p : ℕ) → k < done → LiesAt l (slice_index queue k) p → slice_index opens p ≡ 1 → slice_index labels (slice_index l.heads p) ≤ slice_index labels (slice_index queue k) + 1
   pub backed : (v : ℕ) → IsNode l.nodes v → v ≢ root → slice_index labels v ≢ no_label → IsBacked l opens labels v
 
--- Number 0 is never in the queue, so that it has room for the nodes.
+-- Number 0 is never in the queue, so that its capacity is enough for the nodes.
 pub queue-short : (l : Links) (opens : List ℕ) (root : ℕ) (labels queue : List ℕ) (done : ℕ) → AreSpread l opens root labels queue done → length queue ≤ l.nodes
 queue-short l opens root labels queue done so_far =
     let one : 1 + unlabelled_count (set labels 0 0) ≡ unlabelled_count labels = unlabelled_count-set labels 0 0 (omega (arith, so_far.one_each)) so_far.zero (λ e. absurd (omega arith)) in

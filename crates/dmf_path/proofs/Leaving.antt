@@ -1,5 +1,5 @@
 -- Links leave their slots: what is held for them is put on, and the settled rooms stay.
-use Rattle.std.proofs.Common.{ℕ, ◌≡◌, ◌+◌, ◌-◌, Bool, true, false, List, [], ◌∷◌, ◌++◌, length, get_or, set, refl, ◌∙◌, arith, get_or-set_other}
+use Rattle.std.proofs.Common.{ℕ, ◌≡◌, ◌-◌, Bool, true, false, List, [], ◌∷◌, ◌++◌, length, get_or, set, refl, ◌∙◌, arith, get_or-set_other}
 use Rattle.dmf_path.specs.declared.trail.Slot.{Slot}
 use Rattle.dmf_path.specs.Links.{Links, AreLinks, AreRooms, AreFlags}
 use Rattle.dmf_path.specs.Walk.{pushed_once}

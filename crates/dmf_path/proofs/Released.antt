@@ -1,5 +1,5 @@
 -- A link that is in no slot: what is held for others does not ask for its room, which can be lowered.
-use Rattle.std.proofs.Common.{ℕ, ◌≡◌, ◌≢◌, ◌+◌, ◌-◌, ◌<◌, ◌≤◌, Bool, true, false, cond, List, [], ◌∷◌, ◌++◌, length, get_or, set, refl, ap, sym, ◌∙◌, subst, arith, ⊎_elim, get_or-set_other, get_or-set_same, length-set}
+use Rattle.std.proofs.Common.{ℕ, ◌≡◌, ◌≢◌, ◌+◌, ◌-◌, ◌<◌, ◌≤◌, Bool, true, false, cond, List, [], ◌∷◌, ◌++◌, length, get_or, set, ap, sym, ◌∙◌, subst, arith, ⊎_elim, get_or-set_other, get_or-set_same, length-set}
 use Rattle.std.proofs.lemmas.Bool.{cases_eq}
 use Rattle.std.proofs.lemmas.List.{ext_get_or}
 use Rattle.dmf_path.specs.declared.trail.Slot.{Slot}
@@ -9,9 +9,8 @@ use Rattle.dmf_path.specs.Walk.{IsTrail, pushed_once}
 use Rattle.dmf_path.specs.Held.{Way, places_of, walked_slots, rest_slots, filled_slots, held_for, settled, rooms_with, IsOff}
 use Rattle.dmf_path.specs.Search.{HasAlong, with_pairs, lowered_along}
 use Rattle.dmf_path.specs.Searching.{IsHolding, IsUnderWay, IsSearch, searched}
-use Rattle.dmf_path.proofs.LinkPlaces.{partner-other}
 use Rattle.dmf_path.proofs.Pushed.{OpensUpwards, AreValid-opens, ArePassed-opens}
-use Rattle.dmf_path.proofs.Descending.{off-rising, off-append}
+use Rattle.dmf_path.proofs.Descending.{off-rising}
 use Rattle.dmf_path.proofs.Settled.{length-settled, room-settled, held-off, held-rooms, places-append}
 use Rattle.dmf_path.proofs.SettledRoom.{room-along}
 use Rattle.dmf_path.proofs.Leaving.{HaveLeft-set}
@@ -80,10 +79,10 @@ off-front p [] qs off = (tt, off)
 off-front p (q ∷ ps) qs off = let later = off-front p ps qs off.1 in ((off.0, later.0), later.1)
 
 -- after its room is lowered
-IsSearch-lowered : {is_fresh : Bool} (l : Links) (takes_back : Bool) (places rooms flags labels current : List ℕ) (w : Way) (queue_room slots_room p amount : ℕ) (new_rooms new_flags : List ℕ) → IsSearch l takes_back places rooms flags labels current w queue_room slots_room is_fresh
+IsSearch-lowered : {is_fresh : Bool} (l : Links) (takes_back : Bool) (places rooms flags labels current : List ℕ) (w : Way) (queue_capacity slots_capacity p amount : ℕ) (new_rooms new_flags : List ℕ) → IsSearch l takes_back places rooms flags labels current w queue_capacity slots_capacity is_fresh
     → p < length l.heads → IsOff p (places_of (filled_slots w)) → amount ≤ get_or rooms p 0 → new_rooms ≡ pushed_once l false amount p rooms → AreRooms l new_rooms → AreFlags l new_rooms new_flags
-    → IsSearch l takes_back places new_rooms new_flags labels current w queue_room slots_room is_fresh × (rooms_with l takes_back w new_rooms ≡ pushed_once l false amount p (rooms_with l takes_back w rooms))
-IsSearch-lowered {is_fresh = is_fresh} l takes_back places rooms flags labels current w queue_room slots_room p amount new_rooms new_flags is within off enough made sums told =
+    → IsSearch l takes_back places new_rooms new_flags labels current w queue_capacity slots_capacity is_fresh × (rooms_with l takes_back w new_rooms ≡ pushed_once l false amount p (rooms_with l takes_back w rooms))
+IsSearch-lowered {is_fresh = is_fresh} l takes_back places rooms flags labels current w queue_capacity slots_capacity p amount new_rooms new_flags is within off enough made sums told =
     let before : List ℕ = rooms_with l takes_back w rooms in
     let after : List ℕ = rooms_with l takes_back w new_rooms in
     let long : length before ≡ length l.heads = length-settled l takes_back w.sent (filled_slots w) rooms ∙ is.holding.rooms_are.0 in
@@ -92,7 +91,7 @@ IsSearch-lowered {is_fresh = is_fresh} l takes_back places rooms flags labels cu
     let opens : OpensUpwards l labels before after = subst (OpensUpwards l labels before) (sym lowered) (opens-lowered l labels before p amount long within) in
     let apart = off-front p (places_of (walked_slots w)) (places_of (rest_slots w)) (subst (IsOff p) (places-append (walked_slots w) (rest_slots w)) off) in
     let way = is.under_way in
-    let search : IsSearch l takes_back places new_rooms new_flags labels current w queue_room slots_room is_fresh = record {
+    let search : IsSearch l takes_back places new_rooms new_flags labels current w queue_capacity slots_capacity is_fresh = record {
       links = is.links;
       places_are = is.places_are;
       holding = record {
@@ -121,26 +120,26 @@ IsSearch-lowered {is_fresh = is_fresh} l takes_back places rooms flags labels cu
       start_is = is.start_is;
       goal_is = is.goal_is;
       apart = is.apart;
-      queue_room_is = is.queue_room_is;
-      slots_room_is = is.slots_room_is;
+      queue_capacity_is = is.queue_capacity_is;
+      slots_capacity_is = is.slots_capacity_is;
       marked = is.marked;
     } in
     (search, lowered)
 
 -- The room of the link along a pair is lowered, once the link is in no slot.
-pub is-lowered : {is_fresh : Bool} (l : Links) (takes_back : Bool) (places rooms flags labels current : List ℕ) (w : Way) (queue_room slots_room k p amount : ℕ) (new : Way) (between_rooms between_flags new_rooms new_flags : List ℕ) (new_slots_room : ℕ)
-    → IsSearch l takes_back places rooms flags labels current w queue_room slots_room is_fresh → HasAlong (pairs_at l places (rooms_with l takes_back w rooms)) k amount → p ≡ get_or places k 0
+pub is-lowered : {is_fresh : Bool} (l : Links) (takes_back : Bool) (places rooms flags labels current : List ℕ) (w : Way) (queue_capacity slots_capacity k p amount : ℕ) (new : Way) (between_rooms between_flags new_rooms new_flags : List ℕ) (new_slots_capacity : ℕ)
+    → IsSearch l takes_back places rooms flags labels current w queue_capacity slots_capacity is_fresh → HasAlong (pairs_at l places (rooms_with l takes_back w rooms)) k amount → p ≡ get_or places k 0
     → IsHolding l new between_rooms between_flags → rooms_with l takes_back new between_rooms ≡ rooms_with l takes_back w rooms → IsUnderWay l labels (rooms_with l takes_back w rooms) current new
-    → IsOff p (places_of (filled_slots new)) → get_or (rooms_with l takes_back w rooms) p 0 ≡ get_or between_rooms p 0 → new.start ≡ w.start → new.goal ≡ w.goal → new_slots_room ≡ slots_room
+    → IsOff p (places_of (filled_slots new)) → get_or (rooms_with l takes_back w rooms) p 0 ≡ get_or between_rooms p 0 → new.start ≡ w.start → new.goal ≡ w.goal → new_slots_capacity ≡ slots_capacity
     → new_rooms ≡ pushed_once l false amount p between_rooms → AreRooms l new_rooms → AreFlags l new_rooms new_flags
-    → IsSearch l takes_back places new_rooms new_flags labels current new queue_room new_slots_room is_fresh
+    → IsSearch l takes_back places new_rooms new_flags labels current new queue_capacity new_slots_capacity is_fresh
     × (searched l places (rooms_with l takes_back new new_rooms) new.start new.goal takes_back
     ≡ with_pairs (searched l places (rooms_with l takes_back w rooms) w.start w.goal takes_back) (lowered_along (pairs_at l places (rooms_with l takes_back w rooms)) k amount))
-is-lowered l takes_back places rooms flags labels current w queue_room slots_room k p amount new between_rooms between_flags new_rooms new_flags new_slots_room is along at holding same way off room start goal slots_same made sums told =
+is-lowered l takes_back places rooms flags labels current w queue_capacity slots_capacity k p amount new between_rooms between_flags new_rooms new_flags new_slots_capacity is along at holding same way off room start goal slots_same made sums told =
     let before : List ℕ = rooms_with l takes_back w rooms in
     let has = HasPlace-along l places before k amount is.places_are along in
-    let between = IsSearch-released l takes_back places rooms flags labels current w queue_room slots_room between_rooms between_flags new new_slots_room is holding same way start goal slots_same in
-    let lowered = IsSearch-lowered l takes_back places between_rooms between_flags labels current new queue_room new_slots_room p amount new_rooms new_flags between (omega (arith, at, has.within)) off
+    let between = IsSearch-released l takes_back places rooms flags labels current w queue_capacity slots_capacity between_rooms between_flags new new_slots_capacity is holding same way start goal slots_same in
+    let lowered = IsSearch-lowered l takes_back places between_rooms between_flags labels current new queue_capacity new_slots_capacity p amount new_rooms new_flags between (omega (arith, at, has.within)) off
     (omega (arith, has.enough, room, ap (λ q. get_or before q 0) at)) made sums told in
     let long : length before ≡ length l.heads = length-settled l takes_back w.sent (filled_slots w) rooms ∙ is.holding.rooms_are.0 in
     let after : rooms_with l takes_back new new_rooms ≡ pushed_once l false amount (get_or places k 0) before = lowered.1 ∙ ap (pushed_once l false amount p) same ∙ ap (λ q. pushed_once l false amount q before) at in (

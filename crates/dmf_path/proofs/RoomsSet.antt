@@ -1,5 +1,5 @@
 -- The rooms of one pair's links are set.
-use Rattle.std.proofs.Common.{ℕ, ◌≡◌, ◌≢◌, ◌+◌, ◌^◌, ◌<◌, Bool, List, length, map, get_or, set, refl, ap, sym, ◌∙◌, subst, arith, ⊎_elim, eq-eqb, inl, inr, get_or-set_other, get_or-set_same, length-set, Option, None}
+use Rattle.std.proofs.Common.{ℕ, ◌≡◌, ◌≢◌, ◌+◌, ◌^◌, ◌<◌, Bool, List, length, get_or, set, refl, ap, sym, ◌∙◌, subst, arith, ⊎_elim, eq-eqb, inl, inr, get_or-set_other, get_or-set_same, length-set, Option, None}
 use Rattle.std.specs.Option.{option_map}
 use Rattle.std.proofs.lemmas.Bool.{cases_eq, ne_eqb}
 use Rattle.std.proofs.lemmas.List.{get_or-map, set-get_or}

@@ -1,25 +1,25 @@
 -- What a search keeps, from one call to the next.
-use Rattle.std.proofs.Common.{ℕ, ◌≡◌, ◌≢◌, ◌+◌, ◌%◌, ◌^◌, ◌<◌, ◌≤◌, Bool, true, false, List, [], length, get_or, set, take, drop, replicate, refl, ap, sym, ◌∙◌, subst, arith}
-use Rattle.std.proofs.lemmas.List.{drop_all, length-drop, nil_from_length, get_or-replicate, length-replicate, get_or-set_same, get_or-set_other, length-set}
+use Rattle.std.proofs.Common.{ℕ, ◌≡◌, ◌≢◌, ◌+◌, ◌%◌, ◌^◌, ◌<◌, ◌≤◌, Bool, true, false, List, [], length, get_or, set, take, replicate, refl, ap, sym, ◌∙◌, subst, arith}
+use Rattle.std.proofs.lemmas.List.{length-drop, nil_from_length, get_or-replicate, length-replicate, get_or-set_same, get_or-set_other, length-set}
 use Rattle.dmf_path.specs.declared.trail.Slot.{Slot}
 use Rattle.dmf_path.specs.Node.{IsNode}
 use Rattle.dmf_path.specs.Links.{Links, AreLinks, ArePlaces, AreRooms, AreFlags}
-use Rattle.dmf_path.specs.Walk.{AreValid, IsTrail, end_of}
+use Rattle.dmf_path.specs.Walk.{AreValid, end_of}
 use Rattle.dmf_path.specs.Held.{Way, places_of, walked_slots, rest_slots, settled, rooms_with, emptied, with_slots}
 use Rattle.dmf_path.specs.declared.search.AugmentingPath.{AugmentingPath}
 use Rattle.dmf_path.specs.Search.{Searched, Augments}
 use Rattle.dmf_path.specs.Searching.{IsUnderWay, IsHolding, IsFresh, IsMarked, begun, fresh, IsSearch, searched}
-use Rattle.dmf_path.proofs.Pushed.{OpensUpwards, AreValid-opens, ArePassed-opens}
+use Rattle.dmf_path.proofs.Pushed.{AreValid-opens, ArePassed-opens}
 use Rattle.dmf_path.proofs.SettledSent.{HaveLeft-sent}
 use Rattle.dmf_path.proofs.Settling.{rooms_with-free, holding-free, way-free, way-emptied}
 use Rattle.dmf_path.proofs.Searching.{CanAugment}
 use Rattle.dmf_path.proofs.Cutting.{IsSent, HasCut}
 
 -- with free slots, where nothing falls to the label of the start, and the current links of all nodes are their first ones
-free-search : (l : Links) (takes_back : Bool) (places rooms flags labels current : List ℕ) (w : Way) (queue_room slots_room : ℕ) → AreLinks l → ArePlaces l places → AreRooms l rooms → AreFlags l rooms flags → w.sent < 2 ^ 64
-    → length labels ≡ l.nodes + 1 → get_or labels w.start 0 ≡ 0 → get_or labels w.goal 0 ≡ 0 → current ≡ take (l.nodes + 1) l.first → IsNode l.nodes w.start → IsNode l.nodes w.goal → w.start ≢ w.goal → l.nodes + 1 ≤ queue_room → l.nodes ≤ slots_room
-    → IsSearch l takes_back places rooms flags labels current (with_slots w []) queue_room slots_room true
-free-search l takes_back places rooms flags labels current w queue_room slots_room links places_are sums told small one_label_each start_label goal_label first start_is goal_is apart queue_room_is slots_room_is = record {
+free-search : (l : Links) (takes_back : Bool) (places rooms flags labels current : List ℕ) (w : Way) (queue_capacity slots_capacity : ℕ) → AreLinks l → ArePlaces l places → AreRooms l rooms → AreFlags l rooms flags → w.sent < 2 ^ 64
+    → length labels ≡ l.nodes + 1 → get_or labels w.start 0 ≡ 0 → get_or labels w.goal 0 ≡ 0 → current ≡ take (l.nodes + 1) l.first → IsNode l.nodes w.start → IsNode l.nodes w.goal → w.start ≢ w.goal → l.nodes + 1 ≤ queue_capacity → l.nodes ≤ slots_capacity
+    → IsSearch l takes_back places rooms flags labels current (with_slots w []) queue_capacity slots_capacity true
+free-search l takes_back places rooms flags labels current w queue_capacity slots_capacity links places_are sums told small one_label_each start_label goal_label first start_is goal_is apart queue_capacity_is slots_capacity_is = record {
   links = links;
   places_are = places_are;
   holding = holding-free l w [] rooms flags sums told small;
@@ -30,8 +30,8 @@ free-search l takes_back places rooms flags labels current w queue_room slots_ro
   start_is = start_is;
   goal_is = goal_is;
   apart = apart;
-  queue_room_is = queue_room_is;
-  slots_room_is = slots_room_is;
+  queue_capacity_is = queue_capacity_is;
+  slots_capacity_is = slots_capacity_is;
   marked = fresh (record { label = start_label; first = first });
 }
 
@@ -40,23 +40,23 @@ abbrev pub between : Way → ℕ → ℕ → Way
 between w start goal = record { slots = w.slots; walked = w.walked; rest = w.rest; joint = w.joint; sent = w.sent; start = start; goal = goal }
 
 -- at first
-pub IsSearch-new : (l : Links) (takes_back : Bool) (places rooms flags labels current : List ℕ) (slots : List Slot) (start goal queue_room slots_room : ℕ) → AreLinks l → ArePlaces l places → AreRooms l rooms → AreFlags l rooms flags
-    → IsNode l.nodes start → IsNode l.nodes goal → start ≢ goal → labels ≡ replicate (l.nodes + 1) 0 → current ≡ take (l.nodes + 1) l.first → slots ≡ [] → l.nodes + 1 ≤ queue_room → l.nodes ≤ slots_room
-    → IsSearch l takes_back places rooms flags labels current (record { slots = slots; walked = 0; rest = 0; joint = goal; sent = 0; start = start; goal = goal }) queue_room slots_room true
-IsSearch-new l takes_back places rooms flags labels current slots start goal queue_room slots_room links places_are sums told start_is goal_is apart zeros first none queue_room_is slots_room_is =
+pub IsSearch-new : (l : Links) (takes_back : Bool) (places rooms flags labels current : List ℕ) (slots : List Slot) (start goal queue_capacity slots_capacity : ℕ) → AreLinks l → ArePlaces l places → AreRooms l rooms → AreFlags l rooms flags
+    → IsNode l.nodes start → IsNode l.nodes goal → start ≢ goal → labels ≡ replicate (l.nodes + 1) 0 → current ≡ take (l.nodes + 1) l.first → slots ≡ [] → l.nodes + 1 ≤ queue_capacity → l.nodes ≤ slots_capacity
+    → IsSearch l takes_back places rooms flags labels current (record { slots = slots; walked = 0; rest = 0; joint = goal; sent = 0; start = start; goal = goal }) queue_capacity slots_capacity true
+IsSearch-new l takes_back places rooms flags labels current slots start goal queue_capacity slots_capacity links places_are sums told start_is goal_is apart zeros first none queue_capacity_is slots_capacity_is =
     let w : Way = record { slots = []; walked = 0; rest = 0; joint = goal; sent = 0; start = start; goal = goal } in
     let label : (v : ℕ) → v ≤ l.nodes → get_or labels v 0 ≡ 0 = λ v h. ap (λ xs. get_or xs v 0) zeros ∙ get_or-replicate (l.nodes + 1) v 0 0 (omega (arith, h)) in
-    let at = free-search l takes_back places rooms flags labels current w queue_room slots_room links places_are sums told (omega arith) (ap length zeros ∙ length-replicate (l.nodes + 1) 0) (label start start_is.to_last) (label goal goal_is.to_last) first start_is goal_is apart queue_room_is slots_room_is in
-    subst (λ (ss : List Slot). IsSearch l takes_back places rooms flags labels current (record { slots = ss; walked = 0; rest = 0; joint = goal; sent = 0; start = start; goal = goal }) queue_room slots_room true) (sym none) at
+    let at = free-search l takes_back places rooms flags labels current w queue_capacity slots_capacity links places_are sums told (omega arith) (ap length zeros ∙ length-replicate (l.nodes + 1) 0) (label start start_is.to_last) (label goal goal_is.to_last) first start_is goal_is apart queue_capacity_is slots_capacity_is in
+    subst (λ (ss : List Slot). IsSearch l takes_back places rooms flags labels current (record { slots = ss; walked = 0; rest = 0; joint = goal; sent = 0; start = start; goal = goal }) queue_capacity slots_capacity true) (sym none) at
 
 -- after looking for a path
-pub IsSearch-found : {is_fresh : Bool} (l : Links) (takes_back : Bool) (places rooms flags labels current : List ℕ) (w : Way) (queue_room slots_room : ℕ) (new_rooms new_flags new_labels new_current : List ℕ) (new : Way) (new_queue_room new_slots_room : ℕ)
-    → IsSearch l takes_back places rooms flags labels current w queue_room slots_room is_fresh
+pub IsSearch-found : {is_fresh : Bool} (l : Links) (takes_back : Bool) (places rooms flags labels current : List ℕ) (w : Way) (queue_capacity slots_capacity : ℕ) (new_rooms new_flags new_labels new_current : List ℕ) (new : Way) (new_queue_capacity new_slots_capacity : ℕ)
+    → IsSearch l takes_back places rooms flags labels current w queue_capacity slots_capacity is_fresh
     → length new_labels ≡ length labels → get_or new_labels w.start 0 ≤ l.nodes → IsHolding l new new_rooms new_flags → rooms_with l takes_back new new_rooms ≡ rooms_with l takes_back w rooms
     → AreValid l new_labels (rooms_with l takes_back w rooms) (get_or new_labels w.start 0) → IsUnderWay l new_labels (rooms_with l takes_back w rooms) new_current new
-    → new.start ≡ w.start → new.goal ≡ w.goal → new_queue_room ≡ queue_room → new_slots_room ≡ slots_room
-    → IsSearch l takes_back places new_rooms new_flags new_labels new_current new new_queue_room new_slots_room false
-IsSearch-found l takes_back places rooms flags labels current w queue_room slots_room new_rooms new_flags new_labels new_current new new_queue_room new_slots_room is long label holding same valid way start goal queue_same slots_same = record {
+    → new.start ≡ w.start → new.goal ≡ w.goal → new_queue_capacity ≡ queue_capacity → new_slots_capacity ≡ slots_capacity
+    → IsSearch l takes_back places new_rooms new_flags new_labels new_current new new_queue_capacity new_slots_capacity false
+IsSearch-found l takes_back places rooms flags labels current w queue_capacity slots_capacity new_rooms new_flags new_labels new_current new new_queue_capacity new_slots_capacity is long label holding same valid way start goal queue_same slots_same = record {
   links = is.links;
   places_are = is.places_are;
   holding = holding;
@@ -67,8 +67,8 @@ IsSearch-found l takes_back places rooms flags labels current w queue_room slots
   start_is = subst (IsNode l.nodes) (sym start) is.start_is;
   goal_is = subst (IsNode l.nodes) (sym goal) is.goal_is;
   apart = λ e. is.apart (sym start ∙ e ∙ goal);
-  queue_room_is = omega (arith, is.queue_room_is, queue_same);
-  slots_room_is = omega (arith, is.slots_room_is, slots_same);
+  queue_capacity_is = omega (arith, is.queue_capacity_is, queue_same);
+  slots_capacity_is = omega (arith, is.slots_capacity_is, slots_same);
   marked = begun refl;
 }
 
@@ -77,9 +77,9 @@ abbrev pub sent_on : Way → ℕ → Way
 sent_on w amount = record { slots = w.slots; walked = w.walked; rest = w.rest; joint = w.joint; sent = (w.sent + amount) % 2 ^ 64; start = w.start; goal = w.goal }
 
 -- Along the path that was found more is sent.
-pub is-sent : {is_fresh : Bool} (l : Links) (takes_back : Bool) (places rooms flags labels current : List ℕ) (w : Way) (queue_room slots_room limit amount : ℕ) → IsSearch l takes_back places rooms flags labels current w queue_room slots_room is_fresh
+pub is-sent : {is_fresh : Bool} (l : Links) (takes_back : Bool) (places rooms flags labels current : List ℕ) (w : Way) (queue_capacity slots_capacity limit amount : ℕ) → IsSearch l takes_back places rooms flags labels current w queue_capacity slots_capacity is_fresh
     → end_of l w.start (places_of (walked_slots w)) ≡ w.joint → CanAugment l takes_back places rooms labels current w limit amount → IsSent l takes_back labels (rooms_with l takes_back w rooms) current (sent_on w amount) rooms
-is-sent l takes_back places rooms flags labels current w queue_room slots_room limit amount is joins can = record {
+is-sent l takes_back places rooms flags labels current w queue_capacity slots_capacity limit amount is joins can = record {
   links = is.links;
   start_is = is.start_is;
   trail = can.whole.trail;
@@ -99,11 +99,11 @@ is-sent l takes_back places rooms flags labels current w queue_room slots_room l
 }
 
 -- after the path is cut
-pub IsSearch-cut : (l : Links) (takes_back : Bool) (places rooms flags labels current : List ℕ) (w : Way) (queue_room slots_room limit amount : ℕ) (new_rooms new_flags : List ℕ) (new : Way) (new_slots_room : ℕ)
-    → IsSearch l takes_back places rooms flags labels current w queue_room slots_room false → CanAugment l takes_back places rooms labels current w limit amount
+pub IsSearch-cut : (l : Links) (takes_back : Bool) (places rooms flags labels current : List ℕ) (w : Way) (queue_capacity slots_capacity limit amount : ℕ) (new_rooms new_flags : List ℕ) (new : Way) (new_slots_capacity : ℕ)
+    → IsSearch l takes_back places rooms flags labels current w queue_capacity slots_capacity false → CanAugment l takes_back places rooms labels current w limit amount
     → HasCut l takes_back labels (settled l takes_back ((w.sent + amount) % 2 ^ 64) w.slots rooms) current new new_rooms new_flags
-    → new.start ≡ w.start → new.goal ≡ w.goal → new_slots_room ≡ slots_room → IsSearch l takes_back places new_rooms new_flags labels current new queue_room new_slots_room false
-IsSearch-cut l takes_back places rooms flags labels current w queue_room slots_room limit amount new_rooms new_flags new new_slots_room is can cut start goal slots_same =
+    → new.start ≡ w.start → new.goal ≡ w.goal → new_slots_capacity ≡ slots_capacity → IsSearch l takes_back places new_rooms new_flags labels current new queue_capacity new_slots_capacity false
+IsSearch-cut l takes_back places rooms flags labels current w queue_capacity slots_capacity limit amount new_rooms new_flags new new_slots_capacity is can cut start goal slots_same =
     let after : List ℕ = settled l takes_back ((w.sent + amount) % 2 ^ 64) w.slots rooms in
     let valid = AreValid-opens l labels (rooms_with l takes_back w rooms) after (get_or labels w.start 0) can.opens is.valid in
     record {
@@ -117,18 +117,18 @@ IsSearch-cut l takes_back places rooms flags labels current w queue_room slots_r
       start_is = subst (IsNode l.nodes) (sym start) is.start_is;
       goal_is = subst (IsNode l.nodes) (sym goal) is.goal_is;
       apart = λ e. is.apart (sym start ∙ e ∙ goal);
-      queue_room_is = is.queue_room_is;
-      slots_room_is = omega (arith, is.slots_room_is, slots_same);
+      queue_capacity_is = is.queue_capacity_is;
+      slots_capacity_is = omega (arith, is.slots_capacity_is, slots_same);
       marked = begun refl;
     }
 
 -- after all links have left, or some
-pub IsSearch-released : {is_fresh : Bool} (l : Links) (takes_back : Bool) (places rooms flags labels current : List ℕ) (w : Way) (queue_room slots_room : ℕ) (new_rooms new_flags : List ℕ) (new : Way) (new_slots_room : ℕ)
-    → IsSearch l takes_back places rooms flags labels current w queue_room slots_room is_fresh → IsHolding l new new_rooms new_flags → rooms_with l takes_back new new_rooms ≡ rooms_with l takes_back w rooms
-    → IsUnderWay l labels (rooms_with l takes_back w rooms) current new → new.start ≡ w.start → new.goal ≡ w.goal → new_slots_room ≡ slots_room
-    → IsSearch l takes_back places new_rooms new_flags labels current new queue_room new_slots_room is_fresh
-IsSearch-released {is_fresh = is_fresh} l takes_back places rooms flags labels current w queue_room slots_room new_rooms new_flags new new_slots_room is holding same way start goal slots_same =
-    let found = IsSearch-found l takes_back places rooms flags labels current w queue_room slots_room new_rooms new_flags labels current new queue_room new_slots_room is refl is.start_label holding same is.valid way start goal refl slots_same in
+pub IsSearch-released : {is_fresh : Bool} (l : Links) (takes_back : Bool) (places rooms flags labels current : List ℕ) (w : Way) (queue_capacity slots_capacity : ℕ) (new_rooms new_flags : List ℕ) (new : Way) (new_slots_capacity : ℕ)
+    → IsSearch l takes_back places rooms flags labels current w queue_capacity slots_capacity is_fresh → IsHolding l new new_rooms new_flags → rooms_with l takes_back new new_rooms ≡ rooms_with l takes_back w rooms
+    → IsUnderWay l labels (rooms_with l takes_back w rooms) current new → new.start ≡ w.start → new.goal ≡ w.goal → new_slots_capacity ≡ slots_capacity
+    → IsSearch l takes_back places new_rooms new_flags labels current new queue_capacity new_slots_capacity is_fresh
+IsSearch-released {is_fresh = is_fresh} l takes_back places rooms flags labels current w queue_capacity slots_capacity new_rooms new_flags new new_slots_capacity is holding same way start goal slots_same =
+    let found = IsSearch-found l takes_back places rooms flags labels current w queue_capacity slots_capacity new_rooms new_flags labels current new queue_capacity new_slots_capacity is refl is.start_label holding same is.valid way start goal refl slots_same in
     record {
       links = found.links;
       places_are = found.places_are;
@@ -140,18 +140,18 @@ IsSearch-released {is_fresh = is_fresh} l takes_back places rooms flags labels c
       start_is = found.start_is;
       goal_is = found.goal_is;
       apart = found.apart;
-      queue_room_is = found.queue_room_is;
-      slots_room_is = found.slots_room_is;
+      queue_capacity_is = found.queue_capacity_is;
+      slots_capacity_is = found.slots_capacity_is;
       marked = subst (λ v. IsMarked l labels current v is_fresh) (sym start) is.marked;
     }
 
-pub IsSearch-settled : {is_fresh : Bool} (l : Links) (takes_back : Bool) (places rooms flags labels current : List ℕ) (w : Way) (queue_room slots_room : ℕ) (new_rooms new_flags : List ℕ) (new : Way) (new_slots_room : ℕ)
-    → IsSearch l takes_back places rooms flags labels current w queue_room slots_room is_fresh → new_rooms ≡ rooms_with l takes_back w rooms → AreRooms l new_rooms → AreFlags l new_rooms new_flags
-    → new ≡ emptied w → new_slots_room ≡ slots_room
-    → IsSearch l takes_back places new_rooms new_flags labels current new queue_room new_slots_room is_fresh × (rooms_with l takes_back new new_rooms ≡ rooms_with l takes_back w rooms)
-IsSearch-settled l takes_back places rooms flags labels current w queue_room slots_room new_rooms new_flags new new_slots_room is put sums told empty slots_same =
+pub IsSearch-settled : {is_fresh : Bool} (l : Links) (takes_back : Bool) (places rooms flags labels current : List ℕ) (w : Way) (queue_capacity slots_capacity : ℕ) (new_rooms new_flags : List ℕ) (new : Way) (new_slots_capacity : ℕ)
+    → IsSearch l takes_back places rooms flags labels current w queue_capacity slots_capacity is_fresh → new_rooms ≡ rooms_with l takes_back w rooms → AreRooms l new_rooms → AreFlags l new_rooms new_flags
+    → new ≡ emptied w → new_slots_capacity ≡ slots_capacity
+    → IsSearch l takes_back places new_rooms new_flags labels current new queue_capacity new_slots_capacity is_fresh × (rooms_with l takes_back new new_rooms ≡ rooms_with l takes_back w rooms)
+IsSearch-settled l takes_back places rooms flags labels current w queue_capacity slots_capacity new_rooms new_flags new new_slots_capacity is put sums told empty slots_same =
     let same : rooms_with l takes_back new new_rooms ≡ rooms_with l takes_back w rooms = ap (λ (u : Way). rooms_with l takes_back u new_rooms) empty ∙ rooms_with-free l takes_back w w.slots new_rooms ∙ put in (
-      IsSearch-released l takes_back places rooms flags labels current w queue_room slots_room new_rooms new_flags new new_slots_room is
+      IsSearch-released l takes_back places rooms flags labels current w queue_capacity slots_capacity new_rooms new_flags new new_slots_capacity is
           (subst (λ (u : Way). IsHolding l u new_rooms new_flags) (sym empty) (holding-free l w w.slots new_rooms new_flags sums told is.holding.small)) same
           (subst (λ (u : Way). IsUnderWay l labels (rooms_with l takes_back w rooms) current u) (sym empty) (way-emptied l labels (rooms_with l takes_back w rooms) current w is.goal_is is.under_way))
           (ap (λ (u : Way). u.start) empty) (ap (λ (u : Way). u.goal) empty) slots_same,
@@ -159,18 +159,18 @@ IsSearch-settled l takes_back places rooms flags labels current w queue_room slo
     )
 
 -- after all links have left and ends are set, the same ones or others
-pub IsSearch-anew : {is_fresh : Bool} (l : Links) (takes_back : Bool) (places rooms flags labels current : List ℕ) (w : Way) (queue_room slots_room start goal : ℕ) (new_rooms new_flags new_labels new_current : List ℕ) (new : Way) (new_slots_room : ℕ)
-    → IsSearch l takes_back places rooms flags labels current w queue_room slots_room is_fresh → AreRooms l new_rooms → AreFlags l new_rooms new_flags → IsNode l.nodes start → IsNode l.nodes goal → start ≢ goal
-    → new_labels ≡ set (set labels start 0) goal 0 → new_current ≡ take (l.nodes + 1) l.first → new ≡ with_slots (between w start goal) [] → new_slots_room ≡ slots_room
-    → IsSearch l takes_back places new_rooms new_flags new_labels new_current new queue_room new_slots_room true
-IsSearch-anew l takes_back places rooms flags labels current w queue_room slots_room start goal new_rooms new_flags new_labels new_current new new_slots_room is sums told start_is goal_is apart labelled first same slots_same =
+pub IsSearch-anew : {is_fresh : Bool} (l : Links) (takes_back : Bool) (places rooms flags labels current : List ℕ) (w : Way) (queue_capacity slots_capacity start goal : ℕ) (new_rooms new_flags new_labels new_current : List ℕ) (new : Way) (new_slots_capacity : ℕ)
+    → IsSearch l takes_back places rooms flags labels current w queue_capacity slots_capacity is_fresh → AreRooms l new_rooms → AreFlags l new_rooms new_flags → IsNode l.nodes start → IsNode l.nodes goal → start ≢ goal
+    → new_labels ≡ set (set labels start 0) goal 0 → new_current ≡ take (l.nodes + 1) l.first → new ≡ with_slots (between w start goal) [] → new_slots_capacity ≡ slots_capacity
+    → IsSearch l takes_back places new_rooms new_flags new_labels new_current new queue_capacity new_slots_capacity true
+IsSearch-anew l takes_back places rooms flags labels current w queue_capacity slots_capacity start goal new_rooms new_flags new_labels new_current new new_slots_capacity is sums told start_is goal_is apart labelled first same slots_same =
     let labels_now : List ℕ = set (set labels start 0) goal 0 in
     let long : length labels_now ≡ length labels = length-set (set labels start 0) goal 0 ∙ length-set labels start 0 in
     let goal_label : get_or labels_now goal 0 ≡ 0 = get_or-set_same (set labels start 0) goal 0 0 (omega (arith, is.one_label_each, goal_is.to_last, length-set labels start 0)) in
     let start_label : get_or labels_now start 0 ≡ 0 = get_or-set_other (set labels start 0) goal start 0 0 apart ∙ get_or-set_same labels start 0 0 (omega (arith, is.one_label_each, start_is.to_last)) in
-    let at = free-search l takes_back places new_rooms new_flags labels_now new_current (between w start goal) queue_room new_slots_room is.links is.places_are sums told is.holding.small (long ∙ is.one_label_each) start_label goal_label first start_is goal_is apart is.queue_room_is (omega (arith, is.slots_room_is, slots_same)) in
-    subst (λ (u : Way). IsSearch l takes_back places new_rooms new_flags new_labels new_current u queue_room new_slots_room true) (sym same)
-    (subst (λ ls. IsSearch l takes_back places new_rooms new_flags ls new_current (with_slots (between w start goal) []) queue_room new_slots_room true) (sym labelled) at)
+    let at = free-search l takes_back places new_rooms new_flags labels_now new_current (between w start goal) queue_capacity new_slots_capacity is.links is.places_are sums told is.holding.small (long ∙ is.one_label_each) start_label goal_label first start_is goal_is apart is.queue_capacity_is (omega (arith, is.slots_capacity_is, slots_same)) in
+    subst (λ (u : Way). IsSearch l takes_back places new_rooms new_flags new_labels new_current u queue_capacity new_slots_capacity true) (sym same)
+    (subst (λ ls. IsSearch l takes_back places new_rooms new_flags ls new_current (with_slots (between w start goal) []) queue_capacity new_slots_capacity true) (sym labelled) at)
 
 -- what a search that is marked as fresh says
 fresh-mark : (l : Links) (labels current : List ℕ) (start : ℕ) → IsMarked l labels current start true → IsFresh l labels current start
@@ -178,8 +178,8 @@ fresh-mark l labels current start (begun e) = absurd (cc)
 fresh-mark l labels current start (fresh is) = is
 
 -- a fresh search keeps no slots
-fresh-way : (l : Links) (takes_back : Bool) (places rooms flags labels current : List ℕ) (w : Way) (queue_room slots_room : ℕ) → IsSearch l takes_back places rooms flags labels current w queue_room slots_room true → w ≡ with_slots w []
-fresh-way l takes_back places rooms flags labels current w queue_room slots_room is =
+fresh-way : (l : Links) (takes_back : Bool) (places rooms flags labels current : List ℕ) (w : Way) (queue_capacity slots_capacity : ℕ) → IsSearch l takes_back places rooms flags labels current w queue_capacity slots_capacity true → w ≡ with_slots w []
+fresh-way l takes_back places rooms flags labels current w queue_capacity slots_capacity is =
     let way = is.under_way in
     let none : length w.slots ≡ 0 = way.one_slot_each ∙ (fresh-mark l labels current w.start is.marked).label in
     let slots : w.slots ≡ [] = nil_from_length w.slots none in
@@ -190,17 +190,17 @@ fresh-way l takes_back places rooms flags labels current w queue_room slots_room
     λ i. record { slots = slots i; walked = walked i; rest = behind i; joint = joint i; sent = w.sent; start = w.start; goal = w.goal }
 
 -- In a fresh search any rooms may stand,
-pub IsSearch-set : (l : Links) (takes_back : Bool) (places rooms flags labels current : List ℕ) (w : Way) (queue_room slots_room : ℕ) (new_rooms new_flags : List ℕ) → IsSearch l takes_back places rooms flags labels current w queue_room slots_room true
-    → AreRooms l new_rooms → AreFlags l new_rooms new_flags → IsSearch l takes_back places new_rooms new_flags labels current w queue_room slots_room true
-IsSearch-set l takes_back places rooms flags labels current w queue_room slots_room new_rooms new_flags is sums told =
+pub IsSearch-set : (l : Links) (takes_back : Bool) (places rooms flags labels current : List ℕ) (w : Way) (queue_capacity slots_capacity : ℕ) (new_rooms new_flags : List ℕ) → IsSearch l takes_back places rooms flags labels current w queue_capacity slots_capacity true
+    → AreRooms l new_rooms → AreFlags l new_rooms new_flags → IsSearch l takes_back places new_rooms new_flags labels current w queue_capacity slots_capacity true
+IsSearch-set l takes_back places rooms flags labels current w queue_capacity slots_capacity new_rooms new_flags is sums told =
     let is_fresh = fresh-mark l labels current w.start is.marked in
-    let at = free-search l takes_back places new_rooms new_flags labels current w queue_room slots_room is.links is.places_are sums told is.holding.small is.one_label_each is_fresh.label is.under_way.goal_label is_fresh.first is.start_is is.goal_is is.apart is.queue_room_is is.slots_room_is in
-    subst (λ (u : Way). IsSearch l takes_back places new_rooms new_flags labels current u queue_room slots_room true) (sym (fresh-way l takes_back places rooms flags labels current w queue_room slots_room is)) at
+    let at = free-search l takes_back places new_rooms new_flags labels current w queue_capacity slots_capacity is.links is.places_are sums told is.holding.small is.one_label_each is_fresh.label is.under_way.goal_label is_fresh.first is.start_is is.goal_is is.apart is.queue_capacity_is is.slots_capacity_is in
+    subst (λ (u : Way). IsSearch l takes_back places new_rooms new_flags labels current u queue_capacity slots_capacity true) (sym (fresh-way l takes_back places rooms flags labels current w queue_capacity slots_capacity is)) at
 
 -- and nothing is held.
-pub rooms_with-fresh : (l : Links) (takes_back : Bool) (places rooms flags labels current : List ℕ) (w : Way) (queue_room slots_room : ℕ) (others : List ℕ) → IsSearch l takes_back places rooms flags labels current w queue_room slots_room true → rooms_with l takes_back w others ≡ others
-rooms_with-fresh l takes_back places rooms flags labels current w queue_room slots_room others is =
-    ap (λ (u : Way). rooms_with l takes_back u others) (fresh-way l takes_back places rooms flags labels current w queue_room slots_room is) ∙ rooms_with-free l takes_back w [] others
+pub rooms_with-fresh : (l : Links) (takes_back : Bool) (places rooms flags labels current : List ℕ) (w : Way) (queue_capacity slots_capacity : ℕ) (others : List ℕ) → IsSearch l takes_back places rooms flags labels current w queue_capacity slots_capacity true → rooms_with l takes_back w others ≡ others
+rooms_with-fresh l takes_back places rooms flags labels current w queue_capacity slots_capacity others is =
+    ap (λ (u : Way). rooms_with l takes_back u others) (fresh-way l takes_back places rooms flags labels current w queue_capacity slots_capacity is) ∙ rooms_with-free l takes_back w [] others
 
 -- The same search is told of the same rooms and ends.
 pub same-searched : (l : Links) (places rooms others : List ℕ) (start from goal to : ℕ) (takes_back : Bool) → rooms ≡ others → start ≡ from → goal ≡ to → searched l places rooms start goal takes_back ≡ searched l places others from to takes_back

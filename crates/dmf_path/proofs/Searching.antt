@@ -31,9 +31,9 @@ pub record CanAugment (l : Links) (takes_back : Bool) (places rooms labels curre
   pub augments : Augments limit (record { amount = amount; links = length w.slots }) (searched l places (rooms_with l takes_back w rooms) w.start w.goal takes_back)
       (searched l places (settled l takes_back ((w.sent + amount) % 2 ^ 64) w.slots rooms) w.start w.goal takes_back)
 
-pub can-augment : {is_fresh : Bool} (l : Links) (takes_back : Bool) (places rooms flags labels current : List ℕ) (w : Way) (queue_room slots_room limit amount : ℕ) → IsSearch l takes_back places rooms flags labels current w queue_room slots_room is_fresh
+pub can-augment : {is_fresh : Bool} (l : Links) (takes_back : Bool) (places rooms flags labels current : List ℕ) (w : Way) (queue_capacity slots_capacity limit amount : ℕ) → IsSearch l takes_back places rooms flags labels current w queue_capacity slots_capacity is_fresh
     → end_of l w.start (places_of (walked_slots w)) ≡ w.joint → amount ≡ least_left w.sent limit w.slots → CanAugment l takes_back places rooms labels current w limit amount
-can-augment l takes_back places rooms flags labels current w queue_room slots_room limit amount is joins least =
+can-augment l takes_back places rooms flags labels current w queue_capacity slots_capacity limit amount is joins least =
     let after : List ℕ = rooms_with l takes_back w rooms in
     let way = is.under_way in
     let whole = is-whole l labels after current w way joins in

@@ -40,7 +40,7 @@ pub data IsMarked (l : Links) (labels current : List ℕ) (start : ℕ) (is_fres
 
 -- The vectors of a search fit together: links, the places of the pairs, rooms and flags, with what is held, labels that are
 -- valid, how far it has come, and whether it has not begun.
-pub record IsSearch (l : Links) (takes_back : Bool) (places rooms flags labels current : List ℕ) (w : Way) (queue_room slots_room : ℕ) (is_fresh : Bool) : Type 0 where
+pub record IsSearch (l : Links) (takes_back : Bool) (places rooms flags labels current : List ℕ) (w : Way) (queue_capacity slots_capacity : ℕ) (is_fresh : Bool) : Type 0 where
   pub links : AreLinks l
   pub places_are : ArePlaces l places
   pub holding : IsHolding l w rooms flags
@@ -51,8 +51,8 @@ pub record IsSearch (l : Links) (takes_back : Bool) (places rooms flags labels c
   pub start_is : IsNode l.nodes w.start
   pub goal_is : IsNode l.nodes w.goal
   pub apart : w.start ≢ w.goal
-  pub queue_room_is : l.nodes + 1 ≤ queue_room
-  pub slots_room_is : l.nodes ≤ slots_room
+  pub queue_capacity_is : l.nodes + 1 ≤ queue_capacity
+  pub slots_capacity_is : l.nodes ≤ slots_capacity
   pub marked : IsMarked l labels current w.start is_fresh
 
 -- what callers see of it

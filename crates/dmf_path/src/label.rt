@@ -22,11 +22,11 @@ pub fn label_nodes(
     requires links { AreLinks (links_of table.now) }
     requires one_flag_each { length opens.now ≡ length table.now.heads.items }
     requires one_label_each { length labels.old ≡ table.now.nodes + 1 }
-    requires room { table.now.nodes + 1 ≤ vec_capacity queue.old }
+    requires queue_capacity { table.now.nodes + 1 ≤ vec_capacity queue.old }
     requires root { IsNode table.now.nodes root }
     requires stop { stop ≤ table.now.nodes }
     ensures labels { AreLabels (links_of table.now) opens.now root stop labels.new }
-    ensures room { vec_capacity queue.new ≡ vec_capacity queue.old }
+    ensures queue_capacity { vec_capacity queue.new ≡ vec_capacity queue.old }
 {
     clear(labels);
     labels[root as usize] = 0;
@@ -67,10 +67,10 @@ fn spread(
     requires one_flag_each { length opens.now ≡ length heads.now }
     requires heads { (p : ℕ) → p < end → slice_index heads.now p < length labels.old }
     requires label { label ≢ no_label }
-    requires room { length queue.old.items + unlabelled_count labels.old ≤ vec_capacity queue.old }
+    requires queue_capacity { length queue.old.items + unlabelled_count labels.old ≤ vec_capacity queue.old }
     ensures spreads { (fresh : List ℕ) × (queue.new.items ≡ queue.old.items ++ fresh)
         × Spreads heads.now opens.now from end label labels.old labels.new fresh }
-    ensures room { vec_capacity queue.new ≡ vec_capacity queue.old }
+    ensures queue_capacity { vec_capacity queue.new ≡ vec_capacity queue.old }
 {
     for place in from as usize..end as usize {
         let head = heads[place];

@@ -10,6 +10,7 @@ mod listed;
 mod pair;
 mod phase;
 mod push;
+mod reach;
 mod release;
 mod room;
 mod search;

@@ -34,8 +34,8 @@ pub fn find(
     requires start { IsNode table.now.nodes trail.old.start }
     requires goal { IsNode table.now.nodes trail.old.goal }
     requires apart { trail.old.start ≢ trail.old.goal }
-    requires queue_room { table.now.nodes + 1 ≤ vec_capacity queue.old }
-    requires slots_room { table.now.nodes ≤ vec_capacity trail.old.slots }
+    requires queue_capacity { table.now.nodes + 1 ≤ vec_capacity queue.old }
+    requires slots_capacity { table.now.nodes ≤ vec_capacity trail.old.slots }
     ensures start_label { slice_index labels.new trail.old.start ≤ table.now.nodes }
     ensures holding { IsHolding (links_of table.now) (way_of trail.new) rooms.new flags.new }
     ensures same { rooms_with (links_of table.now) takes_back (way_of trail.new) rooms.new
@@ -46,8 +46,8 @@ pub fn find(
         (rooms_with (links_of table.now) takes_back (way_of trail.old) rooms.old) current.new (way_of trail.new) }
     ensures start { trail.new.start ≡ trail.old.start }
     ensures goal { trail.new.goal ≡ trail.old.goal }
-    ensures queue_room { vec_capacity queue.new ≡ vec_capacity queue.old }
-    ensures slots_room { vec_capacity trail.new.slots ≡ vec_capacity trail.old.slots }
+    ensures queue_capacity { vec_capacity queue.new ≡ vec_capacity queue.old }
+    ensures slots_capacity { vec_capacity trail.new.slots ≡ vec_capacity trail.old.slots }
     ensures found { result ≡ true → end_of (links_of table.now) trail.new.start (places_of (walked_slots (way_of trail.new))) ≡ trail.new.joint }
     ensures none { result ≡ false → IsUnlabelled (links_of table.now)
         (rooms_with (links_of table.now) takes_back (way_of trail.old) rooms.old) trail.old.start trail.old.goal }
@@ -80,14 +80,14 @@ fn relabel(
     requires start { IsNode table.now.nodes trail.old.start }
     requires goal { IsNode table.now.nodes trail.old.goal }
     requires apart { trail.old.start ≢ trail.old.goal }
-    requires queue_room { table.now.nodes + 1 ≤ vec_capacity queue.old }
-    requires slots_room { table.now.nodes ≤ vec_capacity trail.old.slots }
+    requires queue_capacity { table.now.nodes + 1 ≤ vec_capacity queue.old }
+    requires slots_capacity { table.now.nodes ≤ vec_capacity trail.old.slots }
     ensures start_label { slice_index labels.new trail.old.start ≤ table.now.nodes }
     ensures valid { AreValid (links_of table.now) labels.new rooms.now (slice_index labels.new trail.old.start) }
     ensures way { way_of trail.new ≡ with_slots (way_of trail.old) trail.new.slots.items }
     ensures under_way { IsUnderWay (links_of table.now) labels.new rooms.now current.new (with_slots (way_of trail.old) trail.new.slots.items) }
-    ensures queue_room { vec_capacity queue.new ≡ vec_capacity queue.old }
-    ensures slots_room { vec_capacity trail.new.slots ≡ vec_capacity trail.old.slots }
+    ensures queue_capacity { vec_capacity queue.new ≡ vec_capacity queue.old }
+    ensures slots_capacity { vec_capacity trail.new.slots ≡ vec_capacity trail.old.slots }
     ensures labelled { result ≡ true → (ps : List ℕ) × IsWalk (links_of table.now) labels.new rooms.now trail.old.goal trail.old.start ps }
     ensures none { result ≡ false → IsUnlabelled (links_of table.now) rooms.now trail.old.start trail.old.goal }
 {
@@ -135,7 +135,7 @@ pub fn begin_anew(
     ensures current { current.new ≡ take (table.now.nodes + 1) table.now.first.items }
     ensures none { trail.new.slots.items ≡ [] }
     ensures way { way_of trail.new ≡ with_slots (way_of trail.old) [] }
-    ensures slots_room { vec_capacity trail.new.slots ≡ vec_capacity trail.old.slots }
+    ensures slots_capacity { vec_capacity trail.new.slots ≡ vec_capacity trail.old.slots }
 {
     settle(table, takes_back, rooms, flags, trail);
     labels[trail.start as usize] = 0;

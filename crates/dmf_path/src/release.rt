@@ -35,7 +35,7 @@ pub fn release(
     ensures room { slice_index (rooms_with (links_of table.now) takes_back (way_of trail.old) rooms.old) place ≡ slice_index rooms.new place }
     ensures start { trail.new.start ≡ trail.old.start }
     ensures goal { trail.new.goal ≡ trail.old.goal }
-    ensures reserved { vec_capacity trail.new.slots ≡ vec_capacity trail.old.slots }
+    ensures slots_capacity { vec_capacity trail.new.slots ≡ vec_capacity trail.old.slots }
 {
     if takes_back || falls(table, labels, place) {
         settle(table, takes_back, rooms, flags, trail);

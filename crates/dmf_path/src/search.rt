@@ -1,23 +1,20 @@
 //! The search for least paths, one after the other, from one node to another.
-ghost use Rattle.std.specs.Prelude.{◌≡◌, ◌≢◌, ℕ, List, ◌+◌, ◌-◌, ◌^◌, ◌≤◌, ◌<◌, ◌↔◌, false, IsTrue, length, drop, map, slice_index_or, vec_capacity, IfOk, MatchOption};
+ghost use Rattle.std.specs.Prelude.{◌≡◌, ◌≢◌, ℕ, ◌+◌, ◌-◌, ◌^◌, ◌≤◌, ◌<◌, ◌↔◌, false, IsTrue, length, slice_index_or, IfOk, MatchOption};
 ghost use Rattle.dmf_path.specs.Node.{IsNode};
 ghost use Rattle.dmf_path.specs.Path.{HasNoPath, IsReachable};
 ghost use Rattle.dmf_path.specs.Pair.{ArePairs, steps_of};
-ghost use Rattle.dmf_path.specs.Links.{AreLinks, links_of, open_flag};
-ghost use Rattle.dmf_path.specs.Labels.{is_label};
-ghost use Rattle.dmf_path.specs.Held.{way_of, rooms_with};
 ghost use Rattle.dmf_path.specs.Search.{Augments, HasAlong, along_at, against_at, aimed, lowered_along, with_rooms, with_pairs};
-ghost use Rattle.dmf_path.specs.Searching.{IsHolding, IsUnderWay};
 
-use crate::label::{NO_LABEL, label_nodes};
-use crate::links::{LinkTable, NO_PLACE, build, open_flag};
+use crate::label::label_nodes;
+use crate::links::{LinkTable, NO_PLACE, build};
 use crate::listed::{list_pairs, spread_places};
 use crate::pair::Pairs;
 use crate::phase::{begin_anew, find};
 use crate::push::{push_once, set_pair};
+use crate::reach::{labelled, settled_flags};
 use crate::release::release;
 use crate::room::settled_room;
-use crate::trail::{Trail, bottleneck, cut, put_on_rooms, settle};
+use crate::trail::{Trail, bottleneck, cut, settle};
 use std::alloc::{AllocError, Global};
 use std::marker::Model;
 
@@ -337,46 +334,4 @@ impl Search {
         );
         labelled(alloc, &labels)
     }
-}
-
-/// Whether each link has room, once what is held is put on: 1, or else 0.
-fn settled_flags(
-    alloc: Global,
-    table: &LinkTable,
-    takes_back: bool,
-    rooms: &[u64],
-    flags: &[u8],
-    trail: &Trail,
-) -> Result<Vec<u8>, AllocError>
-    requires links { AreLinks (links_of table.now) }
-    requires start { IsNode table.now.nodes trail.now.start }
-    requires holding { IsHolding (links_of table.now) (way_of trail.now) rooms.now flags.now }
-    requires under_way { (labels : List ℕ) × (after : List ℕ) × (current : List ℕ) × IsUnderWay (links_of table.now) labels after current (way_of trail.now) }
-    ensures { IfOk result (λ opens. opens.items ≡ map open_flag (rooms_with (links_of table.now) takes_back (way_of trail.now) rooms.now)) }
-{
-    if trail.is_empty() {
-        return open_flags(alloc, rooms);
-    }
-    let mut settled = Vec::from_slice(alloc, rooms)?;
-    let mut flags = Vec::from_slice(alloc, flags)?;
-    put_on_rooms(table, takes_back, &mut settled, &mut flags, trail);
-    open_flags(alloc, &settled)
-}
-
-/// Whether each link has room: 1, or else 0.
-fn open_flags(alloc: Global, rooms: &[u64]) -> Result<Vec<u8>, AllocError>
-    ensures { IfOk result (λ flags. flags.items ≡ map open_flag rooms.now) }
-{
-    rooms.iter().map(|room| open_flag(*room)).collect(alloc)
-}
-
-/// Which nodes have a label, that of node 1 first.
-fn labelled(alloc: Global, labels: &[u32]) -> Result<Vec<bool>, AllocError>
-    ensures { IfOk result (λ marks. marks.items ≡ map is_label (drop 1 labels.now)) }
-{
-    labels
-        .iter()
-        .skip(1)
-        .map(|label| *label != NO_LABEL)
-        .collect(alloc)
 }

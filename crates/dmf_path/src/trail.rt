@@ -113,7 +113,7 @@ pub fn make_way(
     ensures way { MakesWay (links_of table.now) takes_back (way_of trail.old) rooms.old (way_of trail.new) rooms.new }
     ensures sums { AreRooms (links_of table.now) rooms.new }
     ensures flags { AreFlags (links_of table.now) rooms.new flags.new }
-    ensures room { vec_capacity trail.new.slots ≡ vec_capacity trail.old.slots }
+    ensures slots_capacity { vec_capacity trail.new.slots ≡ vec_capacity trail.old.slots }
 {
     if trail.walked == trail.rest {
         let slot = trail.slots[trail.rest];
@@ -127,7 +127,7 @@ pub fn make_way(
 pub fn enter(place: u32, room: u64, trail: &mut Trail)
     requires free { trail.old.walked < length trail.old.slots.items }
     ensures way { way_of trail.new ≡ entered (way_of trail.old) place room }
-    ensures room { vec_capacity trail.new.slots ≡ vec_capacity trail.old.slots }
+    ensures slots_capacity { vec_capacity trail.new.slots ≡ vec_capacity trail.old.slots }
 {
     trail.slots[trail.walked] = Slot {
         place,
@@ -156,7 +156,7 @@ pub fn step_back(
         (slot_at trail.old.slots.items (trail.old.walked - 1)) rooms.old }
     ensures sums { AreRooms (links_of table.now) rooms.new }
     ensures flags { AreFlags (links_of table.now) rooms.new flags.new }
-    ensures room { vec_capacity trail.new.slots ≡ vec_capacity trail.old.slots }
+    ensures slots_capacity { vec_capacity trail.new.slots ≡ vec_capacity trail.old.slots }
 {
     trail.walked -= 1;
     let slot = trail.slots[trail.walked];
@@ -185,7 +185,7 @@ pub fn settle(
         (put_each (links_of table.now) takes_back trail.old.sent (walked_slots (way_of trail.old)) rooms.old) }
     ensures sums { AreRooms (links_of table.now) rooms.new }
     ensures flags { AreFlags (links_of table.now) rooms.new flags.new }
-    ensures room { vec_capacity trail.new.slots ≡ vec_capacity trail.old.slots }
+    ensures slots_capacity { vec_capacity trail.new.slots ≡ vec_capacity trail.old.slots }
 {
     put_on_rooms(table, takes_back, rooms, flags, trail);
     trail.walked = 0;
@@ -248,7 +248,7 @@ pub fn cut(
     ensures way { IsCut (links_of table.now) takes_back (way_of trail.old) rooms.old (way_of trail.new) rooms.new }
     ensures sums { AreRooms (links_of table.now) rooms.new }
     ensures flags { AreFlags (links_of table.now) rooms.new flags.new }
-    ensures room { vec_capacity trail.new.slots ≡ vec_capacity trail.old.slots }
+    ensures slots_capacity { vec_capacity trail.new.slots ≡ vec_capacity trail.old.slots }
 {
     let first = first_full(&trail.slots, trail.sent);
     let behind = behind_last_full(&trail.slots, trail.sent);
@@ -288,10 +288,10 @@ fn behind_last_full(slots: &[Slot], sent: u64) -> usize
 
 /// Makes the slots free, and as many as paths have links.
 pub fn free_slots(trail: &mut Trail, links: u32)
-    requires room { links ≤ vec_capacity trail.old.slots }
+    requires slots_capacity { links ≤ vec_capacity trail.old.slots }
     ensures count { length trail.new.slots.items ≡ links }
     ensures way { way_of trail.new ≡ with_slots (way_of trail.old) trail.new.slots.items }
-    ensures room { vec_capacity trail.new.slots ≡ vec_capacity trail.old.slots }
+    ensures slots_capacity { vec_capacity trail.new.slots ≡ vec_capacity trail.old.slots }
 {
     make_slots(&mut trail.slots, links);
     trail.walked = 0;
@@ -301,9 +301,9 @@ pub fn free_slots(trail: &mut Trail, links: u32)
 
 /// Makes so many slots.
 fn make_slots(slots: &mut Vec<Slot>, links: u32)
-    requires room { links ≤ vec_capacity slots.old }
+    requires slots_capacity { links ≤ vec_capacity slots.old }
     ensures count { length slots.new.items ≡ links }
-    ensures room { vec_capacity slots.new ≡ vec_capacity slots.old }
+    ensures slots_capacity { vec_capacity slots.new ≡ vec_capacity slots.old }
 {
     slots.clear();
     for _ in 0..links {

@@ -39,7 +39,7 @@ pub fn walk(
     ensures no_trail { result ≡ false → trail.new.walked ≡ 0 }
     ensures none { result ≡ false → (ps : List ℕ) → ¬ IsWalk (links_of table.now) labels.now
         (rooms_with (links_of table.now) takes_back (way_of trail.old) rooms.old) trail.old.goal trail.old.start ps }
-    ensures room { vec_capacity trail.new.slots ≡ vec_capacity trail.old.slots }
+    ensures slots_capacity { vec_capacity trail.new.slots ≡ vec_capacity trail.old.slots }
 {
     let mut node = end_node(table, trail);
     while node != trail.joint {

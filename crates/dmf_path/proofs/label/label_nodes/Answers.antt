@@ -13,7 +13,7 @@ loop-done-init c =
     let queue : c.push_reserved.new.self.items ≡ c.args.root ∷ [] = c.push_reserved.ensures.items ∙ ap (λ items. items ++ c.args.root ∷ []) c.clear-2.ensures.items in
     record {
       so_far = rw (labels, queue) (spread-first (links_of c.args.table.now) c.args.opens.now c.args.root c.requires.root);
-      room = c.push_reserved.ensures.capacity ∙ c.clear-2.ensures.capacity;
+      queue_capacity = c.push_reserved.ensures.capacity ∙ c.clear-2.ensures.capacity;
     }
 
 pub spread-requires-clause-links : goal.spread-requires-clause-links
@@ -30,7 +30,7 @@ pub loop-done-preserved : goal.loop-done-preserved
 loop-done-preserved c = record {
   so_far = spread-turn (links_of c.args.table.now) c.args.opens.now c.args.root c.loop-done.labels c.loop-done.queue.items c.loop-done.done c.spread.new.labels c.spread.new.queue.items c.deref.result.now c.index-node.result.now c.index-from.result.now c.index-end.result.now
       c.requires.links c.loop-done.invariant.so_far (omega arith) c.spread.auto.labels c.deref.ensures.value c.index-node.ensures c.index-from.ensures c.index-end.ensures c.spread.ensures.spreads;
-  room = c.spread.ensures.room ∙ c.loop-done.invariant.room;
+  queue_capacity = c.spread.ensures.queue_capacity ∙ c.loop-done.invariant.queue_capacity;
 }
 
 pub returns-else-labels-stop-clause-labels : goal.returns-else-labels-stop-clause-labels

@@ -6,7 +6,7 @@ use Rattle.dmf_path.proofs.label.label_nodes.Given as goal
 abbrev pub invariant-loop-done : goal.invariant-loop-done
 invariant-loop-done l = record {
   so_far : AreSpread (links_of l.table) l.opens l.root l.labels l.queue.items l.done;
-  room : vec_capacity l.queue ≡ vec_capacity l.fn.queue;
+  queue_capacity : vec_capacity l.queue ≡ vec_capacity l.fn.queue;
 }
 
 abbrev pub decreases-loop-done : goal.decreases-loop-done

@@ -17,7 +17,7 @@ loop-place-preserved c =
               (omega arith) w.if-opens-place-eq1.true w.if-labels-head.true
               (omega (arith, c.requires.heads c.loop-place.place c.loop-place-test.true)) c.requires.label),
         );
-        room = ap (λ v. vec_capacity v) w.queue-is ∙ w.push_reserved.ensures.capacity ∙ c.loop-place.invariant.room;
+        queue_capacity = ap (λ v. vec_capacity v) w.queue-is ∙ w.push_reserved.ensures.capacity ∙ c.loop-place.invariant.queue_capacity;
       }
       | else-opens-place-eq1 w ↦ record {
         spreads = (
@@ -30,6 +30,6 @@ loop-place-preserved c =
                 | else-opens-place-eq1-via-else-opens-place-eq1 w' ↦ w'.if-opens-place-eq1.false opened
               ])),
         );
-        room = ap (λ v. vec_capacity v) w.queue-is ∙ c.loop-place.invariant.room;
+        queue_capacity = ap (λ v. vec_capacity v) w.queue-is ∙ c.loop-place.invariant.queue_capacity;
       }
     ]

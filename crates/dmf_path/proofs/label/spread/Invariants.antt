@@ -6,5 +6,5 @@ abbrev pub invariant-loop-place : goal.invariant-loop-place
 invariant-loop-place l = record {
   spreads : (fresh : List ℕ) × (l.queue.items ≡ l.initial.queue.items ++ fresh)
       × Spreads l.heads l.opens l.from l.place l.label l.initial.labels l.labels fresh;
-  room : vec_capacity l.queue ≡ vec_capacity l.initial.queue;
+  queue_capacity : vec_capacity l.queue ≡ vec_capacity l.initial.queue;
 }

@@ -1,7 +1,7 @@
 -- All links have left, or the link is in no slot, and its room is as it is told.
-use Rattle.std.proofs.Common.{◌≡◌, get_or, ap, sym, ◌∙◌}
+use Rattle.std.proofs.Common.{get_or, ap, sym, ◌∙◌}
 use Rattle.std.proofs.lemmas.Bool.{eqb-false}
-use Rattle.dmf_path.specs.Links.{links_of, tail_of}
+use Rattle.dmf_path.specs.Links.{links_of}
 use Rattle.dmf_path.specs.Held.{Way, way_of, rooms_with}
 use Rattle.dmf_path.proofs.Settling.{can-settle, rooms_with-free}
 use Rattle.dmf_path.proofs.Released.{off-slots, room-alone}

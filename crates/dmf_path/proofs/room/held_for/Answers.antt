@@ -1,4 +1,4 @@
-use Rattle.std.proofs.Common.{◌-◌, ap, sym, ◌∙◌, unwrap_or}
+use Rattle.std.proofs.Common.{ap, sym, ◌∙◌, unwrap_or}
 use Rattle.std.proofs.lemmas.List.{take_rest}
 use Rattle.dmf_path.specs.Held.{way_of, walked_slots, rest_slots}
 use Rattle.dmf_path.proofs.Leaving.{HaveLeft-split}

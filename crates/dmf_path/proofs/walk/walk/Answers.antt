@@ -1,5 +1,5 @@
 -- Where the walk begins, a turn that goes on, one that steps back, and what the work is each time.
-use Rattle.std.proofs.Common.{◌≡◌, ◌+◌, ◌-◌, ◌<◌, ℕ, List, set, refl, ap, subst, ◌∙◌, arith, length}
+use Rattle.std.proofs.Common.{◌≡◌, ◌+◌, ◌<◌, ℕ, List, set, refl, ap, subst, ◌∙◌, arith, length}
 use Rattle.dmf_path.specs.Links.{links_of}
 use Rattle.dmf_path.specs.Held.{Way, way_of, rooms_with}
 use Rattle.dmf_path.specs.Walk.{IsWalk}
@@ -15,7 +15,7 @@ end_node-node-requires-clause-last c =
 
 pub loop-node-init : goal.loop-node-init
 loop-node-init c =
-    record { on = on-start _ _ _ _ (way_of c.args.trail.now) _ _ c.end_node-node.result c.requires.links c.requires.start c.requires.under_way c.requires.holding c.end_node-node.ensures.first c.end_node-node.ensures.last; start = refl; goal = refl; room = refl }
+    record { on = on-start _ _ _ _ (way_of c.args.trail.now) _ _ c.end_node-node.result c.requires.links c.requires.start c.requires.under_way c.requires.holding c.end_node-node.ensures.first c.end_node-node.ensures.last; start = refl; goal = refl; slots_capacity = refl }
 
 pub first_admissible-place-requires-clause-links : goal.first_admissible-place-requires-clause-links
 first_admissible-place-requires-clause-links c =
@@ -70,7 +70,7 @@ loop-node-preserved-then-place-end c =
       on = rw c.enter.ensures.way on;
       start = ap (λ (w : Way). w.start) c.enter.ensures.way ∙ start;
       goal = ap (λ (w : Way). w.goal) c.enter.ensures.way ∙ end;
-      room = c.enter.ensures.room ∙ c.make_way.ensures.room ∙ c.loop-node.invariant.room;
+      slots_capacity = c.enter.ensures.slots_capacity ∙ c.make_way.ensures.slots_capacity ∙ c.loop-node.invariant.slots_capacity;
     }
 
 pub returns-then-trail-eq0-clause-under_way : goal.returns-then-trail-eq0-clause-under_way
@@ -136,5 +136,5 @@ loop-node-preserved c =
       on = rw (c.step_back-back.ensures.way, c.step_back-back.ensures.rooms) on;
       start = ap (λ (w : Way). w.start) c.step_back-back.ensures.way ∙ c.loop-node.invariant.start;
       goal = ap (λ (w : Way). w.goal) c.step_back-back.ensures.way ∙ c.loop-node.invariant.goal;
-      room = c.step_back-back.ensures.room ∙ c.loop-node.invariant.room;
+      slots_capacity = c.step_back-back.ensures.slots_capacity ∙ c.loop-node.invariant.slots_capacity;
     }

@@ -10,7 +10,7 @@ invariant-loop-node l = record {
   on : IsOnWay (links_of l.table) l.takes_back l.labels (rooms_with (links_of l.table) l.takes_back (way_of l.fn.trail) l.fn.rooms) l.current (way_of l.trail) l.rooms l.flags l.node;
   start : l.trail.start ≡ l.fn.trail.start;
   goal : l.trail.goal ≡ l.fn.trail.goal;
-  room : vec_capacity l.trail.slots ≡ vec_capacity l.fn.trail.slots;
+  slots_capacity : vec_capacity l.trail.slots ≡ vec_capacity l.fn.trail.slots;
 }
 
 abbrev pub decreases-loop-node : goal.decreases-loop-node

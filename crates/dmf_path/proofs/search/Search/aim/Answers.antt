@@ -38,7 +38,7 @@ invariant_of-self c =
     let labelled = rw c.deref_mut-3.ensures.value at c.begin_anew.ensures.labels in
     rw (rooms, flags, labels, current)
     (IsSearch-anew l c.self.inside.takes_back c.self.inside.places.items c.self.inside.rooms.items c.self.inside.flags.items c.self.inside.labels.items c.self.inside.current.items w _ _ c.args.start c.args.goal c.begin_anew.new.rooms c.begin_anew.new.flags c.begin_anew.new.labels c.begin_anew.new.current (way_of c.begin_anew.new.trail) _ i
-    c.begin_anew.ensures.sums c.begin_anew.ensures.flags (rw (← c.self.view_is) at c.requires.start) (rw (← c.self.view_is) at c.requires.goal) c.requires.apart labelled c.begin_anew.ensures.current c.begin_anew.ensures.way c.begin_anew.ensures.slots_room)
+    c.begin_anew.ensures.sums c.begin_anew.ensures.flags (rw (← c.self.view_is) at c.requires.start) (rw (← c.self.view_is) at c.requires.goal) c.requires.apart labelled c.begin_anew.ensures.current c.begin_anew.ensures.way c.begin_anew.ensures.slots_capacity)
 
 pub returns : goal.returns
 returns c =

@@ -1,5 +1,5 @@
 -- A path is found, or none is left; what is sent along it, and the cut.
-use Rattle.std.proofs.Common.{◌≡◌, ◌+◌, ◌-◌, ◌%◌, ◌^◌, length, sym, ◌∙◌, arith, get_or}
+use Rattle.std.proofs.Common.{◌≡◌, ◌+◌, ◌%◌, ◌^◌, length, sym, ◌∙◌, arith, get_or}
 use Rattle.std.specs.Vec.{with_items}
 use Rattle.std.proofs.lemmas.List.{with_items_is}
 use Rattle.dmf_path.specs.Links.{links_of}
@@ -24,7 +24,7 @@ invariant_of-self c =
     let f = IsSearch-found _ _ _ c.self.inside.rooms.items c.self.inside.flags.items c.self.inside.labels.items c.self.inside.current.items (way_of c.self.inside.trail) _ _ c.find-found.new.rooms c.find-found.new.flags c.find-found.new.labels c.find-found.new.current w _ _ c.self.invariant
     (omega (arith, c.find-found.auto.labels, c.deref_mut.ensures.len, c.self.inside.labels.ok.0)) c.find-found.ensures.start_label c.find-found.ensures.holding
     (rw c.deref_mut-3.ensures.value at c.find-found.ensures.same) (rw c.deref_mut-3.ensures.value at c.find-found.ensures.valid) (rw c.deref_mut-3.ensures.value at c.find-found.ensures.under_way)
-    c.find-found.ensures.start c.find-found.ensures.goal c.find-found.ensures.queue_room c.find-found.ensures.slots_room in
+    c.find-found.ensures.start c.find-found.ensures.goal c.find-found.ensures.queue_capacity c.find-found.ensures.slots_capacity in
     let rooms = with_items_is c.self.inside.rooms c.find-found.new.rooms (c.find-found.auto.rooms ∙ c.deref_mut-3.ensures.len) in
     let flags = with_items_is c.self.inside.flags c.find-found.new.flags (c.find-found.auto.flags ∙ c.deref_mut-4.ensures.len) in
     let labels = with_items_is c.self.inside.labels c.find-found.new.labels (c.find-found.auto.labels ∙ c.deref_mut.ensures.len) in
@@ -50,7 +50,7 @@ cut-requires-clause-flags c =
     let f = IsSearch-found _ _ _ c.self.inside.rooms.items c.self.inside.flags.items c.self.inside.labels.items c.self.inside.current.items (way_of c.self.inside.trail) _ _ c.find-found.new.rooms c.find-found.new.flags c.find-found.new.labels c.find-found.new.current w _ _ c.self.invariant
     (omega (arith, c.find-found.auto.labels, c.deref_mut.ensures.len, c.self.inside.labels.ok.0)) c.find-found.ensures.start_label c.find-found.ensures.holding
     (rw c.deref_mut-3.ensures.value at c.find-found.ensures.same) (rw c.deref_mut-3.ensures.value at c.find-found.ensures.valid) (rw c.deref_mut-3.ensures.value at c.find-found.ensures.under_way)
-    c.find-found.ensures.start c.find-found.ensures.goal c.find-found.ensures.queue_room c.find-found.ensures.slots_room in
+    c.find-found.ensures.start c.find-found.ensures.goal c.find-found.ensures.queue_capacity c.find-found.ensures.slots_capacity in
     let rooms = with_items_is c.self.inside.rooms c.find-found.new.rooms (c.find-found.auto.rooms ∙ c.deref_mut-3.ensures.len) in
     let flags = with_items_is c.self.inside.flags c.find-found.new.flags (c.find-found.auto.flags ∙ c.deref_mut-4.ensures.len) in
     rw (c.deref_mut-5.ensures.value, c.deref_mut-6.ensures.value, rooms, flags) f.holding.flags_are
@@ -62,7 +62,7 @@ cut-requires-clause-can c =
     let f = IsSearch-found _ _ _ c.self.inside.rooms.items c.self.inside.flags.items c.self.inside.labels.items c.self.inside.current.items (way_of c.self.inside.trail) _ _ c.find-found.new.rooms c.find-found.new.flags c.find-found.new.labels c.find-found.new.current w _ _ c.self.invariant
     (omega (arith, c.find-found.auto.labels, c.deref_mut.ensures.len, c.self.inside.labels.ok.0)) c.find-found.ensures.start_label c.find-found.ensures.holding
     (rw c.deref_mut-3.ensures.value at c.find-found.ensures.same) (rw c.deref_mut-3.ensures.value at c.find-found.ensures.valid) (rw c.deref_mut-3.ensures.value at c.find-found.ensures.under_way)
-    c.find-found.ensures.start c.find-found.ensures.goal c.find-found.ensures.queue_room c.find-found.ensures.slots_room in
+    c.find-found.ensures.start c.find-found.ensures.goal c.find-found.ensures.queue_capacity c.find-found.ensures.slots_capacity in
     let rooms = with_items_is c.self.inside.rooms c.find-found.new.rooms (c.find-found.auto.rooms ∙ c.deref_mut-3.ensures.len) in
     let flags = with_items_is c.self.inside.flags c.find-found.new.flags (c.find-found.auto.flags ∙ c.deref_mut-4.ensures.len) in
     let least : c.bottleneck-amount.result ≡ least_left w.sent c.args.limit w.slots = rw c.deref.ensures.value at c.bottleneck-amount.ensures in
@@ -79,7 +79,7 @@ cut-requires-clause-places c =
     let f = IsSearch-found _ _ _ c.self.inside.rooms.items c.self.inside.flags.items c.self.inside.labels.items c.self.inside.current.items (way_of c.self.inside.trail) _ _ c.find-found.new.rooms c.find-found.new.flags c.find-found.new.labels c.find-found.new.current w _ _ c.self.invariant
     (omega (arith, c.find-found.auto.labels, c.deref_mut.ensures.len, c.self.inside.labels.ok.0)) c.find-found.ensures.start_label c.find-found.ensures.holding
     (rw c.deref_mut-3.ensures.value at c.find-found.ensures.same) (rw c.deref_mut-3.ensures.value at c.find-found.ensures.valid) (rw c.deref_mut-3.ensures.value at c.find-found.ensures.under_way)
-    c.find-found.ensures.start c.find-found.ensures.goal c.find-found.ensures.queue_room c.find-found.ensures.slots_room in
+    c.find-found.ensures.start c.find-found.ensures.goal c.find-found.ensures.queue_capacity c.find-found.ensures.slots_capacity in
     let least : c.bottleneck-amount.result ≡ least_left w.sent c.args.limit w.slots = rw c.deref.ensures.value at c.bottleneck-amount.ensures in
     let can = can-augment l c.self.inside.takes_back c.self.inside.places.items c.find-found.new.rooms c.find-found.new.flags c.find-found.new.labels c.find-found.new.current w _ _ c.args.limit c.bottleneck-amount.result f (c.find-found.ensures.found c.if-not-found.false) least in
     λ i inside. slot-within l c.find-found.new.labels _ _ w.slots i can.descends inside
@@ -91,7 +91,7 @@ invariant_of-self-2 c =
     let f = IsSearch-found _ _ _ c.self.inside.rooms.items c.self.inside.flags.items c.self.inside.labels.items c.self.inside.current.items (way_of c.self.inside.trail) _ _ c.find-found.new.rooms c.find-found.new.flags c.find-found.new.labels c.find-found.new.current w _ _ c.self.invariant
     (omega (arith, c.find-found.auto.labels, c.deref_mut.ensures.len, c.self.inside.labels.ok.0)) c.find-found.ensures.start_label c.find-found.ensures.holding
     (rw c.deref_mut-3.ensures.value at c.find-found.ensures.same) (rw c.deref_mut-3.ensures.value at c.find-found.ensures.valid) (rw c.deref_mut-3.ensures.value at c.find-found.ensures.under_way)
-    c.find-found.ensures.start c.find-found.ensures.goal c.find-found.ensures.queue_room c.find-found.ensures.slots_room in
+    c.find-found.ensures.start c.find-found.ensures.goal c.find-found.ensures.queue_capacity c.find-found.ensures.slots_capacity in
     let rooms = with_items_is c.self.inside.rooms c.find-found.new.rooms (c.find-found.auto.rooms ∙ c.deref_mut-3.ensures.len) in
     let flags = with_items_is c.self.inside.flags c.find-found.new.flags (c.find-found.auto.flags ∙ c.deref_mut-4.ensures.len) in
     let labels = with_items_is c.self.inside.labels c.find-found.new.labels (c.find-found.auto.labels ∙ c.deref_mut.ensures.len) in
@@ -107,7 +107,7 @@ invariant_of-self-2 c =
     let rooms_cut = with_items_is (with_items c.self.inside.rooms c.find-found.new.rooms) c.cut.new.rooms (c.cut.auto.rooms ∙ c.deref_mut-5.ensures.len) in
     let flags_cut = with_items_is (with_items c.self.inside.flags c.find-found.new.flags) c.cut.new.flags (c.cut.auto.flags ∙ c.deref_mut-6.ensures.len) in
     rw (rooms_cut, flags_cut, labels, current)
-    (IsSearch-cut l c.self.inside.takes_back c.self.inside.places.items c.find-found.new.rooms c.find-found.new.flags c.find-found.new.labels c.find-found.new.current w _ _ c.args.limit c.bottleneck-amount.result c.cut.new.rooms c.cut.new.flags (way_of c.cut.new.trail) _ f can cut start end c.cut.ensures.room)
+    (IsSearch-cut l c.self.inside.takes_back c.self.inside.places.items c.find-found.new.rooms c.find-found.new.flags c.find-found.new.labels c.find-found.new.current w _ _ c.args.limit c.bottleneck-amount.result c.cut.new.rooms c.cut.new.flags (way_of c.cut.new.trail) _ f can cut start end c.cut.ensures.slots_capacity)
 
 pub returns : goal.returns
 returns c =
@@ -116,7 +116,7 @@ returns c =
     let f = IsSearch-found _ _ _ c.self.inside.rooms.items c.self.inside.flags.items c.self.inside.labels.items c.self.inside.current.items (way_of c.self.inside.trail) _ _ c.find-found.new.rooms c.find-found.new.flags c.find-found.new.labels c.find-found.new.current w _ _ c.self.invariant
     (omega (arith, c.find-found.auto.labels, c.deref_mut.ensures.len, c.self.inside.labels.ok.0)) c.find-found.ensures.start_label c.find-found.ensures.holding
     (rw c.deref_mut-3.ensures.value at c.find-found.ensures.same) (rw c.deref_mut-3.ensures.value at c.find-found.ensures.valid) (rw c.deref_mut-3.ensures.value at c.find-found.ensures.under_way)
-    c.find-found.ensures.start c.find-found.ensures.goal c.find-found.ensures.queue_room c.find-found.ensures.slots_room in
+    c.find-found.ensures.start c.find-found.ensures.goal c.find-found.ensures.queue_capacity c.find-found.ensures.slots_capacity in
     let rooms = with_items_is c.self.inside.rooms c.find-found.new.rooms (c.find-found.auto.rooms ∙ c.deref_mut-3.ensures.len) in
     let flags = with_items_is c.self.inside.flags c.find-found.new.flags (c.find-found.auto.flags ∙ c.deref_mut-4.ensures.len) in
     let least : c.bottleneck-amount.result ≡ least_left w.sent c.args.limit w.slots = rw c.deref.ensures.value at c.bottleneck-amount.ensures in

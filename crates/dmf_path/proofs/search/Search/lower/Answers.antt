@@ -60,7 +60,7 @@ invariant_of-self c =
     let lowered = is-lowered l c.self.inside.takes_back c.self.inside.places.items c.self.inside.rooms.items c.self.inside.flags.items c.self.inside.labels.items c.self.inside.current.items w (vec_capacity c.self.inside.queue) (vec_capacity c.self.inside.trail.slots) c.args.k c.index-place.result.now c.args.amount
     (way_of c.release.new.trail) c.release.new.rooms c.release.new.flags c.push_once.new.rooms c.push_once.new.flags (vec_capacity c.release.new.trail.slots) i along place
     c.release.ensures.holding (rw c.deref_mut.ensures.value at c.release.ensures.same) ((rw c.deref.ensures.value at c.release.ensures.under_way) _ _ i.under_way)
-    c.release.ensures.off (rw c.deref_mut.ensures.value at c.release.ensures.room) c.release.ensures.start c.release.ensures.goal c.release.ensures.reserved
+    c.release.ensures.off (rw c.deref_mut.ensures.value at c.release.ensures.room) c.release.ensures.start c.release.ensures.goal c.release.ensures.slots_capacity
     (rw read at c.push_once.ensures.rooms) c.push_once.ensures.sums c.push_once.ensures.flags in
     let rooms_after = with_items_is (with_items c.self.inside.rooms c.release.new.rooms) c.push_once.new.rooms (c.push_once.auto.rooms ∙ c.deref_mut-3.ensures.len) in
     let flags_after = with_items_is (with_items c.self.inside.flags c.release.new.flags) c.push_once.new.flags (c.push_once.auto.flags ∙ c.deref_mut-4.ensures.len) in
@@ -79,7 +79,7 @@ returns c =
     let lowered = is-lowered l c.self.inside.takes_back c.self.inside.places.items c.self.inside.rooms.items c.self.inside.flags.items c.self.inside.labels.items c.self.inside.current.items w (vec_capacity c.self.inside.queue) (vec_capacity c.self.inside.trail.slots) c.args.k c.index-place.result.now c.args.amount
     (way_of c.release.new.trail) c.release.new.rooms c.release.new.flags c.push_once.new.rooms c.push_once.new.flags (vec_capacity c.release.new.trail.slots) i along place
     c.release.ensures.holding (rw c.deref_mut.ensures.value at c.release.ensures.same) ((rw c.deref.ensures.value at c.release.ensures.under_way) _ _ i.under_way)
-    c.release.ensures.off (rw c.deref_mut.ensures.value at c.release.ensures.room) c.release.ensures.start c.release.ensures.goal c.release.ensures.reserved
+    c.release.ensures.off (rw c.deref_mut.ensures.value at c.release.ensures.room) c.release.ensures.start c.release.ensures.goal c.release.ensures.slots_capacity
     (rw read at c.push_once.ensures.rooms) c.push_once.ensures.sums c.push_once.ensures.flags in
     let rooms_after = with_items_is (with_items c.self.inside.rooms c.release.new.rooms) c.push_once.new.rooms (c.push_once.auto.rooms ∙ c.deref_mut-3.ensures.len) in
     rw (← c.self.view_is, rooms_after) lowered.1

@@ -44,8 +44,8 @@ invariant_of-search g c =
       start_is = is.start_is;
       goal_is = is.goal_is;
       apart = is.apart;
-      queue_room_is = is.queue_room_is;
-      slots_room_is = is.slots_room_is;
+      queue_capacity_is = is.queue_capacity_is;
+      slots_capacity_is = is.slots_capacity_is;
       marked = is.marked;
     }
 

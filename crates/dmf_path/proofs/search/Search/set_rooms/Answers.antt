@@ -1,5 +1,5 @@
 -- The search begins anew, where it had begun, and then the rooms of one pair's links are set.
-use Rattle.std.proofs.Common.{ℕ, ◌≡◌, ◌≢◌, ◌<◌, Bool, true, List, [], length, get_or, refl, ap, sym, ◌∙◌, subst, arith}
+use Rattle.std.proofs.Common.{ℕ, ◌≡◌, ◌<◌, true, length, get_or, refl, ap, sym, ◌∙◌, subst, arith}
 use Rattle.std.specs.Vec.{vec_capacity}
 use Rattle.std.proofs.lemmas.List.{with_items_is, get_or_default, length-map}
 use Rattle.dmf_path.specs.declared.search.Search.TheInside.{Inside}
@@ -54,7 +54,7 @@ anew c =
           rw v.self-inside-is (record {
             is = rw (rooms, flags, labels, current)
                 (IsSearch-anew l c.self.inside.takes_back c.self.inside.places.items c.self.inside.rooms.items c.self.inside.flags.items c.self.inside.labels.items c.self.inside.current.items w _ _ w.start w.goal v.begin_anew.new.rooms v.begin_anew.new.flags v.begin_anew.new.labels v.begin_anew.new.current (way_of v.begin_anew.new.trail) _ i
-                v.begin_anew.ensures.sums v.begin_anew.ensures.flags i.start_is i.goal_is i.apart labelled v.begin_anew.ensures.current way v.begin_anew.ensures.slots_room);
+                v.begin_anew.ensures.sums v.begin_anew.ensures.flags i.start_is i.goal_is i.apart labelled v.begin_anew.ensures.current way v.begin_anew.ensures.slots_capacity);
             marked = refl;
             same = rw (← c.self.view_is, rooms)
                 (same-searched l c.self.inside.places.items _ _ _ _ _ _ c.self.inside.takes_back now (ap (λ (u : Way). u.start) way) (ap (λ (u : Way). u.goal) way));

@@ -4,7 +4,7 @@ use Rattle.dmf_path.specs.Links.{links_of}
 use Rattle.dmf_path.specs.Held.{way_of, rooms_with}
 use Rattle.dmf_path.proofs.Settling.{can-settle}
 use Rattle.dmf_path.proofs.SettledRoom.{rooms_with-empty}
-use Rattle.dmf_path.proofs.search.settled_flags.Goals as goal
+use Rattle.dmf_path.proofs.reach.settled_flags.Goals as goal
 
 pub returns-then-is_empty : goal.returns-then-is_empty
 returns-then-is_empty c =
