@@ -13,7 +13,8 @@ from typing import NamedTuple
 import built
 from built import PROBLEM, Case
 from oracle.program import Outcome, ended_lines, told
-from worked import CHECKS, SESSIONS, SOLVES, WORKED
+from worked import CHECKS, SOLVES, WORKED
+from worked_sessions import SESSIONS
 
 INPUT, OUTPUT = 0, 1
 WORDS = [

@@ -14,7 +14,9 @@ import built
 from built import PROBLEM, Case
 from oracle.program import OUT_OF_MEMORY
 from oracle.session import Refusals
-from worked import CROSSED, WORKED, text
+from worked import WORKED
+from worked_forms import CROSSED, text
+from worked_sessions import SESSIONS
 
 REFUSED = "memory", -1, -1
 # Lines that search the network wherever the cases carry them out, and so want memory there. So does a session's first solve; a
@@ -24,6 +26,8 @@ ADDING = "add 1 4 7 / add 2 4 1 / undo 2 / redo 2 / undo / add 1 3 9 / redo / pr
 SHUTTING = "solve / shut 3 / undo / shut 2 / solve / undo 2 / redo 2 / shut 1 / print flow"
 KEEPING = "solve / cap 5 1 / solve / cap 5 3 / close 1 / solve / print cut / add 1 4 2 / solve / shut 3 / solve / print cut / undo / solve"
 CUTTING = "solve / print cut / undo / print cut / solve / print cut"
+# Draining, undoing, closing and solving in turn.
+LONG = SESSIONS[-1].case.input
 MORE = [
     Case("arcs are added, taken back and added again", (b"session", PROBLEM), text(CROSSED), text(ADDING)),
     Case("nodes are shut", (b"session", PROBLEM), text(CROSSED), text(SHUTTING)),
@@ -32,6 +36,8 @@ MORE = [
     Case("cuts are printed", (b"session", b"--cut", PROBLEM), text(CROSSED), text(CUTTING)),
     Case("no state is kept", (b"session", b"--history", b"0", PROBLEM), text(CROSSED), text(ADDING)),
     Case("one state is kept", (b"session", b"--history", b"1", PROBLEM), text(CROSSED), text(ADDING)),
+    Case("no state is kept, and cuts are told", (b"session", b"--cut", b"--history", b"0", PROBLEM), text(CROSSED), LONG),
+    Case("one state is kept, and cuts are told", (b"session", b"--cut", b"--history", b"1", PROBLEM), text(CROSSED), LONG),
     Case("the help", (b"--help",), b"", b""),
     Case("the help of a command", (b"help", b"session"), b"", b""),
     Case("the version", (b"--version",), b"", b""),
