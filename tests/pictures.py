@@ -14,7 +14,15 @@ import tempfile
 from built import tell
 
 # What writes the problem of each picture. What is drawn is its solution with the cut.
-PICTURES = {"town": "cat examples/town.max", "water": "tools/dmf-problem Reservoir Harbour <examples/water/pipes.csv"}
+PICTURES = {
+    "town": "cat examples/town.max",
+    "water": "tools/dmf-problem Reservoir Harbour <examples/water/pipes.csv",
+    "rota": "python3 examples/rota/arcs.py <examples/rota/rota.csv | tools/dmf-problem Staff Rota",
+    "supply": (
+        "awk -f examples/supply/arcs.awk examples/supply/sites.csv examples/supply/routes.csv"
+        " | grep -v 'East Depot' | tools/dmf-problem Stock Orders"
+    ),
+}
 HEAD = 'digraph dmf {\n  rankdir=LR\n  node [fontname="Helvetica"]\n  edge [fontname="Helvetica", fontsize=11]\n'
 SIDE = 'style="filled", fillcolor="#d3e4f5"'
 CUT = 'color="#c62828", fontcolor="#c62828"'

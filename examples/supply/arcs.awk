@@ -3,7 +3,7 @@
 #     awk -f arcs.awk sites.csv routes.csv | dmf-problem Stock Orders >supply.max
 
 BEGIN { FS = OFS = ","; print "from", "to", "pallets", "arc" }
-FNR == 1 { next }
-FILENAME == "routes.csv" { print $1, $2, $3, ""; next }
+FNR == 1 { table++; next }
+table == 2 { print $1, $2, $3, ""; next }
 $2 == "depot" { print "Stock", $1, $3, "stock" }
 $2 == "shop" { print $1, "Orders", $3, "order" }
