@@ -1,6 +1,6 @@
 -- Histories of edits: the timeline that they stand for, and steps on it.
-use Rattle.std.proofs.Common.{ℕ, ◌≡◌, ◌+◌, ◌-◌, ◌<◌, ◌≤◌, List, [], ◌∷◌, ◌++◌, length, take, drop, get_or, suc, zero, Some, refl, ap, ◌∙◌, sym, subst, arith, ⊎_elim}
-use Rattle.std.specs.List.{slice_get}
+use Rattle.std.proofs.Common.{ℕ, ◌↔◌, Bor, Option, None, MatchOption, IfSome, ◌≡◌, ◌+◌, ◌-◌, ◌<◌, ◌≤◌, List, [], ◌∷◌, ◌++◌, length, take, drop, get_or, suc, zero, Some, refl, ap, ◌∙◌, sym, subst, arith, ⊎_elim}
+use Rattle.std.specs.List.{slice_get, HoldsAt}
 use Rattle.std.proofs.lemmas.List.{length_push, length-drop, length-take-le, take-append-le, take_all, take-take, get_or_append_left, get_or_push, get_or-take, take_more}
 use Rattle.std.proofs.lemmas.Bool.{cases_lt}
 use Rattle.std.proofs.lemmas.Option.{get_or_from_slice_get, slice_get-get_or, slice_get_within, slice_get_cases}
@@ -10,7 +10,7 @@ use Rattle.dmf_net.specs.Arc.{open_arc}
 use Rattle.dmf_net.specs.NetworkState.{NetworkState, IsState}
 use Rattle.dmf_net.specs.Edit.{applied, Fits, AddsArc}
 use Rattle.dmf_net.specs.Revert.{reverted, Stands}
-use Rattle.dmf_session.specs.Timeline.{IsTimeline, IsPresent, future_of, extended, forgotten, back, forward, FitsPresent, Appends, AddsArcs}
+use Rattle.dmf_session.specs.Timeline.{IsTimeline, IsPresent, future_of, extended, forgotten, back, forward, FitsPresent, Appends, AddsArcs, LeadsBack, LeadsOn}
 use Rattle.dmf_session.proofs.Appending.{one-present, within_bound-past, appends-all}
 use Rattle.dmf_session.specs.Delta.{before, after, states_from, timeline_of, AreEdits, AreWithinBound}
 use Rattle.dmf_net.specs.Laws.{GivesBack}
@@ -78,6 +78,16 @@ put-fit edits k new s h fit fits j edit is =
     let here : new ≡ edit = sym (get_or_push (take k edits) new edit j (omega (arith, long, e))) ∙ read in
     rw same (subst (λ n. Fits edit (after (take n edits) s)) (sym e) (subst (λ f. Fits f (after (take k edits) s)) here fits)) in
     ⊎_elim earlier (λ ge. last (omega (arith, ge, up_to))) (cases_lt j k)
+
+-- What a queue of edits tells at a place is the edit that stands there.
+pub found : (edits : List Edit) (k : ℕ) (told : Option (Bor Edit)) → MatchOption told (length edits ≤ k) (λ x. (k < length edits) × HoldsAt (λ edit. x.now ≡ edit) edits k) → IfSome told (λ x. slice_get edits k ≡ Some x.now)
+found edits k None m = tt
+found edits k (Some x) m = slice_get-get_or edits k x.now m.0 ∙ ap (λ e. Some e) (sym (m.1 x.now))
+
+-- It tells none just past the last one.
+pub none-past : (edits : List Edit) (k : ℕ) (told : Option (Bor Edit)) → MatchOption told (length edits ≤ k) (λ x. (k < length edits) × HoldsAt (λ edit. x.now ≡ edit) edits k) → (told ≡ None) ↔ (length edits ≤ k)
+none-past edits k None m = (λ e. m, λ past. refl)
+none-past edits k (Some x) m = (λ e. absurd (cc), λ past. absurd (omega (arith, m.0, past)))
 
 -- An addition makes a state with more arcs.
 more-arcs : (edit : Edit) (s : NetworkState) → AddsArc edit → length s.network.arcs < length (applied edit s).network.arcs
@@ -178,6 +188,10 @@ module _ (present : NetworkState) (edits : List Edit) (place bound : ℕ) (are :
     same-first : before (take place edits) present ≡ before (take k edits) (reverted edit present)
     same-first = ap (λ n. before (take n edits) present) last ∙ before-next edits present k edit is
 
+    -- what it was made of
+    unmade : GivesBack → after (take k edits) are.first ≡ reverted edit present
+    unmade law = sym (law edit (after (take k edits) are.first) (are.fit k edit is)) ∙ ap (reverted edit) made
+
     pub undone : GivesBack → AreEdits (reverted edit present) edits k
     undone law = record {
       within = omega (arith, last, are.within);
@@ -185,13 +199,26 @@ module _ (present : NetworkState) (edits : List Edit) (place bound : ℕ) (are :
       state = are.state;
       first_is = sym same-first ∙ are.first_is;
       fit = are.fit;
-      present_is = sym (law edit (after (take k edits) are.first) (are.fit k edit is)) ∙ ap (reverted edit) made;
+      present_is = unmade law;
     }
 
     pub undone-back : timeline_of (reverted edit present) edits k bound ≡ back (timeline_of present edits place bound) 1
     undone-back =
         let fewer : k ≡ place - 1 = omega (arith, last) in
         λ i. record { states = states_from (sym same-first i) edits; place = fewer i; bound = bound }
+
+    pub leads-back : GivesBack → LeadsBack edit (timeline_of present edits place bound)
+    leads-back law = record {
+      state = present;
+      present = is-present;
+      steps = omega (arith, last);
+      stands = stands;
+      before =
+          let fewer : k ≡ place - 1 = omega (arith, last) in
+          subst (λ t. slice_get t.states (place - 1) ≡ Some (reverted edit present)) (sym from-first)
+          (subst (λ n. slice_get (states_from are.first edits) n ≡ Some (reverted edit present)) fewer
+          (states_from-at edits are.first k (omega (arith, last, are.within)) ∙ ap (λ s. Some s) (unmade law)));
+    }
 
   -- ---- one step forward
 
@@ -216,16 +243,22 @@ module _ (present : NetworkState) (edits : List Edit) (place bound : ℕ) (are :
     pub redone-forward : GivesBack → timeline_of (applied edit present) edits (place + 1) bound ≡ forward (timeline_of present edits place bound) 1
     redone-forward law = λ i. record { states = states_from (same-first-forward law i) edits; place = place + 1; bound = bound }
 
+    next-is : IsPresent (forward (timeline_of present edits place bound) 1) (applied edit present)
+    next-is =
+        subst (λ t. slice_get t.states (place + 1) ≡ Some (applied edit present)) (sym from-first)
+        (states_from-at edits are.first (place + 1) (omega (arith, slice_get_within edits place edit is))
+        ∙ ap (λ s. Some s) (after-next edits are.first place edit is ∙ ap (applied edit) are.present_is))
+
+    pub leads-on : LeadsOn edit (timeline_of present edits place bound)
+    leads-on = record { state = present; present = is-present; fits = fits; after = next-is }
+
     pub adds-arcs : AddsArc edit → AddsArcs (timeline_of present edits place bound) place
     adds-arcs adds =
         record {
           before = present;
           after = applied edit present;
           before_is = is-present;
-          after_is =
-              subst (λ t. slice_get t.states (place + 1) ≡ Some (applied edit present)) (sym from-first)
-              (states_from-at edits are.first (place + 1) (omega (arith, slice_get_within edits place edit is))
-              ∙ ap (λ s. Some s) (after-next edits are.first place edit is ∙ ap (applied edit) are.present_is));
+          after_is = next-is;
           more = more-arcs edit present adds;
         }
 

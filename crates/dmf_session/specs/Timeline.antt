@@ -4,6 +4,7 @@ use Rattle.std.specs.Prelude.{ℕ, ◌≡◌, ◌+◌, ◌-◌, ◌<◌, ◌≤�
 use Rattle.dmf_net.specs.declared.edit.Edit.{Edit}
 use Rattle.dmf_net.specs.NetworkState.{NetworkState}
 use Rattle.dmf_net.specs.Edit.{applied, Fits}
+use Rattle.dmf_net.specs.Revert.{reverted, Stands}
 
 -- the states, the oldest first; the place of the present one, counted from 0; and the bound, which is the largest number of
 -- states that are kept before the present one
@@ -74,3 +75,20 @@ pub record AddsArcs (t : Timeline) (place : ℕ) : Type 0 where
   pub before_is : slice_get t.states place ≡ Some before
   pub after_is : slice_get t.states (place + 1) ≡ Some after
   pub more : length before.network.arcs < length after.network.arcs
+
+-- The edit made the present state of the one before it: it stands in the present state, and what is there once it is taken
+-- back is the state one step back.
+pub record LeadsBack (edit : Edit) (t : Timeline) : Type 0 where
+  pub state : NetworkState
+  pub present : IsPresent t state
+  pub steps : 0 < t.place
+  pub stands : Stands edit state
+  pub before : IsPresent (back t 1) (reverted edit state)
+
+-- The edit makes the next state of the present one: it fits the present state, and what it makes of that is the state one
+-- step forward.
+pub record LeadsOn (edit : Edit) (t : Timeline) : Type 0 where
+  pub state : NetworkState
+  pub present : IsPresent t state
+  pub fits : Fits edit state
+  pub after : IsPresent (forward t 1) (applied edit state)

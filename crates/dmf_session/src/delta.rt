@@ -1,5 +1,5 @@
-ghost use Rattle.std.specs.Prelude.{◌≡◌, ◌≤◌};
-ghost use Rattle.dmf_session.specs.Timeline.{start};
+ghost use Rattle.std.specs.Prelude.{◌≡◌, ◌≤◌, ◌↔◌, IfSome, None};
+ghost use Rattle.dmf_session.specs.Timeline.{start, future_of, LeadsBack, LeadsOn};
 
 use crate::history::{History, MAX_BOUND, NothingToUndo, RedoFault, forget_oldest};
 use dmf_net::{Edit, NoMemory, State, reverting_gives_back};
@@ -105,6 +105,22 @@ impl History for DeltaHistory {
         self.present.apply(&self.edits[self.place])?;
         self.place += 1;
         Ok(())
+    }
+
+    fn last_edit(&self) -> Option<&Edit>
+        ensures edit { IfSome result (λ edit. LeadsBack edit.now self.now) }
+        ensures none { (result ≡ None) ↔ (self.now.place ≡ 0) }
+    {
+        reverting_gives_back();
+        let last = self.place.checked_sub(1)?;
+        self.edits.get(last)
+    }
+
+    fn next_edit(&self) -> Option<&Edit>
+        ensures edit { IfSome result (λ edit. LeadsOn edit.now self.now) }
+        ensures none { (result ≡ None) ↔ (future_of self.now ≡ 0) }
+    {
+        self.edits.get(self.place)
     }
 }
 

@@ -27,9 +27,9 @@ pub enum RedoFault {
 /// A list of states and the place of the present one, however they are kept. A history has a bound, which nothing alters: no
 /// more states than that are kept before the present one.
 pub trait History {
-    ghost use Rattle.std.specs.Prelude.{◌≡◌, ◌<◌, ◌↔◌, Ok, Err, OnOk, OnErr, IsOk};
+    ghost use Rattle.std.specs.Prelude.{◌≡◌, ◌<◌, ◌↔◌, Ok, Err, IfSome, OnOk, OnErr, IsOk};
     ghost use Rattle.dmf_session.specs.declared.history.RedoFault.TheVariants as redo;
-    ghost use Rattle.dmf_session.specs.Timeline.{Timeline, IsTimeline, IsPresent, future_of, back, forward, FitsPresent, Appends, AddsArcs};
+    ghost use Rattle.dmf_session.specs.Timeline.{Timeline, IsTimeline, IsPresent, future_of, back, forward, FitsPresent, Appends, AddsArcs, LeadsBack, LeadsOn};
 
     /// The states and the place that the history stands for.
     ghost timeline: { Self → Timeline };
@@ -77,6 +77,16 @@ pub trait History {
         ensures memory { result ≡ Err redo.NoMemory → AddsArcs (timeline self.old) (timeline self.old).place }
         ensures ok { OnOk result (timeline self.new ≡ forward (timeline self.old) 1) }
         ensures err { OnErr result (timeline self.new ≡ timeline self.old) };
+
+    /// The edit that made the present state of the one before it: none where no state stands before it, or where the history
+    /// keeps whole states. Takes no memory.
+    fn last_edit(&self) -> Option<&Edit>
+        ensures { IfSome result (λ edit. LeadsBack edit.now (timeline self.now)) };
+
+    /// The edit that makes the next state of the present one: none where no state stands past it, or where the history keeps
+    /// whole states. Takes no memory.
+    fn next_edit(&self) -> Option<&Edit>
+        ensures { IfSome result (λ edit. LeadsOn edit.now (timeline self.now)) };
 }
 
 /// Drops what was put in first. Takes no memory, and constant time.

@@ -14,6 +14,7 @@ pub use whole::WholeHistory;
 mod command;
 mod delta;
 mod history;
+mod kept;
 mod laws;
 mod session;
 mod whole;

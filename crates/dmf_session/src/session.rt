@@ -1,6 +1,7 @@
-ghost use Rattle.std.specs.Prelude.{◌≡◌, ◌≤◌, Bool, Some, IfOk, IsOkUnless, OnOk, OnErr};
+ghost use Rattle.std.specs.Prelude.{◌≡◌, ◌≤◌, ◌↔◌, Bool, Some, Err, IfOk, IsOkUnless, OnOk, OnErr};
 ghost use Rattle.dmf_session.specs.declared.command.Command.TheVariants.{Cap, Add, Close, Shut, Solve, Undo, Redo, PrintCut};
-ghost use Rattle.dmf_session.specs.Timeline.{IsTimeline, IsPresent, future_of, back, FitsPresent, Appends};
+ghost use Rattle.dmf_session.specs.declared.history.RedoFault.TheVariants as redo;
+ghost use Rattle.dmf_session.specs.Timeline.{IsTimeline, IsPresent, future_of, back, forward, FitsPresent, Appends, AddsArcs};
 ghost use Rattle.dmf_session.specs.Step.{Answers, IsSideWanted};
 ghost use Rattle.dmf_session.specs.Kept.{KeepsPresent, KeepsApplied};
 ghost use Rattle.dmf_net.specs.ResidualNetwork.{IsResidualOf};
@@ -10,6 +11,7 @@ ghost use Rattle.dmf_session.specs.Optimal.{HasOptimalPresent};
 
 use crate::command::{Command, Refusal, Reply};
 use crate::history::{History, RedoFault};
+use crate::kept::{kept_after, kept_before};
 use crate::laws::greatest_is_optimal;
 use dmf_net::{
     Edit, NoMemory, PlanFault, ResidualNetwork, Side, State, Unwatched, Watch, plan_add, plan_cap,
@@ -21,7 +23,8 @@ use std::marker::Model;
 /// A network that is changed by commands, over the history that keeps its states.
 ///
 /// From the first solve on the residual network of the present state is kept too, so that the next solve need not make it
-/// anew. It is let go where an arc is added, at a step back or forward, and where memory is refused.
+/// anew. It follows each change, and each step back or forward where the history tells the edit: the first of these after a
+/// solve takes time for each node. It is let go where an arc is added or taken back, and where memory is refused.
 #[derive(Drop)]
 pub struct Session<H: History> {
     history: H,
@@ -217,8 +220,7 @@ impl<H: History> Session<H> {
             return Err(Refusal::NothingToRedo);
         }
         for taken in 0..steps as u32 {
-            self.kept = None;
-            if let Err(_) = self.history.redo() {
+            if let Err(_) = self.go_on() {
                 self.go_back(taken);
                 return Err(Refusal::NoMemory);
             }
@@ -273,14 +275,28 @@ impl<H: History> Session<H> {
         }
     }
 
-    /// Goes so many states back.
+    /// Goes one state forward. A kept network follows it where it can; where memory is refused, none is kept.
+    fn go_on(&mut self) -> Result<(), RedoFault>
+        ensures last { (result ≡ Err redo.NothingToRedo) ↔ (future_of (H.timeline self.old) ≡ 0) }
+        ensures memory { result ≡ Err redo.NoMemory → AddsArcs (H.timeline self.old) (H.timeline self.old).place }
+        ensures ok { OnOk result (H.timeline self.new ≡ forward (H.timeline self.old) 1) }
+        ensures err { OnErr result (H.timeline self.new ≡ H.timeline self.old) }
+    {
+        let kept = kept_after(self.kept.take(), &self.history);
+        self.history.redo()?;
+        self.kept = kept;
+        Ok(())
+    }
+
+    /// Goes so many states back. A kept network follows them where it can.
     fn go_back(&mut self, steps: u32)
         requires { steps ≤ (H.timeline self.old).place }
         ensures { H.timeline self.new ≡ back (H.timeline self.old) steps }
     {
         for _ in 0..steps {
-            self.kept = None;
+            let kept = kept_before(self.kept.take(), &self.history);
             let _ = self.history.undo();
+            self.kept = kept;
         }
     }
 }
