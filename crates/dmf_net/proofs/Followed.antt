@@ -177,28 +177,6 @@ shut-next d n last a rest all old search new split up_to put =
       is = λ flows same. cap-search up.now flows a.arc arc search new at.1 refl refl put (up.is flows same);
     }
 
--- the next one is there
-pub shut-within : (d : Direction) (n last : Network) (a : Shutting) (rest all : List Shutting) (old search : Searched) → all ≡ a ∷ rest → AreShutUpTo d n last all old search → (1 ≤ a.arc) × (a.arc - 1 < length search.pairs)
-shut-within d n last a rest all old search split up_to =
-    let up : AreShutUpTo d n last (a ∷ rest) old search = subst (λ left. AreShutUpTo d n last left old search) split up_to in
-    let at = has_arc-within up.now a.arc up.has.0 in
-    (at.0, omega (arith, at.1, up.one_each))
-
-shut-none : (d : Direction) (n : Network) → shut_along d [] n ≡ n
-shut-none Forward n = refl
-shut-none Back n = refl
-
-shut-edited : (d : Direction) (s : NetworkState) (arcs : Vec Shutting Global) (moves : Vec Move Global) → shut_along d arcs.items s.network ≡ (edited_along d (Shut arcs moves) s).network
-shut-edited Forward s arcs moves = refl
-shut-edited Back s arcs moves = refl
-
--- In the end all are closed, or open.
-pub shut-all : (d : Direction) (s : NetworkState) (arcs : Vec Shutting Global) (moves : Vec Move Global) (rest : List Shutting) (old search : Searched) (flows : List ℕ) → rest ≡ []
-    → AreShutUpTo d s.network (shut_along d arcs.items s.network) rest old search → old ≡ residual_search s.network flows → search ≡ residual_search (edited_along d (Shut arcs moves) s).network flows
-shut-all d s arcs moves rest old search flows none up_to same =
-    let up : AreShutUpTo d s.network (shut_along d arcs.items s.network) [] old search = subst (λ left. AreShutUpTo d s.network (shut_along d arcs.items s.network) left old search) none up_to in
-    up.is flows same ∙ ap (λ m. residual_search m flows) (sym (shut-none d up.now) ∙ up.leads ∙ shut-edited d s arcs moves)
-
 -- ---- edits
 
 -- the numbers of the arcs whose capacities an edit changes

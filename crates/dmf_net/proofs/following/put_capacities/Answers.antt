@@ -1,11 +1,10 @@
 use Rattle.std.proofs.Common.{get_or, drop, refl, sym, subst, ◌≡◌, ◌+◌}
-use Rattle.std.proofs.Math.ListN.{drop_of_length-le}
 use Rattle.dmf_net.specs.Direction.{edited_along}
 use Rattle.dmf_net.specs.ResidualNetwork.{residual_search}
 use Rattle.dmf_net.proofs.ChangedArc.{has_arc-within}
 use Rattle.dmf_net.proofs.ClosedArcs.{no_shutting, left-next}
 use Rattle.dmf_net.proofs.DrainedInTurn.{HasArcs}
-use Rattle.dmf_net.proofs.Followed.{cap-along, close-along, has-along, recapped_arcs, shut-next, shut-within, shut-all}
+use Rattle.dmf_net.proofs.Followed.{cap-along, close-along, has-along, recapped_arcs, shut-next}
 use Rattle.dmf_net.proofs.following.put_capacities.Goals as goal
 
 pub returns-in-Cap : goal.returns-in-Cap
