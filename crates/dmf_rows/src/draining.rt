@@ -4,7 +4,7 @@ use crate::row::{Row, expect_held};
 use dmf_run::Status;
 use std::test::Fail;
 
-const ROWS: [Row; 12] = [
+const ROWS: [Row; 13] = [
     Row {
         about: "flow beyond a capacity is taken off a whole cycle, over the link from the sink to the source",
         problem: NETWORK_A,
@@ -47,6 +47,22 @@ const ROWS: [Row; 12] = [
               c redo value 3\n\
               s 3\nf 1 2 3\nf 1 3 0\nf 2 3 1\nf 2 4 2\nf 3 4 1\n\
               p max 4 5\nn 1 s\nn 4 t\na 1 2 3\na 1 3 2\na 2 3 5\na 2 4 2\na 3 4 1\n",
+        outcome: Ok(Status::Well),
+    },
+    Row {
+        about: "each change is tried on what was solved: it is undone with its own solve, and redone without it",
+        problem: NETWORK_A,
+        commands: b"solve\ncap 5 1\nsolve\nundo 2\ncap 2 1\ncap 2 2\nsolve\nundo 3\nredo\nsolve\n",
+        written: b"s 5\nf 1 2 3\nf 1 3 2\nf 2 3 1\nf 2 4 2\nf 3 4 3\n\
+              c cap value 3\n\
+              s 3\nf 1 2 3\nf 1 3 0\nf 2 3 1\nf 2 4 2\nf 3 4 1\n\
+              c undo value 5\n\
+              c cap value 4\n\
+              c cap value 4\n\
+              s 5\nf 1 2 3\nf 1 3 2\nf 2 3 1\nf 2 4 2\nf 3 4 3\n\
+              c undo value 5\n\
+              c redo value 4\n\
+              s 4\nf 1 2 3\nf 1 3 1\nf 2 3 1\nf 2 4 2\nf 3 4 2\n",
         outcome: Ok(Status::Well),
     },
     Row {

@@ -1,4 +1,4 @@
-use Rattle.std.proofs.Common.{◌≡◌, ◌+◌, ◌-◌, IfSome, subst, arith}
+use Rattle.std.proofs.Common.{◌≡◌, ◌+◌, IfSome, subst, arith}
 use Rattle.std.proofs.lemmas.Option.{IfSome_then}
 use Rattle.dmf_session.specs.Timeline.{LeadsBack}
 use Rattle.dmf_session.proofs.Edits.{found, leads-back}
