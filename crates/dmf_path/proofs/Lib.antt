@@ -6,6 +6,7 @@ pub mod LinkSteps
 pub mod OpenPaths
 pub mod LeastTrail
 pub mod Flags
+pub mod Flagging
 pub mod Reaching
 pub mod RoomLeft
 pub mod Descending

@@ -95,11 +95,10 @@ abbrev pub AreFlags : Links → List ℕ → List ℕ → Type 0
 AreFlags l rooms flags = (length flags ≡ length l.heads)
     × ((p : ℕ) → p < length l.heads → slice_index flags p ≡ open_flag (slice_index rooms (slice_index l.partners p)))
 
--- Of these pairs between so many nodes links are made, with their places, rooms and flags.
+-- Of these pairs between so many nodes links are made, with their places and rooms.
 pub record AreBuilt (nodes : ℕ) (pairs : List (Option Pair)) (b : Built) : Type 0 where
   pub nodes_are : b.table.nodes ≡ nodes
   pub links : AreLinks (links_of b.table)
   pub places : ArePlaces (links_of b.table) b.places.items
   pub rooms : AreRooms (links_of b.table) b.rooms.items
-  pub flags : AreFlags (links_of b.table) b.rooms.items b.flags.items
   pub pairs_are : pairs_at (links_of b.table) b.places.items b.rooms.items ≡ pairs

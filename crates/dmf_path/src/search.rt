@@ -6,7 +6,7 @@ ghost use Rattle.dmf_path.specs.Pair.{ArePairs, steps_of};
 ghost use Rattle.dmf_path.specs.Search.{Augments, HasAlong, along_at, against_at, aimed, lowered_along, with_rooms, with_pairs};
 
 use crate::label::label_nodes;
-use crate::links::{LinkTable, NO_PLACE, build};
+use crate::links::{LinkTable, NO_PLACE, build, opposite_flags};
 use crate::listed::{list_pairs, spread_places};
 use crate::pair::Pairs;
 use crate::phase::{begin_anew, find};
@@ -88,12 +88,13 @@ impl Search {
         }) }
     {
         let built = build(alloc, nodes, pairs)?;
+        let flags = opposite_flags(alloc, &built.table, &built.rooms)?;
         let current = Vec::from_slice(alloc, &built.table.first[..nodes as usize + 1])?;
         Ok(Search {
             table: built.table,
             places: built.places,
             rooms: built.rooms,
-            flags: built.flags,
+            flags,
             labels: vec![in alloc; 0u32; nodes as usize + 1]?,
             current,
             queue: Vec::with_capacity(alloc, nodes as usize + 1)?,

@@ -10,9 +10,10 @@ invariant_of-result g c =
     let b = c.in_ok-built.ensures in
     let l = links_of c.in_ok-built.built.table in
     let labels : c.in_ok-vec.field-0.items ≡ replicate (l.nodes + 1) 0 = rw b.nodes_are (search rules) in
-    let current : c.in_ok-current.current.items ≡ take (l.nodes + 1) l.first = rw b.nodes_are (c.in_ok-current.ensures.items ∙ ap (take (c.args.nodes + 1)) c.deref.ensures.value) in
-    IsSearch-new l c.args.takes_back c.in_ok-built.built.places.items c.in_ok-built.built.rooms.items c.in_ok-built.built.flags.items c.in_ok-vec.field-0.items c.in_ok-current.current.items c.in_ok-with_capacity-2.field-0.items c.args.start c.args.goal _ _
-    b.links b.places b.rooms b.flags (rw b.nodes_are c.requires.start) (rw b.nodes_are c.requires.goal) c.requires.apart labels current c.in_ok-with_capacity-2.ensures.items
+    let current : c.in_ok-current.current.items ≡ take (l.nodes + 1) l.first = rw b.nodes_are (c.in_ok-current.ensures.items ∙ ap (take (c.args.nodes + 1)) c.deref-2.ensures.value) in
+    let flags = rw c.deref.ensures.value at c.in_ok-flags.ensures in
+    IsSearch-new l c.args.takes_back c.in_ok-built.built.places.items c.in_ok-built.built.rooms.items c.in_ok-flags.flags.items c.in_ok-vec.field-0.items c.in_ok-current.current.items c.in_ok-with_capacity-2.field-0.items c.args.start c.args.goal _ _
+    b.links b.places b.rooms flags (rw b.nodes_are c.requires.start) (rw b.nodes_are c.requires.goal) c.requires.apart labels current c.in_ok-with_capacity-2.ensures.items
     (omega (arith, b.nodes_are, c.in_ok-with_capacity.ensures.capacity)) (omega (arith, b.nodes_are, c.in_ok-with_capacity-2.ensures.capacity))
 
 pub returns : goal.returns
