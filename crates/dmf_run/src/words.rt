@@ -49,6 +49,17 @@ pub enum WordsFault {
     NoMemory,
 }
 
+impl From<AllocError> for WordsFault {
+    ghost use Rattle.std.specs.Prelude.{◌≡◌};
+    ghost use Rattle.dmf_run.specs.declared.words.WordsFault.TheVariants.{NoMemory};
+
+    ghost from_gives = { λ _ fault. fault ≡ NoMemory };
+
+    fn from(_error: AllocError) -> WordsFault {
+        WordsFault::NoMemory
+    }
+}
+
 /// Reads the words of a command line, of which the first is the program's name.
 ///
 /// No words behind it, or `solve`, ask for [`Mode::Solve`]; `session PROBLEM` asks for [`Mode::Session`], and
@@ -62,9 +73,7 @@ pub fn read_words(alloc: Global, words: Vec<String>) -> Result<Mode, WordsFault>
     ensures words { ReadsWords (drop 1 (map (λ word. word.bytes.items) words.items)) result }
     ensures bound { IfOk result HasBound }
 {
-    let Ok(command) = command(alloc) else {
-        return Err(WordsFault::NoMemory);
-    };
+    let command = command(alloc)?;
     match command.try_get_matches_from(words.as_slice()) {
         Ok(matches) => mode_of(alloc, &matches),
         Err(error) => Err(fault_of(alloc, &error)),
@@ -201,23 +210,15 @@ fn mode_of(alloc: Global, matches: &ArgMatches<'_>) -> Result<Mode, WordsFault>
     ensures bound { IfOk result HasBound }
 {
     match matches.subcommand() {
-        Some(("session", session)) => {
-            let Ok(problem) = path_of(alloc, session) else {
-                return Err(WordsFault::NoMemory);
-            };
-            Ok(Mode::Session {
-                cut: session.get_flag("cut"),
-                progress: session.get_flag("progress"),
-                history: bound_of(session),
-                problem,
-            })
-        }
-        Some(("check", check)) => {
-            let Ok(problem) = path_of(alloc, check) else {
-                return Err(WordsFault::NoMemory);
-            };
-            Ok(Mode::Check { problem })
-        }
+        Some(("session", session)) => Ok(Mode::Session {
+            cut: session.get_flag("cut"),
+            progress: session.get_flag("progress"),
+            history: bound_of(session),
+            problem: path_of(alloc, session)?,
+        }),
+        Some(("check", check)) => Ok(Mode::Check {
+            problem: path_of(alloc, check)?,
+        }),
         Some((_, solve)) => Ok(Mode::Solve {
             cut: solve.get_flag("cut"),
             progress: solve.get_flag("progress"),

@@ -6,8 +6,8 @@ use Rattle.dmf_run.proofs.Reading.{same-holding, asked_rows, flag_reads}
 use Rattle.dmf_run.proofs.words.mode_of.Goals as goal
 
 -- a session was asked for
-pub returns-in-Ok-clause-session : goal.returns-in-Ok-clause-session
-returns-in-Ok-clause-session c = λ cut progress text bound path is writes.
+pub returns-in_ok-path_of-in-Some-session-default-clause-session : goal.returns-in_ok-path_of-in-Some-session-default-clause-session
+returns-in_ok-path_of-in-Some-session-default-clause-session c = λ cut progress text bound path is writes.
     let found = found_of c.in-Some-session-default.session.now in
     let both = asked_rows (subcommand_rows_of c.args.matches.now) (rows_of found) _ _ _ _ _ c.in-Some-session-default.ensures.rows is in
     same-holding
@@ -16,14 +16,14 @@ returns-in-Ok-clause-session c = λ cut progress text bound path is writes.
     (flag_reads progress c.get_flag-in-Some-session-default.result _ c.get_flag-in-Some-session-default.ensures.value c.get_flag-in-Some-session-default.ensures.other
     (one_text-rows found (codes "progress") ∙ both.progress_is))
     (c.bound_of.ensures.value text bound (one_text-rows found (codes "history") ∙ both.bound_is) writes)
-    (c.in-Ok.ensures path (first_value-rows found (codes "problem") ∙ both.path_is))
+    (c.in_ok-path_of-in-Some-session-default.ensures path (first_value-rows found (codes "problem") ∙ both.path_is))
 
 -- checking was asked for
-pub returns-in-Ok-path_of-clause-check : goal.returns-in-Ok-path_of-clause-check
-returns-in-Ok-path_of-clause-check c = λ cut progress text path is.
+pub returns-in_ok-path_of-in-Some-check-default-clause-check : goal.returns-in_ok-path_of-in-Some-check-default-clause-check
+returns-in_ok-path_of-in-Some-check-default-clause-check c = λ cut progress text path is.
     let found = found_of c.in-Some-check-default.check.now in
     let both = asked_rows (subcommand_rows_of c.args.matches.now) (rows_of found) _ _ _ _ _ c.in-Some-check-default.ensures.rows is in
-    ap checking (c.in-Ok-path_of.ensures path (first_value-rows found (codes "problem") ∙ both.path_is))
+    ap checking (c.in_ok-path_of-in-Some-check-default.ensures path (first_value-rows found (codes "problem") ∙ both.path_is))
 
 -- solving was asked for
 pub returns-in-Some-clause-solve : goal.returns-in-Some-clause-solve

@@ -9,16 +9,16 @@ use Rattle.dmf_run.proofs.Reading.{taken_reads, refused_reads}
 use Rattle.dmf_run.proofs.words.read_words.Goals as goal
 
 -- the words were taken
-pub returns-in-Ok-try_get_matches_from-clause-words : goal.returns-in-Ok-try_get_matches_from-clause-words
-returns-in-Ok-try_get_matches_from-clause-words c =
+pub returns-in-Ok-clause-words : goal.returns-in-Ok-clause-words
+returns-in-Ok-clause-words c =
     let all : List Text = map (λ word. word.bytes.items) c.args.words.items in
-    let line : app_of c.in-Ok.command ≡ arguments = c.in-Ok.ensures in
+    let line : app_of c.in_ok-command.command ≡ arguments = c.in_ok-command.ensures in
     let words_are : map (λ word. word.bytes.items) c.as_slice.result.now ≡ all =
     ap (map (λ word. word.bytes.items)) c.as_slice.ensures.value in
-    let clean = c.in-Ok-try_get_matches_from.ensures.kinds (ap is_simple_and_free line ∙ line_is_free) in
-    let found = (c.in-Ok-try_get_matches_from.ensures.matches (ap is_simple line ∙ line_is_simple)).1 in
+    let clean = c.in-Ok.ensures.kinds (ap is_simple_and_free line ∙ line_is_free) in
+    let found = (c.in-Ok.ensures.matches (ap is_simple line ∙ line_is_simple)).1 in
     let none : faults_in (drop 1 all) ≡ [] = sym (ap₂ fault_of line words_are) ∙ clean in
-    let asked : asked_of (subcommand_rows_of c.in-Ok-try_get_matches_from.matches) ≡ asked_in (drop 1 all) =
+    let asked : asked_of (subcommand_rows_of c.in-Ok.matches) ≡ asked_in (drop 1 all) =
     ap asked_of (found ∙ ap₂ subcommand_of line words_are) in
     taken_reads (drop 1 all) _ c.mode_of.result none asked
     c.mode_of.ensures.nothing c.mode_of.ensures.solve c.mode_of.ensures.session c.mode_of.ensures.check
@@ -27,7 +27,7 @@ returns-in-Ok-try_get_matches_from-clause-words c =
 pub returns-clause-words : goal.returns-clause-words
 returns-clause-words c =
     let all : List Text = map (λ word. word.bytes.items) c.args.words.items in
-    let line : app_of c.in-Ok.command ≡ arguments = c.in-Ok.ensures in
+    let line : app_of c.in_ok-command.command ≡ arguments = c.in_ok-command.ensures in
     let words_are : map (λ word. word.bytes.items) c.as_slice.result.now ≡ all =
     ap (map (λ word. word.bytes.items)) c.as_slice.ensures.value in
     let kind = kind_of c.in-Err.error in
