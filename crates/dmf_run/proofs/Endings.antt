@@ -1,5 +1,5 @@
 -- How a run of command lines ends.
-use Rattle.std.proofs.Common.{◌^◌, ℕ, ◌≡◌, ◌+◌, ◌-◌, ◌<◌, ◌≤◌, List, [], ◌∷◌, ◌++◌, length, take, Bool, true, false, ◌||◌, Option, Some, None, Result, Ok, Err, inl, inr, refl, sym, ap, ◌∙◌, subst, arith, append_assoc, append-nil}
+use Rattle.std.proofs.Common.{◌^◌, ℕ, ◌≡◌, ◌+◌, ◌-◌, ◌<◌, ◌≤◌, List, [], ◌∷◌, ◌++◌, length, take, Bool, true, false, ◌||◌, Option, Some, None, Result, Ok, Err, ◌⊎◌, inl, inr, refl, sym, ap, ◌∙◌, subst, arith, append_assoc, append-nil}
 use Rattle.std.specs.List.{All}
 use Rattle.std.specs.Io.KnownBytes.{Consumes, Appends, append_known}
 use Rattle.std.proofs.KnownBytes.{Appends-trans}
@@ -101,15 +101,15 @@ RunsCommands-read want_cut t before now then held holds number u is_refused rest
       ),
     )
 
--- more bytes than may be
-pub RunsCommands-bytes : (want_cut : Bool) (t : Timeline) (before now then : InputState) (held holds : Writer) (number : ℕ) (u : Timeline) (is_refused : Bool) (rest : List ℕ) → number ≤ 1000000 + 1
-    → Progress want_cut t before now held holds number u is_refused → HasNoLineFeed rest → Takes now then rest → IsPastLimit now then → RunsCommands want_cut t (streams before held) (streams then holds) (Err fault.TooMuchInput)
-RunsCommands-bytes want_cut t before now then held holds number u is_refused rest few p no_line_feed takes past =
+-- What was read is past a limit: as many lines as may be and one byte more, or as many bytes as may be before the next line ends.
+RunsCommands-past_limit : (want_cut : Bool) (t : Timeline) (before now then : InputState) (held holds : Writer) (number : ℕ) (u : Timeline) (is_refused : Bool) (rest : List ℕ) → number ≤ 1000000 + 1
+    → (p : Progress want_cut t before now held holds number u is_refused) → Takes now then rest → then.pending.count ≤ 2 ^ 30 → then.reader.has_failed ≡ now.reader.has_failed
+    → ((length p.lines ≡ 1000000) × (0 < length (rest ++ then.pending.bytes)))
+    ⊎ ((2 ^ 30 < length ((with_line_feeds p.lines ++ rest) ++ then.pending.bytes)) × HasNoLineFeed (take (2 ^ 30 - length (with_line_feeds p.lines)) (rest ++ then.pending.bytes)))
+    → RunsCommands want_cut t (streams before held) (streams then holds) (Err fault.TooMuchInput)
+RunsCommands-past_limit want_cut t before now then held holds number u is_refused rest few p takes within mark past =
     let bytes = with_line_feeds p.lines ++ rest in
-    let all = Takes-trans before now then (with_line_feeds p.lines) rest p.takes takes in
-    let long : length (with_line_feeds p.lines) + length rest ≡ 2 ^ 30 = omega (arith, all.counts, p.fresh.none_taken, past.at_limit, length-append (with_line_feeds p.lines) rest) in
-    let rest_within : 2 ^ 30 - length (with_line_feeds p.lines) ≡ length rest = omega (arith, long) in
-    let within : take (2 ^ 30 - length (with_line_feeds p.lines)) (rest ++ then.pending.bytes) ≡ rest = ap (λ n. take n (rest ++ then.pending.bytes)) rest_within ∙ take_at rest then.pending.bytes (length rest) refl in (
+    let all = Takes-trans before now then (with_line_feeds p.lines) rest p.takes takes in (
       bytes ++ then.pending.bytes,
       p.written,
       given-by before then bytes p.fresh all,
@@ -120,37 +120,9 @@ RunsCommands-bytes want_cut t before now then held holds number u is_refused res
           rest = rest ++ then.pending.bytes;
           given_is = append_assoc (with_line_feeds p.lines) rest then.pending.bytes;
           each = p.each;
-          at_most_lines = omega (arith, p.counted);
-          at_most_bytes = omega (arith, long);
-          past = inr (omega (arith, long, past.pending, length-append bytes then.pending.bytes, length-append (with_line_feeds p.lines) rest), subst HasNoLineFeed (sym within) no_line_feed);
-          refused = is_refused;
-          after = u;
-          runs = p.runs;
-        },
-        record { reader = past.mark ∙ p.reader; writer = p.writer },
-      ),
-    )
-
--- more lines than may be
-pub RunsCommands-lines : (want_cut : Bool) (t : Timeline) (before now then : InputState) (held holds : Writer) (u : Timeline) (is_refused : Bool) (more : List ℕ)
-    → Progress want_cut t before now held holds (1000000 + 1) u is_refused → 0 < length (more ++ then.pending.bytes) → Takes now then more → then.pending.count ≤ 2 ^ 30 → then.reader.has_failed ≡ now.reader.has_failed
-    → RunsCommands want_cut t (streams before held) (streams then holds) (Err fault.TooMuchInput)
-RunsCommands-lines want_cut t before now then held holds u is_refused more p some takes within mark =
-    let bytes = with_line_feeds p.lines ++ more in
-    let all = Takes-trans before now then (with_line_feeds p.lines) more p.takes takes in (
-      bytes ++ then.pending.bytes,
-      p.written,
-      given-by before then bytes p.fresh all,
-      p.appends,
-      (
-        record {
-          lines = p.lines;
-          rest = more ++ then.pending.bytes;
-          given_is = append_assoc (with_line_feeds p.lines) more then.pending.bytes;
-          each = p.each;
-          at_most_lines = omega (arith, p.counted);
-          at_most_bytes = omega (arith, all.counts, p.fresh.none_taken, within, length-append (with_line_feeds p.lines) more);
-          past = inl (omega (arith, p.counted), some);
+          at_most_lines = omega (arith, p.counted, few);
+          at_most_bytes = omega (arith, all.counts, p.fresh.none_taken, within, length-append (with_line_feeds p.lines) rest);
+          past = past;
           refused = is_refused;
           after = u;
           runs = p.runs;
@@ -158,6 +130,25 @@ RunsCommands-lines want_cut t before now then held holds u is_refused more p som
         record { reader = mark ∙ p.reader; writer = p.writer },
       ),
     )
+
+-- more bytes than may be
+pub RunsCommands-bytes : (want_cut : Bool) (t : Timeline) (before now then : InputState) (held holds : Writer) (number : ℕ) (u : Timeline) (is_refused : Bool) (rest : List ℕ) → number ≤ 1000000 + 1
+    → Progress want_cut t before now held holds number u is_refused → HasNoLineFeed rest → Takes now then rest → IsPastLimit now then → RunsCommands want_cut t (streams before held) (streams then holds) (Err fault.TooMuchInput)
+RunsCommands-bytes want_cut t before now then held holds number u is_refused rest few p no_line_feed takes past =
+    let bytes = with_line_feeds p.lines ++ rest in
+    let all = Takes-trans before now then (with_line_feeds p.lines) rest p.takes takes in
+    let long : length (with_line_feeds p.lines) + length rest ≡ 2 ^ 30 = omega (arith, all.counts, p.fresh.none_taken, past.at_limit, length-append (with_line_feeds p.lines) rest) in
+    let rest_within : 2 ^ 30 - length (with_line_feeds p.lines) ≡ length rest = omega (arith, long) in
+    let within : take (2 ^ 30 - length (with_line_feeds p.lines)) (rest ++ then.pending.bytes) ≡ rest = ap (λ n. take n (rest ++ then.pending.bytes)) rest_within ∙ take_at rest then.pending.bytes (length rest) refl in
+    RunsCommands-past_limit want_cut t before now then held holds number u is_refused rest few p takes (omega (arith, past.at_limit)) past.mark
+    (inr (omega (arith, long, past.pending, length-append bytes then.pending.bytes, length-append (with_line_feeds p.lines) rest), subst HasNoLineFeed (sym within) no_line_feed))
+
+-- more lines than may be
+pub RunsCommands-lines : (want_cut : Bool) (t : Timeline) (before now then : InputState) (held holds : Writer) (u : Timeline) (is_refused : Bool) (more : List ℕ)
+    → Progress want_cut t before now held holds (1000000 + 1) u is_refused → 0 < length (more ++ then.pending.bytes) → Takes now then more → then.pending.count ≤ 2 ^ 30 → then.reader.has_failed ≡ now.reader.has_failed
+    → RunsCommands want_cut t (streams before held) (streams then holds) (Err fault.TooMuchInput)
+RunsCommands-lines want_cut t before now then held holds u is_refused more p some takes within mark =
+    RunsCommands-past_limit want_cut t before now then held holds (1000000 + 1) u is_refused more (omega arith) p takes within mark (inl (omega (arith, p.counted), some))
 
 -- asking for a line was refused
 pub RunsCommands-refused : (want_cut : Bool) (t : Timeline) (before now then : InputState) (held holds : Writer) (number : ℕ) (u : Timeline) (is_refused : Bool) (told : EngineFault) (kept : Kept) → number ≤ 1000000 + 1

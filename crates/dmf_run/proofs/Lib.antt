@@ -12,6 +12,7 @@ pub mod OptimalRuns
 pub mod Table
 pub mod WordWalk
 pub mod BoundLemmas
+pub mod RowLemmas
 pub mod SessionWords
 pub mod SessionOrders
 pub mod Reading

@@ -1,5 +1,5 @@
 -- With the largest bound no state is forgotten while a command text is run.
-use Rattle.std.proofs.Common.{ℕ, ◌≡◌, ◌+◌, ◌<◌, ◌≤◌, List, [], ◌∷◌, length, take, Bool, true, false, Option, Some, None, Result, Ok, Err, ◌⊎◌, inl, inr, ⊎_elim, refl, sym, ◌∙◌, subst, arith, nat_le}
+use Rattle.std.proofs.Common.{ℕ, ◌≡◌, ◌+◌, ◌<◌, ◌≤◌, List, length, take, Bool, true, false, Option, Some, None, Result, ◌⊎◌, inl, inr, ⊎_elim, refl, sym, ◌∙◌, subst, arith, nat_le}
 use Rattle.std.specs.Bool.{MatchBool}
 use Rattle.std.specs.Option.{MatchOption}
 use Rattle.std.proofs.lemmas.List.{length_push, length-take-le, length-drop}
@@ -17,11 +17,9 @@ use Rattle.dmf_session.specs.declared.command.Refusal.TheVariants.{NothingToUndo
 use Rattle.dmf_session.specs.Timeline.{Timeline, start, extended, appended, back, forward, future_of}
 use Rattle.dmf_session.specs.Step.{Steps, Answers, IsChanged, IsRefused, IsMoved, refusal_of, value_of}
 use Rattle.dmf_session.proofs.Appending.{within_bound-all, within_bound-keeps}
-use Rattle.dmf_run.specs.Line.{line_meaning}
-use Rattle.dmf_run.specs.Run.{LineRuns, Runs}
-use Rattle.dmf_run.specs.Outcome.{RestRuns, line_count}
 use Rattle.dmf_run.specs.Laws.{ForgetsNothing, AnswersForgettingNothing, MillionIsNeverForgotten}
 use Rattle.dmf_run.proofs.LineLemmas.{answers-cases}
+use Rattle.dmf_run.proofs.Running.{RunsAll-implied}
 
 -- ---- what one line leaves
 
@@ -85,88 +83,27 @@ steps-grow want_cut t u PrintProblem result within s = same t u within s.1
 steps-grow want_cut t u PrintFlow result within s = same t u within s.1
 steps-grow want_cut t u PrintCut result within s = same t u within s.1
 
-LineRuns-grows : (want_cut : Bool) (number : ℕ) (t : Timeline) (meaning : Result (Option Command) Refusal) (text : List ℕ) (refused : Bool) (u : Timeline) → t.place < length t.states → LineRuns (Answers want_cut) number t meaning text refused u → Grows t u
-LineRuns-grows want_cut number t (Ok None) text refused u within l = same t u within l.2
-LineRuns-grows want_cut number t (Ok (Some command)) text refused u within l =
-    ⊎_elim (λ (e : u ≡ t). same t u within e) (λ (s : Steps want_cut t command l.0 u). steps-grow want_cut t u command l.0 within s) (answers-cases want_cut t command l.0 u l.1)
-LineRuns-grows want_cut number t (Err refusal) text refused u within l = same t u within l.2
-
 -- ---- runs
 
 -- A timeline that is where this line finds it: no more states stand in the list than lines were before it, and one.
-record Stands (t : Timeline) (number : ℕ) : Type 0 where
+record Stands (number : ℕ) (t : Timeline) : Type 0 where
   place : t.place < length t.states
   at_most : length t.states ≤ number
   bound : t.bound ≡ 1000000
 
-forgets-nothing : (t : Timeline) (number : ℕ) → Stands t number → number ≤ 1000000 → ForgetsNothing t
-forgets-nothing t number stands few s = within_bound-all (extended t s) (omega (arith, stands.place, stands.at_most, stands.bound, few))
+forgets-nothing : (number : ℕ) (t : Timeline) → Stands number t → number ≤ 1000000 → ForgetsNothing t
+forgets-nothing number t stands few s = within_bound-all (extended t s) (omega (arith, stands.place, stands.at_most, stands.bound, few))
 
-next-line : (want_cut : Bool) (number : ℕ) (t : Timeline) (meaning : Result (Option Command) Refusal) (text : List ℕ) (refused : Bool) (u : Timeline) → Stands t number → LineRuns (Answers want_cut) number t meaning text refused u → Stands u (number + 1)
-next-line want_cut number t meaning text refused u stands runs =
-    let grows = LineRuns-grows want_cut number t meaning text refused u stands.place runs in
+answer-stands : (want_cut : Bool) (number : ℕ) (t u : Timeline) (command : Command) (result : Result Reply Refusal) → Stands number t → Answers want_cut t command result u → Stands (number + 1) u
+answer-stands want_cut number t u command result stands answers =
+    let grows : Grows t u = ⊎_elim (λ (e : u ≡ t). same t u stands.place e) (λ (s : Steps want_cut t command result u). steps-grow want_cut t u command result stands.place s)
+    (answers-cases want_cut t command result u answers) in
     record { place = grows.place; at_most = omega (arith, grows.at_most, stands.at_most); bound = grows.bound ∙ stands.bound }
-
-never-line : (want_cut : Bool) (number : ℕ) (t : Timeline) (meaning : Result (Option Command) Refusal) (text : List ℕ) (refused : Bool) (u : Timeline) → Stands t number → number ≤ 1000000
-    → LineRuns (Answers want_cut) number t meaning text refused u → LineRuns (AnswersForgettingNothing want_cut) number t meaning text refused u
-never-line want_cut number t (Ok None) text refused u stands few l = l
-never-line want_cut number t (Ok (Some command)) text refused u stands few l =
-    (l.0, record { answers = l.1; forgets_nothing = forgets-nothing t number stands few }, l.2)
-never-line want_cut number t (Err refusal) text refused u stands few l = l
-
-last-stands : (want_cut : Bool) (number : ℕ) (t : Timeline) (lines : List (List ℕ)) (text : List ℕ) (refused : Bool) (u : Timeline) → Stands t number
-    → Runs (Answers want_cut) number t lines text refused u → Stands u (number + length lines)
-last-stands want_cut number t [] text refused u stands runs =
-    let same : number + 0 ≡ number = omega arith in
-    subst (λ v. Stands v (number + 0)) (sym runs.2) (subst (Stands t) (sym same) stands)
-last-stands want_cut number t (line ∷ lines) text refused u stands runs =
-    let next = next-line want_cut number t (line_meaning true line) runs.first runs.here runs.between stands runs.runs in
-    let place : number + 1 + length lines ≡ number + length (line ∷ lines) = omega arith in
-    subst (Stands u) place (last-stands want_cut (number + 1) runs.between lines runs.more runs.later u next runs.goes_on)
-
-never-lines : (want_cut : Bool) (number : ℕ) (t : Timeline) (lines : List (List ℕ)) (text : List ℕ) (refused : Bool) (u : Timeline) → Stands t number → number + length lines ≤ 1000000 + 1
-    → Runs (Answers want_cut) number t lines text refused u → Runs (AnswersForgettingNothing want_cut) number t lines text refused u
-never-lines want_cut number t [] text refused u stands few runs = runs
-never-lines want_cut number t (line ∷ lines) text refused u stands few runs =
-    let next = next-line want_cut number t (line_meaning true line) runs.first runs.here runs.between stands runs.runs in
-    record {
-      between = runs.between;
-      first = runs.first;
-      here = runs.here;
-      more = runs.more;
-      later = runs.later;
-      runs = never-line want_cut number t (line_meaning true line) runs.first runs.here runs.between stands (omega (arith, few)) runs.runs;
-      goes_on = never-lines want_cut (number + 1) runs.between lines runs.more runs.later u next (omega (arith, few)) runs.goes_on;
-      text_is = runs.text_is;
-      refused_is = runs.refused_is;
-    }
-
-never-rest : (want_cut : Bool) (t : Timeline) (lines : List (List ℕ)) (rest text : List ℕ) (refused : Bool) → Stands t (1 + length lines) → line_count lines rest ≤ 1000000
-    → RestRuns (Answers want_cut) (length lines + 1) t rest text refused → RestRuns (AnswersForgettingNothing want_cut) (length lines + 1) t rest text refused
-never-rest want_cut t lines [] text refused stands few runs = runs
-never-rest want_cut t lines (byte ∷ rest) text refused stands few runs =
-    let same : 1 + length lines ≡ length lines + 1 = omega arith in
-    (runs.0, never-line want_cut (length lines + 1) t (line_meaning false (byte ∷ rest)) text refused runs.0 (subst (Stands t) same stands) few runs.1)
-
-at-most-lines : (lines : List (List ℕ)) (rest : List ℕ) → line_count lines rest ≤ 1000000 → length lines ≤ 1000000
-at-most-lines lines [] few = few
-at-most-lines lines (byte ∷ rest) few = omega (arith, few)
 
 -- No run of at most 1,000,000 lines forgets a state.
 pub never-forgotten : MillionIsNeverForgotten
-never-forgotten want_cut s given text refused all few =
-    let first : Stands (start 1000000 s) 1 = record { place = omega arith; at_most = omega arith; bound = refl } in
-    record {
-      lines = all.lines;
-      rest = all.rest;
-      split = all.split;
-      between = all.between;
-      first = all.first;
-      here = all.here;
-      last = all.last;
-      later = all.later;
-      runs = never-lines want_cut 1 (start 1000000 s) all.lines all.first all.here all.between first (omega (arith, at-most-lines all.lines all.rest few)) all.runs;
-      rest_runs = never-rest want_cut all.between all.lines all.rest all.last all.later (last-stands want_cut 1 (start 1000000 s) all.lines all.first all.here all.between first all.runs) few all.rest_runs;
-      text_is = all.text_is;
-      refused_is = all.refused_is;
-    }
+never-forgotten want_cut s given text refused = RunsAll-implied Stands (Answers want_cut)
+    (λ number t stands. record { place = stands.place; at_most = omega (arith, stands.at_most); bound = stands.bound })
+    (answer-stands want_cut) (AnswersForgettingNothing want_cut) 1000000
+    (λ number t u command result few stands answers. record { answers = answers; forgets_nothing = forgets-nothing number t stands few })
+    (start 1000000 s) given text refused (record { place = omega arith; at_most = omega arith; bound = refl })

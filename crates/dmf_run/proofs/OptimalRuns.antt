@@ -11,7 +11,7 @@ use Rattle.dmf_session.specs.Optimal.{HasOptimalPresent}
 use Rattle.dmf_session.specs.Laws.{HasStates, HasAnswer, HasOneAnswer, SolvedIsOptimal}
 use Rattle.dmf_run.specs.Laws.{AnswersOptimally, SolvesAreOptimal, RunsAreOptimal}
 use Rattle.dmf_run.proofs.LineLemmas.{answers-cases}
-use Rattle.dmf_run.proofs.Running.{Keeps, HasStates-start, Steps-keeps, Runs-keeps, RunsAll-implied}
+use Rattle.dmf_run.proofs.Running.{Keeps, HasStates-start, Steps-keeps, Runs-keeps, RunsAll-tells}
 
 -- An answer leaves states, also where memory is refused.
 Answers-keeps : HasAnswer → HasOneAnswer → (want_cut : Bool) → Keeps (Answers want_cut)
@@ -31,6 +31,6 @@ optimal-after solved want_cut t u command (Err refusal) has answers is = tt
 
 pub runs-are-optimal : HasAnswer → HasOneAnswer → SolvedIsOptimal → RunsAreOptimal
 runs-are-optimal some one solved want_cut bound s given text refused state all =
-    RunsAll-implied (Answers want_cut) (AnswersOptimally want_cut) (Answers-keeps some one want_cut)
+    RunsAll-tells (Answers want_cut) (Answers-keeps some one want_cut) (AnswersOptimally want_cut)
     (λ t u command result has answers. record { answers = answers; optimal = optimal-after solved want_cut t u command result has answers })
     (start bound s) given text refused (HasStates-start bound s state) all

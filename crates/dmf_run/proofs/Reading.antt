@@ -1,5 +1,5 @@
 -- From what the parser says of the words to what they ask for.
-use Rattle.std.proofs.Common.{ℕ, ◌≡◌, ◌≢◌, ◌⊎◌, ◌∙◌, arith, refl, ap, sym, subst, inl, inr, Bool, true, false, List, [], ◌∷◌, Option, Some, None, codes, Result, Err, option_map}
+use Rattle.std.proofs.Common.{ℕ, ◌≡◌, ◌≢◌, ◌⊎◌, ◌∙◌, ap, sym, subst, inl, inr, Bool, true, false, List, [], ◌∷◌, Option, Some, None, codes, Result, Err, option_map, unwrap_or}
 use Rattle.clap.specs.Kinds.{Kinds, IsAmong}
 use Rattle.clap.specs.Values.{bool_text}
 use Rattle.clap.specs.declared.error.kind.ErrorKind.{ErrorKind}
@@ -10,16 +10,12 @@ use Rattle.dmf_run.specs.declared.words.WordsFault.TheVariants.{NoMemory}
 use Rattle.dmf_run.specs.Matches.{Asked, asked_of}
 use Rattle.clap.specs.Words.{Row, first_of, one_of}
 use Rattle.dmf_run.specs.Words.{Text, Gives, IsBound, IsHelp, IsUsage, IsVersion, ReadsWords, solving, holding, checking}
-use Rattle.dmf_run.proofs.Table.{faults_in, asked_in, most_text, history_alone_refused, solve_history_refused, check_history_refused, nothing_taken, nothing_asked, solve_taken, solve_asked, solve_cut_taken, solve_cut_asked, solve_progress_taken, solve_progress_asked, solve_cut_progress_taken, solve_cut_progress_asked, solve_progress_cut_taken, solve_progress_cut_asked, progress_alone_refused, check_progress_refused, session_taken, session_asked, cut_first_taken, cut_first_asked, cut_last_taken, cut_last_asked, check_taken, check_asked, help_asked, solve_help_asked, session_help_asked, check_help_asked, version_asked, cut_alone_refused, session_alone_refused, check_alone_refused, solve_path_refused, session_second_refused, check_second_refused, check_cut_refused, unknown_refused}
-use Rattle.dmf_run.proofs.SessionOrders.{cut_history_asks, cut_progress_asks, history_asks, no_bound_refused, progress_asks, progress_history_asks}
+use Rattle.dmf_run.proofs.Table.{faults_in, asked_in, history_alone_refused, solve_history_refused, check_history_refused, nothing_taken, nothing_asked, solve_taken, solve_asked, solve_cut_taken, solve_cut_asked, solve_progress_taken, solve_progress_asked, solve_cut_progress_taken, solve_cut_progress_asked, solve_progress_cut_taken, solve_progress_cut_asked, progress_alone_refused, check_progress_refused, check_taken, check_asked, help_asked, help_of_asked, solve_help_asked, session_help_asked, check_help_asked, version_asked, cut_alone_refused, session_alone_refused, check_alone_refused, solve_path_refused, session_second_refused, check_second_refused, check_cut_refused, unknown_refused}
+use Rattle.dmf_run.proofs.SessionOrders.{no_bound_refused, session_asks}
 
 -- a list of no kinds has no first one
 no_kinds : {k : ErrorKind} {ks : Kinds} → [] ≡ k ∷ ks → ⊥
 no_kinds e = cc
-
--- the bound that stands where none is written
-most-bound : IsBound most_text 1000000
-most-bound = record { numeral = (omega arith, (omega arith, (omega arith, (omega arith, (omega arith, (omega arith, (omega arith, (omega arith, tt)))))))); value = refl; at_most = omega arith }
 
 -- the words were taken
 module _ (words : List Text) (asked : Asked) (result : Result Mode WordsFault)
@@ -48,37 +44,16 @@ module _ (words : List Text) (asked : Asked) (result : Result Mode WordsFault)
       | inl first ↦ solve true true None None (finds _ _ first solve_cut_progress_asked)
       | inr last ↦ solve true true None None (finds _ _ last solve_progress_cut_asked)
     ];
-    session = λ path plain is. session false false most_text 1000000 path (finds _ _ is (session_asked path plain)) most-bound;
-    session_cut = λ path plain is. elim is [
-      | inl first ↦ session true false most_text 1000000 path (finds _ _ first (cut_first_asked path plain)) most-bound
-      | inr last ↦ session true false most_text 1000000 path (finds _ _ last (cut_last_asked path plain)) most-bound
-    ];
-    session_progress = λ path plain is. elim is [
-      | inl first ↦ session false true most_text 1000000 path (finds _ _ first (progress_asks path _ plain (inl refl)).asked) most-bound
-      | inr last ↦ session false true most_text 1000000 path (finds _ _ last (progress_asks path _ plain (inr refl)).asked) most-bound
-    ];
-    session_cut_progress = λ path rest plain order is.
-        session true true most_text 1000000 path (finds _ _ is (cut_progress_asks path rest plain order).asked) most-bound;
-    session_history = λ text path bound written plain is. elim is [
-      | inl first ↦
-          let asks = history_asks text path bound _ written plain (inl refl) in
-          session false false text bound path (finds _ _ first asks.asked) written
-      | inr last ↦
-          let asks = history_asks text path bound _ written plain (inr refl) in
-          session false false text bound path (finds _ _ last asks.asked) written
-    ];
-    session_cut_history = λ text path bound rest written plain order is.
-        let asks = cut_history_asks text path bound rest written plain order in
-        session true false text bound path (finds _ _ is asks.asked) written;
-    session_progress_history = λ text path bound rest written plain order is.
-        let asks = progress_history_asks text path bound rest written plain order in
-        session false true text bound path (finds _ _ is asks.asked) written;
+    session = λ parts said path say named is.
+        let asks = session_asks parts said path say named in
+        session said.cut said.progress asks.text (unwrap_or said.bound 1000000) path (finds _ _ is asks.asked) asks.written;
     no_bound = λ text path word plain none is. absurd (untaken _ is (no_bound_refused text path word plain none));
     check = λ path plain is. check None None None path (finds _ _ is (check_asked path plain));
     help = λ is. absurd (untaken _ is help_asked);
     solve_help = λ is. absurd (untaken _ is solve_help_asked);
     session_help = λ is. absurd (untaken _ is session_help_asked);
     check_help = λ is. absurd (untaken _ is check_help_asked);
+    help_of = λ rest is. absurd (untaken _ is (help_of_asked rest));
     version = λ is. absurd (untaken _ is version_asked);
     history_alone = λ rest is. absurd (untaken _ is (history_alone_refused rest));
     solve_history = λ text is. absurd (untaken _ is (solve_history_refused text));
@@ -112,10 +87,23 @@ module _ (words : List Text) (kind : ErrorKind) (fault : WordsFault)
     | inr other ↦ absurd (subst (IsAmong kind) (ap faults_in is ∙ clean) other)
   ]
 
+  told : (k : ErrorKind) → k ≢ DisplayHelp → k ≢ DisplayVersion → kind ≡ k → IsUsage fault
+  told k no_help no_version is = usage (λ e. no_help (sym is ∙ e)) (λ e. no_version (sym is ∙ e))
+
   helped : (row : List Text) → words ≡ row → faults_in row ≡ DisplayHelp ∷ [] → IsHelp fault
   helped row is known = elim among [
     | inl no_memory ↦ subst IsHelp (sym (memory no_memory)) tt
     | inr other ↦ elim (subst (IsAmong kind) (ap faults_in is ∙ known) other) [ inl asked ↦ help asked | inr none ↦ absurd none ]
+  ]
+
+  helped_or_refused : (row : List Text) → words ≡ row → faults_in row ≡ DisplayHelp ∷ InvalidSubcommand ∷ [] → IsHelp fault ⊎ IsUsage fault
+  helped_or_refused row is known = elim among [
+    | inl no_memory ↦ inl (subst IsHelp (sym (memory no_memory)) tt)
+    | inr other ↦ elim (subst (IsAmong kind) (ap faults_in is ∙ known) other) [
+      | inl one ↦ inl (help one)
+      | inr (inl two) ↦ inr (told InvalidSubcommand (λ e. cc) (λ e. cc) two)
+      | inr (inr none) ↦ absurd none
+    ]
   ]
 
   versioned : (row : List Text) → words ≡ row → faults_in row ≡ DisplayVersion ∷ [] → IsVersion fault
@@ -123,9 +111,6 @@ module _ (words : List Text) (kind : ErrorKind) (fault : WordsFault)
     | inl no_memory ↦ subst IsVersion (sym (memory no_memory)) tt
     | inr other ↦ elim (subst (IsAmong kind) (ap faults_in is ∙ known) other) [ inl asked ↦ version asked | inr none ↦ absurd none ]
   ]
-
-  told : (k : ErrorKind) → k ≢ DisplayHelp → k ≢ DisplayVersion → kind ≡ k → IsUsage fault
-  told k no_help no_version is = usage (λ e. no_help (sym is ∙ e)) (λ e. no_version (sym is ∙ e))
 
   refused : (row : List Text) (k : ErrorKind) → k ≢ DisplayHelp → k ≢ DisplayVersion → words ≡ row → faults_in row ≡ k ∷ []
       → IsUsage fault
@@ -164,30 +149,14 @@ module _ (words : List Text) (kind : ErrorKind) (fault : WordsFault)
       | inl first ↦ short _ first solve_cut_progress_taken
       | inr last ↦ short _ last solve_progress_cut_taken
     ];
-    session = λ path plain is. short _ is (session_taken path plain);
-    session_cut = λ path plain is. elim is [
-      | inl first ↦ short _ first (cut_first_taken path plain)
-      | inr last ↦ short _ last (cut_last_taken path plain)
-    ];
-    session_progress = λ path plain is. elim is [
-      | inl first ↦ short _ first (progress_asks path _ plain (inl refl)).taken
-      | inr last ↦ short _ last (progress_asks path _ plain (inr refl)).taken
-    ];
-    session_cut_progress = λ path rest plain order is. short _ is (cut_progress_asks path rest plain order).taken;
-    session_history = λ text path bound written plain is. elim is [
-      | inl first ↦ short _ first (history_asks text path bound _ written plain (inl refl)).taken
-      | inr last ↦ short _ last (history_asks text path bound _ written plain (inr refl)).taken
-    ];
-    session_cut_history = λ text path bound rest written plain order is.
-        short _ is (cut_history_asks text path bound rest written plain order).taken;
-    session_progress_history = λ text path bound rest written plain order is.
-        short _ is (progress_history_asks text path bound rest written plain order).taken;
+    session = λ parts said path say named is. short _ is (session_asks parts said path say named).taken;
     no_bound = λ text path word plain none is. not_valid _ is (no_bound_refused text path word plain none);
     check = λ path plain is. short _ is (check_taken path plain);
     help = λ is. helped _ is help_asked;
     solve_help = λ is. helped _ is solve_help_asked;
     session_help = λ is. helped _ is session_help_asked;
     check_help = λ is. helped _ is check_help_asked;
+    help_of = λ rest is. helped_or_refused _ is (help_of_asked rest);
     version = λ is. versioned _ is version_asked;
     history_alone = λ rest is. stray _ is (history_alone_refused rest);
     solve_history = λ text is. stray _ is (solve_history_refused text);

@@ -1,5 +1,5 @@
 -- Each command text has a run, and what is so of each answer is so of each run.
-use Rattle.std.proofs.Common.{ℕ, ◌≢◌, ◌+◌, ◌<◌, List, [], ◌∷◌, ◌++◌, length, Bool, true, false, ◌||◌, Option, Some, None, Result, Ok, Err, refl, sym, subst, arith, ⊎_elim}
+use Rattle.std.proofs.Common.{ℕ, ◌≢◌, ◌≡◌, ◌+◌, ◌<◌, ◌≤◌, List, [], ◌∷◌, ◌++◌, length, Bool, true, false, ◌||◌, Option, Some, None, Result, Ok, Err, refl, sym, subst, arith, ⊎_elim}
 use Rattle.std.proofs.lemmas.List.Elements.{All-cons, All-nil}
 use Rattle.std.proofs.lemmas.Option.{slice_get_cases}
 use Rattle.dmf_net.specs.NetworkState.{NetworkState, IsState}
@@ -12,7 +12,7 @@ use Rattle.dmf_session.specs.Step.{Steps, Answers}
 use Rattle.dmf_session.specs.Laws.{HasStates, HasAnswer, HasOneAnswer}
 use Rattle.dmf_run.specs.Line.{line_meaning}
 use Rattle.dmf_run.specs.Run.{Answering, reply_text, refused_text, Shows, LineRuns, Runs}
-use Rattle.dmf_run.specs.Outcome.{RestRuns, RunsAll}
+use Rattle.dmf_run.specs.Outcome.{RestRuns, RunsAll, line_count}
 use Rattle.dmf_run.specs.Laws.{HasRun, StepsAreAnswers}
 use Rattle.dmf_run.proofs.Splitting.{some-split}
 
@@ -136,70 +136,100 @@ has-run answer want_cut bound s given state =
 
 -- ---- from one way of answering to another
 
+at-most-lines : (last : ℕ) (lines : List (List ℕ)) (rest : List ℕ) → line_count lines rest ≤ last → length lines ≤ last
+at-most-lines last lines [] few = few
+at-most-lines last lines (byte ∷ rest) few = omega (arith, few)
+
+-- Holds is so of each timeline to which a line is given, by the line's number.
+module _ (Holds : ℕ → Timeline → Type 0) (Gives : Answering)
+    (idle : (number : ℕ) (t : Timeline) → Holds number t → Holds (number + 1) t)
+    (keeps : (number : ℕ) (t u : Timeline) (command : Command) (result : Result Reply Refusal) → Holds number t → Gives t command result u → Holds (number + 1) u) where
+  line-keeps : (number : ℕ) (t : Timeline) (meaning : Result (Option Command) Refusal) (text : List ℕ) (refused : Bool) (u : Timeline) → Holds number t
+      → LineRuns Gives number t meaning text refused u → Holds (number + 1) u
+  line-keeps number t (Ok None) text refused u holds l = subst (Holds (number + 1)) (sym l.2) (idle number t holds)
+  line-keeps number t (Ok (Some command)) text refused u holds l = keeps number t u command l.0 holds l.1
+  line-keeps number t (Err refusal) text refused u holds l = subst (Holds (number + 1)) (sym l.2) (idle number t holds)
+
+  lines-keep : (number : ℕ) (t : Timeline) (lines : List (List ℕ)) (text : List ℕ) (refused : Bool) (u : Timeline) → Holds number t
+      → Runs Gives number t lines text refused u → Holds (number + length lines) u
+  lines-keep number t [] text refused u holds runs =
+      let same : number ≡ number + 0 = omega arith in
+      subst (λ (n : ℕ). Holds n u) same (subst (Holds number) (sym runs.2) holds)
+  lines-keep number t (line ∷ lines) text refused u holds runs =
+      let next = line-keeps number t (line_meaning true line) runs.first runs.here runs.between holds runs.runs in
+      let place : number + 1 + length lines ≡ number + length (line ∷ lines) = omega arith in
+      subst (λ (n : ℕ). Holds n u) place (lines-keep (number + 1) runs.between lines runs.more runs.later u next runs.goes_on)
+
+  -- What Holds and an answer imply is so of each answer, up to the line that is the last.
+  module _ (Tells : Answering) (last : ℕ)
+      (implies : (number : ℕ) (t u : Timeline) (command : Command) (result : Result Reply Refusal) → number ≤ last → Holds number t → Gives t command result u → Tells t command result u) where
+    line-implied : (number : ℕ) (t : Timeline) (meaning : Result (Option Command) Refusal) (text : List ℕ) (refused : Bool) (u : Timeline) → number ≤ last → Holds number t
+        → LineRuns Gives number t meaning text refused u → LineRuns Tells number t meaning text refused u
+    line-implied number t (Ok None) text refused u few holds l = l
+    line-implied number t (Ok (Some command)) text refused u few holds l = (l.0, implies number t u command l.0 few holds l.1, l.2)
+    line-implied number t (Err refusal) text refused u few holds l = l
+
+    lines-implied : (number : ℕ) (t : Timeline) (lines : List (List ℕ)) (text : List ℕ) (refused : Bool) (u : Timeline) → number + length lines ≤ last + 1 → Holds number t
+        → Runs Gives number t lines text refused u → Runs Tells number t lines text refused u
+    lines-implied number t [] text refused u few holds runs = runs
+    lines-implied number t (line ∷ lines) text refused u few holds runs =
+        let next = line-keeps number t (line_meaning true line) runs.first runs.here runs.between holds runs.runs in
+        record {
+          between = runs.between;
+          first = runs.first;
+          here = runs.here;
+          more = runs.more;
+          later = runs.later;
+          runs = line-implied number t (line_meaning true line) runs.first runs.here runs.between (omega (arith, few)) holds runs.runs;
+          goes_on = lines-implied (number + 1) runs.between lines runs.more runs.later u (omega (arith, few)) next runs.goes_on;
+          text_is = runs.text_is;
+          refused_is = runs.refused_is;
+        }
+
+    rest-implied : (t : Timeline) (lines : List (List ℕ)) (rest text : List ℕ) (refused : Bool) → line_count lines rest ≤ last → Holds (1 + length lines) t
+        → RestRuns Gives (length lines + 1) t rest text refused → RestRuns Tells (length lines + 1) t rest text refused
+    rest-implied t lines [] text refused few holds runs = runs
+    rest-implied t lines (byte ∷ rest) text refused few holds runs =
+        let same : 1 + length lines ≡ length lines + 1 = omega arith in
+        (runs.0, line-implied (length lines + 1) t (line_meaning false (byte ∷ rest)) text refused runs.0 few (subst (λ (n : ℕ). Holds n t) same holds) runs.1)
+
+    -- A run whose commands are answered in one way is one whose commands are answered in another that is implied.
+    pub RunsAll-implied : (t : Timeline) (given text : List ℕ) (refused : Bool) → Holds 1 t → (all : RunsAll Gives t given text refused) → line_count all.lines all.rest ≤ last
+        → RunsAll Tells t given text refused
+    RunsAll-implied t given text refused holds all few =
+        record {
+          lines = all.lines;
+          rest = all.rest;
+          split = all.split;
+          between = all.between;
+          first = all.first;
+          here = all.here;
+          last = all.last;
+          later = all.later;
+          runs = lines-implied 1 t all.lines all.first all.here all.between (omega (arith, at-most-lines last all.lines all.rest few)) holds all.runs;
+          rest_runs = rest-implied all.between all.lines all.rest all.last all.later few (lines-keep 1 t all.lines all.first all.here all.between holds all.runs) all.rest_runs;
+          text_is = all.text_is;
+          refused_is = all.refused_is;
+        }
+
 -- An answer leaves states where there were states.
 abbrev pub Keeps : Answering → Type 0
 Keeps Gives = (t u : Timeline) (command : Command) (result : Result Reply Refusal) → HasStates t → Gives t command result u → HasStates u
 
--- What is so of a command's answer on a timeline that has states.
-abbrev Implies : Answering → Answering → Type 0
-Implies Gives Tells =
-    (t u : Timeline) (command : Command) (result : Result Reply Refusal) → HasStates t → Gives t command result u → Tells t command result u
+module _ (Gives : Answering) (keeps : Keeps Gives) where
+  pub LineRuns-keeps : (number : ℕ) (t : Timeline) (meaning : Result (Option Command) Refusal) (text : List ℕ) (refused : Bool) (u : Timeline) → HasStates t → LineRuns Gives number t meaning text refused u → HasStates u
+  LineRuns-keeps = line-keeps (λ _ t. HasStates t) Gives (λ number t has. has) (λ number. keeps)
 
-pub LineRuns-keeps : (Gives : Answering) → Keeps Gives → (number : ℕ) (t : Timeline) (meaning : Result (Option Command) Refusal) (text : List ℕ) (refused : Bool) (u : Timeline) → HasStates t → LineRuns Gives number t meaning text refused u → HasStates u
-LineRuns-keeps Gives keeps number t (Ok None) text refused u has l = subst HasStates (sym l.2) has
-LineRuns-keeps Gives keeps number t (Ok (Some command)) text refused u has l = keeps t u command l.0 has l.1
-LineRuns-keeps Gives keeps number t (Err refusal) text refused u has l = subst HasStates (sym l.2) has
+  pub Runs-keeps : (number : ℕ) (t : Timeline) (lines : List (List ℕ)) (text : List ℕ) (refused : Bool) (u : Timeline) → HasStates t → Runs Gives number t lines text refused u → HasStates u
+  Runs-keeps = lines-keep (λ _ t. HasStates t) Gives (λ number t has. has) (λ number. keeps)
 
-pub Runs-keeps : (Gives : Answering) → Keeps Gives → (number : ℕ) (t : Timeline) (lines : List (List ℕ)) (text : List ℕ) (refused : Bool) (u : Timeline) → HasStates t → Runs Gives number t lines text refused u → HasStates u
-Runs-keeps Gives keeps number t [] text refused u has runs = subst HasStates (sym runs.2) has
-Runs-keeps Gives keeps number t (line ∷ lines) text refused u has runs =
-    Runs-keeps Gives keeps (number + 1) runs.between lines runs.more runs.later u
-    (LineRuns-keeps Gives keeps number t (line_meaning true line) runs.first runs.here runs.between has runs.runs) runs.goes_on
-
-line-implied : (Gives Tells : Answering) → Implies Gives Tells → (number : ℕ) (t : Timeline) (meaning : Result (Option Command) Refusal) (text : List ℕ) (refused : Bool) (u : Timeline) → HasStates t → LineRuns Gives number t meaning text refused u → LineRuns Tells number t meaning text refused u
-line-implied Gives Tells implies number t (Ok None) text refused u has l = l
-line-implied Gives Tells implies number t (Ok (Some command)) text refused u has l = (l.0, implies t u command l.0 has l.1, l.2)
-line-implied Gives Tells implies number t (Err refusal) text refused u has l = l
-
-lines-implied : (Gives Tells : Answering) → Keeps Gives → Implies Gives Tells → (number : ℕ) (t : Timeline) (lines : List (List ℕ)) (text : List ℕ) (refused : Bool) (u : Timeline) → HasStates t → Runs Gives number t lines text refused u → Runs Tells number t lines text refused u
-lines-implied Gives Tells keeps implies number t [] text refused u has runs = runs
-lines-implied Gives Tells keeps implies number t (line ∷ lines) text refused u has runs =
-    let kept = LineRuns-keeps Gives keeps number t (line_meaning true line) runs.first runs.here runs.between has runs.runs in
-    record {
-      between = runs.between;
-      first = runs.first;
-      here = runs.here;
-      more = runs.more;
-      later = runs.later;
-      runs = line-implied Gives Tells implies number t (line_meaning true line) runs.first runs.here runs.between has runs.runs;
-      goes_on = lines-implied Gives Tells keeps implies (number + 1) runs.between lines runs.more runs.later u kept runs.goes_on;
-      text_is = runs.text_is;
-      refused_is = runs.refused_is;
-    }
-
-rest-implied : (Gives Tells : Answering) → Implies Gives Tells → (number : ℕ) (t : Timeline) (rest text : List ℕ) (refused : Bool) → HasStates t → RestRuns Gives number t rest text refused → RestRuns Tells number t rest text refused
-rest-implied Gives Tells implies number t [] text refused has runs = runs
-rest-implied Gives Tells implies number t (byte ∷ rest) text refused has runs =
-    (runs.0, line-implied Gives Tells implies number t (line_meaning false (byte ∷ rest)) text refused runs.0 has runs.1)
-
--- A run whose commands are answered in one way is one whose commands are answered in another that it implies.
-pub RunsAll-implied : (Gives Tells : Answering) → Keeps Gives → Implies Gives Tells → (t : Timeline) (given text : List ℕ) (refused : Bool) → HasStates t → RunsAll Gives t given text refused → RunsAll Tells t given text refused
-RunsAll-implied Gives Tells keeps implies t given text refused has all =
-    let kept = Runs-keeps Gives keeps 1 t all.lines all.first all.here all.between has all.runs in
-    record {
-      lines = all.lines;
-      rest = all.rest;
-      split = all.split;
-      between = all.between;
-      first = all.first;
-      here = all.here;
-      last = all.last;
-      later = all.later;
-      runs = lines-implied Gives Tells keeps implies 1 t all.lines all.first all.here all.between has all.runs;
-      rest_runs = rest-implied Gives Tells implies (length all.lines + 1) all.between all.rest all.last all.later kept all.rest_runs;
-      text_is = all.text_is;
-      refused_is = all.refused_is;
-    }
+  -- What is so of each answer on a timeline that has states is so of each answer of a run.
+  pub RunsAll-tells : (Tells : Answering)
+      → ((t u : Timeline) (command : Command) (result : Result Reply Refusal) → HasStates t → Gives t command result u → Tells t command result u)
+      → (t : Timeline) (given text : List ℕ) (refused : Bool) → HasStates t → RunsAll Gives t given text refused → RunsAll Tells t given text refused
+  RunsAll-tells Tells implies t given text refused has all =
+      RunsAll-implied (λ _ t. HasStates t) Gives (λ number t has. has) (λ number. keeps) Tells (line_count all.lines all.rest)
+      (λ number t u command result few. implies t u command result) t given text refused has all (omega arith)
 
 -- ---- answers where memory is there
 
@@ -215,7 +245,8 @@ not-memory want_cut t u command (Err NoMemory) memory steps = absurd (memory ref
 not-memory want_cut t u command result memory steps = steps
 
 -- and its one answer tells of no want of memory
-step-is-answer : HasAnswer → HasOneAnswer → (want_cut : Bool) → Implies (Steps want_cut) (Answers want_cut)
+step-is-answer : HasAnswer → HasOneAnswer → (want_cut : Bool) (t u : Timeline) (command : Command) (result : Result Reply Refusal) → HasStates t → Steps want_cut t command result u
+    → Answers want_cut t command result u
 step-is-answer some one want_cut t u command result has steps =
     let a = some want_cut t command has in
     not-memory want_cut t u command result (subst (λ r. r ≢ Err NoMemory) (one want_cut t a.after u command a.result result has a.steps steps).0 a.memory) steps
@@ -223,4 +254,4 @@ step-is-answer some one want_cut t u command result has steps =
 -- A run in which no command is refused memory is one in which a command may be refused it.
 pub steps-are-answers : HasAnswer → HasOneAnswer → StepsAreAnswers
 steps-are-answers some one want_cut bound s given text refused state all =
-    RunsAll-implied (Steps want_cut) (Answers want_cut) (Steps-keeps some one want_cut) (step-is-answer some one want_cut) (start bound s) given text refused (HasStates-start bound s state) all
+    RunsAll-tells (Steps want_cut) (Steps-keeps some one want_cut) (Answers want_cut) (step-is-answer some one want_cut) (start bound s) given text refused (HasStates-start bound s state) all

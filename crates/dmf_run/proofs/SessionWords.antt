@@ -2,9 +2,9 @@
 use Rattle.std.proofs.Common.{ℕ, ◌≡◌, ◌∙◌, ap, ap₂, sym, refl, Bool, true, false, List, [], ◌∷◌, Option, Some, None, codes, find, is_some, unwrap_or}
 use Rattle.std.specs.Prelude.{◌&&◌, if◌then◌else◌}
 use Rattle.clap.specs.Kinds.{Kinds, or_else}
-use Rattle.clap.specs.Faults.{check_fault, defaults_fault, entered_fault, level_fault, settle_fault, step_fault, turn_fault, use_fault, walk_fault}
+use Rattle.clap.specs.Faults.{check_fault, defaults_fault, entered_fault, level_fault, settle_fault, step_fault, turn_fault, walk_fault}
 use Rattle.clap.specs.Simple.{Shape, built, entered, help_rule, help_shape, label_of, names_of, rows_at}
-use Rattle.clap.specs.Walk.{Held, Row, Rule, Step, Walk, after_step, answers_to, arg_by_id, finished, has_row, idle, nothing_held, option, settled, settled_rows, used, walk, walk_from}
+use Rattle.clap.specs.Walk.{Held, Row, Rule, Step, Walk, after_step, answers_to, arg_by_id, finished, has_row, idle, is_pending, nothing_held, option, pushed, settled, settled_rows, used, walk, walk_from}
 use Rattle.clap.specs.declared.error.kind.ErrorKind.{ErrorKind}
 use Rattle.clap.specs.declared.error.kind.ErrorKind.TheVariants.{ArgumentConflict, ValueValidation}
 use Rattle.clap.proofs.FaultLemmas.{past, stopped_fault}
@@ -14,6 +14,7 @@ use Rattle.dmf_run.specs.Matches.{asked_of, arguments}
 use Rattle.dmf_run.specs.Words.{Text}
 use Rattle.dmf_run.proofs.Table.{faults_in, asked_in}
 use Rattle.dmf_run.proofs.BoundLemmas.{passes}
+use Rattle.dmf_run.proofs.RowLemmas.{no_row, row_at}
 use Rattle.dmf_run.proofs.WordWalk.{Goes, IsWord, Turn, fault_behind, fault_here, clean_idle, clean_option, met_idle, met_option, standing}
 
 -- the command `session`, as the parser built it
@@ -57,7 +58,7 @@ faults_below rest =
     ap above (sym (session_stops rest)) ∙ (past _ _ (no_fault_above rest) ∙ or_nothing below)
 
 -- what is found after the last word
-abbrev last_fault : Held → Kinds
+abbrev pub last_fault : Held → Kinds
 last_fault h = or_else (defaults_fault (settled session_rules h).rows session_rules)
     (check_fault session_shape (finished session_rules h) false)
 
@@ -74,11 +75,20 @@ pub asks_below : (rest : List Text) (after : Walk) → Goes session_shape start 
 asks_below rest after goes =
     asked_below rest ∙ ap (λ (w : Walk). asked_of (Some (codes "session", finished session_rules w.held))) goes.goes
 
+abbrev pub session_rule : Text → Rule
+session_rule id = unwrap_or (arg_by_id session_rules id) help_rule
+
 -- the rows and the values between two words
 abbrev pub holding : List Row → Option (Text × List Text) → Held
 holding rows pending = record { rows = rows; pending = pending; skip = 0 }
 
 -- ---- the words, each at any rows
+
+-- a flag that was not used before, behind an option without a fault
+first_use : {before : Kinds} {again : Bool} → before ≡ [] → again ≡ false
+    → or_else (or_else before (or_else (if again && true then ArgumentConflict ∷ [] else []) [])) [] ≡ []
+first_use before fresh =
+    ap₂ (λ (f : Kinds) (b : Bool). or_else (or_else f (or_else (if b && true then ArgumentConflict ∷ [] else []) [])) []) before fresh
 
 pub history_turn : (rows : List Row) (pending : Option (Text × List Text)) (position : ℕ)
     → settle_fault session_rules false (holding rows pending) ≡ []
@@ -104,66 +114,57 @@ bound_turn rows position text is =
       goes = ap (λ (m : Held × Step). after_step session_rules text w m.0 m.1) met;
     }
 
-abbrev pub cut : Rule
-cut = unwrap_or (arg_by_id session_rules (codes "cut")) help_rule
-
 pub cut_turn : (rows : List Row) (pending : Option (Text × List Text)) (position : ℕ)
     → settle_fault session_rules false (holding rows pending) ≡ []
-    → use_fault false cut [] (settled_rows session_rules pending rows) ≡ []
+    → row_at (codes "cut") (settled_rows session_rules pending rows) ≡ None
     → Turn session_shape (standing rows pending idle position) (codes "--cut")
-    (standing (used cut [] (settled_rows session_rules pending rows)) None idle position)
+    (standing (used (session_rule (codes "cut")) [] (settled_rows session_rules pending rows)) None idle position)
 unfolding clap_on_literals
 cut_turn rows pending position settled fresh = record {
-  clean = ap₂ (λ (f g : Kinds). or_else (or_else f g) []) settled fresh;
+  clean = first_use settled (no_row (codes "cut") (settled_rows session_rules pending rows) fresh);
   goes = refl;
 }
-
-abbrev pub progress : Rule
-progress = unwrap_or (arg_by_id session_rules (codes "progress")) help_rule
 
 pub progress_turn : (rows : List Row) (pending : Option (Text × List Text)) (position : ℕ)
     → settle_fault session_rules false (holding rows pending) ≡ []
-    → use_fault false progress [] (settled_rows session_rules pending rows) ≡ []
+    → row_at (codes "progress") (settled_rows session_rules pending rows) ≡ None
     → Turn session_shape (standing rows pending idle position) (codes "--progress")
-    (standing (used progress [] (settled_rows session_rules pending rows)) None idle position)
+    (standing (used (session_rule (codes "progress")) [] (settled_rows session_rules pending rows)) None idle position)
 unfolding clap_on_literals
 progress_turn rows pending position settled fresh = record {
-  clean = ap₂ (λ (f g : Kinds). or_else (or_else f g) []) settled fresh;
+  clean = first_use settled (no_row (codes "progress") (settled_rows session_rules pending rows) fresh);
   goes = refl;
 }
 
-pub path_first : (rows : List Row) (path : Text) → IsWord path
-    → Turn session_shape (standing rows None idle 1) path (standing rows (Some (codes "problem", path ∷ [])) idle 2)
-unfolding clap_on_literals
-path_first rows path is =
-    let h : Held = holding rows None in
-    let met = met_idle path is session_rules 1 h in
-    record {
-      clean = ap₂ (λ (f : Kinds) (m : Held × Step). or_else f (step_fault session_shape 1 m.0 m.1)) (clean_idle path is session_shape h) met;
-      goes = ap (λ (m : Held × Step). after_step session_rules path (standing rows None idle 1) m.0 m.1) met;
-    }
+both_false : (b : Bool) → (b && false) ≡ false
+both_false true = refl
+both_false false = refl
 
--- the fault of a path behind the bound is that of the bound
-pub path_then : (rows : List Row) (text path : Text) (kinds : Kinds) → IsWord path
-    → settle_fault session_rules false (holding rows (Some (codes "history", text ∷ []))) ≡ kinds
-    → turn_fault session_shape [] (standing rows (Some (codes "history", text ∷ [])) idle 1) path ≡ kinds
+-- the fault of a path behind an option is that of the option
+pub path_then : (rows : List Row) (pending : Option (Text × List Text)) (path : Text) (kinds : Kinds) → IsWord path
+    → settle_fault session_rules false (holding rows pending) ≡ kinds
+    → turn_fault session_shape [] (standing rows pending idle 1) path ≡ kinds
 unfolding clap_on_literals
-path_then rows text path kinds is settled =
-    let h : Held = holding rows (Some (codes "history", text ∷ [])) in
+path_then rows pending path kinds is settled =
+    let h : Held = holding rows pending in
     ap₂ (λ (f : Kinds) (m : Held × Step). or_else f (step_fault session_shape 1 m.0 m.1)) (clean_idle path is session_shape h)
-    (met_idle path is session_rules 1 h) ∙ settled
+    (met_idle path is session_rules 1 h)
+    ∙ ap (λ (b : Bool). if b then [] else settle_fault session_rules false h)
+    (both_false (is_pending (session_rule (codes "problem")) pending)) ∙ settled
 
-pub path_turn : (rows : List Row) (text path : Text) → IsWord path
-    → settle_fault session_rules false (holding rows (Some (codes "history", text ∷ []))) ≡ []
-    → Turn session_shape (standing rows (Some (codes "history", text ∷ [])) idle 1) path
-    (standing (settled_rows session_rules (Some (codes "history", text ∷ [])) rows) (Some (codes "problem", path ∷ [])) idle 2)
+pub path_turn : (rows : List Row) (pending : Option (Text × List Text)) (path : Text) → IsWord path
+    → settle_fault session_rules false (holding rows pending) ≡ []
+    → Turn session_shape (standing rows pending idle 1) path
+    (standing (settled_rows session_rules pending rows) (Some (codes "problem", path ∷ [])) idle 2)
 unfolding clap_on_literals
-path_turn rows text path is settled =
-    let h : Held = holding rows (Some (codes "history", text ∷ [])) in
-    let w : Walk = standing rows (Some (codes "history", text ∷ [])) idle 1 in
+path_turn rows pending path is settles =
+    let h : Held = holding rows pending in
+    let w : Walk = standing rows pending idle 1 in
     record {
-      clean = path_then rows text path [] is settled;
-      goes = ap (λ (m : Held × Step). after_step session_rules path w m.0 m.1) (met_idle path is session_rules 1 h);
+      clean = path_then rows pending path [] is settles;
+      goes = ap (λ (m : Held × Step). after_step session_rules path w m.0 m.1) (met_idle path is session_rules 1 h)
+          ∙ ap (λ (b : Bool). record (standing [] None idle 2) { held = pushed (codes "problem") path (if b then h else settled session_rules h) })
+          (both_false (is_pending (session_rule (codes "problem")) pending));
     }
 
 -- ---- the text of a bound
@@ -178,10 +179,10 @@ pub bound_refused : (text : Text) → passes text ≡ false
     → settle_fault session_rules false (holding [] (Some (codes "history", text ∷ []))) ≡ ValueValidation ∷ []
 bound_refused text bad = ap (λ (ok : Bool). or_else (if ok then [] else ValueValidation ∷ []) []) bad
 
-pub bound_ends : (rows : List Row) (text : Text) → has_row (codes "history") rows ≡ false → passes text ≡ true
-    → last_fault (holding rows (Some (codes "history", text ∷ []))) ≡ []
-    → end_fault (holding rows (Some (codes "history", text ∷ []))) ≡ []
-bound_ends rows text fresh good last = past _ _ (bound_settles rows text fresh good) ∙ last
+-- a path without a fault, where no other was there before
+pub path_settles : (rows : List Row) (path : Text) → has_row (codes "problem") rows ≡ false
+    → settle_fault session_rules false (holding rows (Some (codes "problem", path ∷ []))) ≡ []
+path_settles rows path fresh = ap (λ (again : Bool). or_else (if again && true then ArgumentConflict ∷ [] else []) []) fresh
 
 first_fault : (a b : Kinds) (k : ErrorKind) (ks : Kinds) → a ≡ k ∷ ks → or_else a b ≡ k ∷ ks
 first_fault a b k ks is = ap (λ (x : Kinds). or_else x b) is
@@ -190,6 +191,6 @@ pub bad_bound_refused : (text path : Text) → IsWord text → IsWord path → p
     → faults_in (codes "session" ∷ codes "--history" ∷ text ∷ path ∷ []) ≡ ValueValidation ∷ []
 bad_bound_refused text path number plain bad =
     let w : Walk = standing [] (Some (codes "history", text ∷ [])) idle 1 in
-    let here = fault_here session_shape w path [] _ (path_then [] text path _ plain (bound_refused text bad)) in
+    let here = fault_here session_shape w path [] _ (path_then [] (Some (codes "history", text ∷ [])) path _ plain (bound_refused text bad)) in
     faults_below (codes "--history" ∷ text ∷ path ∷ [])
     ∙ first_fault _ _ _ _ (fault_behind _ _ _ _ _ _ (history_turn [] None 1 refl) (fault_behind _ _ _ _ _ _ (bound_turn [] 1 text number) here))

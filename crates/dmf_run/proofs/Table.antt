@@ -86,39 +86,6 @@ pub solve_progress_cut_asked : asked_in (codes "solve" ∷ codes "--progress" �
 unfolding clap_on_literals
 solve_progress_cut_asked = refl
 
-pub session_taken : (path : Text) → IsPlain path → faults_in (codes "session" ∷ path ∷ []) ≡ []
-unfolding clap_on_literals
-session_taken [] plain = refl
-session_taken (x ∷ xs) plain = rw (plain, plain) refl
-
-pub session_asked : (path : Text) → IsPlain path
-    → asked_in (codes "session" ∷ path ∷ []) ≡ Some (codes "session", Some (bool_text false), Some (bool_text false), Some most_text, Some path)
-unfolding clap_on_literals
-session_asked [] plain = refl
-session_asked (x ∷ xs) plain = rw (plain, plain) refl
-
-pub cut_first_taken : (path : Text) → IsPlain path → faults_in (codes "session" ∷ codes "--cut" ∷ path ∷ []) ≡ []
-unfolding clap_on_literals
-cut_first_taken [] plain = refl
-cut_first_taken (x ∷ xs) plain = rw (plain, plain) refl
-
-pub cut_first_asked : (path : Text) → IsPlain path
-    → asked_in (codes "session" ∷ codes "--cut" ∷ path ∷ []) ≡ Some (codes "session", Some (bool_text true), Some (bool_text false), Some most_text, Some path)
-unfolding clap_on_literals
-cut_first_asked [] plain = refl
-cut_first_asked (x ∷ xs) plain = rw (plain, plain) refl
-
-pub cut_last_taken : (path : Text) → IsPlain path → faults_in (codes "session" ∷ path ∷ codes "--cut" ∷ []) ≡ []
-unfolding clap_on_literals
-cut_last_taken [] plain = refl
-cut_last_taken (x ∷ xs) plain = rw (plain, plain) refl
-
-pub cut_last_asked : (path : Text) → IsPlain path
-    → asked_in (codes "session" ∷ path ∷ codes "--cut" ∷ []) ≡ Some (codes "session", Some (bool_text true), Some (bool_text false), Some most_text, Some path)
-unfolding clap_on_literals
-cut_last_asked [] plain = refl
-cut_last_asked (x ∷ xs) plain = rw (plain, plain) refl
-
 pub check_taken : (path : Text) → IsPlain path → faults_in (codes "check" ∷ path ∷ []) ≡ []
 unfolding clap_on_literals
 check_taken [] plain = refl
@@ -147,6 +114,11 @@ session_help_asked = refl
 pub check_help_asked : faults_in (codes "check" ∷ codes "--help" ∷ []) ≡ DisplayHelp ∷ []
 unfolding clap_on_literals
 check_help_asked = refl
+
+-- with a command behind it, or with one that is none
+pub help_of_asked : (rest : List Text) → faults_in (codes "help" ∷ rest) ≡ DisplayHelp ∷ InvalidSubcommand ∷ []
+unfolding clap_on_literals
+help_of_asked rest = refl
 
 -- ---- words that ask for the version
 

@@ -1,6 +1,6 @@
 -- The words of the command line: what they ask for.
 -- Public: a public contract says no more than this.
-use Rattle.std.specs.Prelude.{ℕ, ◌≡◌, ◌≢◌, ◌⊎◌, ◌==◌, ◌≤◌, Bool, true, false, List, [], ◌∷◌, ◌++◌, Result, MatchResult, IsErrAnd, codes, ⊤}
+use Rattle.std.specs.Prelude.{ℕ, ◌≡◌, ◌≢◌, ◌⊎◌, ◌==◌, ◌≤◌, Bool, true, false, List, [], ◌∷◌, flat_map, Option, Some, None, unwrap_or, Result, MatchResult, IsErrAnd, codes, ⊤}
 use Rattle.std.specs.Str.Parse.{IsNumeral, digits_value, without_leading_plus}
 use Rattle.dmf_run.specs.declared.words.Mode.{Mode}
 use Rattle.dmf_run.specs.declared.words.Mode.TheVariants as mode
@@ -81,10 +81,40 @@ pub record IsNoCommand (word : Text) : Type 0 where
   pub check : word ≢ codes "check"
   pub help : word ≢ codes "help"
 
--- The words are those of the three lists, one behind another, in any order.
-abbrev pub InAnyOrder : List Text → List Text → List Text → List Text → Type 0
-InAnyOrder a b c words = (words ≡ a ++ b ++ c) ⊎ (words ≡ a ++ c ++ b) ⊎ (words ≡ b ++ a ++ c) ⊎ (words ≡ b ++ c ++ a)
-    ⊎ (words ≡ c ++ a ++ b) ⊎ (words ≡ c ++ b ++ a)
+-- A part of what stands behind `session`: an option, with the text of its number where it has one, or the path of a problem.
+pub data Part : Type 0 where
+  with_cut : Part
+  with_progress : Part
+  with_history : Text → Part
+  with_problem : Text → Part
+
+abbrev pub spelled : Part → List Text
+spelled with_cut = codes "--cut" ∷ []
+spelled with_progress = codes "--progress" ∷ []
+spelled (with_history text) = codes "--history" ∷ text ∷ []
+spelled (with_problem path) = path ∷ []
+
+-- What parts say: whether the cut is wanted, whether progress is, and the bound of the history and the path, if they are there.
+pub record Said : Type 0 where
+  pub cut : Bool
+  pub progress : Bool
+  pub bound : Option ℕ
+  pub path : Option Text
+
+abbrev pub nothing_said : Said
+nothing_said = record { cut = false; progress = false; bound = None; path = None }
+
+-- One more part is said, of a kind that was not said before.
+abbrev pub Adds : Said → Part → Said → Type 0
+Adds before with_cut after = (before.cut ≡ false) × (after ≡ record before { cut = true })
+Adds before with_progress after = (before.progress ≡ false) × (after ≡ record before { progress = true })
+Adds before (with_history text) after = (bound : ℕ) × (before.bound ≡ None) × IsBound text bound × (after ≡ record before { bound = Some bound })
+Adds before (with_problem path) after = (before.path ≡ None) × IsPlain path × (after ≡ record before { path = Some path })
+
+-- After what was said before, these parts say all this: they stand in any order, and no two are of one kind.
+abbrev pub Say : Said → List Part → Said → Type 0
+Say before [] after = before ≡ after
+Say before (part ∷ parts) after = (between : Said) × Adds before part between × Say between parts after
 
 -- What reading gives, by the words behind the program's name. The path of a problem is any word that does not begin with
 -- a dash. The bound of a session's history is 1,000,000 where none is written.
@@ -95,25 +125,9 @@ pub record ReadsWords (words : List Text) (result : Result Mode WordsFault) : Ty
   pub solve_progress : words ≡ codes "solve" ∷ codes "--progress" ∷ [] → Gives (solving false true) result
   pub solve_cut_progress : (words ≡ codes "solve" ∷ codes "--cut" ∷ codes "--progress" ∷ [])
       ⊎ (words ≡ codes "solve" ∷ codes "--progress" ∷ codes "--cut" ∷ []) → Gives (solving true true) result
-  pub session : (path : Text) → IsPlain path → words ≡ codes "session" ∷ path ∷ [] → Gives (holding false false 1000000 path) result
-  pub session_cut : (path : Text) → IsPlain path
-      → (words ≡ codes "session" ∷ codes "--cut" ∷ path ∷ []) ⊎ (words ≡ codes "session" ∷ path ∷ codes "--cut" ∷ [])
-      → Gives (holding true false 1000000 path) result
-  pub session_progress : (path : Text) → IsPlain path
-      → (words ≡ codes "session" ∷ codes "--progress" ∷ path ∷ []) ⊎ (words ≡ codes "session" ∷ path ∷ codes "--progress" ∷ [])
-      → Gives (holding false true 1000000 path) result
-  pub session_cut_progress : (path : Text) (rest : List Text) → IsPlain path
-      → InAnyOrder (codes "--cut" ∷ []) (codes "--progress" ∷ []) (path ∷ []) rest → words ≡ codes "session" ∷ rest
-      → Gives (holding true true 1000000 path) result
-  pub session_history : (text path : Text) (bound : ℕ) → IsBound text bound → IsPlain path
-      → (words ≡ codes "session" ∷ codes "--history" ∷ text ∷ path ∷ []) ⊎ (words ≡ codes "session" ∷ path ∷ codes "--history" ∷ text ∷ [])
-      → Gives (holding false false bound path) result
-  pub session_cut_history : (text path : Text) (bound : ℕ) (rest : List Text) → IsBound text bound → IsPlain path
-      → InAnyOrder (codes "--cut" ∷ []) (codes "--history" ∷ text ∷ []) (path ∷ []) rest → words ≡ codes "session" ∷ rest
-      → Gives (holding true false bound path) result
-  pub session_progress_history : (text path : Text) (bound : ℕ) (rest : List Text) → IsBound text bound → IsPlain path
-      → InAnyOrder (codes "--progress" ∷ []) (codes "--history" ∷ text ∷ []) (path ∷ []) rest → words ≡ codes "session" ∷ rest
-      → Gives (holding false true bound path) result
+  pub session : (parts : List Part) (said : Said) (path : Text) → Say nothing_said parts said → said.path ≡ Some path
+      → words ≡ codes "session" ∷ flat_map spelled parts
+      → Gives (holding said.cut said.progress (unwrap_or said.bound 1000000) path) result
   pub no_bound : (text path : Text) → IsPlain text → IsPlain path → ((bound : ℕ) → IsBound text bound → ⊥)
       → words ≡ codes "session" ∷ codes "--history" ∷ text ∷ path ∷ [] → GivesUsage result
   pub check : (path : Text) → IsPlain path → words ≡ codes "check" ∷ path ∷ [] → Gives (checking path) result
@@ -121,6 +135,7 @@ pub record ReadsWords (words : List Text) (result : Result Mode WordsFault) : Ty
   pub solve_help : words ≡ codes "solve" ∷ codes "--help" ∷ [] → GivesHelp result
   pub session_help : words ≡ codes "session" ∷ codes "--help" ∷ [] → GivesHelp result
   pub check_help : words ≡ codes "check" ∷ codes "--help" ∷ [] → GivesHelp result
+  pub help_of : (rest : List Text) → words ≡ codes "help" ∷ rest → IsErrAnd result (λ fault. IsHelp fault ⊎ IsUsage fault)
   pub version : words ≡ codes "--version" ∷ [] → GivesVersion result
   pub history_alone : (rest : List Text) → words ≡ codes "--history" ∷ rest → GivesUsage result
   pub solve_history : (text : Text) → words ≡ codes "solve" ∷ codes "--history" ∷ text ∷ [] → GivesUsage result

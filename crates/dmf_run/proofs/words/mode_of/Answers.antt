@@ -1,7 +1,7 @@
 use Rattle.std.proofs.Common.{ap, ap₂, ◌∙◌, codes}
 use Rattle.clap.specs.Words.{found_of, rows_of, subcommand_rows_of}
 use Rattle.clap.proofs.WalkLemmas.{first_value-rows, one_text-rows}
-use Rattle.dmf_run.specs.Words.{solving, holding, checking}
+use Rattle.dmf_run.specs.Words.{solving, checking}
 use Rattle.dmf_run.proofs.Reading.{same-holding, asked_rows, flag_reads}
 use Rattle.dmf_run.proofs.words.mode_of.Goals as goal
 
