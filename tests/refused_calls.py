@@ -7,6 +7,7 @@ requests. With the argument `--write` alone, what the program writes with ample 
 written to its file `stdout`, as the second implementation has it."""
 
 import os
+import re
 import subprocess
 import sys
 import tempfile
@@ -27,21 +28,23 @@ ARCS = (Arc(1, 2, 3), Arc(1, 3, 2), Arc(2, 3, 5), Arc(2, 4, 2), Arc(3, 4, 3))
 START = State(4, 1, 4, ARCS, (0, 0, 0, 0, 0))
 COMMANDS = (
     "add 1 4 1 / solve / add 1 4 2 / add 1 4 3 / undo 2 / redo 2 / cap 5 1 / add 1 4 4 / undo 3 / add 1 4 5 / add 1 4 6 / close 1 / "
-    "undo 4 / redo 3 / solve / shut 3 / undo 1 / redo 1 / add 1 4 7"
+    "print cut / undo 4 / redo 3 / solve / print cut / shut 3 / undo 1 / redo 1 / add 1 4 7"
 ).split(" / ")
 ADDITIONS = [f"add 1 4 {cap}" for cap in range(1, 8)]
 REFUSED = "refused no memory"
-SESSIONS = [(name, bound) for bound in (MOST_KEPT, 1, 0) for name in ("whole", "delta")]
+# Whether each solve tells a cut, by the bound of the history.
+WANTS_CUT = {MOST_KEPT: True, 1: False, 0: True}
+SESSIONS = [(name, bound) for bound in WANTS_CUT for name in ("whole", "delta")]
 # The calls of which some run has to be refused memory, by the part of the program's text and the word.
-GROWING = {(*session, word) for session in SESSIONS for word in ("add", "cap", "close", "shut", "solve")} | {
+GROWING = {(*session, word) for session in SESSIONS for word in ("add", "cap", "close", "shut", "solve", "print")} | {
     ("state", "add"),
     ("state", "copy"),
 }
 
 
 def command_of(text):
-    word, *numbers = text.split()
-    return word, *map(int, numbers)
+    word, *rest = text.split()
+    return word, *(rest if word == "print" else map(int, rest))
 
 
 def told_state(state):
@@ -60,15 +63,16 @@ def answer(session, command, is_refused):
     if is_refused and session.may_want_memory(*command):
         return REFUSED
     try:
-        session.reply(*command)
+        reply = session.reply(*command)
     except Fault as fault:
         return f"refused {fault}"
-    return "accepted"
+    cut = re.search(rb"^c (cut \d+)$", reply, re.MULTILINE)
+    return f"accepted {cut[1].decode()}" if cut else "accepted"
 
 
 def told_session(name, bound, refused):
     """What is told of a session over the history of this name and bound, of which these commands are refused memory."""
-    session = Session(START, False, bound)
+    session = Session(START, WANTS_CUT[bound], bound)
     lines = [f"history {name} {bound}", *told_place(session)]
     for number, text in enumerate(COMMANDS):
         lines += [f"command {text}", answer(session, command_of(text), number in refused), *told_place(session)]

@@ -6,12 +6,12 @@
 ghost use Rattle.std.specs.Prelude.{◌≤◌};
 
 use dmf_net::{NetFault, State, plan_add, plan_cap};
-use dmf_session::{Command, DeltaHistory, History, MAX_BOUND, Session, WholeHistory};
+use dmf_session::{Command, DeltaHistory, History, MAX_BOUND, Reply, Session, WholeHistory};
 use std::process::ExitCode;
 use std::{env, io};
 
-/// Changes that add arcs and others, steps back, and steps forward over additions.
-fn commands() -> [Command; 19] {
+/// Changes that add arcs and others, steps back, steps forward over additions, and cuts, of which one is told and one is not.
+fn commands() -> [Command; 21] {
     [
         add(1),
         Command::Solve,
@@ -25,9 +25,11 @@ fn commands() -> [Command; 19] {
         add(5),
         add(6),
         Command::Close { arc: 1 },
+        Command::PrintCut,
         Command::Undo(4),
         Command::Redo(3),
         Command::Solve,
+        Command::PrintCut,
         Command::Shut { node: 3 },
         Command::Undo(1),
         Command::Redo(1),
@@ -78,9 +80,9 @@ fn alter_nothing(rt: &HostRuntime) -> io::Result<()> {
 }
 
 fn run(rt: &HostRuntime) -> io::Result<()> {
-    for bound in [MAX_BOUND, 1, 0] {
-        hold_whole(rt, bound)?;
-        hold_delta(rt, bound)?;
+    for (bound, want_cut) in [(MAX_BOUND, true), (1, false), (0, true)] {
+        hold_whole(rt, bound, want_cut)?;
+        hold_delta(rt, bound, want_cut)?;
     }
     match example(rt) {
         Ok(state) => edit(rt, state),
@@ -89,23 +91,23 @@ fn run(rt: &HostRuntime) -> io::Result<()> {
 }
 
 /// Holds a session over a history of whole states.
-fn hold_whole(rt: &HostRuntime, bound: u32) -> io::Result<()>
+fn hold_whole(rt: &HostRuntime, bound: u32, want_cut: bool) -> io::Result<()>
     requires { bound ≤ 1000000 }
 {
     match example(rt).map(|state| WholeHistory::with_bound(rt.alloc(), state, bound)) {
-        Ok(Ok(history)) => hold(rt, "whole", Session::new(history)),
+        Ok(Ok(history)) => hold(rt, "whole", Session::new(history), want_cut),
         _ => println!(rt; "no history"),
     }
 }
 
 /// Holds a session over a history of edits.
-fn hold_delta(rt: &HostRuntime, bound: u32) -> io::Result<()>
+fn hold_delta(rt: &HostRuntime, bound: u32, want_cut: bool) -> io::Result<()>
     requires { bound ≤ 1000000 }
 {
     match example(rt) {
         Ok(state) => {
             let history = DeltaHistory::with_bound(rt.alloc(), state, bound);
-            hold(rt, "delta", Session::new(history))
+            hold(rt, "delta", Session::new(history), want_cut)
         }
         Err(_) => println!(rt; "no history"),
     }
@@ -120,15 +122,23 @@ fn example(rt: &HostRuntime) -> Result<State, NetFault> {
     Ok(state)
 }
 
-/// Gives the session all commands, one after the other.
-fn hold<H: History + Drop>(rt: &HostRuntime, name: &str, session: Session<H>) -> io::Result<()> {
+/// Gives the session all commands, one after the other; with `want_cut` each solve is to tell a cut.
+fn hold<H: History + Drop>(
+    rt: &HostRuntime,
+    name: &str,
+    session: Session<H>,
+    want_cut: bool,
+) -> io::Result<()> {
     let mut session = session;
     println!(rt; "history {name} {}", session.bound())?;
     tell_session(rt, &session)?;
     for command in commands() {
-        let answer = session.step(rt.alloc(), command, false);
+        let answer = session.step(rt.alloc(), command, want_cut);
         tell_command(rt, command)?;
         match answer {
+            Ok(Reply::Cut(side) | Reply::Solution(Some(side))) => {
+                println!(rt; "accepted cut {}", side.capacity())?;
+            }
             Ok(_) => println!(rt; "accepted")?,
             Err(refusal) => println!(rt; "refused {refusal}")?,
         }
@@ -172,9 +182,9 @@ fn tell_command(rt: &HostRuntime, command: Command) -> io::Result<()> {
         Command::Solve => println!(rt; "command solve"),
         Command::Undo(steps) => println!(rt; "command undo {steps}"),
         Command::Redo(steps) => println!(rt; "command redo {steps}"),
-        Command::PrintProblem | Command::PrintFlow | Command::PrintCut => {
-            println!(rt; "command print")
-        }
+        Command::PrintProblem => println!(rt; "command print problem"),
+        Command::PrintFlow => println!(rt; "command print flow"),
+        Command::PrintCut => println!(rt; "command print cut"),
     }
 }
 
