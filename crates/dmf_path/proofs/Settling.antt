@@ -6,7 +6,7 @@ use Rattle.dmf_path.specs.Node.{IsNode}
 use Rattle.dmf_path.specs.Links.{Links, AreLinks, AreRooms, AreFlags}
 use Rattle.dmf_path.specs.Walk.{IsTrail, end_of}
 use Rattle.dmf_path.specs.Held.{Way, places_of, walked_slots, rest_slots, settled, rooms_with, HaveLeft, put_each, CanPut, emptied, with_slots}
-use Rattle.dmf_path.specs.Searching.{IsUnderWay, IsHolding}
+use Rattle.dmf_path.specs.Searching.{IsUnderWay, IsHolding, IsSearch}
 use Rattle.dmf_path.proofs.Descending.{Descends, descends-behind}
 use Rattle.dmf_path.proofs.Settled.{places-append, length-settled, room-settled, nothing}
 use Rattle.dmf_path.proofs.Leaving.{have-all-left}
@@ -43,6 +43,11 @@ can-settle l takes_back labels after current w rooms flags links start way holdi
       rest = later.can;
       same = first.same ∙ ap (λ (ss : List Slot). settled l takes_back w.sent ss between) (sym none) ∙ later.same ∙ settled-none l takes_back w.sent (put_each l takes_back w.sent (rest_slots w) between);
     }
+
+-- So can what a search holds.
+pub search-settles : {l : Links} {takes_back : Bool} {places rooms flags labels current : List ℕ} {w : Way} {queue_capacity slots_capacity : ℕ} {is_fresh : Bool} → IsSearch l takes_back places rooms flags labels current w queue_capacity slots_capacity is_fresh → CanSettle l takes_back w rooms
+search-settles {l = l} {takes_back = takes_back} {rooms = rooms} {flags = flags} {labels = labels} {current = current} {w = w} is =
+    can-settle l takes_back labels (rooms_with l takes_back w rooms) current w rooms flags is.links is.start_is is.under_way is.holding
 
 -- With free slots nothing is held,
 pub rooms_with-free : (l : Links) (takes_back : Bool) (w : Way) (slots : List Slot) (rooms : List ℕ) → rooms_with l takes_back (with_slots w slots) rooms ≡ rooms

@@ -2,84 +2,75 @@
 use Rattle.std.proofs.Common.{◌≡◌, get_or, ap, ◌∙◌, arith, vec_capacity}
 use Rattle.std.specs.Vec.{with_items}
 use Rattle.std.proofs.lemmas.List.{with_items_is, get_or_default}
-use Rattle.dmf_path.specs.Links.{links_of}
+use Rattle.dmf_path.specs.Links.{links_of, pairs_at}
 use Rattle.dmf_path.specs.Held.{way_of, rooms_with}
-use Rattle.dmf_path.proofs.Lowered.{HasPlace-along}
+use Rattle.dmf_path.specs.Search.{with_pairs, lowered_along}
+use Rattle.dmf_path.specs.Searching.{IsSearch, searched}
+use Rattle.dmf_path.proofs.Lowered.{HasPlace, HasPlace-along}
 use Rattle.dmf_path.proofs.Released.{is-lowered}
 use Rattle.dmf_path.proofs.search.Search.lower.Goals as goal
+use Rattle.dmf_path.proofs.search.Search.lower.Goals.{After-deref_mut-4, After-self-4-1}
+
+-- The pair's link along has a place,
+has : (c : After-deref_mut-4) → HasPlace (links_of c.self.inside.table) c.self.inside.places.items (rooms_with (links_of c.self.inside.table) c.self.inside.takes_back (way_of c.self.inside.trail) c.self.inside.rooms.items) c.args.k c.args.amount
+has c =
+    let along = rw (← c.self.view_is) at c.requires in
+    HasPlace-along (links_of c.self.inside.table) c.self.inside.places.items (rooms_with (links_of c.self.inside.table) c.self.inside.takes_back (way_of c.self.inside.trail) c.self.inside.rooms.items) c.args.k c.args.amount c.self.invariant.places_are along
+
+-- which is read,
+place : (c : After-deref_mut-4) → c.index-place.result.now ≡ get_or c.self.inside.places.items c.args.k 0
+place c = c.index-place.ensures ∙ get_or_default c.self.inside.places.items c.args.k _ 0 (has c).index
+
+-- as are the rooms once it is released.
+read : (c : After-deref_mut-4) → c.deref_mut-3.result.now ≡ c.release.new.rooms
+read c = c.deref_mut-3.ensures.value ∙ with_items_is c.self.inside.rooms c.release.new.rooms (c.release.auto.rooms ∙ c.deref_mut.ensures.len)
 
 pub push_once-requires-clause-rooms : goal.push_once-requires-clause-rooms
-push_once-requires-clause-rooms c =
-    let rooms = with_items_is c.self.inside.rooms c.release.new.rooms (c.release.auto.rooms ∙ c.deref_mut.ensures.len) in
-    rw (c.deref_mut-3.ensures.value, rooms) c.release.ensures.holding.rooms_are
+push_once-requires-clause-rooms c = rw (read (goal.at.push_once-requires-clause-rooms c).After-deref_mut-4) c.release.ensures.holding.rooms_are
 
 pub push_once-requires-clause-flags : goal.push_once-requires-clause-flags
 push_once-requires-clause-flags c =
-    let rooms = with_items_is c.self.inside.rooms c.release.new.rooms (c.release.auto.rooms ∙ c.deref_mut.ensures.len) in
     let flags = with_items_is c.self.inside.flags c.release.new.flags (c.release.auto.flags ∙ c.deref_mut-2.ensures.len) in
-    rw (c.deref_mut-3.ensures.value, c.deref_mut-4.ensures.value, rooms, flags) c.release.ensures.holding.flags_are
+    rw (read (goal.at.push_once-requires-clause-flags c).After-deref_mut-4, c.deref_mut-4.ensures.value, flags) c.release.ensures.holding.flags_are
 
 pub push_once-requires-clause-within : goal.push_once-requires-clause-within
 push_once-requires-clause-within c =
-    let i = c.self.invariant in
-    let l = links_of c.self.inside.table in
-    let w = way_of c.self.inside.trail in
-    let along = rw (← c.self.view_is) at c.requires in
-    let has = HasPlace-along l c.self.inside.places.items (rooms_with l c.self.inside.takes_back w c.self.inside.rooms.items) c.args.k c.args.amount i.places_are along in
-    let place : c.index-place.result.now ≡ get_or c.self.inside.places.items c.args.k 0 = c.index-place.ensures ∙ get_or_default c.self.inside.places.items c.args.k _ 0 has.index in
-    omega (arith, place, has.within)
+    let at = (goal.at.push_once-requires-clause-within c).After-deref_mut-4 in
+    omega (arith, place at, (has at).within)
 
 pub push_once-requires-clause-room : goal.push_once-requires-clause-room
 push_once-requires-clause-room c =
-    let i = c.self.invariant in
-    let l = links_of c.self.inside.table in
-    let w = way_of c.self.inside.trail in
-    let along = rw (← c.self.view_is) at c.requires in
-    let has = HasPlace-along l c.self.inside.places.items (rooms_with l c.self.inside.takes_back w c.self.inside.rooms.items) c.args.k c.args.amount i.places_are along in
-    let place : c.index-place.result.now ≡ get_or c.self.inside.places.items c.args.k 0 = c.index-place.ensures ∙ get_or_default c.self.inside.places.items c.args.k _ 0 has.index in
-    let rooms = with_items_is c.self.inside.rooms c.release.new.rooms (c.release.auto.rooms ∙ c.deref_mut.ensures.len) in
-    let read : c.deref_mut-3.result.now ≡ c.release.new.rooms = c.deref_mut-3.ensures.value ∙ rooms in
+    let at = (goal.at.push_once-requires-clause-room c).After-deref_mut-4 in
     omega (
       arith,
-      has.enough,
-      ap (λ rs. get_or rs c.index-place.result.now 0) read,
+      (has at).enough,
+      ap (λ rs. get_or rs c.index-place.result.now 0) (read at),
       rw c.deref_mut.ensures.value at c.release.ensures.room,
-      ap (λ p. get_or (rooms_with l c.self.inside.takes_back w c.self.inside.rooms.items) p 0) place,
+      ap (λ p. get_or (rooms_with (links_of c.self.inside.table) c.self.inside.takes_back (way_of c.self.inside.trail) c.self.inside.rooms.items) p 0) (place at),
     )
+
+-- what the search keeps then, and what callers see of it
+lowered : (c : After-self-4-1) → IsSearch (links_of c.self.inside.table) c.self.inside.takes_back c.self.inside.places.items c.push_once.new.rooms c.push_once.new.flags c.self.inside.labels.items c.self.inside.current.items (way_of c.release.new.trail) (vec_capacity c.self.inside.queue) (vec_capacity c.release.new.trail.slots) c.self.inside.is_fresh
+    × (searched (links_of c.self.inside.table) c.self.inside.places.items (rooms_with (links_of c.self.inside.table) c.self.inside.takes_back (way_of c.release.new.trail) c.push_once.new.rooms) c.release.new.trail.start c.release.new.trail.goal c.self.inside.takes_back
+    ≡ with_pairs (searched (links_of c.self.inside.table) c.self.inside.places.items (rooms_with (links_of c.self.inside.table) c.self.inside.takes_back (way_of c.self.inside.trail) c.self.inside.rooms.items) c.self.inside.trail.start c.self.inside.trail.goal c.self.inside.takes_back)
+    (lowered_along (pairs_at (links_of c.self.inside.table) c.self.inside.places.items (rooms_with (links_of c.self.inside.table) c.self.inside.takes_back (way_of c.self.inside.trail) c.self.inside.rooms.items)) c.args.k c.args.amount))
+lowered c =
+    let at = (goal.at.After-self-4-1 c).After-deref_mut-4 in
+    let i = c.self.invariant in
+    let along = rw (← c.self.view_is) at c.requires in
+    is-lowered (links_of c.self.inside.table) c.self.inside.takes_back c.self.inside.places.items c.self.inside.rooms.items c.self.inside.flags.items c.self.inside.labels.items c.self.inside.current.items (way_of c.self.inside.trail) (vec_capacity c.self.inside.queue) (vec_capacity c.self.inside.trail.slots) c.args.k c.index-place.result.now c.args.amount
+    (way_of c.release.new.trail) c.release.new.rooms c.release.new.flags c.push_once.new.rooms c.push_once.new.flags (vec_capacity c.release.new.trail.slots) i along (place at)
+    c.release.ensures.holding (rw c.deref_mut.ensures.value at c.release.ensures.same) ((rw c.deref.ensures.value at c.release.ensures.under_way) _ _ i.under_way)
+    c.release.ensures.off (rw c.deref_mut.ensures.value at c.release.ensures.room) c.release.ensures.start c.release.ensures.goal c.release.ensures.slots_capacity
+    (rw (read at) at c.push_once.ensures.rooms) c.push_once.ensures.sums c.push_once.ensures.flags
 
 pub invariant_of-self : goal.invariant_of-self
 invariant_of-self c =
-    let i = c.self.invariant in
-    let l = links_of c.self.inside.table in
-    let w = way_of c.self.inside.trail in
-    let along = rw (← c.self.view_is) at c.requires in
-    let has = HasPlace-along l c.self.inside.places.items (rooms_with l c.self.inside.takes_back w c.self.inside.rooms.items) c.args.k c.args.amount i.places_are along in
-    let place : c.index-place.result.now ≡ get_or c.self.inside.places.items c.args.k 0 = c.index-place.ensures ∙ get_or_default c.self.inside.places.items c.args.k _ 0 has.index in
-    let rooms = with_items_is c.self.inside.rooms c.release.new.rooms (c.release.auto.rooms ∙ c.deref_mut.ensures.len) in
-    let read : c.deref_mut-3.result.now ≡ c.release.new.rooms = c.deref_mut-3.ensures.value ∙ rooms in
-    let lowered = is-lowered l c.self.inside.takes_back c.self.inside.places.items c.self.inside.rooms.items c.self.inside.flags.items c.self.inside.labels.items c.self.inside.current.items w (vec_capacity c.self.inside.queue) (vec_capacity c.self.inside.trail.slots) c.args.k c.index-place.result.now c.args.amount
-    (way_of c.release.new.trail) c.release.new.rooms c.release.new.flags c.push_once.new.rooms c.push_once.new.flags (vec_capacity c.release.new.trail.slots) i along place
-    c.release.ensures.holding (rw c.deref_mut.ensures.value at c.release.ensures.same) ((rw c.deref.ensures.value at c.release.ensures.under_way) _ _ i.under_way)
-    c.release.ensures.off (rw c.deref_mut.ensures.value at c.release.ensures.room) c.release.ensures.start c.release.ensures.goal c.release.ensures.slots_capacity
-    (rw read at c.push_once.ensures.rooms) c.push_once.ensures.sums c.push_once.ensures.flags in
-    let rooms_after = with_items_is (with_items c.self.inside.rooms c.release.new.rooms) c.push_once.new.rooms (c.push_once.auto.rooms ∙ c.deref_mut-3.ensures.len) in
-    let flags_after = with_items_is (with_items c.self.inside.flags c.release.new.flags) c.push_once.new.flags (c.push_once.auto.flags ∙ c.deref_mut-4.ensures.len) in
-    rw (rooms_after, flags_after) lowered.0
+    let rooms = with_items_is (with_items c.self.inside.rooms c.release.new.rooms) c.push_once.new.rooms (c.push_once.auto.rooms ∙ c.deref_mut-3.ensures.len) in
+    let flags = with_items_is (with_items c.self.inside.flags c.release.new.flags) c.push_once.new.flags (c.push_once.auto.flags ∙ c.deref_mut-4.ensures.len) in
+    rw (rooms, flags) (lowered (goal.at.invariant_of-self c).After-self-4-1).0
 
 pub returns : goal.returns
 returns c =
-    let i = c.self.invariant in
-    let l = links_of c.self.inside.table in
-    let w = way_of c.self.inside.trail in
-    let along = rw (← c.self.view_is) at c.requires in
-    let has = HasPlace-along l c.self.inside.places.items (rooms_with l c.self.inside.takes_back w c.self.inside.rooms.items) c.args.k c.args.amount i.places_are along in
-    let place : c.index-place.result.now ≡ get_or c.self.inside.places.items c.args.k 0 = c.index-place.ensures ∙ get_or_default c.self.inside.places.items c.args.k _ 0 has.index in
-    let rooms = with_items_is c.self.inside.rooms c.release.new.rooms (c.release.auto.rooms ∙ c.deref_mut.ensures.len) in
-    let read : c.deref_mut-3.result.now ≡ c.release.new.rooms = c.deref_mut-3.ensures.value ∙ rooms in
-    let lowered = is-lowered l c.self.inside.takes_back c.self.inside.places.items c.self.inside.rooms.items c.self.inside.flags.items c.self.inside.labels.items c.self.inside.current.items w (vec_capacity c.self.inside.queue) (vec_capacity c.self.inside.trail.slots) c.args.k c.index-place.result.now c.args.amount
-    (way_of c.release.new.trail) c.release.new.rooms c.release.new.flags c.push_once.new.rooms c.push_once.new.flags (vec_capacity c.release.new.trail.slots) i along place
-    c.release.ensures.holding (rw c.deref_mut.ensures.value at c.release.ensures.same) ((rw c.deref.ensures.value at c.release.ensures.under_way) _ _ i.under_way)
-    c.release.ensures.off (rw c.deref_mut.ensures.value at c.release.ensures.room) c.release.ensures.start c.release.ensures.goal c.release.ensures.slots_capacity
-    (rw read at c.push_once.ensures.rooms) c.push_once.ensures.sums c.push_once.ensures.flags in
-    let rooms_after = with_items_is (with_items c.self.inside.rooms c.release.new.rooms) c.push_once.new.rooms (c.push_once.auto.rooms ∙ c.deref_mut-3.ensures.len) in
-    rw (← c.self.view_is, rooms_after) lowered.1
+    let rooms = with_items_is (with_items c.self.inside.rooms c.release.new.rooms) c.push_once.new.rooms (c.push_once.auto.rooms ∙ c.deref_mut-3.ensures.len) in
+    rw (← c.self.view_is, rooms) (lowered (goal.at.returns c).After-self-4-1).1

@@ -7,27 +7,17 @@ use Rattle.dmf_path.specs.Links.{links_of, pair_at, no_place}
 use Rattle.dmf_path.specs.Held.{Way, way_of, rooms_with}
 use Rattle.dmf_path.specs.Search.{Searched, with_pairs, with_rooms}
 use Rattle.dmf_path.specs.Searching.{IsSearch, searched}
-use Rattle.dmf_path.proofs.Settling.{can-settle}
+use Rattle.dmf_path.proofs.Settling.{search-settles}
 use Rattle.dmf_path.proofs.SearchTurns.{IsSearch-anew, IsSearch-set, rooms_with-fresh, same-searched}
 use Rattle.dmf_path.proofs.RoomsSet.{set-searched, unset-searched}
 use Rattle.dmf_path.proofs.search.Search.set_rooms.Goals.{Joined-not-self, then-not-self, else-not-self}
 use Rattle.dmf_path.proofs.search.Search.set_rooms.Goals as goal
 
 pub begin_anew-requires-clause-walked : goal.begin_anew-requires-clause-walked
-begin_anew-requires-clause-walked c =
-    let i = c.self.invariant in
-    let l = links_of c.self.inside.table in
-    let w = way_of c.self.inside.trail in
-    let settles = can-settle l c.self.inside.takes_back _ _ _ w c.self.inside.rooms.items c.self.inside.flags.items i.links i.start_is i.under_way i.holding in
-    rw c.deref_mut.ensures.value settles.walked
+begin_anew-requires-clause-walked c = rw c.deref_mut.ensures.value (search-settles c.self.invariant).walked
 
 pub begin_anew-requires-clause-rest : goal.begin_anew-requires-clause-rest
-begin_anew-requires-clause-rest c =
-    let i = c.self.invariant in
-    let l = links_of c.self.inside.table in
-    let w = way_of c.self.inside.trail in
-    let settles = can-settle l c.self.inside.takes_back _ _ _ w c.self.inside.rooms.items c.self.inside.flags.items i.links i.start_is i.under_way i.holding in
-    rw c.deref_mut.ensures.value settles.rest
+begin_anew-requires-clause-rest c = rw c.deref_mut.ensures.value (search-settles c.self.invariant).rest
 
 -- The search has not begun, and callers see of it what they saw before.
 record IsAnew (x : Inside) (before : Searched) : Type 0 where
@@ -40,11 +30,10 @@ anew c =
     let i = c.self.invariant in
     let l = links_of c.self.inside.table in
     let w = way_of c.self.inside.trail in
-    let settles = can-settle l c.self.inside.takes_back _ _ _ w c.self.inside.rooms.items c.self.inside.flags.items i.links i.start_is i.under_way i.holding in
     elim c.if-not-self.branch [
       | then-not-self v ↦
           let put = rw v.deref_mut.ensures.value at v.begin_anew.ensures.rooms in
-          let now : v.begin_anew.new.rooms ≡ rooms_with l c.self.inside.takes_back w c.self.inside.rooms.items = put ∙ sym settles.same in
+          let now : v.begin_anew.new.rooms ≡ rooms_with l c.self.inside.takes_back w c.self.inside.rooms.items = put ∙ sym (search-settles i).same in
           let rooms = with_items_is c.self.inside.rooms v.begin_anew.new.rooms (v.begin_anew.auto.rooms ∙ v.deref_mut.ensures.len) in
           let flags = with_items_is c.self.inside.flags v.begin_anew.new.flags (v.begin_anew.auto.flags ∙ v.deref_mut-then-not-self.ensures.len) in
           let labels = with_items_is c.self.inside.labels v.begin_anew.new.labels (v.begin_anew.auto.labels ∙ v.deref_mut-then-not-self-2.ensures.len) in
