@@ -3,7 +3,7 @@ use Rattle.std.proofs.Common.{ℕ, ◌≡◌, ◌≢◌, ◌⊎◌, ◌∙◌, a
 use Rattle.clap.specs.Kinds.{Kinds, IsAmong}
 use Rattle.clap.specs.Values.{bool_text}
 use Rattle.clap.specs.declared.error.kind.ErrorKind.{ErrorKind}
-use Rattle.clap.specs.declared.error.kind.ErrorKind.TheVariants.{DisplayHelp, DisplayVersion, UnknownArgument, InvalidSubcommand, MissingRequiredArgument, OutOfMemory, ValueValidation}
+use Rattle.clap.specs.declared.error.kind.ErrorKind.TheVariants.{ArgumentConflict, DisplayHelp, DisplayVersion, UnknownArgument, InvalidSubcommand, MissingRequiredArgument, OutOfMemory, ValueValidation}
 use Rattle.dmf_run.specs.declared.words.Mode.{Mode}
 use Rattle.dmf_run.specs.declared.words.WordsFault.{WordsFault}
 use Rattle.dmf_run.specs.declared.words.WordsFault.TheVariants.{NoMemory}
@@ -11,7 +11,7 @@ use Rattle.dmf_run.specs.Matches.{Asked, asked_of}
 use Rattle.clap.specs.Words.{Row, first_of, one_of}
 use Rattle.dmf_run.specs.Words.{Text, Gives, IsBound, IsHelp, IsUsage, IsVersion, ReadsWords, solving, holding, checking}
 use Rattle.dmf_run.proofs.Table.{faults_in, asked_in, history_alone_refused, solve_history_refused, check_history_refused, nothing_taken, nothing_asked, solve_taken, solve_asked, solve_cut_taken, solve_cut_asked, solve_progress_taken, solve_progress_asked, solve_cut_progress_taken, solve_cut_progress_asked, solve_progress_cut_taken, solve_progress_cut_asked, progress_alone_refused, check_progress_refused, check_taken, check_asked, help_asked, help_of_asked, solve_help_asked, session_help_asked, check_help_asked, version_asked, cut_alone_refused, session_alone_refused, check_alone_refused, solve_path_refused, session_second_refused, check_second_refused, check_cut_refused, unknown_refused}
-use Rattle.dmf_run.proofs.SessionOrders.{no_bound_refused, session_asks}
+use Rattle.dmf_run.proofs.SessionOrders.{no_bound_refused, repeated_refused, session_asks}
 
 -- a list of no kinds has no first one
 no_kinds : {k : ErrorKind} {ks : Kinds} → [] ≡ k ∷ ks → ⊥
@@ -47,6 +47,10 @@ module _ (words : List Text) (asked : Asked) (result : Result Mode WordsFault)
     session = λ parts said path say named is.
         let asks = session_asks parts said path say named in
         session said.cut said.progress asks.text (unwrap_or said.bound 1000000) path (finds _ _ is asks.asked) asks.written;
+    repeated = λ parts said word rest say again is. elim (repeated_refused parts said word rest say again) [
+      | inl conflict ↦ absurd (untaken _ is conflict)
+      | inr unknown ↦ absurd (untaken _ is unknown)
+    ];
     no_bound = λ text path word plain none is. absurd (untaken _ is (no_bound_refused text path word plain none));
     check = λ path plain is. check None None None path (finds _ _ is (check_asked path plain));
     help = λ is. absurd (untaken _ is help_asked);
@@ -150,6 +154,10 @@ module _ (words : List Text) (kind : ErrorKind) (fault : WordsFault)
       | inr last ↦ short _ last solve_progress_cut_taken
     ];
     session = λ parts said path say named is. short _ is (session_asks parts said path say named).taken;
+    repeated = λ parts said word rest say again is. elim (repeated_refused parts said word rest say again) [
+      | inl conflict ↦ refused _ ArgumentConflict (λ e. cc) (λ e. cc) is conflict
+      | inr unknown ↦ stray _ is unknown
+    ];
     no_bound = λ text path word plain none is. not_valid _ is (no_bound_refused text path word plain none);
     check = λ path plain is. short _ is (check_taken path plain);
     help = λ is. helped _ is help_asked;

@@ -37,6 +37,15 @@ no_row id (r ∷ rows) none = go (bytes_eq r.id id) (no_row id rows) none
     go true rest e = cc
     go false rest e = rest e
 
+pub some_row : (id : Text) (found : Row) (rows : List Row) → row_at id rows ≡ Some found → has_row id rows ≡ true
+some_row id found [] some = cc
+some_row id found (r ∷ rows) some = go (bytes_eq r.id id) (some_row id found rows) some
+  where
+    go : (same : Bool) → (row_at id rows ≡ Some found → has_row id rows ≡ true) → cond same (Some r) (row_at id rows) ≡ Some found
+        → (same || has_row id rows) ≡ true
+    go true rest e = refl
+    go false rest e = rest e
+
 -- where no row has the id, one is put behind all
 put_behind : (id : Text) (change : Row → List Row) (missing rows : List Row) → has_row id rows ≡ false
     → at_row id change missing rows ≡ rows ++ missing

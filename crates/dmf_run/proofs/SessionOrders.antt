@@ -1,22 +1,23 @@
 -- What `session` makes of its parts, in any order.
-use Rattle.std.proofs.Common.{ℕ, ◌≡◌, ◌∙◌, ap, arith, refl, subst, sym, Bool, true, false, List, [], ◌∷◌, ◌++◌, Option, Some, None, append_assoc, append-nil, codes, flat_map, fold, option_map, slice_get, unwrap_or}
+use Rattle.std.proofs.Common.{ℕ, ◌≡◌, ◌⊎◌, ◌∙◌, ap, arith, inl, inr, refl, subst, sym, Bool, true, false, List, [], ◌∷◌, ◌++◌, Option, Some, None, append_assoc, append-nil, codes, flat_map, fold, option_map, slice_get, unwrap_or}
 use Rattle.std.specs.Prelude.{◌||◌, not, if◌then◌else◌, option_and_then}
 use Rattle.std.specs.List.{AllByRecursion}
 use Rattle.std.specs.Option.{option_map_or}
 use Rattle.clap.specs.Facts.{explicit_source}
-use Rattle.clap.specs.Faults.{check_fault, settle_fault}
+use Rattle.clap.specs.Faults.{check_fault, settle_fault, turn_fault}
 use Rattle.clap.specs.Values.{bool_text}
 use Rattle.clap.specs.Walk.{Row, Walk, finished, idle, row_text, settled_rows, used}
-use Rattle.clap.specs.declared.error.kind.ErrorKind.TheVariants.{MissingRequiredArgument, ValueValidation}
+use Rattle.clap.specs.declared.error.kind.ErrorKind.TheVariants.{ArgumentConflict, MissingRequiredArgument, UnknownArgument, ValueValidation}
+use Rattle.clap.specs.declared.error.kind.ErrorKind.{ErrorKind}
 use Rattle.clap.proofs.FaultLemmas.{past}
 use Rattle.clap.proofs.OnLiterals.{clap_on_literals}
 use Rattle.dmf_run.specs.Matches.{Asked, asked_of}
-use Rattle.dmf_run.specs.Words.{Adds, IsBound, IsPlain, Part, Said, Say, Text, nothing_said, spelled, with_cut, with_history, with_problem, with_progress}
+use Rattle.dmf_run.specs.Words.{Adds, IsBound, IsPlain, IsRepeated, Part, Said, Say, Text, nothing_said, spelled, with_cut, with_history, with_problem, with_progress}
 use Rattle.dmf_run.proofs.Table.{faults_in, asked_in, most_text}
 use Rattle.dmf_run.proofs.BoundLemmas.{bound_is_plain, bound_passes, no_bound_passes_not}
 use Rattle.dmf_run.proofs.RowLemmas.{HasGoodDefault, defaults_at, defaults_clean, no_row, or_default, other_row, own_row, row_at, use_row, used_once}
 use Rattle.dmf_run.proofs.WordWalk.{Goes, goes_on, plain_word_is, standing, stays}
-use Rattle.dmf_run.proofs.SessionWords.{asks_below, bad_bound_refused, bound_settles, bound_turn, cut_turn, end_fault, history_turn, holding, path_settles, path_turn, progress_turn, session_rule, session_rules, session_shape, start, taken_below}
+use Rattle.dmf_run.proofs.SessionWords.{asks_below, bad_bound_refused, bound_settles, bound_turn, cut_again, cut_turn, end_fault, history_turn, holding, path_again, path_settles, path_turn, progress_again, progress_turn, refused_behind, session_rule, session_rules, session_shape, start, taken_below}
 
 -- ---- what is found for each argument
 
@@ -279,18 +280,46 @@ module _ (rows : List Row) (pending : Option (Text × List Text)) (said : Said) 
 nothing_held_yet : Holds [] None nothing_said
 nothing_held_yet = record { text = None; clean = refl; shows = record { cut = refl; progress = refl; text = refl; path = refl }; writes = refl }
 
+all_lead : (parts : List Part) (said : Said) → Say nothing_said parts said → Leads start (flat_map spelled parts) said
+all_lead parts said say = parts_lead parts [] None nothing_said said nothing_held_yet say
+
+all_goes : (parts : List Part) (said : Said) (say : Say nothing_said parts said)
+    → Goes session_shape start (flat_map spelled parts) (walk_at (all_lead parts said say).rows (all_lead parts said say).pending said)
+all_goes parts said say =
+    let led = all_lead parts said say in
+    subst (λ (w : List Text). Goes session_shape start w (walk_at led.rows led.pending said)) (append-nil (flat_map spelled parts)) (led.goes [] _ (stays _ _))
+
 pub session_asks : (parts : List Part) (said : Said) (path : Text) → Say nothing_said parts said → said.path ≡ Some path
     → Asks said path (flat_map spelled parts)
 session_asks parts said path say named =
     let all = flat_map spelled parts in
-    let led = parts_lead parts [] None nothing_said said nothing_held_yet say in
-    let goes = subst (λ (w : List Text). Goes session_shape start w (walk_at led.rows led.pending said)) (append-nil all) (led.goes [] _ (stays _ _)) in
+    let led = all_lead parts said say in
+    let goes = all_goes parts said say in
     record {
       text = unwrap_or led.holds.text most_text;
       written = bound_written led.holds.text said.bound led.holds.writes;
       taken = taken_below all _ goes (ends_clean led.rows led.pending said path led.holds named);
       asked = asks_below all _ goes ∙ ends_asked led.rows led.pending said path led.holds named;
     }
+
+-- What is said a second time is refused.
+pub repeated_refused : (parts : List Part) (said : Said) (word : Text) (rest : List Text) → Say nothing_said parts said → IsRepeated said word
+    → (faults_in (codes "session" ∷ flat_map spelled parts ++ word ∷ rest) ≡ ArgumentConflict ∷ [])
+    ⊎ (faults_in (codes "session" ∷ flat_map spelled parts ++ word ∷ rest) ≡ UnknownArgument ∷ [])
+repeated_refused parts said word rest say again =
+    let all = flat_map spelled parts in
+    let led = all_lead parts said say in
+    let at = walk_at led.rows led.pending said in
+    let fault : (k : ErrorKind) → turn_fault session_shape [] at word ≡ k ∷ [] → faults_in (codes "session" ∷ all ++ word ∷ rest) ≡ k ∷ [] =
+    λ k. refused_behind all at word rest k (all_goes parts said say) in
+    elim again [
+      | inl cut ↦ inl (fault ArgumentConflict (ap (turn_fault session_shape [] at) cut.1
+          ∙ cut_again led.rows led.pending (place said.path) _ led.holds.clean (led.holds.shows.cut ∙ ap (flag_row (codes "cut")) cut.0)))
+      | inr (inl progress) ↦ inl (fault ArgumentConflict (ap (turn_fault session_shape [] at) progress.1
+          ∙ progress_again led.rows led.pending (place said.path) _ led.holds.clean (led.holds.shows.progress ∙ ap (flag_row (codes "progress")) progress.0)))
+      | inr (inr second) ↦ inr (fault UnknownArgument (ap (λ (p : Option Text). turn_fault session_shape [] (standing led.rows led.pending idle (place p)) word) second.1
+          ∙ path_again led.rows led.pending word (plain_word_is word second.2)))
+    ]
 
 -- a text that writes no bound is refused
 pub no_bound_refused : (text path : Text) → IsPlain text → IsPlain path → ((bound : ℕ) → IsBound text bound → ⊥)

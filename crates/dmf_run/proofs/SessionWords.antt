@@ -1,12 +1,12 @@
 -- What the parser makes of the words behind `session`.
-use Rattle.std.proofs.Common.{ℕ, ◌≡◌, ◌∙◌, ap, ap₂, sym, refl, Bool, true, false, List, [], ◌∷◌, Option, Some, None, codes, find, is_some, unwrap_or}
+use Rattle.std.proofs.Common.{ℕ, ◌≡◌, ◌∙◌, ap, ap₂, sym, refl, Bool, true, false, List, [], ◌∷◌, ◌++◌, Option, Some, None, codes, find, is_some, unwrap_or}
 use Rattle.std.specs.Prelude.{◌&&◌, if◌then◌else◌}
 use Rattle.clap.specs.Kinds.{Kinds, or_else}
 use Rattle.clap.specs.Faults.{check_fault, defaults_fault, entered_fault, level_fault, settle_fault, step_fault, turn_fault, walk_fault}
 use Rattle.clap.specs.Simple.{Shape, built, entered, help_rule, help_shape, label_of, names_of, rows_at}
 use Rattle.clap.specs.Walk.{Held, Row, Rule, Step, Walk, after_step, answers_to, arg_by_id, finished, has_row, idle, is_pending, nothing_held, option, pushed, settled, settled_rows, used, walk, walk_from}
 use Rattle.clap.specs.declared.error.kind.ErrorKind.{ErrorKind}
-use Rattle.clap.specs.declared.error.kind.ErrorKind.TheVariants.{ArgumentConflict, ValueValidation}
+use Rattle.clap.specs.declared.error.kind.ErrorKind.TheVariants.{ArgumentConflict, UnknownArgument, ValueValidation}
 use Rattle.clap.proofs.FaultLemmas.{past, stopped_fault}
 use Rattle.clap.proofs.OnLiterals.{clap_on_literals}
 use Rattle.clap.proofs.WalkLemmas.{walk_stopped}
@@ -14,8 +14,8 @@ use Rattle.dmf_run.specs.Matches.{asked_of, arguments}
 use Rattle.dmf_run.specs.Words.{Text}
 use Rattle.dmf_run.proofs.Table.{faults_in, asked_in}
 use Rattle.dmf_run.proofs.BoundLemmas.{passes}
-use Rattle.dmf_run.proofs.RowLemmas.{no_row, row_at}
-use Rattle.dmf_run.proofs.WordWalk.{Goes, IsWord, Turn, fault_behind, fault_here, clean_idle, clean_option, met_idle, met_option, standing}
+use Rattle.dmf_run.proofs.RowLemmas.{no_row, row_at, some_row}
+use Rattle.dmf_run.proofs.WordWalk.{Goes, IsWord, Turn, fault_behind, fault_here, fault_past, clean_idle, clean_option, met_idle, met_option, standing}
 
 -- the command `session`, as the parser built it
 abbrev pub session_shape : Shape
@@ -114,6 +114,12 @@ bound_turn rows position text is =
       goes = ap (λ (m : Held × Step). after_step session_rules text w m.0 m.1) met;
     }
 
+-- and one that was
+second_use : {before : Kinds} {again : Bool} → before ≡ [] → again ≡ true
+    → or_else (or_else before (or_else (if again && true then ArgumentConflict ∷ [] else []) [])) [] ≡ ArgumentConflict ∷ []
+second_use before again =
+    ap₂ (λ (f : Kinds) (b : Bool). or_else (or_else f (or_else (if b && true then ArgumentConflict ∷ [] else []) [])) []) before again
+
 pub cut_turn : (rows : List Row) (pending : Option (Text × List Text)) (position : ℕ)
     → settle_fault session_rules false (holding rows pending) ≡ []
     → row_at (codes "cut") (settled_rows session_rules pending rows) ≡ None
@@ -135,6 +141,27 @@ progress_turn rows pending position settled fresh = record {
   clean = first_use settled (no_row (codes "progress") (settled_rows session_rules pending rows) fresh);
   goes = refl;
 }
+
+module _ (rows : List Row) (pending : Option (Text × List Text)) (position : ℕ) (found : Row)
+    (settled : settle_fault session_rules false (holding rows pending) ≡ []) where
+  pub cut_again : row_at (codes "cut") (settled_rows session_rules pending rows) ≡ Some found
+      → turn_fault session_shape [] (standing rows pending idle position) (codes "--cut") ≡ ArgumentConflict ∷ []
+  unfolding clap_on_literals
+  cut_again some = second_use settled (some_row (codes "cut") found (settled_rows session_rules pending rows) some)
+
+  pub progress_again : row_at (codes "progress") (settled_rows session_rules pending rows) ≡ Some found
+      → turn_fault session_shape [] (standing rows pending idle position) (codes "--progress") ≡ ArgumentConflict ∷ []
+  unfolding clap_on_literals
+  progress_again some = second_use settled (some_row (codes "progress") found (settled_rows session_rules pending rows) some)
+
+-- there is no place for a second path
+pub path_again : (rows : List Row) (pending : Option (Text × List Text)) (path : Text) → IsWord path
+    → turn_fault session_shape [] (standing rows pending idle 2) path ≡ UnknownArgument ∷ []
+unfolding clap_on_literals
+path_again rows pending path is =
+    let h : Held = holding rows pending in
+    ap₂ (λ (f : Kinds) (m : Held × Step). or_else f (step_fault session_shape 2 m.0 m.1)) (clean_idle path is session_shape h)
+    (met_idle path is session_rules 2 h)
 
 both_false : (b : Bool) → (b && false) ≡ false
 both_false true = refl
@@ -186,6 +213,13 @@ path_settles rows path fresh = ap (λ (again : Bool). or_else (if again && true 
 
 first_fault : (a b : Kinds) (k : ErrorKind) (ks : Kinds) → a ≡ k ∷ ks → or_else a b ≡ k ∷ ks
 first_fault a b k ks is = ap (λ (x : Kinds). or_else x b) is
+
+-- a fault in the word behind others without one
+pub refused_behind : (words : List Text) (after : Walk) (word : Text) (rest : List Text) (k : ErrorKind) → Goes session_shape start words after
+    → turn_fault session_shape [] after word ≡ k ∷ [] → faults_in (codes "session" ∷ words ++ word ∷ rest) ≡ k ∷ []
+refused_behind words after word rest k goes fault =
+    faults_below (words ++ word ∷ rest)
+    ∙ first_fault _ _ _ _ (fault_past session_shape start after words (word ∷ rest) (k ∷ []) goes (fault_here session_shape after word rest (k ∷ []) fault))
 
 pub bad_bound_refused : (text path : Text) → IsWord text → IsWord path → passes text ≡ false
     → faults_in (codes "session" ∷ codes "--history" ∷ text ∷ path ∷ []) ≡ ValueValidation ∷ []

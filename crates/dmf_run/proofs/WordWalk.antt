@@ -1,5 +1,5 @@
 -- A walk over the words of a command, one word at a time.
-use Rattle.std.proofs.Common.{ℕ, ◌≡◌, ◌∙◌, ap, refl, false, List, [], ◌∷◌, Option, None, fold}
+use Rattle.std.proofs.Common.{ℕ, ◌≡◌, ◌∙◌, ap, refl, false, List, [], ◌∷◌, ◌++◌, Option, None, fold}
 use Rattle.std.specs.Str.{bytes_eq}
 use Rattle.clap.specs.Kinds.{Kinds, or_else}
 use Rattle.clap.specs.Lexer.{strip_byte}
@@ -53,6 +53,20 @@ goes_on s w after end word words turn rest = record {
   clean = fault_behind s w after word words [] turn rest.clean;
   goes = ap (λ (v : Walk). fold (walked s.rules []) v words) turn.goes ∙ rest.goes;
 }
+
+both_clean : (a b : Kinds) → or_else a b ≡ [] → (a ≡ []) × (b ≡ [])
+both_clean [] b clean = (refl, clean)
+both_clean (k ∷ ks) b clean = cc
+
+-- a fault behind words without one
+pub fault_past : (s : Shape) (w after : Walk) (words more : List Text) (kinds : Kinds) → Goes s w words after → walk_fault s [] after more ≡ kinds
+    → walk_fault s [] w (words ++ more) ≡ kinds
+unfolding walk_fault
+fault_past s w after [] more kinds goes fault = ap (λ (v : Walk). walk_fault s [] v more) goes.goes ∙ fault
+fault_past s w after (word ∷ words) more kinds goes fault =
+    let clean = both_clean (turn_fault s [] w word) (walk_fault s [] (walked s.rules [] w word) words) goes.clean in
+    past (turn_fault s [] w word) _ clean.0
+    ∙ fault_past s (walked s.rules [] w word) after words more kinds (record { clean = clean.1; goes = goes.goes }) fault
 
 -- The word does not begin with a dash, by the tests that the parser makes.
 pub record IsWord (word : Text) : Type 0 where

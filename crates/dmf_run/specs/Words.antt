@@ -1,6 +1,6 @@
 -- The words of the command line: what they ask for.
 -- Public: a public contract says no more than this.
-use Rattle.std.specs.Prelude.{ℕ, ◌≡◌, ◌≢◌, ◌⊎◌, ◌==◌, ◌≤◌, Bool, true, false, List, [], ◌∷◌, flat_map, Option, Some, None, unwrap_or, Result, MatchResult, IsErrAnd, codes, ⊤}
+use Rattle.std.specs.Prelude.{ℕ, ◌≡◌, ◌≢◌, ◌⊎◌, ◌==◌, ◌≤◌, Bool, true, false, List, [], ◌∷◌, ◌++◌, flat_map, Option, Some, None, unwrap_or, Result, MatchResult, IsErrAnd, codes, ⊤}
 use Rattle.std.specs.Str.Parse.{IsNumeral, digits_value, without_leading_plus}
 use Rattle.dmf_run.specs.declared.words.Mode.{Mode}
 use Rattle.dmf_run.specs.declared.words.Mode.TheVariants as mode
@@ -116,6 +116,11 @@ abbrev pub Say : Said → List Part → Said → Type 0
 Say before [] after = before ≡ after
 Say before (part ∷ parts) after = (between : Said) × Adds before part between × Say between parts after
 
+-- The word says once more what was said: that the cut is wanted, or progress, or a path.
+abbrev pub IsRepeated : Said → Text → Type 0
+IsRepeated said word = ((said.cut ≡ true) × (word ≡ codes "--cut")) ⊎ ((said.progress ≡ true) × (word ≡ codes "--progress"))
+    ⊎ ((path : Text) × (said.path ≡ Some path) × IsPlain word)
+
 -- What reading gives, by the words behind the program's name. The path of a problem is any word that does not begin with
 -- a dash. The bound of a session's history is 1,000,000 where none is written.
 pub record ReadsWords (words : List Text) (result : Result Mode WordsFault) : Type 0 where
@@ -128,6 +133,8 @@ pub record ReadsWords (words : List Text) (result : Result Mode WordsFault) : Ty
   pub session : (parts : List Part) (said : Said) (path : Text) → Say nothing_said parts said → said.path ≡ Some path
       → words ≡ codes "session" ∷ flat_map spelled parts
       → Gives (holding said.cut said.progress (unwrap_or said.bound 1000000) path) result
+  pub repeated : (parts : List Part) (said : Said) (word : Text) (rest : List Text) → Say nothing_said parts said → IsRepeated said word
+      → words ≡ codes "session" ∷ flat_map spelled parts ++ word ∷ rest → GivesUsage result
   pub no_bound : (text path : Text) → IsPlain text → IsPlain path → ((bound : ℕ) → IsBound text bound → ⊥)
       → words ≡ codes "session" ∷ codes "--history" ∷ text ∷ path ∷ [] → GivesUsage result
   pub check : (path : Text) → IsPlain path → words ≡ codes "check" ∷ path ∷ [] → Gives (checking path) result
