@@ -23,7 +23,7 @@ WORD = re.compile(r"[^\s(){}\[\],;.`\"]+")
 
 def wrong_examples(library, page):
     """What is wrong with the example on a page, which is that of a library."""
-    test = Path(f"crates/dmf_rows/src/examples/{library}.rt")
+    test = Path(f"crates/dmf_words/src/examples/{library}.rt")
     if CODE.findall(page.read_text()) != [test.read_text()]:
         yield f"the example of {page} is not {test}"
 

@@ -1,15 +1,14 @@
 //! Tests of draining.
-use crate::edits::listed;
 use dmf_net::{Arc, Edit, NetFault, PlanFault, State, plan_cap, plan_close};
+use dmf_scanning::{flowing, listed, network};
 use std::alloc::Global;
 use std::test::Fail;
 
 #[test]
 fn a_self_loop_is_drained(rt: HostRuntime) -> Result<(), Fail> {
-    let mut state = State::new(rt.alloc(), 2, 1, 2);
-    state.push_arc(1, 1, 5)?;
-    let mut flowing = state.with_flows(rt.alloc(), vec![in rt.alloc(); 3]?)?;
-    let edit = plan_cap(rt.alloc(), &flowing, 1, 2)?;
+    let empty = network(rt.alloc(), 2, 1, 2, &[(1, 1, 5)])?;
+    let mut state = flowing(rt.alloc(), &empty, &[3])?;
+    let edit = plan_cap(rt.alloc(), &state, 1, 2)?;
     let moves = listed(rt.alloc(), &[(1, 3, 2)])?;
     assert_eq!(rt;
         edit,
@@ -20,20 +19,18 @@ fn a_self_loop_is_drained(rt: HostRuntime) -> Result<(), Fail> {
             moves
         }
     );
-    flowing.apply(&edit)?;
-    assert_eq!(rt; flowing.arcs()[0].cap, 2);
-    assert_eq!(rt; flowing.flow(1), 2);
-    assert_eq!(rt; flowing.value(), 0);
+    state.apply(&edit)?;
+    assert_eq!(rt; state.arcs()[0].cap, 2);
+    assert_eq!(rt; state.flow(1), 2);
+    assert_eq!(rt; state.value(), 0);
     Ok(())
 }
 
 #[test]
 fn a_flow_that_goes_round_is_drained(rt: HostRuntime) -> Result<(), Fail> {
-    let mut state = State::new(rt.alloc(), 4, 1, 2);
-    state.push_arc(3, 4, 5)?;
-    state.push_arc(4, 3, 5)?;
-    let mut flowing = state.with_flows(rt.alloc(), vec![in rt.alloc(); 4, 4]?)?;
-    let edit = plan_cap(rt.alloc(), &flowing, 1, 1)?;
+    let empty = network(rt.alloc(), 4, 1, 2, &[(3, 4, 5), (4, 3, 5)])?;
+    let mut state = flowing(rt.alloc(), &empty, &[4, 4])?;
+    let edit = plan_cap(rt.alloc(), &state, 1, 1)?;
     let moves = listed(rt.alloc(), &[(1, 4, 1), (2, 4, 1)])?;
     assert_eq!(rt;
         edit,
@@ -44,18 +41,15 @@ fn a_flow_that_goes_round_is_drained(rt: HostRuntime) -> Result<(), Fail> {
             moves
         }
     );
-    flowing.apply(&edit)?;
-    assert_eq!(rt; flowing.value(), 0);
+    state.apply(&edit)?;
+    assert_eq!(rt; state.value(), 0);
     Ok(())
 }
 
 /// Three nodes, source 1 and sink 2: 3 flow from 1 over 3 to 2, and 1 of them back from 2 to 1.
 fn coming_back(alloc: Global) -> Result<State, Fail> {
-    let mut state = State::new(alloc, 3, 1, 2);
-    state.push_arc(1, 3, 5)?;
-    state.push_arc(3, 2, 5)?;
-    state.push_arc(2, 1, 5)?;
-    Ok(state.with_flows(alloc, vec![in alloc; 3, 3, 1]?)?)
+    let empty = network(alloc, 3, 1, 2, &[(1, 3, 5), (3, 2, 5), (2, 1, 5)])?;
+    flowing(alloc, &empty, &[3, 3, 1])
 }
 
 /// From node 2, the head of arc number 2, two paths of two steps lead back to its tail, node 3: over arc number 3

@@ -1,30 +1,38 @@
 //! Tests of smallest sides.
-use crate::networks::{example, network};
 use dmf_net::{
     CutFault, State, is_greatest, plan_solve, plan_solve_with_side, side_after, smallest_side,
 };
+use dmf_scanning::{example, network, solved_example};
 use std::test::Fail;
 
 #[test]
-fn the_smallest_side_is_told(rt: HostRuntime) -> Result<(), Fail> {
-    let mut state = example(rt.alloc())?;
+fn no_side_is_told_of_a_flow_that_is_not_greatest(rt: HostRuntime) -> Result<(), Fail> {
+    let state = example(rt.alloc())?;
     assert_eq!(rt; is_greatest(rt.alloc(), &state)?, false);
     let refused = smallest_side(rt.alloc(), &state);
     assert_eq!(rt; refused.err(), Some(CutFault::NotGreatest));
-    let edit = plan_solve(rt.alloc(), &state)?;
-    let after = side_after(rt.alloc(), &state, &edit)?;
-    assert!(rt; after.ids().eq([1]));
-    assert_eq!(rt; after.capacity(), 5);
-    let (again, planned) = plan_solve_with_side(rt.alloc(), &state)?;
-    assert_eq!(rt; again, edit);
-    assert_eq!(rt; planned, after);
-    assert_eq!(rt; state.value(), 0);
-    assert_eq!(rt; state.flow(1), 0);
-    state.apply(&edit)?;
+    Ok(())
+}
+
+#[test]
+fn the_smallest_side_is_told_before_the_solve(rt: HostRuntime) -> Result<(), Fail> {
+    let state = example(rt.alloc())?;
+    let (edit, side) = plan_solve_with_side(rt.alloc(), &state)?;
+    assert!(rt; edit == plan_solve(rt.alloc(), &state)?);
+    assert!(rt; side == side_after(rt.alloc(), &state, &edit)?);
+    assert!(rt; side == smallest_side(rt.alloc(), &solved_example(rt.alloc())?)?);
+    assert!(rt; side.ids().eq([1]));
+    assert_eq!(rt; side.capacity(), 5);
+    assert_eq!(rt; (state.value(), state.flow(1)), (0, 0));
+    Ok(())
+}
+
+#[test]
+fn the_smallest_side_is_told(rt: HostRuntime) -> Result<(), Fail> {
+    let state = solved_example(rt.alloc())?;
     assert_eq!(rt; is_greatest(rt.alloc(), &state)?, true);
     assert_eq!(rt; state.flows(), [3, 2, 1, 2, 3].as_slice());
     let side = smallest_side(rt.alloc(), &state)?;
-    assert_eq!(rt; side, after);
     assert!(rt; side != smallest_side(rt.alloc(), &State::new(rt.alloc(), 2, 1, 2))?);
     assert_eq!(rt; side.contains(1), true);
     assert_eq!(rt; side.contains(2), false);

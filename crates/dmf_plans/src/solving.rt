@@ -1,7 +1,6 @@
 //! Tests of solving.
-use crate::edits::listed;
-use crate::networks::example;
-use dmf_net::{Edit, State, plan_solve};
+use dmf_net::{Edit, plan_solve};
+use dmf_scanning::{detour, example, listed};
 use std::test::Fail;
 
 #[test]
@@ -30,13 +29,8 @@ fn a_greatest_flow_is_planned_and_applied(rt: HostRuntime) -> Result<(), Fail> {
 /// node 2 by way of node 1's arc.
 #[test]
 fn a_backward_step_goes_by_its_rank(rt: HostRuntime) -> Result<(), Fail> {
-    let mut state = State::new(rt.alloc(), 5, 1, 5);
-    for (tail, head) in [(3, 2), (1, 3), (2, 5), (1, 2), (3, 5), (2, 4), (4, 5)] {
-        state.push_arc(tail, head, 1)?;
-    }
-    assert_eq!(rt; state.arcs().len(), 7);
-    let flowing = state.with_flows(rt.alloc(), vec![in rt.alloc(); 1, 1, 1, 0, 0, 0, 0]?)?;
+    let state = detour(rt.alloc())?;
     let moves = listed(rt.alloc(), &[(1, 1, 0), (4, 0, 1), (5, 0, 1)])?;
-    assert_eq!(rt; plan_solve(rt.alloc(), &flowing)?, Edit::Solve { moves });
+    assert_eq!(rt; plan_solve(rt.alloc(), &state)?, Edit::Solve { moves });
     Ok(())
 }

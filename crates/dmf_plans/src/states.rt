@@ -1,6 +1,6 @@
 //! Tests of building states, of reading them, and of adding arcs.
-use crate::networks::example;
 use dmf_net::{Arc, Edit, FlowFault, NetFault, PlanFault, State, plan_add};
+use dmf_scanning::example;
 use std::test::Fail;
 
 #[test]

@@ -1,9 +1,10 @@
 //! Checked solutions: what is written, and how the run ends.
-use crate::networks::{LENIENT, NETWORK_A, SOLUTION_A};
-use crate::streams::{ByteReader, FlushMarker, Outcome, SlowWriter, check, check_over};
+use dmf_fixtures::{
+    ByteReader, FlushMarker, LENIENT, NETWORK_A, NO_ARCS, SOLUTION_A, SlowWriter, is_front,
+};
+use dmf_harness::{Outcome, check, check_over};
 use dmf_run::{EngineFault, Status, status_of};
 use dmf_text::{ProblemFault, ProblemFaultKind};
-use std::alloc::Global;
 use std::test::Fail;
 
 /// The only arc leads into the source.
@@ -60,7 +61,7 @@ const ROWS: [Row; 6] = [
     },
     Row {
         about: "no arcs",
-        problem: b"p max 2 0\nn 1 s\nn 2 t\n",
+        problem: NO_ARCS,
         solution: b"s 0\n",
         written: b"c greatest 0\n",
         status: 0,
@@ -178,26 +179,22 @@ fn a_failed_read_of_either_text_leaves_nothing_written(rt: HostRuntime) -> Resul
     Ok(())
 }
 
-/// The answer of a run on [`FLOW_OF_3`] whose writer takes one byte a call and holds so many.
-fn check_into(alloc: Global, written: &mut Vec<u8>, limit: usize, flush_fails: bool) -> Outcome {
-    let writer = SlowWriter {
-        held: written,
-        most: 1,
-        limit,
-        flush_fails,
-    };
-    check_over(alloc, NETWORK_A, FLOW_OF_3, writer)
-}
-
 #[test]
 fn a_failed_write_leaves_a_front_of_the_verdict(rt: HostRuntime) -> Result<(), Fail> {
     // The writer's limit, whether its flushes fail, and how many bytes are held.
     for (limit, flush_fails, held) in [(0, false, 0), (4, false, 4), (99, true, 9)] {
         let mut written = Vec::new(rt.alloc());
-        let outcome = check_into(rt.alloc(), &mut written, limit, flush_fails);
+        let outcome = check_over(
+            rt.alloc(),
+            NETWORK_A,
+            FLOW_OF_3,
+            SlowWriter::limited(&mut written, 1, limit, flush_fails),
+        );
         assert_eq!(rt; outcome, Err(EngineFault::Write), "a limit of {limit}");
-        assert_eq!(rt; written.len(), held, "a limit of {limit}");
-        assert!(rt; b"c flow 3\n".starts_with(&written), "a limit of {limit}");
+        assert!(rt;
+            is_front(&written, b"c flow 3\n", held),
+            "a limit of {limit}"
+        );
     }
     Ok(())
 }

@@ -1,9 +1,10 @@
 //! Solved problems: what is written, and how the run ends.
-use crate::faulty::FAULTY;
-use crate::networks::{FULL_ARC, LENIENT, NETWORK_A, SOLUTION_A, TWO_SHORTEST};
-use crate::streams::{ByteReader, FlushMarker, Outcome, SlowWriter, solve, solve_over};
+use dmf_fixtures::{
+    ByteReader, FULL_ARC, FlushMarker, LENIENT, NETWORK_A, NO_ARCS, SOLUTION_A, SlowWriter,
+    TWO_SHORTEST, is_front,
+};
+use dmf_harness::{FAULTY, Outcome, solve, solve_over};
 use dmf_run::{EngineFault, Status};
-use std::alloc::Global;
 use std::test::Fail;
 
 /// A problem and its solution.
@@ -37,7 +38,7 @@ const ROWS: [Row; 5] = [
     },
     Row {
         about: "no arcs",
-        problem: b"p max 2 0\nn 1 s\nn 2 t\n",
+        problem: NO_ARCS,
         written: b"s 0\n",
     },
 ];
@@ -114,23 +115,6 @@ fn a_failed_read_leaves_nothing_written(rt: HostRuntime) -> Result<(), Fail> {
     Ok(())
 }
 
-/// The answer of a run on [`NETWORK_A`] whose writer takes so many bytes a call and holds so many.
-fn solve_into(
-    alloc: Global,
-    written: &mut Vec<u8>,
-    most: usize,
-    limit: usize,
-    flush_fails: bool,
-) -> Outcome {
-    let writer = SlowWriter {
-        held: written,
-        most,
-        limit,
-        flush_fails,
-    };
-    solve_over(alloc, NETWORK_A, writer, false)
-}
-
 #[test]
 fn a_failed_write_leaves_a_front_of_the_solution(rt: HostRuntime) -> Result<(), Fail> {
     // What the writer is like, its bytes a call, its limit, whether its flushes fail, and how many bytes are held.
@@ -142,10 +126,14 @@ fn a_failed_write_leaves_a_front_of_the_solution(rt: HostRuntime) -> Result<(), 
         ("it fails at once", 99, 0, false, 0),
     ] {
         let mut written = Vec::new(rt.alloc());
-        let outcome = solve_into(rt.alloc(), &mut written, most, limit, flush_fails);
+        let outcome = solve_over(
+            rt.alloc(),
+            NETWORK_A,
+            SlowWriter::limited(&mut written, most, limit, flush_fails),
+            false,
+        );
         assert_eq!(rt; outcome, Err(EngineFault::Write), "{about}");
-        assert_eq!(rt; written.len(), held, "{about}");
-        assert!(rt; SOLUTION_A.starts_with(&written), "{about}");
+        assert!(rt; is_front(&written, SOLUTION_A, held), "{about}");
     }
     Ok(())
 }

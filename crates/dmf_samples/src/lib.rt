@@ -6,10 +6,6 @@ mod fields;
 #[cfg(test)]
 mod problems;
 #[cfg(test)]
-mod slow;
-#[cfg(test)]
 mod solutions;
 #[cfg(test)]
 mod streams;
-#[cfg(test)]
-mod texts;

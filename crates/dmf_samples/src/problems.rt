@@ -1,6 +1,5 @@
 //! Tests of problem texts: what is read, what is told of faulty ones, and what is written.
-use crate::slow::SlowWriter;
-use crate::texts::{LENIENT, NETWORK_A};
+use dmf_fixtures::{LENIENT, NETWORK_A, SlowWriter, is_front};
 use dmf_text::{ProblemFault, ProblemFaultKind, StdSink, WriteFault, read_problem, write_problem};
 use std::alloc::Global;
 use std::test::Fail;
@@ -108,27 +107,22 @@ fn a_problem_is_written(rt: HostRuntime) -> Result<(), Fail> {
     let state = read_problem(rt.alloc(), LENIENT)?;
     let text = b"p max 3 5\nn 1 s\nn 3 t\na 1 2 4\na 2 2 9\na 1 2 7\na 2 1 6\na 2 3 9\n";
     // Bytes a call, the limit, what is answered, and how many bytes are held then.
-    for (most, full, answer, held) in [
+    for (most, limit, answer, held) in [
         (99, 999, Ok(()), 62),
         (1, 999, Ok(()), 62),
         (1, 30, Err(WriteFault), 30),
         (0, 999, Err(WriteFault), 0),
     ] {
         let mut written = Vec::new(rt.alloc());
-        let mut sink = StdSink::new(SlowWriter {
-            held: &mut written,
-            most,
-            full,
-        });
+        let mut sink = StdSink::new(SlowWriter::limited(&mut written, most, limit, true));
         assert_eq!(rt;
             write_problem(&state, &mut sink),
             answer,
-            "{most} a call, a limit of {full}"
+            "{most} a call, a limit of {limit}"
         );
-        assert_eq!(rt; written.len(), held, "{most} a call, a limit of {full}");
         assert!(rt;
-            text.starts_with(&written),
-            "{most} a call, a limit of {full}"
+            is_front(&written, text, held),
+            "{most} a call, a limit of {limit}"
         );
     }
     Ok(())

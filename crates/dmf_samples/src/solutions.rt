@@ -1,5 +1,5 @@
 //! Tests of solution texts: what is read, and what is told of faulty ones.
-use crate::texts::{LENIENT, NETWORK_A};
+use dmf_fixtures::{LENIENT, NETWORK_A};
 use dmf_net::State;
 use dmf_text::{SolutionFault, SolutionFaultKind, read_problem, read_solution};
 use std::alloc::Global;

@@ -1,5 +1,5 @@
 //! Tests of what texts are read from and written to.
-use crate::slow::{Counted, SlowReader, SlowWriter};
+use dmf_fixtures::{ByteReader, Counted, SlowWriter, is_front};
 use dmf_text::{Sink, Source, StdSink, StdSource, WriteFault, put_all};
 use std::test::Fail;
 
@@ -45,11 +45,7 @@ fn one_put_takes_a_long_text(rt: HostRuntime) -> Result<(), Fail> {
 
 #[test]
 fn a_source_gives_bytes_and_failures(rt: HostRuntime) -> Result<(), Fail> {
-    let mut source = StdSource::new(SlowReader {
-        text: b"ab",
-        fails_at: 1,
-        calls: 0,
-    });
+    let mut source = StdSource::new(ByteReader::failing_at(b"ab", 1));
     let mut buffer = [0u8; 8];
     assert_eq!(rt; source.read(&mut buffer), Ok(1));
     assert!(rt; source.read(&mut buffer).is_err());
@@ -63,7 +59,7 @@ fn a_source_gives_bytes_and_failures(rt: HostRuntime) -> Result<(), Fail> {
 fn a_text_is_put_in_pieces(rt: HostRuntime) -> Result<(), Fail> {
     let text = b"p max 4 5\n";
     // Bytes a call, the limit, what is answered, and how many bytes are held then.
-    for (most, full, answer, held) in [
+    for (most, limit, answer, held) in [
         (1, 99, Ok(()), 10),
         (99, 99, Ok(()), 10),
         (1, 7, Err(WriteFault), 7),
@@ -71,21 +67,16 @@ fn a_text_is_put_in_pieces(rt: HostRuntime) -> Result<(), Fail> {
         (0, 99, Err(WriteFault), 0),
     ] {
         let mut written = Vec::new(rt.alloc());
-        let mut sink = StdSink::new(SlowWriter {
-            held: &mut written,
-            most,
-            full,
-        });
+        let mut sink = StdSink::new(SlowWriter::limited(&mut written, most, limit, true));
         assert_eq!(rt;
             put_all(&mut sink, text),
             answer,
-            "{most} a call, a limit of {full}"
+            "{most} a call, a limit of {limit}"
         );
         assert!(rt; sink.flush().is_err());
-        assert_eq!(rt; written.len(), held, "{most} a call, a limit of {full}");
         assert!(rt;
-            text.starts_with(&written),
-            "{most} a call, a limit of {full}"
+            is_front(&written, text, held),
+            "{most} a call, a limit of {limit}"
         );
     }
     Ok(())

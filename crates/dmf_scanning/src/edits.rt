@@ -1,10 +1,10 @@
 //! Edits that tests expect, and what tests do with edits.
 ghost use Rattle.std.specs.Prelude.{◌≡◌, IfOk};
 ghost use Rattle.dmf_net.specs.Edit.{applied, Fits};
+ghost use Rattle.dmf_net.specs.ResidualNetwork.{IsResidualOf};
 
-use dmf_net::{Edit, Move, Shutting, State, reverting_gives_back};
+use dmf_net::{Edit, Move, ResidualNetwork, Shutting, State, reverting_gives_back};
 use std::alloc::{AllocError, Global};
-use std::process::Abort;
 use std::test::Fail;
 
 /// Moves, each given by the number of its arc and the flow before and after.
@@ -42,7 +42,7 @@ pub fn apply(alloc: Global, state: &mut State, edit: &Edit) -> Result<State, Fai
 }
 
 /// Takes the edit back, and compares what is left with the state before it.
-pub fn revert(rt: &impl Abort, state: &mut State, edit: &Edit, before: &State)
+pub fn revert(state: &mut State, edit: &Edit, before: &State) -> Result<(), Fail>
     requires fits { Fits edit.now before.now }
     requires stands { state.old ≡ applied edit.now before.now }
     ensures { state.new ≡ before.now }
@@ -50,7 +50,23 @@ pub fn revert(rt: &impl Abort, state: &mut State, edit: &Edit, before: &State)
     reverting_gives_back();
     let value = before.value();
     state.revert(edit);
-    assert!(rt; *state == *before);
-    assert_eq!(rt; state.value(), value);
-    assert_eq!(rt; state.open_count(), before.open_count());
+    if *state != *before || state.value() != value || state.open_count() != before.open_count() {
+        return Err(Fail::from("the state before is not given back"));
+    }
+    Ok(())
+}
+
+/// Applies the edit, and follows it in the residual network of the state. One that adds an arc is refused.
+pub fn follow(
+    state: &mut State,
+    kept: ResidualNetwork,
+    edit: &Edit,
+) -> Result<ResidualNetwork, Fail>
+    requires residual { IsResidualOf state.old kept }
+    requires fits { Fits edit.now state.old }
+    ensures { IfOk result (IsResidualOf state.new) }
+{
+    let followed = kept.follow(state, edit).ok_or("the links are let go")?;
+    state.apply(edit)?;
+    Ok(followed)
 }

@@ -1,6 +1,6 @@
 //! Sessions whose reader or writer fails.
-use crate::networks::NETWORK_A;
-use crate::streams::{ByteReader, SlowWriter, hold_over};
+use dmf_fixtures::{ByteReader, NETWORK_A, SlowWriter, is_front};
+use dmf_harness::hold_over;
 use dmf_run::{EngineFault, Status};
 use std::test::Fail;
 
@@ -54,6 +54,7 @@ fn the_end_of_the_commands_ends_their_last_line(rt: HostRuntime) -> Result<(), F
 
 #[test]
 fn a_failed_write_leaves_a_front_of_the_replies(rt: HostRuntime) -> Result<(), Fail> {
+    let commands = b"add 1 4 7\nundo\n".as_slice();
     let replies = b"c add 6 value 0\nc undo value 0\n";
     // What the writer is like, its bytes a call, its limit, whether its flushes fail, and how many bytes are held.
     for (about, most, limit, flush_fails, held) in [
@@ -64,22 +65,10 @@ fn a_failed_write_leaves_a_front_of_the_replies(rt: HostRuntime) -> Result<(), F
         ("it fails at once", 99, 0, false, 0),
     ] {
         let mut written = Vec::new(rt.alloc());
-        let writer = SlowWriter {
-            held: &mut written,
-            most,
-            limit,
-            flush_fails,
-        };
-        let outcome = hold_over(
-            rt.alloc(),
-            NETWORK_A,
-            b"add 1 4 7\nundo\n".as_slice(),
-            writer,
-            false,
-        );
+        let writer = SlowWriter::limited(&mut written, most, limit, flush_fails);
+        let outcome = hold_over(rt.alloc(), NETWORK_A, commands, writer, false);
         assert_eq!(rt; outcome, Err(EngineFault::Write), "{about}");
-        assert_eq!(rt; written.len(), held, "{about}");
-        assert!(rt; replies.starts_with(&written), "{about}");
+        assert!(rt; is_front(&written, replies, held), "{about}");
     }
     Ok(())
 }

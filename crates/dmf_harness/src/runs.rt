@@ -1,12 +1,11 @@
-//! Readers and writers that are slow, or fail.
+//! Runs over memory, and over any readers and writers.
 ghost use Rattle.std.specs.Prelude.{◌≤◌};
 
 use dmf_run::{EngineFault, Status, run_check, run_commands, run_session, run_solve};
 use dmf_session::{DeltaHistory, Session, WholeHistory};
 use dmf_text::{StdSink, StdSource, read_problem};
 use std::alloc::Global;
-use std::io;
-use std::io::{ErrorKind, Read, Write};
+use std::io::{Read, Write};
 
 /// How a run ended.
 pub type Outcome = Result<Status, EngineFault>;
@@ -110,107 +109,4 @@ pub fn check_over<P: Read + Drop, C: Read + Drop, W: Write + Drop>(
         &mut StdSource::new(solution),
         &mut StdSink::new(writer),
     )
-}
-
-/// Gives one byte a call, and fails at call number `fails_at`, counted from 0.
-#[derive(Drop)]
-pub struct ByteReader<'a> {
-    text: &'a [u8],
-    fails_at: usize,
-    calls: usize,
-}
-
-impl<'a> ByteReader<'a> {
-    /// Never fails.
-    pub fn new(text: &'a [u8]) -> Self {
-        ByteReader {
-            text,
-            fails_at: usize::MAX,
-            calls: 0,
-        }
-    }
-
-    /// Fails in place of telling the end.
-    pub fn failing_at_end(text: &'a [u8]) -> Self {
-        ByteReader {
-            text,
-            fails_at: text.len(),
-            calls: 0,
-        }
-    }
-}
-
-impl<'a> Read for ByteReader<'a> {
-    fn read(&mut self, buffer: &mut [u8]) -> io::Result<usize> {
-        let call = self.calls;
-        self.calls = call.saturating_add(1);
-        if call == self.fails_at {
-            return Err(io::Error::from(ErrorKind::Interrupted));
-        }
-        match (self.text.split_first(), buffer.first_mut()) {
-            (Some((first, rest)), Some(place)) => {
-                *place = *first;
-                self.text = rest;
-                Ok(1)
-            }
-            _ => Ok(0),
-        }
-    }
-}
-
-/// Takes at most `most` bytes a call, and fails once it holds `limit` of them. Each of its flushes fails, or none.
-#[derive(Drop)]
-pub struct SlowWriter<'a> {
-    pub held: &'a mut Vec<u8>,
-    pub most: usize,
-    pub limit: usize,
-    pub flush_fails: bool,
-}
-
-impl<'a> SlowWriter<'a> {
-    /// Takes one byte a call, and never fails.
-    pub fn new(held: &'a mut Vec<u8>) -> Self {
-        SlowWriter {
-            held,
-            most: 1,
-            limit: usize::MAX,
-            flush_fails: false,
-        }
-    }
-}
-
-impl<'a> Write for SlowWriter<'a> {
-    fn write(&mut self, bytes: &[u8]) -> io::Result<usize> {
-        if self.held.len() >= self.limit {
-            return Err(io::Error::from(ErrorKind::StorageFull));
-        }
-        let n = bytes.len().min(self.most);
-        self.held.extend_from_slice(&bytes[..n])?;
-        Ok(n)
-    }
-
-    fn flush(&mut self) -> io::Result<()> {
-        if self.flush_fails {
-            return Err(io::Error::from(ErrorKind::Interrupted));
-        }
-        Ok(())
-    }
-}
-
-/// Adds a bar where it is flushed.
-#[derive(Drop)]
-pub struct FlushMarker<'a> {
-    pub held: &'a mut Vec<u8>,
-}
-
-impl<'a> Write for FlushMarker<'a> {
-    fn write(&mut self, bytes: &[u8]) -> io::Result<usize> {
-        self.held.extend_from_slice(bytes)?;
-        Ok(bytes.len())
-    }
-
-    fn flush(&mut self) -> io::Result<()> {
-        self.held.extend_from_slice(b"|")?;
-        Ok(())
-    }
 }

@@ -1,6 +1,6 @@
 //! Worked sessions that change capacities and close arcs.
-use crate::networks::{FULL_ARC, NETWORK_A, NETWORK_B};
 use crate::row::{Row, expect_held};
+use dmf_fixtures::{FULL_ARC, NETWORK_A, NETWORK_B};
 use dmf_run::Status;
 use std::test::Fail;
 

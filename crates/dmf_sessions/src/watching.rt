@@ -1,5 +1,5 @@
 //! What a watch is told of the solves of a session.
-use crate::networks::NETWORK_A;
+use dmf_fixtures::NETWORK_A;
 use dmf_net::Watch;
 use dmf_run::{Status, run_session_watched};
 use dmf_session::MAX_BOUND;

@@ -1,9 +1,8 @@
 //! Sessions over a history of edits and over a history of whole states write the same.
-ghost use Rattle.std.specs.Prelude.{◌<◌};
-
-use crate::networks::{FULL_ARC, LENIENT, NETWORK_A, NETWORK_B, PARALLEL, TWO_SHORTEST};
-use crate::streams::{hold, hold_bounded, hold_whole};
+use dmf_fixtures::{FULL_ARC, LENIENT, NETWORK_A, NETWORK_B, PARALLEL, TWO_SHORTEST};
+use dmf_harness::{hold, hold_bounded, hold_whole};
 use dmf_run::Status;
+use dmf_scanning::Draws;
 use std::alloc::Global;
 use std::test::Fail;
 
@@ -12,28 +11,9 @@ const SCRIPTS: u32 = 20;
 
 const COMMANDS: u32 = 200;
 
-/// Numbers that look random, the same in each run.
-#[derive(Drop)]
-struct Draws {
-    seed: u64,
-}
-
-impl Draws {
-    /// A number below the bound.
-    fn below(&mut self, bound: u64) -> u64
-        requires { 0 < bound }
-    {
-        self.seed = self
-            .seed
-            .wrapping_mul(6_364_136_223_846_793_005)
-            .wrapping_add(1_442_695_040_888_963_407);
-        (self.seed >> 33) % bound
-    }
-}
-
 /// A command line. Most of them are accepted.
 fn random_command(alloc: Global, draws: &mut Draws) -> Result<String, Fail> {
-    let kind = draws.below(13);
+    let kind = draws.below(14);
     let first = draws.below(7);
     let second = draws.below(7);
     let third = draws.below(9);
@@ -46,6 +26,7 @@ fn random_command(alloc: Global, draws: &mut Draws) -> Result<String, Fail> {
         8 | 9 => format!(in alloc; "redo {second}\n")?,
         10 => format!(in alloc; "shut {first}\n")?,
         11 => format!(in alloc; "print flow\n")?,
+        12 => format!(in alloc; "print cut\n")?,
         _ => format!(in alloc; "print problem\n")?,
     })
 }
@@ -61,7 +42,7 @@ fn random_script(alloc: Global, draws: &mut Draws) -> Result<Vec<u8>, Fail> {
 #[test]
 fn random_sessions_are_the_same_over_both_histories(rt: HostRuntime) -> Result<(), Fail> {
     let alloc = rt.alloc();
-    let mut draws = Draws { seed: 20_262 };
+    let mut draws = Draws::new(20_262);
     for problem in [
         NETWORK_A,
         NETWORK_B,
@@ -111,7 +92,7 @@ p max 4 4\nn 1 s\nn 4 t\na 1 2 4\na 2 3 5\na 2 4 2\na 3 4 3\n";
 #[test]
 fn bounded_sessions_are_the_same_over_both_histories(rt: HostRuntime) -> Result<(), Fail> {
     let alloc = rt.alloc();
-    let mut draws = Draws { seed: 31_415 };
+    let mut draws = Draws::new(31_415);
     for bound in [0, 1, 2, 5] {
         for _ in 0..SCRIPTS {
             let script = random_script(alloc, &mut draws)?;

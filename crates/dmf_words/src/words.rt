@@ -13,78 +13,57 @@ fn read(alloc: Global, line: &str) -> Result<Result<Mode, WordsFault>, AllocErro
     Ok(read_words(alloc, words))
 }
 
-fn solve(cut: bool, progress: bool) -> Mode {
-    Mode::Solve { cut, progress }
+#[test]
+fn words_ask_to_solve(rt: HostRuntime) -> Result<(), Fail> {
+    // What the words are, and whether the cut and the progress are told.
+    for (line, cut, progress) in [
+        ("", false, false),
+        ("solve", false, false),
+        ("solve --cut", true, false),
+        ("solve --progress", false, true),
+        ("solve --cut --progress", true, true),
+        ("solve --progress --cut", true, true),
+    ] {
+        let read = read(rt.alloc(), line)?;
+        assert!(rt;
+            read == Ok(Mode::Solve { cut, progress }),
+            "{line}: {read:?}"
+        );
+    }
+    Ok(())
 }
 
-fn session(alloc: Global, cut: bool, problem: &str) -> Result<Mode, AllocError> {
-    bounded(alloc, cut, 1_000_000, problem)
-}
-
-/// A session that tells its progress.
-fn watched(alloc: Global, cut: bool, history: u32, problem: &str) -> Result<Mode, AllocError> {
+fn session(
+    alloc: Global,
+    cut: bool,
+    progress: bool,
+    history: u32,
+    problem: &str,
+) -> Result<Mode, AllocError> {
     Ok(Mode::Session {
         cut,
-        progress: true,
-        history,
-        problem: String::from_str(alloc, problem)?,
-    })
-}
-
-/// A session whose history has this bound.
-fn bounded(alloc: Global, cut: bool, history: u32, problem: &str) -> Result<Mode, AllocError> {
-    Ok(Mode::Session {
-        cut,
-        progress: false,
+        progress,
         history,
         problem: String::from_str(alloc, problem)?,
     })
 }
 
 #[test]
-fn words_ask_for_a_run(rt: HostRuntime) -> Result<(), Fail> {
+fn words_ask_for_a_session(rt: HostRuntime) -> Result<(), Fail> {
     let alloc = rt.alloc();
-    let check = Mode::Check {
-        problem: String::from_str(alloc, "P")?,
-    };
-    for (line, wanted) in [
-        ("", solve(false, false)),
-        ("solve", solve(false, false)),
-        ("solve --cut", solve(true, false)),
-        ("solve --progress", solve(false, true)),
-        ("solve --cut --progress", solve(true, true)),
-        ("solve --progress --cut", solve(true, true)),
-        ("session P", session(alloc, false, "P")?),
-        ("session --cut P", session(alloc, true, "P")?),
-        ("session P --cut", session(alloc, true, "P")?),
-        (
-            "session nets/day-1.max",
-            session(alloc, false, "nets/day-1.max")?,
-        ),
-        ("session -", session(alloc, false, "-")?),
-        ("session -- --cut", session(alloc, false, "--cut")?),
-        ("session solve", session(alloc, false, "solve")?),
-        ("session --history 0 P", bounded(alloc, false, 0, "P")?),
-        ("session P --history 1", bounded(alloc, false, 1, "P")?),
-        ("session --history=+7 P", bounded(alloc, false, 7, "P")?),
-        (
-            "session --cut --history 1000000 P",
-            bounded(alloc, true, 1_000_000, "P")?,
-        ),
-        (
-            "session --progress P",
-            watched(alloc, false, 1_000_000, "P")?,
-        ),
-        (
-            "session --cut P --progress",
-            watched(alloc, true, 1_000_000, "P")?,
-        ),
-        (
-            "session --history 3 --progress P --cut",
-            watched(alloc, true, 3, "P")?,
-        ),
-        ("check P", check),
+    // What the words are, whether cuts and the progress are told, and the problem.
+    for (line, cut, progress, problem) in [
+        ("session P", false, false, "P"),
+        ("session --cut P", true, false, "P"),
+        ("session P --cut", true, false, "P"),
+        ("session nets/day-1.max", false, false, "nets/day-1.max"),
+        ("session -", false, false, "-"),
+        ("session -- --cut", false, false, "--cut"),
+        ("session solve", false, false, "solve"),
+        ("session --progress P", false, true, "P"),
+        ("session --cut P --progress", true, true, "P"),
     ] {
+        let wanted = session(alloc, cut, progress, 1_000_000, problem)?;
         let read = read(alloc, line)?;
         assert!(rt; read == Ok(wanted), "{line}: {read:?}");
     }
@@ -92,10 +71,43 @@ fn words_ask_for_a_run(rt: HostRuntime) -> Result<(), Fail> {
 }
 
 #[test]
+fn words_ask_for_a_bounded_session(rt: HostRuntime) -> Result<(), Fail> {
+    let alloc = rt.alloc();
+    // What the words are, whether cuts and the progress are told, and the bound.
+    for (line, cut, progress, history) in [
+        ("session --history 0 P", false, false, 0),
+        ("session P --history 1", false, false, 1),
+        ("session --history=+7 P", false, false, 7),
+        ("session --cut --history 1000000 P", true, false, 1_000_000),
+        ("session --history 3 --progress P --cut", true, true, 3),
+    ] {
+        let wanted = session(alloc, cut, progress, history, "P")?;
+        let read = read(alloc, line)?;
+        assert!(rt; read == Ok(wanted), "{line}: {read:?}");
+    }
+    Ok(())
+}
+
+#[test]
+fn words_ask_for_a_check(rt: HostRuntime) -> Result<(), Fail> {
+    let alloc = rt.alloc();
+    let wanted = Mode::Check {
+        problem: String::from_str(alloc, "P")?,
+    };
+    assert!(rt; read(alloc, "check P")? == Ok(wanted));
+    Ok(())
+}
+
+#[test]
 fn no_words_at_all_ask_for_solving(rt: HostRuntime) {
     let alloc = rt.alloc();
     let read = read_words(alloc, Vec::new(alloc));
-    assert!(rt; read == Ok(solve(false, false)));
+    assert!(rt;
+        read == Ok(Mode::Solve {
+            cut: false,
+            progress: false
+        })
+    );
 }
 
 #[test]

@@ -1,8 +1,7 @@
 //! Worked sessions: what is written, and how they end.
-use crate::faulty::FAULTY;
-use crate::networks::{FULL_ARC, LENIENT, NETWORK_A};
 use crate::row::{Row, expect_held};
-use crate::streams::{FlushMarker, hold, hold_over};
+use dmf_fixtures::{FULL_ARC, FlushMarker, LENIENT, NETWORK_A};
+use dmf_harness::{FAULTY, hold, hold_over};
 use dmf_run::{EngineFault, Status};
 use std::test::Fail;
 

@@ -1,6 +1,6 @@
 //! The order in which a session calls its reader and its writer.
-use crate::networks::NETWORK_A;
-use crate::streams::hold_over;
+use dmf_fixtures::{ByteReader, NETWORK_A};
+use dmf_harness::hold_over;
 use dmf_run::{EngineFault, Status};
 use std::cell::Cell;
 use std::io;
@@ -28,10 +28,10 @@ impl Watch {
     }
 }
 
-/// Gives one byte a call, and notes a call while bytes are unflushed or after the writer failed.
+/// Passes its calls on, and notes one while bytes are unflushed or after the writer failed.
 #[derive(Drop)]
 struct WatchedReader<'a> {
-    text: &'a [u8],
+    reader: ByteReader<'a>,
     watch: &'a Watch,
 }
 
@@ -40,14 +40,7 @@ impl<'a> Read for WatchedReader<'a> {
         if self.watch.unflushed.get() || self.watch.failed.get() {
             self.watch.misused.set(true);
         }
-        match (self.text.split_first(), buffer.first_mut()) {
-            (Some((first, rest)), Some(place)) => {
-                *place = *first;
-                self.text = rest;
-                Ok(1)
-            }
-            _ => Ok(0),
-        }
+        self.reader.read(buffer)
     }
 }
 
@@ -82,7 +75,9 @@ fn a_reply_is_flushed_before_more_is_read(rt: HostRuntime) -> Result<(), Fail> {
         rt.alloc(),
         NETWORK_A,
         WatchedReader {
-            text: b"add 1 4 7\nc\nundo\n\nprint problem\nsolve\ncap 5 1\nclose 1\nclose 1\nprint flow\nundo",
+            reader: ByteReader::new(
+                b"add 1 4 7\nc\nundo\n\nprint problem\nsolve\ncap 5 1\nclose 1\nclose 1\nprint flow\nundo",
+            ),
             watch: &watch,
         },
         WatchedWriter {
@@ -103,7 +98,7 @@ fn nothing_is_read_once_a_write_failed(rt: HostRuntime) -> Result<(), Fail> {
         rt.alloc(),
         NETWORK_A,
         WatchedReader {
-            text: b"add 1 4 7\nundo\nprint problem\n",
+            reader: ByteReader::new(b"add 1 4 7\nundo\nprint problem\n"),
             watch: &watch,
         },
         WatchedWriter {

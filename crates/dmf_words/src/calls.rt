@@ -1,5 +1,4 @@
 //! Single calls: command lines, the texts of refusals and faults, statuses.
-use crate::streams::Outcome;
 use dmf_run::{EngineFault, Status, read_command, refusal_text, status_of};
 use dmf_session::{Command, Refusal};
 use dmf_text::{ProblemFault, ProblemFaultKind, SolutionFault, SolutionFaultKind};
@@ -139,7 +138,7 @@ fn outcomes_have_statuses(rt: HostRuntime) {
         line: 2,
         kind: SolutionFaultKind::NoSuchPair,
     };
-    let table: [(Outcome, u8); 9] = [
+    let table: [(Result<Status, EngineFault>, u8); 9] = [
         (Ok(Status::Well), 0),
         (Ok(Status::SomeRefused), 1),
         (Ok(Status::NotGreatest), 1),

@@ -1,8 +1,9 @@
 //! Tests that planning tells the moves that the rules of solving and draining give, computed a second time.
-use crate::networks::{example, network};
-use crate::random::{Draws, random_network};
-use crate::scanning::{draining_moves, shutting, solving_moves};
 use dmf_net::{Edit, State, plan_cap, plan_close, plan_shut, plan_solve};
+use dmf_scanning::{
+    Draws, detour, draining_moves, example, flowing, network, random_network, shutting,
+    solving_moves, tangle,
+};
 use std::alloc::Global;
 use std::process::Abort;
 use std::test::Fail;
@@ -67,13 +68,18 @@ fn shut(rt: &impl Abort, alloc: Global, state: &mut State, node: u32) -> Result<
     Ok(())
 }
 
-/// Solves and shuts each node of a copy, comparing the plans.
-fn solve_and_shut(rt: &impl Abort, alloc: Global, state: &mut State) -> Result<(), Fail> {
-    solve(rt, alloc, state)?;
+/// Shuts each node of a copy, comparing the plans.
+fn shut_each(rt: &impl Abort, alloc: Global, state: &State) -> Result<(), Fail> {
     for node in 1..state.nodes() + 1 {
         shut(rt, alloc, &mut state.copy(alloc)?, node)?;
     }
     Ok(())
+}
+
+/// Solves, and shuts each node of a copy, comparing the plans.
+fn solve_and_shut(rt: &impl Abort, alloc: Global, state: &mut State) -> Result<(), Fail> {
+    solve(rt, alloc, state)?;
+    shut_each(rt, alloc, state)
 }
 
 /// Solves, closes each arc in turn and solves again each time, comparing the plans.
@@ -103,39 +109,15 @@ fn small_networks_agree(rt: HostRuntime) -> Result<(), Fail> {
 #[test]
 fn a_flow_that_goes_round_agrees(rt: HostRuntime) -> Result<(), Fail> {
     let alloc = rt.alloc();
-    let arcs = [
-        (1, 2, 4),
-        (2, 2, 9),
-        (1, 2, 7),
-        (2, 3, 9),
-        (3, 4, 5),
-        (4, 2, 5),
-        (4, 4, 1),
-    ];
-    let empty = network(alloc, 4, 1, 3, &arcs)?;
-    assert_eq!(rt; empty.arcs().len(), 7);
-    let flowing = empty.with_flows(alloc, vec![in alloc; 4, 5, 2, 8, 2, 2, 1]?)?;
-    for node in 1..5 {
-        shut(&rt, alloc, &mut flowing.copy(alloc)?, node)?;
-    }
-    Ok(())
+    let empty = tangle(alloc, &[(4, 2, 5), (4, 4, 1)])?;
+    let state = flowing(alloc, &empty, &[4, 5, 2, 8, 2, 2, 1])?;
+    shut_each(&rt, alloc, &state)
 }
 
 #[test]
 fn a_flow_that_is_given_agrees(rt: HostRuntime) -> Result<(), Fail> {
     let alloc = rt.alloc();
-    let arcs = [
-        (3, 2, 1),
-        (1, 3, 1),
-        (2, 5, 1),
-        (1, 2, 1),
-        (3, 5, 1),
-        (2, 4, 1),
-        (4, 5, 1),
-    ];
-    let empty = network(alloc, 5, 1, 5, &arcs)?;
-    assert_eq!(rt; empty.arcs().len(), 7);
-    let mut state = empty.with_flows(alloc, vec![in alloc; 1, 1, 1, 0, 0, 0, 0]?)?;
+    let mut state = detour(alloc)?;
     solve_and_close(&rt, alloc, &mut state)
 }
 

@@ -1,5 +1,6 @@
 //! Worked sessions over memory, as rows of a table.
-use crate::streams::{ByteReader, Outcome, SlowWriter, hold, hold_over, hold_whole};
+use dmf_fixtures::{ByteReader, SlowWriter};
+use dmf_harness::{Outcome, hold, hold_over, hold_whole};
 use std::alloc::Global;
 use std::process::Abort;
 

@@ -1,6 +1,6 @@
 //! Sessions at the limits of their commands.
-use crate::networks::NETWORK_A;
-use crate::streams::hold;
+use dmf_fixtures::NETWORK_A;
+use dmf_harness::hold;
 use dmf_run::{EngineFault, Status};
 use std::alloc::AllocError;
 use std::test::Fail;

@@ -1,4 +1,4 @@
-//! The networks of the worked rows, as problem texts.
+//! Problem texts that tests begin with.
 
 /// Five arcs from node 1 to node 4.
 pub const NETWORK_A: &[u8] =
@@ -27,3 +27,6 @@ pub const PARALLEL: &[u8] =
 /// smaller number.
 pub const TWO_SHORTEST: &[u8] =
     b"p max 5 5\nn 1 s\nn 5 t\na 1 3 1\na 1 2 1\na 2 4 1\na 3 4 1\na 4 5 1\n";
+
+/// No arcs.
+pub const NO_ARCS: &[u8] = b"p max 2 0\nn 1 s\nn 2 t\n";
