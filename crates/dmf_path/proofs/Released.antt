@@ -1,5 +1,5 @@
 -- A link that is in no slot: what is held for others does not ask for its room, which can be lowered.
-use Rattle.std.proofs.Common.{ℕ, ◌≡◌, ◌≢◌, ◌+◌, ◌-◌, ◌<◌, ◌≤◌, Bool, true, false, cond, List, [], ◌∷◌, ◌++◌, length, get_or, set, ap, sym, ◌∙◌, subst, arith, ⊎_elim, get_or-set_other, get_or-set_same, length-set}
+use Rattle.std.proofs.Common.{ℕ, ◌≡◌, ◌≢◌, ◌+◌, ◌-◌, ◌<◌, ◌≤◌, Bool, true, false, cond, List, [], ◌∷◌, ◌++◌, length, get_or, set, refl, ap, sym, ◌∙◌, subst, arith, ⊎_elim, get_or-set_other, get_or-set_same, length-set}
 use Rattle.std.proofs.lemmas.Bool.{cases_eq}
 use Rattle.std.proofs.lemmas.List.{ext_get_or}
 use Rattle.dmf_path.specs.declared.trail.Slot.{Slot}
@@ -16,7 +16,7 @@ use Rattle.dmf_path.proofs.SettledRoom.{room-along}
 use Rattle.dmf_path.proofs.Leaving.{HaveLeft-set}
 use Rattle.dmf_path.proofs.Lowered.{HasPlace-along, pairs-lowered, opens-lowered}
 use Rattle.dmf_path.proofs.UnderWay.{descends-way}
-use Rattle.dmf_path.proofs.SearchTurns.{IsSearch-released, same-searched}
+use Rattle.dmf_path.proofs.SearchTurns.{IsSearch-next, IsSearch-released, same-searched}
 
 -- A link that does not fall is in no slot.
 pub off-slots : (l : Links) (labels after current : List ℕ) (w : Way) (p : ℕ) → AreLinks l → IsNode l.nodes w.start → IsUnderWay l labels after current w
@@ -91,39 +91,28 @@ IsSearch-lowered {is_fresh = is_fresh} l takes_back places rooms flags labels cu
     let opens : OpensUpwards l labels before after = subst (OpensUpwards l labels before) (sym lowered) (opens-lowered l labels before p amount long within) in
     let apart = off-front p (places_of (walked_slots w)) (places_of (rest_slots w)) (subst (IsOff p) (places-append (walked_slots w) (rest_slots w)) off) in
     let way = is.under_way in
-    let search : IsSearch l takes_back places new_rooms new_flags labels current w queue_capacity slots_capacity is_fresh = record {
-      links = is.links;
-      places_are = is.places_are;
-      holding = record {
-        rooms_are = sums;
-        flags_are = told;
-        small = is.holding.small;
-        have = rw made (HaveLeft-set w.sent p (get_or rooms p 0 - amount) rooms (filled_slots w) off is.holding.have);
-      };
-      one_label_each = is.one_label_each;
-      start_label = is.start_label;
-      valid = AreValid-opens l labels before after (get_or labels w.start 0) opens is.valid;
-      under_way = record {
-        walking = record {
-          current_is = way.walking.current_is;
-          passed = ArePassed-opens l labels before after w.goal current is.links opens way.walking.passed;
-          trail_is = rw lowered (IsTrail-set l labels before current w.start p (get_or before p 0 - amount) (places_of (walked_slots w)) apart.0 way.walking.trail_is);
-        };
-        rest_is = rw lowered (IsTrail-set l labels before current w.joint p (get_or before p 0 - amount) (places_of (rest_slots w)) apart.1 way.rest_is);
-        ends = way.ends;
-        joint_is = way.joint_is;
-        order = way.order;
-        within = way.within;
-        one_slot_each = way.one_slot_each;
-        goal_label = way.goal_label;
-      };
-      start_is = is.start_is;
-      goal_is = is.goal_is;
-      apart = is.apart;
-      queue_capacity_is = is.queue_capacity_is;
-      slots_capacity_is = is.slots_capacity_is;
-      marked = is.marked;
+    let holding : IsHolding l w new_rooms new_flags = record {
+      rooms_are = sums;
+      flags_are = told;
+      small = is.holding.small;
+      have = rw made (HaveLeft-set w.sent p (get_or rooms p 0 - amount) rooms (filled_slots w) off is.holding.have);
     } in
+    let goes_on : IsUnderWay l labels after current w = record {
+      walking = record {
+        current_is = way.walking.current_is;
+        passed = ArePassed-opens l labels before after w.goal current is.links opens way.walking.passed;
+        trail_is = rw lowered (IsTrail-set l labels before current w.start p (get_or before p 0 - amount) (places_of (walked_slots w)) apart.0 way.walking.trail_is);
+      };
+      rest_is = rw lowered (IsTrail-set l labels before current w.joint p (get_or before p 0 - amount) (places_of (rest_slots w)) apart.1 way.rest_is);
+      ends = way.ends;
+      joint_is = way.joint_is;
+      order = way.order;
+      within = way.within;
+      one_slot_each = way.one_slot_each;
+      goal_label = way.goal_label;
+    } in
+    let valid = AreValid-opens l labels before after (get_or labels w.start 0) opens is.valid in
+    let search = IsSearch-next l takes_back places rooms flags labels current w queue_capacity slots_capacity new_rooms new_flags labels current after w queue_capacity slots_capacity is_fresh is refl is.start_label holding refl valid goes_on refl refl refl refl is.marked in
     (search, lowered)
 
 -- The room of the link along a pair is lowered, once the link is in no slot.

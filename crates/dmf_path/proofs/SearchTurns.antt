@@ -49,6 +49,29 @@ IsSearch-new l takes_back places rooms flags labels current slots start goal que
     let at = free-search l takes_back places rooms flags labels current w queue_capacity slots_capacity links places_are sums told (omega arith) (ap length zeros ∙ length-replicate (l.nodes + 1) 0) (label start start_is.to_last) (label goal goal_is.to_last) first start_is goal_is apart queue_capacity_is slots_capacity_is in
     subst (λ (ss : List Slot). IsSearch l takes_back places rooms flags labels current (record { slots = ss; walked = 0; rest = 0; joint = goal; sent = 0; start = start; goal = goal }) queue_capacity slots_capacity true) (sym none) at
 
+-- between the same ends, with other labels and current links, where other rooms are told
+pub IsSearch-next : {is_fresh : Bool} (l : Links) (takes_back : Bool) (places rooms flags labels current : List ℕ) (w : Way) (queue_capacity slots_capacity : ℕ) (new_rooms new_flags new_labels new_current after : List ℕ) (new : Way) (new_queue_capacity new_slots_capacity : ℕ) (marked_fresh : Bool)
+    → IsSearch l takes_back places rooms flags labels current w queue_capacity slots_capacity is_fresh
+    → length new_labels ≡ length labels → get_or new_labels w.start 0 ≤ l.nodes → IsHolding l new new_rooms new_flags → rooms_with l takes_back new new_rooms ≡ after
+    → AreValid l new_labels after (get_or new_labels w.start 0) → IsUnderWay l new_labels after new_current new → new.start ≡ w.start → new.goal ≡ w.goal
+    → new_queue_capacity ≡ queue_capacity → new_slots_capacity ≡ slots_capacity → IsMarked l new_labels new_current w.start marked_fresh
+    → IsSearch l takes_back places new_rooms new_flags new_labels new_current new new_queue_capacity new_slots_capacity marked_fresh
+IsSearch-next l takes_back places rooms flags labels current w queue_capacity slots_capacity new_rooms new_flags new_labels new_current after new new_queue_capacity new_slots_capacity marked_fresh is long label holding same valid way start goal queue_same slots_same marked = record {
+  links = is.links;
+  places_are = is.places_are;
+  holding = holding;
+  one_label_each = long ∙ is.one_label_each;
+  start_label = omega (arith, label, ap (λ v. get_or new_labels v 0) start);
+  valid = subst (λ rs. AreValid l new_labels rs (get_or new_labels new.start 0)) (sym same) (subst (λ v. AreValid l new_labels after (get_or new_labels v 0)) (sym start) valid);
+  under_way = subst (λ rs. IsUnderWay l new_labels rs new_current new) (sym same) way;
+  start_is = subst (IsNode l.nodes) (sym start) is.start_is;
+  goal_is = subst (IsNode l.nodes) (sym goal) is.goal_is;
+  apart = λ e. is.apart (sym start ∙ e ∙ goal);
+  queue_capacity_is = omega (arith, is.queue_capacity_is, queue_same);
+  slots_capacity_is = omega (arith, is.slots_capacity_is, slots_same);
+  marked = subst (λ v. IsMarked l new_labels new_current v marked_fresh) (sym start) marked;
+}
+
 -- after looking for a path
 pub IsSearch-found : {is_fresh : Bool} (l : Links) (takes_back : Bool) (places rooms flags labels current : List ℕ) (w : Way) (queue_capacity slots_capacity : ℕ) (new_rooms new_flags new_labels new_current : List ℕ) (new : Way) (new_queue_capacity new_slots_capacity : ℕ)
     → IsSearch l takes_back places rooms flags labels current w queue_capacity slots_capacity is_fresh
@@ -56,21 +79,8 @@ pub IsSearch-found : {is_fresh : Bool} (l : Links) (takes_back : Bool) (places r
     → AreValid l new_labels (rooms_with l takes_back w rooms) (get_or new_labels w.start 0) → IsUnderWay l new_labels (rooms_with l takes_back w rooms) new_current new
     → new.start ≡ w.start → new.goal ≡ w.goal → new_queue_capacity ≡ queue_capacity → new_slots_capacity ≡ slots_capacity
     → IsSearch l takes_back places new_rooms new_flags new_labels new_current new new_queue_capacity new_slots_capacity false
-IsSearch-found l takes_back places rooms flags labels current w queue_capacity slots_capacity new_rooms new_flags new_labels new_current new new_queue_capacity new_slots_capacity is long label holding same valid way start goal queue_same slots_same = record {
-  links = is.links;
-  places_are = is.places_are;
-  holding = holding;
-  one_label_each = long ∙ is.one_label_each;
-  start_label = omega (arith, label, ap (λ v. get_or new_labels v 0) start);
-  valid = subst (λ rs. AreValid l new_labels rs (get_or new_labels new.start 0)) (sym same) (subst (λ v. AreValid l new_labels (rooms_with l takes_back w rooms) (get_or new_labels v 0)) (sym start) valid);
-  under_way = subst (λ rs. IsUnderWay l new_labels rs new_current new) (sym same) way;
-  start_is = subst (IsNode l.nodes) (sym start) is.start_is;
-  goal_is = subst (IsNode l.nodes) (sym goal) is.goal_is;
-  apart = λ e. is.apart (sym start ∙ e ∙ goal);
-  queue_capacity_is = omega (arith, is.queue_capacity_is, queue_same);
-  slots_capacity_is = omega (arith, is.slots_capacity_is, slots_same);
-  marked = begun refl;
-}
+IsSearch-found l takes_back places rooms flags labels current w queue_capacity slots_capacity new_rooms new_flags new_labels new_current new new_queue_capacity new_slots_capacity is long label holding same valid way start goal queue_same slots_same =
+    IsSearch-next l takes_back places rooms flags labels current w queue_capacity slots_capacity new_rooms new_flags new_labels new_current (rooms_with l takes_back w rooms) new new_queue_capacity new_slots_capacity false is long label holding same valid way start goal queue_same slots_same (begun refl)
 
 -- what a trail keeps once so much more is sent
 abbrev pub sent_on : Way → ℕ → Way
@@ -106,21 +116,7 @@ pub IsSearch-cut : (l : Links) (takes_back : Bool) (places rooms flags labels cu
 IsSearch-cut l takes_back places rooms flags labels current w queue_capacity slots_capacity limit amount new_rooms new_flags new new_slots_capacity is can cut start goal slots_same =
     let after : List ℕ = settled l takes_back ((w.sent + amount) % 2 ^ 64) w.slots rooms in
     let valid = AreValid-opens l labels (rooms_with l takes_back w rooms) after (get_or labels w.start 0) can.opens is.valid in
-    record {
-      links = is.links;
-      places_are = is.places_are;
-      holding = cut.holding;
-      one_label_each = is.one_label_each;
-      start_label = omega (arith, is.start_label, ap (λ v. get_or labels v 0) start);
-      valid = subst (λ rs. AreValid l labels rs (get_or labels new.start 0)) (sym cut.same) (subst (λ v. AreValid l labels after (get_or labels v 0)) (sym start) valid);
-      under_way = subst (λ rs. IsUnderWay l labels rs current new) (sym cut.same) cut.way;
-      start_is = subst (IsNode l.nodes) (sym start) is.start_is;
-      goal_is = subst (IsNode l.nodes) (sym goal) is.goal_is;
-      apart = λ e. is.apart (sym start ∙ e ∙ goal);
-      queue_capacity_is = is.queue_capacity_is;
-      slots_capacity_is = omega (arith, is.slots_capacity_is, slots_same);
-      marked = begun refl;
-    }
+    IsSearch-next l takes_back places rooms flags labels current w queue_capacity slots_capacity new_rooms new_flags labels current after new queue_capacity new_slots_capacity false is refl is.start_label cut.holding cut.same valid cut.way start goal refl slots_same (begun refl)
 
 -- after all links have left, or some
 pub IsSearch-released : {is_fresh : Bool} (l : Links) (takes_back : Bool) (places rooms flags labels current : List ℕ) (w : Way) (queue_capacity slots_capacity : ℕ) (new_rooms new_flags : List ℕ) (new : Way) (new_slots_capacity : ℕ)
@@ -128,22 +124,7 @@ pub IsSearch-released : {is_fresh : Bool} (l : Links) (takes_back : Bool) (place
     → IsUnderWay l labels (rooms_with l takes_back w rooms) current new → new.start ≡ w.start → new.goal ≡ w.goal → new_slots_capacity ≡ slots_capacity
     → IsSearch l takes_back places new_rooms new_flags labels current new queue_capacity new_slots_capacity is_fresh
 IsSearch-released {is_fresh = is_fresh} l takes_back places rooms flags labels current w queue_capacity slots_capacity new_rooms new_flags new new_slots_capacity is holding same way start goal slots_same =
-    let found = IsSearch-found l takes_back places rooms flags labels current w queue_capacity slots_capacity new_rooms new_flags labels current new queue_capacity new_slots_capacity is refl is.start_label holding same is.valid way start goal refl slots_same in
-    record {
-      links = found.links;
-      places_are = found.places_are;
-      holding = found.holding;
-      one_label_each = found.one_label_each;
-      start_label = found.start_label;
-      valid = found.valid;
-      under_way = found.under_way;
-      start_is = found.start_is;
-      goal_is = found.goal_is;
-      apart = found.apart;
-      queue_capacity_is = found.queue_capacity_is;
-      slots_capacity_is = found.slots_capacity_is;
-      marked = subst (λ v. IsMarked l labels current v is_fresh) (sym start) is.marked;
-    }
+    IsSearch-next l takes_back places rooms flags labels current w queue_capacity slots_capacity new_rooms new_flags labels current (rooms_with l takes_back w rooms) new queue_capacity new_slots_capacity is_fresh is refl is.start_label holding same is.valid way start goal refl slots_same is.marked
 
 pub IsSearch-settled : {is_fresh : Bool} (l : Links) (takes_back : Bool) (places rooms flags labels current : List ℕ) (w : Way) (queue_capacity slots_capacity : ℕ) (new_rooms new_flags : List ℕ) (new : Way) (new_slots_capacity : ℕ)
     → IsSearch l takes_back places rooms flags labels current w queue_capacity slots_capacity is_fresh → new_rooms ≡ rooms_with l takes_back w rooms → AreRooms l new_rooms → AreFlags l new_rooms new_flags
