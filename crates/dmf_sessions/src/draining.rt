@@ -52,10 +52,10 @@ const ROWS: [Row; 13] = [
     Row {
         about: "each change is tried on what was solved: it is undone with its own solve, and redone without it",
         problem: NETWORK_A,
-        commands: b"solve\ncap 5 1\nsolve\nundo 2\ncap 2 1\ncap 2 2\nsolve\nundo 3\nredo\nsolve\n",
+        commands: b"solve\ncap 4 1\nsolve\nundo 2\ncap 2 1\ncap 2 2\nsolve\nundo 3\nredo\nsolve\n",
         written: b"s 5\nf 1 2 3\nf 1 3 2\nf 2 3 1\nf 2 4 2\nf 3 4 3\n\
-              c cap value 3\n\
-              s 3\nf 1 2 3\nf 1 3 0\nf 2 3 1\nf 2 4 2\nf 3 4 1\n\
+              c cap value 4\n\
+              s 4\nf 1 2 2\nf 1 3 2\nf 2 3 1\nf 2 4 1\nf 3 4 3\n\
               c undo value 5\n\
               c cap value 4\n\
               c cap value 4\n\
