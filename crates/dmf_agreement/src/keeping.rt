@@ -46,8 +46,35 @@ fn change(
     }
 }
 
+/// Applies an edit at random, where one is planned, and takes it back; the links follow both ways.
+fn change_and_back(
+    rt: &impl Abort,
+    alloc: Global,
+    state: &mut State,
+    kept: ResidualNetwork,
+    draws: &mut Draws,
+) -> Result<ResidualNetwork, Fail>
+    requires { IsResidualOf state.old kept }
+    ensures { IfOk result (IsResidualOf state.new) }
+{
+    match random_edit(alloc, state, draws) {
+        Ok(edit) => {
+            let value = state.value();
+            let followed = kept.follow(state, &edit).ok_or("the links are let go")?;
+            state.apply(&edit)?;
+            let back = followed
+                .follow_back(state, &edit)
+                .ok_or("the links are let go")?;
+            state.revert(&edit);
+            assert_eq!(rt; state.value(), value);
+            Ok(back)
+        }
+        Err(_) => Ok(kept),
+    }
+}
+
 /// Plans a solve along the kept links, compares it and the smallest side after it with those of links made anew, and makes some
-/// changes.
+/// changes, one of which is taken back.
 fn solve_and_change(
     rt: &impl Abort,
     alloc: Global,
@@ -64,6 +91,7 @@ fn solve_and_change(
     assert!(rt; kept.smallest_side(alloc, state)? == smallest_side(alloc, state)?);
     let kept = change(alloc, state, kept, draws)?;
     let kept = change(alloc, state, kept, draws)?;
+    let kept = change_and_back(rt, alloc, state, kept, draws)?;
     change(alloc, state, kept, draws)
 }
 
