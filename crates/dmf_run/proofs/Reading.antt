@@ -10,7 +10,7 @@ use Rattle.dmf_run.specs.declared.words.WordsFault.TheVariants.{NoMemory}
 use Rattle.dmf_run.specs.Matches.{Asked, asked_of}
 use Rattle.clap.specs.Words.{Row, first_of, one_of}
 use Rattle.dmf_run.specs.Words.{Text, Gives, IsBound, IsHelp, IsUsage, IsVersion, ReadsWords, solving, holding, checking}
-use Rattle.dmf_run.proofs.Table.{faults_in, asked_in, history_alone_refused, solve_history_refused, check_history_refused, nothing_taken, nothing_asked, solve_taken, solve_asked, solve_cut_taken, solve_cut_asked, solve_progress_taken, solve_progress_asked, solve_cut_progress_taken, solve_cut_progress_asked, solve_progress_cut_taken, solve_progress_cut_asked, progress_alone_refused, check_progress_refused, check_taken, check_asked, help_asked, help_of_asked, solve_help_asked, session_help_asked, check_help_asked, version_asked, cut_alone_refused, session_alone_refused, check_alone_refused, solve_path_refused, session_second_refused, check_second_refused, check_cut_refused, unknown_refused}
+use Rattle.dmf_run.proofs.Table.{faults_in, asked_in, history_alone_refused, solve_history_refused, check_history_refused, nothing_taken, nothing_asked, solve_taken, solve_asked, solve_cut_taken, solve_cut_asked, solve_progress_taken, solve_progress_asked, solve_cut_progress_taken, solve_cut_progress_asked, solve_progress_cut_taken, solve_progress_cut_asked, progress_alone_refused, check_progress_refused, check_taken, check_asked, help_asked, help_of_asked, solve_help_asked, session_help_asked, check_help_asked, version_asked, cut_alone_refused, session_alone_refused, check_alone_refused, solve_path_refused, check_second_refused, check_cut_refused, unknown_refused}
 use Rattle.dmf_run.proofs.SessionOrders.{no_bound_refused, repeated_refused, session_asks}
 
 -- a list of no kinds has no first one
@@ -70,10 +70,7 @@ module _ (words : List Text) (asked : Asked) (result : Result Mode WordsFault)
       | inr checked ↦ absurd (untaken _ checked check_alone_refused)
     ];
     solve_path = λ path plain is. absurd (untaken _ is (solve_path_refused path plain));
-    second_path = λ command path other either plain also is. elim either [
-      | inl held ↦ absurd (untaken _ (is ∙ ap (λ w. w ∷ path ∷ other ∷ []) held) (session_second_refused path other plain also))
-      | inr checked ↦ absurd (untaken _ (is ∙ ap (λ w. w ∷ path ∷ other ∷ []) checked) (check_second_refused path other plain also))
-    ];
+    check_second = λ path other plain also is. absurd (untaken _ is (check_second_refused path other plain also));
     check_cut = λ path is. absurd (untaken _ is (check_cut_refused path));
     unknown = λ word rest named is. absurd (untaken _ is (unknown_refused word rest named));
   }
@@ -174,10 +171,7 @@ module _ (words : List Text) (kind : ErrorKind) (fault : WordsFault)
     cut_alone = λ rest is. stray _ is (cut_alone_refused rest);
     no_problem = λ is. elim is [ inl held ↦ missing _ held session_alone_refused | inr checked ↦ missing _ checked check_alone_refused ];
     solve_path = λ path plain is. stray _ is (solve_path_refused path plain);
-    second_path = λ command path other either plain also is. elim either [
-      | inl held ↦ stray _ (is ∙ ap (λ w. w ∷ path ∷ other ∷ []) held) (session_second_refused path other plain also)
-      | inr checked ↦ stray _ (is ∙ ap (λ w. w ∷ path ∷ other ∷ []) checked) (check_second_refused path other plain also)
-    ];
+    check_second = λ path other plain also is. stray _ is (check_second_refused path other plain also);
     check_cut = λ path is. stray _ is (check_cut_refused path);
     unknown = λ word rest named is. unknown _ is (unknown_refused word rest named);
   }

@@ -165,14 +165,6 @@ unfolding clap_on_literals
 solve_path_refused [] plain = refl
 solve_path_refused (x ∷ xs) plain = rw (plain, plain) refl
 
-pub session_second_refused : (path other : Text) → IsPlain path → IsPlain other
-    → faults_in (codes "session" ∷ path ∷ other ∷ []) ≡ UnknownArgument ∷ []
-unfolding clap_on_literals
-session_second_refused [] [] plain also = refl
-session_second_refused [] (y ∷ ys) plain also = rw (also, also) refl
-session_second_refused (x ∷ xs) [] plain also = rw (plain, plain) refl
-session_second_refused (x ∷ xs) (y ∷ ys) plain also = rw (plain, plain, also, also) refl
-
 pub check_second_refused : (path other : Text) → IsPlain path → IsPlain other
     → faults_in (codes "check" ∷ path ∷ other ∷ []) ≡ UnknownArgument ∷ []
 unfolding clap_on_literals

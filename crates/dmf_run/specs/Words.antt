@@ -150,8 +150,7 @@ pub record ReadsWords (words : List Text) (result : Result Mode WordsFault) : Ty
   pub cut_alone : (rest : List Text) → words ≡ codes "--cut" ∷ rest → GivesUsage result
   pub no_problem : (words ≡ codes "session" ∷ []) ⊎ (words ≡ codes "check" ∷ []) → GivesUsage result
   pub solve_path : (path : Text) → IsPlain path → words ≡ codes "solve" ∷ path ∷ [] → GivesUsage result
-  pub second_path : (command path other : Text) → (command ≡ codes "session") ⊎ (command ≡ codes "check")
-      → IsPlain path → IsPlain other → words ≡ command ∷ path ∷ other ∷ [] → GivesUsage result
+  pub check_second : (path other : Text) → IsPlain path → IsPlain other → words ≡ codes "check" ∷ path ∷ other ∷ [] → GivesUsage result
   pub progress_alone : (rest : List Text) → words ≡ codes "--progress" ∷ rest → GivesUsage result
   pub check_progress : (path : Text) → words ≡ codes "check" ∷ codes "--progress" ∷ path ∷ [] → GivesUsage result
   pub check_cut : (path : Text) → words ≡ codes "check" ∷ codes "--cut" ∷ path ∷ [] → GivesUsage result
