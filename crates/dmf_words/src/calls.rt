@@ -4,6 +4,93 @@ use dmf_session::{Command, Refusal};
 use dmf_text::{ProblemFault, ProblemFaultKind, SolutionFault, SolutionFaultKind};
 use std::test::Fail;
 
+const CAPACITY: Command = Command::Cap {
+    arc: 9,
+    cap: u64::MAX,
+};
+
+const ADDITION: Command = Command::Add {
+    tail: 1,
+    head: 4,
+    cap: 7,
+};
+
+/// Command lines, each with what it means.
+const READ: [(&[u8], Command); 20] = [
+    (b"cap 9 18446744073709551615", CAPACITY),
+    (b" cap\t09 18446744073709551615", CAPACITY),
+    (b"add 1 4 7", ADDITION),
+    (b"\tadd  01 4   7 ", ADDITION),
+    (b"close 3", Command::Close { arc: 3 }),
+    (b"close  0\t", Command::Close { arc: 0 }),
+    (b"shut 3", Command::Shut { node: 3 }),
+    (b" shut\t00 ", Command::Shut { node: 0 }),
+    (
+        b"shut 18446744073709551615",
+        Command::Shut { node: u64::MAX },
+    ),
+    (b"solve", Command::Solve),
+    (b" solve\t", Command::Solve),
+    (b"undo", Command::Undo(1)),
+    (b"undo 3", Command::Undo(3)),
+    (b"undo 0", Command::Undo(0)),
+    (b"redo", Command::Redo(1)),
+    (b"redo 18446744073709551615", Command::Redo(u64::MAX)),
+    (b"print problem", Command::PrintProblem),
+    (b"print flow", Command::PrintFlow),
+    (b"print cut", Command::PrintCut),
+    (b" print\tcut ", Command::PrintCut),
+];
+
+/// Command lines, each with why it is refused.
+const REFUSED: [(&[u8], Refusal); 45] = [
+    (b"cNote", Refusal::UnknownCommand),
+    (b"ca 1 2", Refusal::UnknownCommand),
+    (b"capx 1", Refusal::UnknownCommand),
+    (b"Cap 1 2", Refusal::UnknownCommand),
+    (b"closed 1", Refusal::UnknownCommand),
+    (b"Undo", Refusal::UnknownCommand),
+    (b"undo\r", Refusal::UnknownCommand),
+    (b"undo\0", Refusal::UnknownCommand),
+    (b"solved 1 2 3", Refusal::UnknownCommand),
+    (b"shuts 1", Refusal::UnknownCommand),
+    (b"Shut 1", Refusal::UnknownCommand),
+    (b"cap", Refusal::FieldCount),
+    (b"cap x", Refusal::FieldCount),
+    (b"cap 1 2 3", Refusal::FieldCount),
+    (b"close", Refusal::FieldCount),
+    (b"close x 1", Refusal::FieldCount),
+    (b"shut", Refusal::FieldCount),
+    (b"shut 1 2", Refusal::FieldCount),
+    (b"shut x 1", Refusal::FieldCount),
+    (b"add 1 1", Refusal::FieldCount),
+    (b"add 1 1 1 x", Refusal::FieldCount),
+    (b"solve 1", Refusal::FieldCount),
+    (b"solve solve", Refusal::FieldCount),
+    (b"undo 1 1", Refusal::FieldCount),
+    (b"redo x 1", Refusal::FieldCount),
+    (b"print", Refusal::FieldCount),
+    (b"print side x", Refusal::FieldCount),
+    (b"print flow x", Refusal::FieldCount),
+    (b"print cut 1", Refusal::FieldCount),
+    (b"print side", Refusal::UnknownCommand),
+    (b"print Problem", Refusal::UnknownCommand),
+    (b"print flows", Refusal::UnknownCommand),
+    (b"print cu", Refusal::UnknownCommand),
+    (b"cap 1 -1", Refusal::NotANumber),
+    (b"cap x 18446744073709551616", Refusal::NotANumber),
+    (b"cap 18446744073709551616 x", Refusal::TooLarge),
+    (b"close 1.0", Refusal::NotANumber),
+    (b"close 18446744073709551616", Refusal::TooLarge),
+    (b"shut -1", Refusal::NotANumber),
+    (b"shut 18446744073709551616", Refusal::TooLarge),
+    (b"undo -1", Refusal::NotANumber),
+    (b"undo 1\r", Refusal::NotANumber),
+    (b"redo 18446744073709551616", Refusal::TooLarge),
+    (b"add x 18446744073709551616 1", Refusal::NotANumber),
+    (b"add 18446744073709551616 x 1", Refusal::TooLarge),
+];
+
 /// A problem fault as a run tells it.
 fn problem_fault(line: u64, kind: ProblemFaultKind) -> EngineFault {
     EngineFault::Problem(ProblemFault { line, kind })
@@ -11,41 +98,7 @@ fn problem_fault(line: u64, kind: ProblemFaultKind) -> EngineFault {
 
 #[test]
 fn command_lines_are_read(rt: HostRuntime) {
-    let capacity = Command::Cap {
-        arc: 9,
-        cap: u64::MAX,
-    };
-    let addition = Command::Add {
-        tail: 1,
-        head: 4,
-        cap: 7,
-    };
-    let table: [(&[u8], Command); 20] = [
-        (b"cap 9 18446744073709551615", capacity),
-        (b" cap\t09 18446744073709551615", capacity),
-        (b"add 1 4 7", addition),
-        (b"\tadd  01 4   7 ", addition),
-        (b"close 3", Command::Close { arc: 3 }),
-        (b"close  0\t", Command::Close { arc: 0 }),
-        (b"shut 3", Command::Shut { node: 3 }),
-        (b" shut\t00 ", Command::Shut { node: 0 }),
-        (
-            b"shut 18446744073709551615",
-            Command::Shut { node: u64::MAX },
-        ),
-        (b"solve", Command::Solve),
-        (b" solve\t", Command::Solve),
-        (b"undo", Command::Undo(1)),
-        (b"undo 3", Command::Undo(3)),
-        (b"undo 0", Command::Undo(0)),
-        (b"redo", Command::Redo(1)),
-        (b"redo 18446744073709551615", Command::Redo(u64::MAX)),
-        (b"print problem", Command::PrintProblem),
-        (b"print flow", Command::PrintFlow),
-        (b"print cut", Command::PrintCut),
-        (b" print\tcut ", Command::PrintCut),
-    ];
-    for (line, command) in table {
+    for (line, command) in READ {
         assert_eq!(rt; read_command(line), Ok(Some(command)), "{line:?}");
     }
     let nothing: [&[u8]; 5] = [b"", b" \t ", b"c", b"c undo", b"\tc undo"];
@@ -56,54 +109,7 @@ fn command_lines_are_read(rt: HostRuntime) {
 
 #[test]
 fn command_lines_are_refused(rt: HostRuntime) {
-    let table: [(&[u8], Refusal); 45] = [
-        (b"cNote", Refusal::UnknownCommand),
-        (b"ca 1 2", Refusal::UnknownCommand),
-        (b"capx 1", Refusal::UnknownCommand),
-        (b"Cap 1 2", Refusal::UnknownCommand),
-        (b"closed 1", Refusal::UnknownCommand),
-        (b"Undo", Refusal::UnknownCommand),
-        (b"undo\r", Refusal::UnknownCommand),
-        (b"undo\0", Refusal::UnknownCommand),
-        (b"solved 1 2 3", Refusal::UnknownCommand),
-        (b"shuts 1", Refusal::UnknownCommand),
-        (b"Shut 1", Refusal::UnknownCommand),
-        (b"cap", Refusal::FieldCount),
-        (b"cap x", Refusal::FieldCount),
-        (b"cap 1 2 3", Refusal::FieldCount),
-        (b"close", Refusal::FieldCount),
-        (b"close x 1", Refusal::FieldCount),
-        (b"shut", Refusal::FieldCount),
-        (b"shut 1 2", Refusal::FieldCount),
-        (b"shut x 1", Refusal::FieldCount),
-        (b"add 1 1", Refusal::FieldCount),
-        (b"add 1 1 1 x", Refusal::FieldCount),
-        (b"solve 1", Refusal::FieldCount),
-        (b"solve solve", Refusal::FieldCount),
-        (b"undo 1 1", Refusal::FieldCount),
-        (b"redo x 1", Refusal::FieldCount),
-        (b"print", Refusal::FieldCount),
-        (b"print side x", Refusal::FieldCount),
-        (b"print flow x", Refusal::FieldCount),
-        (b"print cut 1", Refusal::FieldCount),
-        (b"print side", Refusal::UnknownCommand),
-        (b"print Problem", Refusal::UnknownCommand),
-        (b"print flows", Refusal::UnknownCommand),
-        (b"print cu", Refusal::UnknownCommand),
-        (b"cap 1 -1", Refusal::NotANumber),
-        (b"cap x 18446744073709551616", Refusal::NotANumber),
-        (b"cap 18446744073709551616 x", Refusal::TooLarge),
-        (b"close 1.0", Refusal::NotANumber),
-        (b"close 18446744073709551616", Refusal::TooLarge),
-        (b"shut -1", Refusal::NotANumber),
-        (b"shut 18446744073709551616", Refusal::TooLarge),
-        (b"undo -1", Refusal::NotANumber),
-        (b"undo 1\r", Refusal::NotANumber),
-        (b"redo 18446744073709551616", Refusal::TooLarge),
-        (b"add x 18446744073709551616 1", Refusal::NotANumber),
-        (b"add 18446744073709551616 x 1", Refusal::TooLarge),
-    ];
-    for (line, refusal) in table {
+    for (line, refusal) in REFUSED {
         assert_eq!(rt; read_command(line), Err(refusal), "{line:?}");
     }
 }

@@ -110,43 +110,45 @@ fn no_words_at_all_ask_for_solving(rt: HostRuntime) {
     );
 }
 
+/// Words that are refused, each with a part of the text that tells it.
+const REFUSED: [(&str, &str); 19] = [
+    ("--cut", "unexpected argument '--cut' found"),
+    ("--progress", "unexpected argument '--progress' found"),
+    ("session", "<PROBLEM>"),
+    ("session --cut", "<PROBLEM>"),
+    ("check", "<PROBLEM>"),
+    ("solve P", "unexpected argument 'P' found"),
+    ("session P Q", "unexpected argument 'Q' found"),
+    ("check --cut P", "unexpected argument '--cut' found"),
+    (
+        "check --progress P",
+        "unexpected argument '--progress' found",
+    ),
+    ("check P Q", "unexpected argument 'Q' found"),
+    ("wash", "unrecognized subcommand 'wash'"),
+    ("Solve", "unrecognized subcommand 'Solve'"),
+    ("solve --cut --cut", "cannot be used multiple times"),
+    (
+        "solve --cut=yes",
+        "unexpected value 'yes' for '--cut' found",
+    ),
+    ("solve --version", "unexpected argument '--version' found"),
+    (
+        "session --history 1 --history 1 P",
+        "cannot be used multiple times",
+    ),
+    ("session --history -1 P", "unexpected argument '-1' found"),
+    (
+        "check --history 1 P",
+        "unexpected argument '--history' found",
+    ),
+    ("solve --history 1", "unexpected argument '--history' found"),
+];
+
 #[test]
 fn words_are_refused_with_a_text(rt: HostRuntime) -> Result<(), Fail> {
     let alloc = rt.alloc();
-    // What the words are, and what their text has.
-    for (line, part) in [
-        ("--cut", "unexpected argument '--cut' found"),
-        ("--progress", "unexpected argument '--progress' found"),
-        ("session", "<PROBLEM>"),
-        ("session --cut", "<PROBLEM>"),
-        ("check", "<PROBLEM>"),
-        ("solve P", "unexpected argument 'P' found"),
-        ("session P Q", "unexpected argument 'Q' found"),
-        ("check --cut P", "unexpected argument '--cut' found"),
-        (
-            "check --progress P",
-            "unexpected argument '--progress' found",
-        ),
-        ("check P Q", "unexpected argument 'Q' found"),
-        ("wash", "unrecognized subcommand 'wash'"),
-        ("Solve", "unrecognized subcommand 'Solve'"),
-        ("solve --cut --cut", "cannot be used multiple times"),
-        (
-            "solve --cut=yes",
-            "unexpected value 'yes' for '--cut' found",
-        ),
-        ("solve --version", "unexpected argument '--version' found"),
-        (
-            "session --history 1 --history 1 P",
-            "cannot be used multiple times",
-        ),
-        ("session --history -1 P", "unexpected argument '-1' found"),
-        (
-            "check --history 1 P",
-            "unexpected argument '--history' found",
-        ),
-        ("solve --history 1", "unexpected argument '--history' found"),
-    ] {
+    for (line, part) in REFUSED {
         let Err(WordsFault::Usage(text)) = read(alloc, line)? else {
             return Err(Fail::from(line));
         };
@@ -240,54 +242,59 @@ Status:
 Each command's --help has an example of its replies. man dmf has the formats.
 ";
 
+const SOLVE: &str = "Usage: dmf solve [--cut] [--progress] <FILE\n";
+
+const SESSION: &str = "Usage: dmf session [--cut] [--history N] [--progress] PROBLEM\n";
+
+const CHECK: &str = "Usage: dmf check PROBLEM <SOLUTION\n";
+
+/// Words, each with a part of the help that they ask for.
+const HELPS: [(&str, &str); 21] = [
+    ("--help", HELP),
+    ("-h", HELP),
+    ("help", HELP),
+    ("solve --help", SOLVE),
+    (
+        "solve --help",
+        "--cut       Write the smallest minimum cut after the solution\n",
+    ),
+    (
+        "solve --help",
+        "\n  $ dmf solve --cut <network.max\n  s 5\n",
+    ),
+    (
+        "solve --help",
+        "--progress  Tell on standard error how far it is\n",
+    ),
+    ("session --help", SESSION),
+    (
+        "session --help",
+        "--cut          Write the smallest minimum cut after each solution\n",
+    ),
+    (
+        "session --help",
+        "--history <N>  Keep at most N changes for undo [default: 1000000]\n",
+    ),
+    (
+        "session --help",
+        "--progress     Tell on standard error how far it is\n",
+    ),
+    ("session --help", "\n  undo [K]    "),
+    ("session --help", "  c undo value VALUE\n"),
+    ("session --help", "closed\nones keep their numbers.\n"),
+    ("session --help", "at a terminal by Ctrl-D.\n"),
+    ("session --help", "| dmf session network.max\n"),
+    ("check --help", CHECK),
+    ("check --help", "| dmf check network.max\n  c greatest 5\n"),
+    ("help solve", SOLVE),
+    ("help session", SESSION),
+    ("help check", CHECK),
+];
+
 #[test]
 fn help_is_told(rt: HostRuntime) -> Result<(), Fail> {
     let alloc = rt.alloc();
-    let solve = "Usage: dmf solve [--cut] [--progress] <FILE\n";
-    let session = "Usage: dmf session [--cut] [--history N] [--progress] PROBLEM\n";
-    let check = "Usage: dmf check PROBLEM <SOLUTION\n";
-    // What the words are, and what the text has.
-    for (line, part) in [
-        ("--help", HELP),
-        ("-h", HELP),
-        ("help", HELP),
-        ("solve --help", solve),
-        (
-            "solve --help",
-            "--cut       Write the smallest minimum cut after the solution\n",
-        ),
-        (
-            "solve --help",
-            "\n  $ dmf solve --cut <network.max\n  s 5\n",
-        ),
-        (
-            "solve --help",
-            "--progress  Tell on standard error how far it is\n",
-        ),
-        ("session --help", session),
-        (
-            "session --help",
-            "--cut          Write the smallest minimum cut after each solution\n",
-        ),
-        (
-            "session --help",
-            "--history <N>  Keep at most N changes for undo [default: 1000000]\n",
-        ),
-        (
-            "session --help",
-            "--progress     Tell on standard error how far it is\n",
-        ),
-        ("session --help", "\n  undo [K]    "),
-        ("session --help", "  c undo value VALUE\n"),
-        ("session --help", "closed\nones keep their numbers.\n"),
-        ("session --help", "at a terminal by Ctrl-D.\n"),
-        ("session --help", "| dmf session network.max\n"),
-        ("check --help", check),
-        ("check --help", "| dmf check network.max\n  c greatest 5\n"),
-        ("help solve", solve),
-        ("help session", session),
-        ("help check", check),
-    ] {
+    for (line, part) in HELPS {
         let Err(WordsFault::Help(text)) = read(alloc, line)? else {
             return Err(Fail::from(line));
         };
