@@ -1,6 +1,6 @@
 //! Sessions at the limits of their commands.
 use dmf_fixtures::NETWORK_A;
-use dmf_harness::hold;
+use dmf_harness::{hold, hold_whole};
 use dmf_run::{EngineFault, Status};
 use std::alloc::AllocError;
 use std::test::Fail;
@@ -52,6 +52,10 @@ fn the_rest_of_a_long_line_is_skipped(rt: HostRuntime) -> Result<(), Fail> {
               f 3 4 0\n\
               c refused 3 line too long\n";
     assert!(rt; written.as_slice() == replies.as_slice());
+    let mut by_states = Vec::new(rt.alloc());
+    let outcome = hold_whole(rt.alloc(), NETWORK_A, &commands, &mut by_states);
+    assert_eq!(rt; outcome, Ok(Status::SomeRefused));
+    assert!(rt; by_states.as_slice() == replies.as_slice());
     Ok(())
 }
 
