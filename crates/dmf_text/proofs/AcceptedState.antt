@@ -134,13 +134,13 @@ module _ (facts : Facts) (v : ℕ) (sound : Sound facts) (node : IsNode (node_co
 -- one arc line more
 sound-with_arc : (facts : Facts) (arc : Arc) → Sound facts → IsArc (node_count facts) arc → length facts.arcs < arc_count facts → capacity_sum facts.arcs + arc.cap < 2 ^ 64
     → Sound (record { counts = facts.counts; source = facts.source; sink = facts.sink; arcs = facts.arcs ++ arc ∷ [] })
-sound-with_arc facts arc sound is room small = record {
+sound-with_arc facts arc sound is fewer small = record {
   counts = sound.counts;
   source = sound.source;
   sink = sound.sink;
   two = sound.two;
   arcs = All-push (IsArc (node_count facts)) facts.arcs arc sound.arcs is;
-  few = (let long = length-append facts.arcs (arc ∷ []) in omega (arith, long, room));
+  few = (let long = length-append facts.arcs (arc ∷ []) in omega (arith, long, fewer));
   fits = (let sum = sum_by_push (λ (a : Arc). a.cap) facts.arcs arc in omega (arith, sum, small));
 }
 
@@ -177,8 +177,8 @@ module _ (facts : Facts) (behind : List (List ℕ)) (sound : Sound facts) where
   sound-arc good =
       let counted = passed (is_some facts.counts) ProblemLineExpected _ tt good in
       let named = passed (is_some facts.source && is_some facts.sink) ArcBeforeTerminals _ tt counted.1 in
-      let room = passed (nat_lt (length facts.arcs) (arc_count facts)) TooManyArcs _ tt named.1 in
-      let three = passed (length behind == 3) FieldCount _ tt room.1 in
+      let fewer = passed (nat_lt (length facts.arcs) (arc_count facts)) TooManyArcs _ tt named.1 in
+      let three = passed (length behind == 3) FieldCount _ tt fewer.1 in
       let tail = passed-value (number_in 0 behind) _ tt three.1 in
       let head = passed-value (number_in 1 behind) _ tt tail.rest in
       let cap = passed-value (number_in 2 behind) _ tt head.rest in
@@ -196,7 +196,7 @@ module _ (facts : Facts) (behind : List (List ℕ)) (sound : Sound facts) where
       subst Sound (sym now)
       (sound-with_arc facts (open_arc tail.value head.value cap.value) sound
       (record { tail = node-from _ _ tail-in.0; head = node-from _ _ head-in.0; closed = λ is. absurd (let no : ⊥ = cc in no) })
-      (ltb-true _ _ room.0) (ltb-true _ _ small))
+      (ltb-true _ _ fewer.0) (ltb-true _ _ small))
 
   -- a node line whose letter is this one
   module _ (node : ℕ) (node-is : number_at 0 behind ≡ node) (range : is_node (node_count facts) node ≡ true)

@@ -184,8 +184,8 @@ fits-good arcs facts old new pair flow kept added =
     let cap : known.cap ≡ pair_capacity arcs pair = sym (ap cap_of added.is_there) ∙ kept.caps pair in
     let before : known.flow ≡ pair_flow facts.flows pair = sym (ap flow_of added.is_there) ∙ kept.flows pair in
     let fits = added.fits in
-    let room : pair_flow facts.flows pair + flow ≤ pair_capacity arcs pair = omega (arith, cap, before, fits) in
-    rw (has, le-leb (pair_flow facts.flows pair + flow) (pair_capacity arcs pair) room) refl
+    let within : pair_flow facts.flows pair + flow ≤ pair_capacity arcs pair = omega (arith, cap, before, fits) in
+    rw (has, le-leb (pair_flow facts.flows pair + flow) (pair_capacity arcs pair) within) refl
 
 -- And of one that was not.
 pub fits-bad : (arcs : List Arc) (facts : Facts) (old : Pairs) (pair : Pair) (flow : ℕ) (kind : SolutionFaultKind)

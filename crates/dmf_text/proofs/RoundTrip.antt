@@ -64,9 +64,9 @@ module _ (counts : Counts) (source sink : ℕ) (done : List Arc) (arc : Arc) (is
   arc-good : length done < counts.arcs → capacity_sum done + arc.cap < 2 ^ 64
       → judged_arc (after-arcs counts source sink done) (decimal arc.tail ∷ decimal arc.head ∷ decimal arc.cap ∷ []) ≡ Ok tt
   unfolding judged_arc
-  arc-good room fits =
+  arc-good fewer fits =
       rw (
-        lt-ltb (length done) counts.arcs room,
+        lt-ltb (length done) counts.arcs fewer,
         number_of-decimal arc.tail small,
         number_of-decimal arc.head small-head,
         number_of-decimal arc.cap small-cap,
@@ -110,7 +110,7 @@ module _ (counts : Counts) (source sink : ℕ) (few-nodes : counts.nodes ≤ 2 ^
       let small-head : arc.head < 2 ^ 64 = omega (arith, head.to_last) in
       let split = sum_by-cons (λ a. a.cap) arc todo in
       let small-cap : arc.cap < 2 ^ 64 = omega (arith, sums, split) in
-      let room : length done < counts.arcs = omega arith in
+      let fewer : length done < counts.arcs = omega arith in
       let fits-here : capacity_sum done + arc.cap < 2 ^ 64 = omega (arith, sums, split) in
       let next = before ++ arc_fields arc ∷ [] in
       let facts-next : facts_of next ≡ after-arcs counts source sink (done ++ arc ∷ []) =
@@ -118,7 +118,7 @@ module _ (counts : Counts) (source sink : ℕ) (few-nodes : counts.nodes ≤ 2 ^
       let joined : (done ++ arc ∷ []) ++ todo ≡ done ++ arc ∷ todo = append_assoc done (arc ∷ []) todo in
       let long = length-append done (arc ∷ []) in
       outcome-good facts_of judged ended problem_fault before (arc_fields arc) (map arc_fields todo)
-      (ap (λ s. judged s (arc_fields arc)) facts ∙ arc-good counts source sink done arc is small small-head small-cap room fits-here)
+      (ap (λ s. judged s (arc_fields arc)) facts ∙ arc-good counts source sink done arc is small small-head small-cap fewer fits-here)
       ∙ arcs-walk todo (done ++ arc ∷ []) next facts-next are.1 (omega (arith, long)) (rw joined fits)
       ∙ ap (λ arcs. Ok (state_of (after-arcs counts source sink arcs))) joined
 

@@ -50,7 +50,7 @@ pub record Updates (old : Pairs) (pair : Pair) (known : PairFlow) (new : Pairs) 
   pub here : known_of new pair ≡ Some known
   pub others : (other : Pair) → same_pair pair other ≡ false → known_of new other ≡ known_of old other
 
--- The flow was added to that of its pair, which has room for it.
+-- The flow was added to that of its pair, whose capacities allow it.
 pub record AddsFlow (old : Pairs) (pair : Pair) (flow : ℕ) (new : Pairs) : Type 0 where
   pub known : PairFlow
   pub is_there : known_of old pair ≡ Some known
