@@ -51,3 +51,4 @@ pub mod OpenArcs
 pub mod UnpairedLoop
 pub mod ClosedStates
 pub mod Equality
+mod Unpassed

@@ -81,7 +81,7 @@ pub fn drain_along(state: &State, j: u32, limit: u64, search: &mut Search)
     let arc = state.arc(j);
     search.aim(arc.head, arc.tail);
     while 0 < left {
-        match search.augment(left) {
+        match search.augment(left, &mut []) {
             Some(found) => {
                 let amount = found.amount;
                 search.lower(i, amount);

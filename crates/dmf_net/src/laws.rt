@@ -22,7 +22,7 @@ pub fn change_has_outcome()
     ensures { HasOutcome }
 {}
 
-/// Max-flow min-cut: every network has a greatest flow, and the value of each greatest flow is the capacity of a least
+/// Max-flow min-cut: every network has a greatest flow, and the value of each greatest flow is the capacity of a minimum
 /// cut.
 pub fn max_flow_min_cut()
     ensures flow { HasGreatestFlow }

@@ -147,7 +147,8 @@ pub fn plan_solve_watched<W: Watch>(
     ensures refused { IsOkUnless result PlanFault.NoMemory }
     ensures edit { IfOk result (PlansSolve state.now) }
 {
-    let solved = solve(residual_search(alloc, state)?, state, watch);
+    let search = residual_search(alloc, state)?;
+    let solved = solve(search, state, &mut Vec::new(alloc), watch);
     solve_edit(alloc, state, solved)
 }
 
@@ -175,7 +176,8 @@ pub fn plan_solve_with_side_watched<W: Watch>(
     ensures side { IfOk result (λ planned. IsSmallestSide state.now.network planned.1) }
     ensures value { IfOk result (λ planned. pos planned.1.capacity ≡ flow_value state.now.network (applied planned.0 state.now).flows) }
 {
-    let solved = solve(residual_search(alloc, state)?, state, watch);
+    let search = residual_search(alloc, state)?;
+    let solved = solve(search, state, &mut Vec::new(alloc), watch);
     let side = solved_side(alloc, state, &solved)?;
     let edit = solve_edit(alloc, state, solved)?;
     Ok((edit, side))

@@ -50,7 +50,7 @@ impl ResidualNetwork {
     /// Plans what [`plan_solve`](crate::plan_solve) plans, and gives the links as they are once it is applied. The watch is
     /// told of each path on the way.
     ///
-    /// Takes memory for the moves; where it is refused, the answer is [`PlanFault::NoMemory`].
+    /// Takes memory for the moves, and for a mark a node; where it is refused, the answer is [`PlanFault::NoMemory`].
     pub fn plan_solve<W: Watch>(
         self,
         alloc: Global,
@@ -62,14 +62,15 @@ impl ResidualNetwork {
         ensures edit { IfOk result (λ planned. PlansSolve state.now planned.0) }
         ensures kept { IfOk result (λ planned. IsResidualOf (applied planned.0 state.now) planned.1) }
     {
-        let Solved { search, .. } = solve(self.search, state, watch);
-        let moves = list_reached(alloc, state, &search)?;
+        let mut passed = vec![in alloc; false; state.nodes() as usize + 1]?;
+        let Solved { search, .. } = solve(self.search, state, &mut passed, watch);
+        let moves = list_reached(alloc, state, &search, &passed)?;
         Ok((Edit::Solve { moves }, ResidualNetwork { search }))
     }
 
     /// Plans the same, and tells the smallest side of the network, which does not change by it.
     ///
-    /// Takes memory for the side too, and for marks and flags while it is looked for; where it is refused, the answer is
+    /// Takes memory for the side too, and for more marks and flags while it is looked for; where it is refused, the answer is
     /// [`PlanFault::NoMemory`].
     pub fn plan_solve_with_side<W: Watch>(
         self,
@@ -84,10 +85,11 @@ impl ResidualNetwork {
         ensures value { IfOk result (λ planned. pos planned.1.capacity ≡ flow_value state.now.network (applied planned.0 state.now).flows) }
         ensures kept { IfOk result (λ planned. IsResidualOf (applied planned.0 state.now) planned.2) }
     {
-        let solved = solve(self.search, state, watch);
+        let mut passed = vec![in alloc; false; state.nodes() as usize + 1]?;
+        let solved = solve(self.search, state, &mut passed, watch);
         let side = solved_side(alloc, state, &solved)?;
         let Solved { search, .. } = solved;
-        let moves = list_reached(alloc, state, &search)?;
+        let moves = list_reached(alloc, state, &search, &passed)?;
         Ok((Edit::Solve { moves }, side, ResidualNetwork { search }))
     }
 

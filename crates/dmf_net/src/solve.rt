@@ -1,8 +1,9 @@
 ghost use Rattle.std.specs.Prelude.{◌≡◌, ◌↔◌, false, IfOk, IsTrue};
+ghost use Rattle.dmf_path.specs.Passed.{KeepsUnpassed};
 ghost use Rattle.dmf_net.specs.NetworkState.{IsState};
 ghost use Rattle.dmf_net.specs.Greatest.{IsGreatest, IsSurpassed};
 ghost use Rattle.dmf_net.specs.Pairs.{IsSolved};
-ghost use Rattle.dmf_net.specs.ResidualNetwork.{IsResidualOf};
+ghost use Rattle.dmf_net.specs.ResidualNetwork.{residual_pairs, IsResidualOf};
 
 use crate::fault::NoMemory;
 use crate::residual::residual_search;
@@ -18,16 +19,28 @@ pub struct Solved {
     pub value: u64,
 }
 
-/// Augments along least paths, from the flow of the state on, until none is left; the watch is told of each.
-pub fn solve<W: Watch>(mut search: Search, state: &State, watch: &mut W) -> Solved
+/// Augments along least paths, from the flow of the state on, until none is left; the watch is told of each. The nodes of these
+/// paths are marked, until they have an eighth as many links in all as there are marks: then all marks are taken away.
+pub fn solve<W: Watch>(
+    mut search: Search,
+    state: &State,
+    passed: &mut Vec<bool>,
+    watch: &mut W,
+) -> Solved
     requires { IsResidualOf state.now search }
     ensures solved { IsSolved state.now result.search result.value }
     ensures state { IsState state.now }
+    ensures passed { KeepsUnpassed passed.new.items (residual_pairs state.now.network.arcs state.now.flows) result.search.pairs }
 {
     let mut value = state.value();
-    while let Some(found) = search.augment(u64::MAX) {
+    let mut left = passed.len() / 8;
+    while let Some(found) = search.augment(u64::MAX, passed) {
         value += found.amount;
         watch.augmented(value, found.links);
+        left = left.saturating_sub(found.links as usize);
+        if left == 0 {
+            passed.clear();
+        }
     }
     Solved { search, value }
 }
@@ -39,5 +52,5 @@ pub fn is_greatest(alloc: Global, state: &State) -> Result<bool, NoMemory>
     ensures surpassed { IfOk result (λ answer. (answer ≡ false) ↔ IsSurpassed state.now.network state.now.flows) }
 {
     let mut search = residual_search(alloc, state)?;
-    Ok(search.augment(u64::MAX).is_none())
+    Ok(search.augment(u64::MAX, &mut []).is_none())
 }

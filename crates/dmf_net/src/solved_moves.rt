@@ -1,14 +1,15 @@
 //! The flows that a search for augmenting paths has reached, and the moves that lead to them.
 ghost use Rattle.std.specs.Prelude.{◌≡◌, ◌^◌, ◌≤◌, ◌<◌, length, slice_index, IfOk};
+ghost use Rattle.dmf_path.specs.Passed.{KeepsUnpassed};
 ghost use Rattle.dmf_net.specs.Edit.{differences};
 ghost use Rattle.dmf_net.specs.Flow.{AreWithinCapacities};
-ghost use Rattle.dmf_net.specs.ResidualNetwork.{residual_search};
+ghost use Rattle.dmf_net.specs.ResidualNetwork.{residual_pairs, residual_search};
 ghost use Rattle.dmf_net.specs.Pairs.{flow_left, reached_flows};
 
 use crate::arc::Arc;
 use crate::edit::Move;
 use crate::state::State;
-use dmf_path::Search;
+use dmf_path::{Search, is_passed};
 use std::alloc::{AllocError, Global};
 
 /// The flows that a search for augmenting paths has reached from those of the state. The search is let go, and with it most
@@ -45,6 +46,20 @@ fn flow_reached(state: &State, search: &Search, i: usize) -> u64
     flow_left(state.arcs()[i], state.flows()[i], search.along(i))
 }
 
+/// The same. Where no path has passed the tail of the arc, the search is not looked at.
+fn flow_passed(state: &State, search: &Search, passed: &[bool], i: usize) -> u64
+    requires search { search.now ≡ residual_search state.now.network (reached_flows state.now search.now) }
+    requires within { AreWithinCapacities state.now.network.arcs (reached_flows state.now search.now) }
+    requires passed { KeepsUnpassed passed.now (residual_pairs state.now.network.arcs state.now.flows) search.now.pairs }
+    requires arc { i < length state.now.flows }
+    ensures { result ≡ slice_index (reached_flows state.now search.now) i }
+{
+    if is_passed(passed, state.arcs()[i].tail) {
+        return flow_reached(state, search, i);
+    }
+    state.flows()[i]
+}
+
 /// What flows on an arc with this room along its pair; where it has no pair, what flowed at first.
 fn flow_left(arc: Arc, first: u64, along: Option<u64>) -> u64
     ensures { result ≡ flow_left arc first along }
@@ -56,15 +71,22 @@ fn flow_left(arc: Arc, first: u64, along: Option<u64>) -> u64
 }
 
 /// The moves of the arcs on which a search for augmenting paths has reached another flow than that of the state, in the order
-/// of their numbers. Takes memory for them alone, beside the search.
-pub fn list_reached(alloc: Global, state: &State, search: &Search) -> Result<Vec<Move>, AllocError>
+/// of their numbers. An arc whose tail no path has passed has the flow of the state. Takes memory for the moves alone, beside
+/// the search.
+pub fn list_reached(
+    alloc: Global,
+    state: &State,
+    search: &Search,
+    passed: &[bool],
+) -> Result<Vec<Move>, AllocError>
     requires search { search.now ≡ residual_search state.now.network (reached_flows state.now search.now) }
     requires within { AreWithinCapacities state.now.network.arcs (reached_flows state.now search.now) }
+    requires passed { KeepsUnpassed passed.now (residual_pairs state.now.network.arcs state.now.flows) search.now.pairs }
     ensures { IfOk result (λ moves. moves.items ≡ differences 1 state.now.flows (reached_flows state.now search.now)) }
 {
     let mut moves = Vec::new(alloc);
     for (i, &from) in state.flows().iter().enumerate() {
-        let to = flow_reached(state, search, i);
+        let to = flow_passed(state, search, passed, i);
         if from != to {
             let arc = i as u32 + 1;
             moves.push(Move { arc, from, to })?;

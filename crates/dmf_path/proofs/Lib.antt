@@ -45,6 +45,7 @@ pub mod Putting
 pub mod Filling
 pub mod Built
 pub mod Searching
+mod Unpassed
 pub mod Lowered
 pub mod RoomsSet
 pub mod Released

@@ -10,4 +10,6 @@ pub mod Labels
 pub mod Walk
 pub mod Held
 pub mod Search
+pub mod Passed
 pub mod Searching
+pub mod Passing

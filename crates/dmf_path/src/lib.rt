@@ -2,12 +2,14 @@
 #![tactic(auto)]
 
 pub use pair::{Pair, Pairs};
+pub use passed::is_passed;
 pub use search::{AugmentingPath, Search};
 
 mod label;
 mod links;
 mod listed;
 mod pair;
+mod passed;
 mod phase;
 mod push;
 mod reach;

@@ -3,12 +3,14 @@ ghost use Rattle.std.specs.Prelude.{◌≡◌, ◌≢◌, ℕ, ◌+◌, ◌-◌,
 ghost use Rattle.dmf_path.specs.Node.{IsNode};
 ghost use Rattle.dmf_path.specs.Path.{HasNoPath, IsReachable};
 ghost use Rattle.dmf_path.specs.Pair.{ArePairs, steps_of};
+ghost use Rattle.dmf_path.specs.Passed.{Passes};
 ghost use Rattle.dmf_path.specs.Search.{Augments, HasAlong, along_at, against_at, aimed, lowered_along, with_rooms, with_pairs};
 
 use crate::label::label_nodes;
 use crate::links::{LinkTable, NO_PLACE, build, opposite_flags};
 use crate::listed::{list_pairs, spread_places};
 use crate::pair::Pairs;
+use crate::passed::mark_ends;
 use crate::phase::{begin_anew, find};
 use crate::push::{push_once, set_pair};
 use crate::reach::{labelled, settled_flags};
@@ -142,11 +144,13 @@ impl Search {
     }
 
     /// Pushes along the least path from the start to the goal as much as the limit and its rooms allow, and answers how
-    /// much that is, and how long the path; nothing, where no path is left. Takes no memory.
-    pub fn augment(&mut self, limit: u64) -> Option<AugmentingPath>
-        ensures { MatchOption result
+    /// much that is, and how long the path; nothing, where no path is left. The nodes of the path are marked, each at the
+    /// index of its number, where there is a mark for it. Takes no memory.
+    pub fn augment(&mut self, limit: u64, passed: &mut [bool]) -> Option<AugmentingPath>
+        ensures found { MatchOption result
             (HasNoPath (steps_of self.old.pairs) self.old.start self.old.goal × (self.new ≡ self.old))
             (λ found. Augments limit found self.old self.new) }
+        ensures passed { Passes passed.old passed.new self.old.pairs self.new.pairs }
     {
         self.is_fresh = false;
         let found = find(
@@ -164,6 +168,7 @@ impl Search {
         }
         let amount = bottleneck(&self.trail.slots, self.trail.sent, limit);
         let links = self.trail.slots.len() as u32;
+        mark_ends(&self.table, &self.trail.slots, passed);
         self.trail.sent = self.trail.sent.wrapping_add(amount);
         cut(
             &self.table,

@@ -140,7 +140,7 @@ impl State {
         );
     }
 
-    /// Drops the last arc, which is open and without flow. Both vectors keep their room.
+    /// Drops the last arc, which is open and without flow. Both vectors keep their capacity.
     pub(crate) fn drop_last(&mut self)
         requires { HasIdleLast self.old }
         ensures { self.new ≡ without_last self.old }

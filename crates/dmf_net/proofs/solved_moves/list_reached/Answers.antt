@@ -28,11 +28,11 @@ loop-i-preserved c =
     let after : List ℕ = reached_flows s c.args.search.now in
     let i : ℕ = c.loop-i.i in
     let from : ℕ = get_or c.flows-from-items.result.now i 0 in
-    let to : ℕ = c.flow_reached-to.result in
+    let to : ℕ = c.flow_passed-to.result in
     let long = reached-long s c.args.search.now c.flows-from-items.ensures.state c.requires.search c.requires.within in
     let from_is : from ≡ get_or before i 0 = ap (λ xs. get_or xs i 0) c.flows-from-items.ensures.value in
     let next : differences 1 (take i before) (take i after) ++ move_of (i + 1) from to ≡ differences 1 (take (i + 1) before) (take (i + 1) after) =
-    rw (from_is, c.flow_reached-to.ensures) (sym (differences-more i before after (omega (arith, ap length c.flows-from-items.ensures.value, c.loop-i-test.true)) long)) in
+    rw (from_is, c.flow_passed-to.ensures) (sym (differences-more i before after (omega (arith, ap length c.flows-from-items.ensures.value, c.loop-i-test.true)) long)) in
     elim c.if-from-to.branch [
       | then-from-to+in_ok-push w ↦
           ap (λ v. v.items) w.moves-is ∙ w.in_ok-push.ensures.items

@@ -1,15 +1,19 @@
 -- A path is found, or none is left; what is sent along it, and the cut.
-use Rattle.std.proofs.Common.{◌≡◌, ◌+◌, ◌%◌, ◌^◌, false, length, sym, ◌∙◌, arith, get_or, vec_capacity}
+use Rattle.std.proofs.Common.{◌≡◌, ◌+◌, ◌%◌, ◌^◌, false, List, length, ap, sym, ◌∙◌, subst, arith, get_or, vec_capacity}
 use Rattle.std.specs.Vec.{with_items}
 use Rattle.std.proofs.lemmas.List.{with_items_is}
-use Rattle.dmf_path.specs.Links.{links_of}
-use Rattle.dmf_path.specs.Held.{way_of, least_left, settled, IsCut}
+use Rattle.dmf_path.specs.declared.trail.Slot.{Slot}
+use Rattle.dmf_path.specs.Links.{links_of, pairs_at}
+use Rattle.dmf_path.specs.Held.{way_of, least_left, settled, rooms_with, IsCut}
+use Rattle.dmf_path.specs.Search.{Searched, pair_number}
+use Rattle.dmf_path.specs.Passed.{KeepsUnpassed}
 use Rattle.dmf_path.specs.Searching.{IsSearch}
 use Rattle.dmf_path.proofs.SettledSent.{HaveLeft-sent}
 use Rattle.dmf_path.proofs.UnderWayWhole.{slot-within}
 use Rattle.dmf_path.proofs.Cutting.{HasCut, middle-leaves, has-cut, cut-start, cut-goal}
 use Rattle.dmf_path.proofs.Searching.{CanAugment, can-augment, no_path-search}
 use Rattle.dmf_path.proofs.SearchTurns.{IsSearch-found, sent_on, is-sent, IsSearch-cut, same-searched, augments-between}
+use Rattle.dmf_path.proofs.Unpassed.{AreMarked, kept-unpassed}
 use Rattle.dmf_path.proofs.search.Search.augment.Goals as goal
 use Rattle.dmf_path.proofs.search.Search.augment.Goals.{After-cut-arg-2-1, After-self-8-1}
 
@@ -33,8 +37,8 @@ invariant_of-self c =
     let current = with_items_is c.self.inside.current c.find-found.new.current (c.find-found.auto.current ∙ c.deref_mut-2.ensures.len) in
     rw (rooms, flags, labels, current) f
 
-pub returns-then-not-found : goal.returns-then-not-found
-returns-then-not-found c =
+pub returns-then-not-found-clause-found : goal.returns-then-not-found-clause-found
+returns-then-not-found-clause-found c =
     let l = links_of c.self.inside.table in
     let rooms = with_items_is c.self.inside.rooms c.find-found.new.rooms (c.find-found.auto.rooms ∙ c.deref_mut-3.ensures.len) in
     let flags = with_items_is c.self.inside.flags c.find-found.new.flags (c.find-found.auto.flags ∙ c.deref_mut-4.ensures.len) in
@@ -44,6 +48,12 @@ returns-then-not-found c =
       no_path-search _ _ _ _ _ i.links i.places_are i.start_is none,
       same-searched l c.self.inside.places.items _ _ _ _ _ _ c.self.inside.takes_back (rw c.deref_mut-3.ensures.value at c.find-found.ensures.same) c.find-found.ensures.start c.find-found.ensures.goal,
     )
+
+pub returns-then-not-found-clause-passed : goal.returns-then-not-found-clause-passed
+returns-then-not-found-clause-passed c = record {
+  more = λ v e. e;
+  kept = λ k unpassed. ap (λ (s : Searched). pair_number s.pairs k) (returns-then-not-found-clause-found c).1;
+}
 
 -- what the search keeps once a path is found
 found : (c : After-cut-arg-2-1) → IsSearch (links_of c.self.inside.table) c.self.inside.takes_back c.self.inside.places.items c.find-found.new.rooms c.find-found.new.flags c.find-found.new.labels c.find-found.new.current (way_of c.find-found.new.trail) (vec_capacity c.find-found.new.queue) (vec_capacity c.find-found.new.trail.slots) false
@@ -63,6 +73,19 @@ can c =
 -- and its rooms are read.
 read : (c : After-cut-arg-2-1) → c.deref_mut-5.result.now ≡ c.find-found.new.rooms
 read c = c.deref_mut-5.ensures.value ∙ with_items_is c.self.inside.rooms c.find-found.new.rooms (c.find-found.auto.rooms ∙ c.deref_mut-3.ensures.len)
+
+pub mark_ends-requires-clause-places : goal.mark_ends-requires-clause-places
+mark_ends-requires-clause-places c =
+    let l = links_of c.self.inside.table in
+    let w = way_of c.find-found.new.trail in
+    let is =
+    IsSearch-found l c.self.inside.takes_back c.self.inside.places.items c.self.inside.rooms.items c.self.inside.flags.items c.self.inside.labels.items c.self.inside.current.items (way_of c.self.inside.trail) _ _ c.find-found.new.rooms c.find-found.new.flags c.find-found.new.labels c.find-found.new.current w _ _ c.self.invariant
+    (omega (arith, c.find-found.auto.labels, c.deref_mut.ensures.len, c.self.inside.labels.ok.0)) c.find-found.ensures.start_label c.find-found.ensures.holding
+    (rw c.deref_mut-3.ensures.value at c.find-found.ensures.same) (rw c.deref_mut-3.ensures.value at c.find-found.ensures.valid) (rw c.deref_mut-3.ensures.value at c.find-found.ensures.under_way)
+    c.find-found.ensures.start c.find-found.ensures.goal c.find-found.ensures.queue_capacity c.find-found.ensures.slots_capacity in
+    let least : c.bottleneck-amount.result ≡ least_left w.sent c.args.limit w.slots = rw c.deref.ensures.value at c.bottleneck-amount.ensures in
+    let can = can-augment l c.self.inside.takes_back c.self.inside.places.items c.find-found.new.rooms c.find-found.new.flags c.find-found.new.labels c.find-found.new.current w _ _ c.args.limit c.bottleneck-amount.result is (c.find-found.ensures.found c.if-not-found.false) least in
+    rw c.deref-2.ensures.value (λ i inside. slot-within l c.find-found.new.labels _ _ w.slots i can.descends inside)
 
 pub cut-requires-clause-flags : goal.cut-requires-clause-flags
 cut-requires-clause-flags c =
@@ -112,9 +135,9 @@ invariant_of-self-2 c =
     rw (rooms, flags, labels, current)
     (IsSearch-cut (links_of c.self.inside.table) c.self.inside.takes_back c.self.inside.places.items c.find-found.new.rooms c.find-found.new.flags c.find-found.new.labels c.find-found.new.current (way_of c.find-found.new.trail) _ _ c.args.limit c.bottleneck-amount.result c.cut.new.rooms c.cut.new.flags (way_of c.cut.new.trail) _ (found at) (can at) (cut after) (start after) (end after) c.cut.ensures.slots_capacity)
 
-pub returns : goal.returns
-returns c =
-    let after = (goal.at.returns c).After-self-8-1 in
+pub returns-clause-found : goal.returns-clause-found
+returns-clause-found c =
+    let after = (goal.at.returns-clause-found c).After-self-8-1 in
     let l = links_of c.self.inside.table in
     let rooms = with_items_is (with_items c.self.inside.rooms c.find-found.new.rooms) c.cut.new.rooms (c.cut.auto.rooms ∙ c.deref_mut-5.ensures.len) in
     let links : c.len-links.result ≡ length c.find-found.new.trail.slots.items = omega (arith, c.len-links.ensures, c.find-found.new.trail.slots.ok.0) in
@@ -122,4 +145,22 @@ returns c =
     (augments-between c.args.limit (record { amount = c.bottleneck-amount.result; links = length c.find-found.new.trail.slots.items }) _ _ _ _
     (same-searched l c.self.inside.places.items _ _ _ _ _ _ c.self.inside.takes_back (rw c.deref_mut-3.ensures.value at c.find-found.ensures.same) c.find-found.ensures.start c.find-found.ensures.goal)
     (same-searched l c.self.inside.places.items _ _ _ _ _ _ c.self.inside.takes_back (sym (cut after).same) (sym (start after)) (sym (end after)))
-    (can (goal.at.returns c).After-cut-arg-2-1).augments)
+    (can (goal.at.returns-clause-found c).After-cut-arg-2-1).augments)
+
+pub returns-clause-passed : goal.returns-clause-passed
+returns-clause-passed c =
+    let after = (goal.at.returns-clause-passed c).After-self-8-1 in
+    let at = (goal.at.returns-clause-passed c).After-cut-arg-2-1 in
+    let l = links_of c.self.inside.table in
+    let back = c.self.inside.takes_back in
+    let places = c.self.inside.places.items in
+    let w = way_of c.find-found.new.trail in
+    let marks = c.mark_ends.new.passed in
+    let rooms = with_items_is (with_items c.self.inside.rooms c.find-found.new.rooms) c.cut.new.rooms (c.cut.auto.rooms ∙ c.deref_mut-5.ensures.len) in
+    let marked : AreMarked l marks w.slots = rw c.deref-2.ensures.value at c.mark_ends.ensures.marked in
+    let kept = kept-unpassed l back places c.find-found.new.rooms w.sent ((w.sent + c.bottleneck-amount.result) % 2 ^ 64) w.slots marks (found at).links (found at).places_are (found at).holding.rooms_are.0 marked in
+    let filled : settled l back w.sent w.slots c.find-found.new.rooms ≡ rooms_with l back w c.find-found.new.rooms = sym (ap (λ (ss : List Slot). settled l back w.sent ss c.find-found.new.rooms) (can at).whole.filled) in
+    let before = filled ∙ (rw c.deref_mut-3.ensures.value at c.find-found.ensures.same) in
+    let old = subst (λ rs. KeepsUnpassed marks (pairs_at l places rs) (pairs_at l places (settled l back ((w.sent + c.bottleneck-amount.result) % 2 ^ 64) w.slots c.find-found.new.rooms))) before kept in
+    let new = subst (λ rs. KeepsUnpassed marks (pairs_at l places (rooms_with l back (way_of c.self.inside.trail) c.self.inside.rooms.items)) (pairs_at l places rs)) (sym (cut after).same) old in
+    rw (← c.self.view_is, rooms) (record { more = c.mark_ends.ensures.more; kept = new })

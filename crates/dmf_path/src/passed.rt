@@ -1,0 +1,47 @@
+//! Which nodes paths have led through.
+ghost use Rattle.std.specs.Prelude.{◌≡◌, ℕ, true, false, ◌<◌, length};
+ghost use Rattle.dmf_path.specs.Links.{AreLinks, links_of};
+ghost use Rattle.dmf_path.specs.Held.{slot_at};
+ghost use Rattle.dmf_path.specs.Passed.{is_passed};
+ghost use Rattle.dmf_path.specs.Passing.{HasMarks};
+
+use crate::links::LinkTable;
+use crate::trail::Slot;
+
+/// Whether a node is marked. One without a mark of its own counts as marked.
+pub fn is_passed(passed: &[bool], node: u32) -> bool
+    ensures { result ≡ is_passed passed.now node }
+{
+    match passed.get(node as usize) {
+        Some(mark) => *mark,
+        None => true,
+    }
+}
+
+/// Marks the ends of these links. Where there are no marks nothing is looked at.
+pub fn mark_ends(table: &LinkTable, slots: &[Slot], passed: &mut [bool])
+    requires links { AreLinks (links_of table.now) }
+    requires places { (i : ℕ) → i < length slots.now → (slot_at slots.now i).place < length table.now.heads.items }
+    ensures more { (v : ℕ) → is_passed passed.new v ≡ false → is_passed passed.old v ≡ false }
+    ensures marked { (i : ℕ) → i < length slots.now → HasMarks (links_of table.now) passed.new (slot_at slots.now i).place }
+{
+    if passed.is_empty() {
+        return;
+    }
+    for slot in slots {
+        let place = slot.place as usize;
+        mark(table.heads[place], passed);
+        mark(table.heads[table.partners[place] as usize], passed);
+    }
+}
+
+/// Marks a node, where it has a mark.
+fn mark(node: u32, passed: &mut [bool])
+    ensures marked { is_passed passed.new node ≡ true }
+    ensures more { (v : ℕ) → is_passed passed.new v ≡ false → is_passed passed.old v ≡ false }
+{
+    let node = node as usize;
+    if node < passed.len() {
+        passed[node] = true;
+    }
+}
