@@ -1,4 +1,4 @@
-//! The program `dmf`: reads its words, opens what a run needs, calls the run, and tells how it ended.
+//! The program `dmf`: reads its arguments, opens what a run needs, calls the run, and tells how it ended.
 #![tactic(auto)]
 
 ghost use Rattle.std.specs.Prelude.{◌≤◌};
@@ -7,10 +7,11 @@ mod fault;
 mod progress;
 mod words;
 
+use dmf_arguments::{MAX_HISTORY, Mode, WordsFault, read_words};
 use dmf_run::{
-    EngineFault, MAX_BYTES, Mode, Status, WordsFault, read_words, run_check, run_session_watched,
-    run_solve_watched, status_of,
+    EngineFault, MAX_BYTES, Status, run_check, run_session_watched, run_solve_watched, status_of,
 };
+use dmf_session::MAX_BOUND;
 use dmf_text::{StdSink, StdSource};
 use fault::Fault;
 use progress::{Progress, WatchedCommands, WatchedSink, WatchedSolve, WatchedSource};
@@ -18,6 +19,9 @@ use std::fs::File;
 use std::io::BufWriter;
 use std::process::ExitCode;
 use std::rt::Stdout;
+
+// The arguments can ask for each history that a session can keep, and for no other.
+const _: () = prove!(MAX_HISTORY == MAX_BOUND);
 
 fn main(rt: HostRuntime) -> ExitCode {
     let outcome = run(&rt);

@@ -1,4 +1,4 @@
-//! The words of the command line, as the system gives them.
+//! The words of the program's arguments, as the system gives them.
 use crate::fault::Fault;
 use std::env;
 use std::io::ErrorKind;

@@ -9,12 +9,4 @@ pub mod Splitting
 pub mod Running
 pub mod OneRun
 pub mod OptimalRuns
-pub mod Table
-pub mod WordWalk
-pub mod BoundLemmas
-pub mod RowLemmas
-pub mod SessionWords
-pub mod SessionOrders
-pub mod Reading
-pub mod CommandLemmas
 pub mod NeverForgotten

@@ -14,5 +14,3 @@ pub mod WholeText
 pub mod SolveRun
 pub mod CheckRun
 pub mod Status
-pub mod Words
-pub mod Matches

@@ -1,8 +1,9 @@
 //! What command lines mean.
-ghost use Rattle.std.specs.Prelude.{◌≡◌};
+ghost use Rattle.std.specs.Prelude.{◌≡◌, ◌∷◌, codes, false};
+ghost use Rattle.std.specs.Str.{bytes_eq};
 ghost use Rattle.std.specs.Str.Lines.{strip_carriage_return};
 ghost use Rattle.dmf_text.specs.Number.{number_of};
-ghost use Rattle.dmf_run.specs.CommandText.{command_of, capping, addition, one_number, solving, steps, printing, with_number};
+ghost use Rattle.dmf_run.specs.CommandText.{command_of, meaning_of, command_by, capping, addition, one_number, solving, steps, printing, with_number};
 ghost use Rattle.dmf_run.specs.KeptLine.{Means};
 
 use crate::kept_line::KeptLine;
@@ -52,30 +53,37 @@ pub fn read_command(line: &[u8]) -> Result<Option<Command>, Refusal>
     if word == b"c".as_slice() {
         return Ok(None);
     }
-    let command = if word == b"cap".as_slice() {
-        read_capping(fields)?
+    Ok(Some(read_named(word, fields)?))
+}
+
+/// The command whose first field is this word, which is not `c`.
+fn read_named(word: &[u8], fields: Fields<'_>) -> Result<Command, Refusal>
+    requires { bytes_eq word.now (codes "c") ≡ false }
+    ensures { command_by (λ command. command) result ≡ meaning_of (word.now ∷ fields.entry) }
+{
+    if word == b"cap".as_slice() {
+        read_capping(fields)
     } else if word == b"add".as_slice() {
-        read_addition(fields)?
+        read_addition(fields)
     } else if word == b"close".as_slice() {
-        Command::Close {
+        Ok(Command::Close {
             arc: read_one_number(fields)?,
-        }
+        })
     } else if word == b"shut".as_slice() {
-        Command::Shut {
+        Ok(Command::Shut {
             node: read_one_number(fields)?,
-        }
+        })
     } else if word == b"solve".as_slice() {
-        read_solving(fields)?
+        read_solving(fields)
     } else if word == b"undo".as_slice() {
-        Command::Undo(read_steps(fields)?)
+        Ok(Command::Undo(read_steps(fields)?))
     } else if word == b"redo".as_slice() {
-        Command::Redo(read_steps(fields)?)
+        Ok(Command::Redo(read_steps(fields)?))
     } else if word == b"print".as_slice() {
-        read_printing(fields)?
+        read_printing(fields)
     } else {
-        return Err(Refusal::UnknownCommand);
-    };
-    Ok(Some(command))
+        Err(Refusal::UnknownCommand)
+    }
 }
 
 /// The fields behind `cap`.

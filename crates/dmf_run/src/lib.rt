@@ -16,12 +16,10 @@ pub use session::{
     run_session_watched,
 };
 pub use solve::{run_solve, run_solve_watched};
-pub use words::{Mode, WordsFault, read_words};
 
 mod check;
 mod command_text;
 mod fault;
-mod help;
 mod input;
 mod kept_line;
 mod laws;
@@ -31,4 +29,3 @@ mod reply;
 mod session;
 mod solve;
 mod whole_text;
-mod words;

@@ -60,6 +60,25 @@ pub fn run_commands_watched<H: History + Drop, C: Source, W: Sink, V: Watch>(
         result }
 {
     let mut session = session;
+    run_lines(alloc, &mut session, commands, out, want_cut, watch)
+}
+
+/// Carries out the command lines on a session that is the caller's.
+fn run_lines<H: History, C: Source, W: Sink, V: Watch>(
+    alloc: Global,
+    session: &mut Session<H>,
+    commands: &mut C,
+    out: &mut W,
+    want_cut: bool,
+    watch: &mut V,
+) -> Result<Status, EngineFault>
+    requires at_first { (H.timeline session.old).place ≡ 0 }
+    requires one_state { length (H.timeline session.old).states ≡ 1 }
+    ensures { RunsCommands want_cut (H.timeline session.old)
+        (streams_of (reader_of C.remaining C.has_failed commands.old) (writer_of W.contents W.has_failed out.old))
+        (streams_of (reader_of C.remaining C.has_failed commands.new) (writer_of W.contents W.has_failed out.new))
+        result }
+{
     let mut input = Input::new();
     let mut line = KeptLine::new();
     let mut is_refused = false;
@@ -67,12 +86,12 @@ pub fn run_commands_watched<H: History + Drop, C: Source, W: Sink, V: Watch>(
         match input.next_line(commands, &mut line)? {
             Next::Line => {
                 let meaning = meaning_of(&line, true);
-                let answer = answer(alloc, &mut session, number, meaning, out, want_cut, watch)?;
+                let answer = answer(alloc, session, number, meaning, out, want_cut, watch)?;
                 is_refused |= answer.is_refusal();
             }
             Next::Last => {
                 let meaning = meaning_of(&line, false);
-                let answer = answer(alloc, &mut session, number, meaning, out, want_cut, watch)?;
+                let answer = answer(alloc, session, number, meaning, out, want_cut, watch)?;
                 is_refused |= answer.is_refusal();
                 return Ok(status(is_refused));
             }

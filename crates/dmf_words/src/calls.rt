@@ -91,6 +91,24 @@ const REFUSED: [(&[u8], Refusal); 45] = [
     (b"add 18446744073709551616 x 1", Refusal::TooLarge),
 ];
 
+/// The texts of refusals.
+const REFUSAL_TEXTS: [(Refusal, &[u8]); 14] = [
+    (Refusal::UnknownCommand, b"unknown command"),
+    (Refusal::FieldCount, b"wrong number of fields"),
+    (Refusal::NotANumber, b"not a number"),
+    (Refusal::TooLarge, b"number too large"),
+    (Refusal::NoSuchArc, b"no such arc"),
+    (Refusal::Closed, b"arc is closed"),
+    (Refusal::NoSuchNode, b"no such node"),
+    (Refusal::TooManyArcs, b"too many arcs"),
+    (Refusal::SumTooLarge, b"capacities past 64 bits"),
+    (Refusal::NothingToUndo, b"nothing to undo"),
+    (Refusal::NothingToRedo, b"nothing to redo"),
+    (Refusal::NotGreatest, b"flow is not greatest"),
+    (Refusal::NoMemory, b"no memory"),
+    (Refusal::LineTooLong, b"line too long"),
+];
+
 /// A problem fault as a run tells it.
 fn problem_fault(line: u64, kind: ProblemFaultKind) -> EngineFault {
     EngineFault::Problem(ProblemFault { line, kind })
@@ -98,42 +116,26 @@ fn problem_fault(line: u64, kind: ProblemFaultKind) -> EngineFault {
 
 #[test]
 fn command_lines_are_read(rt: HostRuntime) {
-    for (line, command) in READ {
-        assert_eq!(rt; read_command(line), Ok(Some(command)), "{line:?}");
+    for &(line, command) in &READ {
+        assert!(rt; read_command(line) == Ok(Some(command)), "{line:?}");
     }
     let nothing: [&[u8]; 5] = [b"", b" \t ", b"c", b"c undo", b"\tc undo"];
-    for line in nothing {
-        assert_eq!(rt; read_command(line), Ok(None), "{line:?}");
+    for &line in &nothing {
+        assert!(rt; read_command(line) == Ok(None), "{line:?}");
     }
 }
 
 #[test]
 fn command_lines_are_refused(rt: HostRuntime) {
-    for (line, refusal) in REFUSED {
-        assert_eq!(rt; read_command(line), Err(refusal), "{line:?}");
+    for &(line, refusal) in &REFUSED {
+        assert!(rt; read_command(line) == Err(refusal), "{line:?}");
     }
 }
 
 #[test]
 fn refusals_have_texts(rt: HostRuntime) {
-    let table: [(Refusal, &[u8]); 14] = [
-        (Refusal::UnknownCommand, b"unknown command"),
-        (Refusal::FieldCount, b"wrong number of fields"),
-        (Refusal::NotANumber, b"not a number"),
-        (Refusal::TooLarge, b"number too large"),
-        (Refusal::NoSuchArc, b"no such arc"),
-        (Refusal::Closed, b"arc is closed"),
-        (Refusal::NoSuchNode, b"no such node"),
-        (Refusal::TooManyArcs, b"too many arcs"),
-        (Refusal::SumTooLarge, b"capacities past 64 bits"),
-        (Refusal::NothingToUndo, b"nothing to undo"),
-        (Refusal::NothingToRedo, b"nothing to redo"),
-        (Refusal::NotGreatest, b"flow is not greatest"),
-        (Refusal::NoMemory, b"no memory"),
-        (Refusal::LineTooLong, b"line too long"),
-    ];
-    for (refusal, text) in table {
-        assert!(rt; refusal_text(&refusal) == text, "{refusal}");
+    for (refusal, text) in &REFUSAL_TEXTS {
+        assert!(rt; refusal_text(refusal) == *text, "{refusal}");
     }
 }
 
@@ -155,8 +157,8 @@ fn outcomes_have_statuses(rt: HostRuntime) {
         (Err(EngineFault::TooMuchInput), 4),
         (Err(EngineFault::NoMemory), 5),
     ];
-    for (outcome, status) in table {
-        assert_eq!(rt; status_of(&outcome), status, "{outcome:?}");
+    for (outcome, status) in &table {
+        assert!(rt; status_of(outcome) == *status, "{outcome:?}");
     }
 }
 
@@ -180,9 +182,9 @@ fn faults_have_texts(rt: HostRuntime) -> Result<(), Fail> {
             "line 1: problem line expected",
         ),
     ];
-    for (fault, text) in table {
+    for (fault, text) in &table {
         let told = format!(in rt.alloc(); "{fault}")?;
-        assert_eq!(rt; told.as_str(), text);
+        assert!(rt; told.as_str() == *text, "{told}");
     }
     Ok(())
 }

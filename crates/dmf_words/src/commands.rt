@@ -35,6 +35,11 @@ fn expect<H: History>(
     }
 }
 
+/// Whether so many states stand before the present one of a session, and so many behind it.
+fn stands_between<H: History>(session: &Session<H>, past: u32, future: u32) -> bool {
+    session.past() == past && session.future() == future
+}
+
 #[test]
 fn changes_are_undone_and_redone(rt: HostRuntime) -> Result<(), Fail> {
     let mut session = example(rt.alloc())?;
@@ -44,16 +49,16 @@ fn changes_are_undone_and_redone(rt: HostRuntime) -> Result<(), Fail> {
         (Command::Undo(2), Ok(Reply::Value(0))),
     ];
     expect(&rt, rt.alloc(), &mut session, &undone);
-    assert_eq!(rt; (session.past(), session.future()), (0, 2));
-    assert_eq!(rt; session.present().arcs().len(), 5);
+    assert!(rt; stands_between(&session, 0, 2));
+    assert!(rt; session.present().arcs().len() == 5);
     let redone = [
         (Command::Redo(3), Err(Refusal::NothingToRedo)),
         (Command::Redo(2), Ok(Reply::Value(0))),
         (Command::PrintProblem, Ok(Reply::Problem)),
     ];
     expect(&rt, rt.alloc(), &mut session, &redone);
-    assert_eq!(rt; (session.past(), session.future()), (2, 0));
-    assert_eq!(rt; session.present().arcs().len(), 7);
+    assert!(rt; stands_between(&session, 2, 0));
+    assert!(rt; session.present().arcs().len() == 7);
     Ok(())
 }
 
@@ -69,7 +74,7 @@ fn a_change_drops_what_was_undone(rt: HostRuntime) -> Result<(), Fail> {
         (Command::Undo(0), Ok(Reply::Value(0))),
     ];
     expect(&rt, rt.alloc(), &mut session, &answers);
-    assert_eq!(rt; (session.past(), session.future()), (1, 0));
+    assert!(rt; stands_between(&session, 1, 0));
     Ok(())
 }
 
@@ -86,7 +91,7 @@ fn a_refused_change_is_no_state(rt: HostRuntime) -> Result<(), Fail> {
         (add(u64::MAX), Err(Refusal::SumTooLarge)),
     ];
     expect(&rt, rt.alloc(), &mut session, &answers);
-    assert_eq!(rt; (session.past(), session.future()), (0, 0));
+    assert!(rt; stands_between(&session, 0, 0));
     Ok(())
 }
 
@@ -96,7 +101,7 @@ fn a_solve_is_a_change_also_of_a_greatest_flow(rt: HostRuntime) -> Result<(), Fa
     for past in [1, 2] {
         let solved = [(Command::Solve, Ok(Reply::Solution(None)))];
         expect(&rt, rt.alloc(), &mut session, &solved);
-        assert_eq!(rt; (session.past(), session.present().value()), (past, 5));
+        assert!(rt; session.past() == past && session.present().value() == 5);
     }
     let answers = [
         (Command::Undo(1), Ok(Reply::Value(5))),
@@ -104,7 +109,7 @@ fn a_solve_is_a_change_also_of_a_greatest_flow(rt: HostRuntime) -> Result<(), Fa
         (Command::Undo(1), Ok(Reply::Value(0))),
     ];
     expect(&rt, rt.alloc(), &mut session, &answers);
-    assert_eq!(rt; (session.past(), session.future()), (0, 2));
+    assert!(rt; stands_between(&session, 0, 2));
     Ok(())
 }
 
@@ -128,8 +133,8 @@ fn capacities_are_changed_and_arcs_closed(rt: HostRuntime) -> Result<(), Fail> {
         (Command::Redo(1), Ok(Reply::Value(3))),
     ];
     expect(&rt, rt.alloc(), &mut session, &answers);
-    assert_eq!(rt; (session.past(), session.future()), (2, 1));
-    assert_eq!(rt; session.present().arcs().last(), Some(&Arc::open(3, 4, 1)));
+    assert!(rt; stands_between(&session, 2, 1));
+    assert!(rt; session.present().arcs().last() == Some(&Arc::open(3, 4, 1)));
     Ok(())
 }
 
@@ -147,8 +152,8 @@ fn a_node_is_shut_by_one_change(rt: HostRuntime) -> Result<(), Fail> {
         (Command::Redo(1), Ok(Reply::Value(2))),
     ];
     expect(&rt, rt.alloc(), &mut session, &answers);
-    assert_eq!(rt; (session.past(), session.future()), (2, 1));
-    assert_eq!(rt; session.present().open_count(), 2);
+    assert!(rt; stands_between(&session, 2, 1));
+    assert!(rt; session.present().open_count() == 2);
     Ok(())
 }
 
@@ -176,7 +181,7 @@ fn cuts_are_told_of_greatest_flows(rt: HostRuntime) -> Result<(), Fail> {
         (Command::PrintCut, Err(Refusal::NotGreatest)),
     ];
     expect(&rt, rt.alloc(), &mut session, &undone);
-    assert_eq!(rt; (session.past(), session.future()), (0, 1));
+    assert!(rt; stands_between(&session, 0, 1));
     Ok(())
 }
 
@@ -190,10 +195,10 @@ fn changes_that_alter_nothing_are_kept(rt: HostRuntime) -> Result<(), Fail> {
         let edit = plan_cap(alloc, history.present(), 1, 3)?;
         history.append(edit)?;
     }
-    assert_eq!(rt; (history.past(), history.future()), (200, 0));
+    assert!(rt; history.past() == 200 && history.future() == 0);
     for _ in 0..200 {
         history.undo()?;
     }
-    assert_eq!(rt; (history.past(), history.future()), (0, 200));
+    assert!(rt; history.past() == 0 && history.future() == 200);
     Ok(())
 }

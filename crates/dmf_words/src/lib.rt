@@ -1,5 +1,5 @@
-//! Tests of single calls: the words of the command line, command lines, texts, the commands of a session; and the examples of the
-//! libraries' pages.
+//! Tests of single calls: command lines, texts, the commands of a session; and the examples of the pages of the libraries with
+//! networks.
 #![tactic(auto)]
 
 #[cfg(test)]
@@ -8,5 +8,3 @@ mod calls;
 mod commands;
 #[cfg(test)]
 mod examples;
-#[cfg(test)]
-mod words;

@@ -1,0 +1,274 @@
+//! The words of the program's arguments: what they ask for.
+ghost use Rattle.std.specs.Prelude.{ℕ, ◌≡◌, ◌≢◌, ◌≤◌, IfOk, Bool, Option, Some, None, codes, drop, map, false};
+ghost use Rattle.clap.specs.Words.{app_of, first_value, found_of, kind_of, one_text, rule_of, subcommand_rows_of};
+ghost use Rattle.clap.specs.Values.{bool_text};
+ghost use Rattle.clap.specs.declared.builder.command.Command.TheViews.{out-Command as fields_of};
+ghost use Rattle.dmf_arguments.specs.Matches.{asked_of, check_line, arguments, cut_rule, history_rule, problem_rule, progress_rule, program_line, session_line, solve_line};
+ghost use Rattle.dmf_arguments.specs.Words.{Gives, HasBound, IsBound, IsHelp, IsUsage, IsVersion, ReadsWords, Text, solving, holding, checking};
+ghost use Rattle.dmf_arguments.specs.declared.words.WordsFault.TheVariants.{NoMemory};
+
+use crate::help;
+use clap::error::ErrorKind;
+use clap::{Arg, ArgAction, ArgMatches, Command, Error, value_parser};
+use std::alloc::{AllocError, Global};
+
+/// The largest number that `--history` takes. It is the largest bound of a session's history, too, so each history can be asked for.
+pub const MAX_HISTORY: u32 = 1_000_000;
+
+/// What the program is asked to do.
+#[derive(Debug, Drop, PartialEq, Eq)]
+pub enum Mode {
+    /// Solve the problem on standard input, with the cut after its solution where that is wanted. Progress is told also where
+    /// standard error is no terminal, if that is wanted.
+    Solve {
+        cut: bool,
+        progress: bool,
+    },
+    /// Hold a session on the problem in the file at this path, with the cut after each solution where that is wanted, with
+    /// progress told as in a solve, and with at most so many states kept before the present one.
+    Session {
+        cut: bool,
+        progress: bool,
+        history: u32,
+        problem: String,
+    },
+    /// Judge the solution on standard input of the problem in the file at this path.
+    Check {
+        problem: String,
+    },
+}
+
+/// Why the words ask for no run.
+#[derive(Debug, Drop, PartialEq, Eq)]
+pub enum WordsFault {
+    /// They ask for help, and this is its text.
+    Help(String),
+    /// They ask for the program's version, and this is its text.
+    Version(String),
+    /// They are none that the program takes, and this text says why.
+    Usage(String),
+    /// A request for memory was refused.
+    NoMemory,
+}
+
+impl From<AllocError> for WordsFault {
+    ghost use Rattle.std.specs.Prelude.{◌≡◌};
+    ghost use Rattle.dmf_arguments.specs.declared.words.WordsFault.TheVariants.{NoMemory};
+
+    ghost from_gives = { λ _ fault. fault ≡ NoMemory };
+
+    fn from(_error: AllocError) -> WordsFault {
+        WordsFault::NoMemory
+    }
+}
+
+/// Reads the program's arguments, of which the first is its name.
+///
+/// No words behind it, or `solve`, ask for [`Mode::Solve`]; `session PROBLEM` asks for [`Mode::Session`], and
+/// `check PROBLEM` for [`Mode::Check`]. The flags `--cut` and `--progress` may stand behind `solve` and `session`, `--history N`
+/// behind `session` alone, with a number up to [`MAX_HISTORY`], which is what stands for it where it is absent, and `--help` behind
+/// each command and alone: it is answered by [`WordsFault::Help`], and so is `help`, alone or before a command. `--version` alone
+/// is answered by [`WordsFault::Version`]. A PROBLEM that begins with a dash stands behind `--`. All other words are refused
+/// by [`WordsFault::Usage`]; the texts are those of `clap`. [`WordsFault::NoMemory`] may come in place of any answer.
+#[inline(never)]
+pub fn read_words(alloc: Global, words: Vec<String>) -> Result<Mode, WordsFault>
+    ensures words { ReadsWords (drop 1 (map (λ word. word.bytes.items) words.items)) result }
+    ensures bound { IfOk result HasBound }
+{
+    let command = command(alloc)?;
+    match command.try_get_matches_from(words.as_slice()) {
+        Ok(matches) => mode_of(alloc, &matches),
+        Err(error) => Err(fault_of(alloc, &error)),
+    }
+}
+
+/// The arguments that the program takes.
+fn command<'a>(alloc: Global) -> Result<Command<'a>, AllocError>
+    ensures { IfOk result (λ made. app_of made ≡ arguments) }
+{
+    program(alloc)
+        .subcommand(solve(alloc)?)?
+        .subcommand(session(alloc)?)?
+        .subcommand(check(alloc)?)
+}
+
+/// The program, without its commands.
+#[inline(never)]
+fn program<'a>(alloc: Global) -> Command<'a>
+    ensures { app_of result ≡ program_line }
+{
+    Command::new(alloc, "dmf")
+        .about(
+            "Solve maximum-flow problems in the DIMACS format, and hold what-if sessions on them",
+        )
+        .version(help::VERSION)
+        .override_usage(help::USAGE)
+        .after_help(help::NOTES)
+}
+
+/// The command `solve`.
+#[inline(never)]
+fn solve<'a>(alloc: Global) -> Result<Command<'a>, AllocError>
+    ensures line { IfOk result (λ made. app_of made ≡ solve_line) }
+    ensures local { IfOk result (λ made. (fields_of made).has_globals ≡ false) }
+{
+    Command::new(alloc, "solve")
+        .about("Solve the problem on standard input (without a command, dmf does so too)")
+        .override_usage(help::SOLVE_USAGE)
+        .after_help(help::SOLVE_NOTES)
+        .arg(cut(alloc, "Write the smallest minimum cut after the solution"))?
+        .arg(progress(alloc))
+}
+
+/// The command `session`.
+#[inline(never)]
+fn session<'a>(alloc: Global) -> Result<Command<'a>, AllocError>
+    ensures line { IfOk result (λ made. app_of made ≡ session_line) }
+    ensures local { IfOk result (λ made. (fields_of made).has_globals ≡ false) }
+{
+    Command::new(alloc, "session")
+        .about("Carry out the commands on standard input, on the problem in a file")
+        .override_usage(help::SESSION_USAGE)
+        .after_help(help::SESSION_NOTES)
+        .arg(cut(alloc, "Write the smallest minimum cut after each solution"))?
+        .arg(history(alloc))?
+        .arg(progress(alloc))?
+        .arg(problem(alloc))
+}
+
+/// The command `check`.
+#[inline(never)]
+fn check<'a>(alloc: Global) -> Result<Command<'a>, AllocError>
+    ensures line { IfOk result (λ made. app_of made ≡ check_line) }
+    ensures local { IfOk result (λ made. (fields_of made).has_globals ≡ false) }
+{
+    Command::new(alloc, "check")
+        .about("Judge the solution on standard input, of the problem in a file")
+        .override_usage(help::CHECK_USAGE)
+        .after_help(help::CHECK_NOTES)
+        .arg(problem(alloc))
+}
+
+/// The flag with which the cut is wanted.
+fn cut<'a>(alloc: Global, help: &'a str) -> Arg<'a>
+    ensures rule { rule_of result ≡ cut_rule }
+    ensures local { result.global ≡ false }
+{
+    Arg::new(alloc, "cut")
+        .long("cut")
+        .action(ArgAction::SetTrue)
+        .help(help)
+}
+
+/// The flag with which progress is told also where standard error is no terminal.
+fn progress<'a>(alloc: Global) -> Arg<'a>
+    ensures rule { rule_of result ≡ progress_rule }
+    ensures local { result.global ≡ false }
+{
+    Arg::new(alloc, "progress")
+        .long("progress")
+        .action(ArgAction::SetTrue)
+        .help("Tell on standard error how far it is")
+}
+
+/// The option that says how many states are kept before the present one.
+#[inline(never)]
+fn history<'a>(alloc: Global) -> Arg<'a>
+    ensures rule { rule_of result ≡ history_rule }
+    ensures local { result.global ≡ false }
+{
+    Arg::new(alloc, "history")
+        .long("history")
+        .value_name("N")
+        .default_value("1000000")
+        .value_parser(value_parser!(u32).range(0..=i64::from(MAX_HISTORY)))
+        .help("Keep at most N changes for undo")
+}
+
+/// The word that names the problem's file.
+fn problem<'a>(alloc: Global) -> Arg<'a>
+    ensures rule { rule_of result ≡ problem_rule }
+    ensures local { result.global ≡ false }
+{
+    Arg::new(alloc, "problem")
+        .value_name("PROBLEM")
+        .required(true)
+        .help("The file with the problem")
+}
+
+/// What the words that the program takes ask for.
+fn mode_of(alloc: Global, matches: &ArgMatches<'_>) -> Result<Mode, WordsFault>
+    ensures nothing { asked_of (subcommand_rows_of matches.now) ≡ None → Gives (solving false false) result }
+    ensures solve { (cut progress : Bool) (text path : Option Text)
+        → asked_of (subcommand_rows_of matches.now) ≡ Some (codes "solve", Some (bool_text cut), Some (bool_text progress), text, path)
+        → Gives (solving cut progress) result }
+    ensures session { (cut progress : Bool) (text : Text) (bound : ℕ) (path : Text)
+        → asked_of (subcommand_rows_of matches.now)
+        ≡ Some (codes "session", Some (bool_text cut), Some (bool_text progress), Some text, Some path)
+        → IsBound text bound → Gives (holding cut progress bound path) result }
+    ensures check { (cut progress text : Option Text) (path : Text)
+        → asked_of (subcommand_rows_of matches.now) ≡ Some (codes "check", cut, progress, text, Some path)
+        → Gives (checking path) result }
+    ensures bound { IfOk result HasBound }
+{
+    match matches.subcommand() {
+        Some(("session", session)) => Ok(Mode::Session {
+            cut: session.get_flag("cut"),
+            progress: session.get_flag("progress"),
+            history: bound_of(session),
+            problem: path_of(alloc, session)?,
+        }),
+        Some(("check", check)) => Ok(Mode::Check {
+            problem: path_of(alloc, check)?,
+        }),
+        Some((_, solve)) => Ok(Mode::Solve {
+            cut: solve.get_flag("cut"),
+            progress: solve.get_flag("progress"),
+        }),
+        None => Ok(Mode::Solve {
+            cut: false,
+            progress: false,
+        }),
+    }
+}
+
+/// The bound of a session's history. It has a default, and the parser lets no larger number through.
+fn bound_of(matches: &ArgMatches<'_>) -> u32
+    ensures value { (text : Text) (bound : ℕ) → one_text (found_of matches.now) (codes "history") ≡ Some text
+        → IsBound text bound → result ≡ bound }
+    ensures at_most { result ≤ 1000000 }
+{
+    matches
+        .get_one::<u32>("history")
+        .unwrap_or(MAX_HISTORY)
+        .min(MAX_HISTORY)
+}
+
+/// The path of the problem's file. It is required, so it is there.
+fn path_of(alloc: Global, matches: &ArgMatches<'_>) -> Result<String, AllocError>
+    ensures { (path : Text) → first_value (found_of matches.now) (codes "problem") ≡ Some path
+        → IfOk result (λ read. read.bytes.items ≡ path) }
+{
+    String::from_str(alloc, matches.get_str("problem").unwrap_or(""))
+}
+
+/// Why the words were not taken.
+fn fault_of(alloc: Global, error: &Error) -> WordsFault
+    ensures memory { kind_of error.now ≡ ErrorKind.OutOfMemory → result ≡ NoMemory }
+    ensures help { kind_of error.now ≡ ErrorKind.DisplayHelp → IsHelp result }
+    ensures version { kind_of error.now ≡ ErrorKind.DisplayVersion → IsVersion result }
+    ensures usage { kind_of error.now ≢ ErrorKind.DisplayHelp → kind_of error.now ≢ ErrorKind.DisplayVersion
+        → IsUsage result }
+{
+    if error.kind() == ErrorKind::OutOfMemory {
+        return WordsFault::NoMemory;
+    }
+    let Ok(text) = format!(in alloc; "{error}") else {
+        return WordsFault::NoMemory;
+    };
+    match error.kind() {
+        ErrorKind::DisplayHelp => WordsFault::Help(text),
+        ErrorKind::DisplayVersion => WordsFault::Version(text),
+        _ => WordsFault::Usage(text),
+    }
+}

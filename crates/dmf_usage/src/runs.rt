@@ -1,0 +1,101 @@
+//! Which run the arguments ask for.
+use crate::expected::expect;
+use dmf_arguments::{Mode, read_words};
+use std::alloc::Global;
+use std::test::Fail;
+
+/// Words that ask to solve, each with whether the cut and the progress are told.
+const SOLVES: [(&str, bool, bool); 6] = [
+    ("", false, false),
+    ("solve", false, false),
+    ("solve --cut", true, false),
+    ("solve --progress", false, true),
+    ("solve --cut --progress", true, true),
+    ("solve --progress --cut", true, true),
+];
+
+#[test]
+fn words_ask_to_solve(rt: HostRuntime) -> Result<(), Fail> {
+    for (line, cut, progress) in &SOLVES {
+        let wanted = Mode::Solve {
+            cut: *cut,
+            progress: *progress,
+        };
+        expect(rt.alloc(), line, &Ok(wanted))?;
+    }
+    Ok(())
+}
+
+/// Words that ask for a session, each with whether cuts and the progress are told, the bound, and the problem.
+type Session = (&'static str, bool, bool, u32, &'static str);
+
+const SESSIONS: [Session; 9] = [
+    ("session P", false, false, 1_000_000, "P"),
+    ("session --cut P", true, false, 1_000_000, "P"),
+    ("session P --cut", true, false, 1_000_000, "P"),
+    (
+        "session nets/day-1.max",
+        false,
+        false,
+        1_000_000,
+        "nets/day-1.max",
+    ),
+    ("session -", false, false, 1_000_000, "-"),
+    ("session -- --cut", false, false, 1_000_000, "--cut"),
+    ("session solve", false, false, 1_000_000, "solve"),
+    ("session --progress P", false, true, 1_000_000, "P"),
+    ("session --cut P --progress", true, true, 1_000_000, "P"),
+];
+
+const BOUNDED: [Session; 5] = [
+    ("session --history 0 P", false, false, 0, "P"),
+    ("session P --history 1", false, false, 1, "P"),
+    ("session --history=+7 P", false, false, 7, "P"),
+    (
+        "session --cut --history 1000000 P",
+        true,
+        false,
+        1_000_000,
+        "P",
+    ),
+    ("session --history 3 --progress P --cut", true, true, 3, "P"),
+];
+
+/// Each row's words are to ask for its session.
+fn expect_sessions(alloc: Global, rows: &[Session]) -> Result<(), Fail> {
+    for (line, cut, progress, history, problem) in rows {
+        let wanted = Mode::Session {
+            cut: *cut,
+            progress: *progress,
+            history: *history,
+            problem: String::from_str(alloc, problem)?,
+        };
+        expect(alloc, line, &Ok(wanted))?;
+    }
+    Ok(())
+}
+
+#[test]
+fn words_ask_for_a_session(rt: HostRuntime) -> Result<(), Fail> {
+    expect_sessions(rt.alloc(), &SESSIONS)
+}
+
+#[test]
+fn words_ask_for_a_bounded_session(rt: HostRuntime) -> Result<(), Fail> {
+    expect_sessions(rt.alloc(), &BOUNDED)
+}
+
+#[test]
+fn words_ask_for_a_check(rt: HostRuntime) -> Result<(), Fail> {
+    let problem = String::from_str(rt.alloc(), "P")?;
+    expect(rt.alloc(), "check P", &Ok(Mode::Check { problem }))
+}
+
+#[test]
+fn no_words_at_all_ask_for_solving(rt: HostRuntime) {
+    let wanted = Mode::Solve {
+        cut: false,
+        progress: false,
+    };
+    assert!(rt; read_words(rt.alloc(), Vec::new(rt.alloc())) == Ok(wanted));
+}
