@@ -66,7 +66,7 @@ fn change_and_back(
                 .follow_back(state, &edit)
                 .ok_or("the links are let go")?;
             state.revert(&edit);
-            assert_eq!(rt; state.value(), value);
+            assert!(rt; state.value() == value);
             Ok(back)
         }
         Err(_) => Ok(kept),
@@ -86,13 +86,29 @@ fn solve_and_change(
     ensures { IfOk result (IsResidualOf state.new) }
 {
     let (edit, kept) = kept.plan_solve(alloc, state, &mut Unwatched)?;
-    assert_eq!(rt; edit, plan_solve(alloc, state)?);
+    assert!(rt; edit == plan_solve(alloc, state)?);
     state.apply(&edit)?;
     assert!(rt; kept.smallest_side(alloc, state)? == smallest_side(alloc, state)?);
     let kept = change(alloc, state, kept, draws)?;
     let kept = change(alloc, state, kept, draws)?;
     let kept = change_and_back(rt, alloc, state, kept, draws)?;
     change(alloc, state, kept, draws)
+}
+
+/// Plans a solve with its side along the kept links, and compares both with those of links made anew.
+fn compare_sides(
+    rt: &impl Abort,
+    alloc: Global,
+    state: &mut State,
+    kept: ResidualNetwork,
+) -> Result<(), Fail>
+    requires { IsResidualOf state.old kept }
+{
+    let (edit, side, _) = kept.plan_solve_with_side(alloc, state, &mut Unwatched)?;
+    assert!(rt; edit == plan_solve(alloc, state)?);
+    state.apply(&edit)?;
+    assert!(rt; side == smallest_side(alloc, state)?);
+    Ok(())
 }
 
 #[test]
@@ -106,10 +122,7 @@ fn kept_links_plan_as_links_made_anew(rt: HostRuntime) -> Result<(), Fail> {
         let kept = solve_and_change(&rt, alloc, &mut state, kept, &mut draws)?;
         let kept = solve_and_change(&rt, alloc, &mut state, kept, &mut draws)?;
         let kept = solve_and_change(&rt, alloc, &mut state, kept, &mut draws)?;
-        let (edit, side, _) = kept.plan_solve_with_side(alloc, &state, &mut Unwatched)?;
-        assert_eq!(rt; edit, plan_solve(alloc, &state)?);
-        state.apply(&edit)?;
-        assert!(rt; side == smallest_side(alloc, &state)?);
+        compare_sides(&rt, alloc, &mut state, kept)?;
     }
     Ok(())
 }

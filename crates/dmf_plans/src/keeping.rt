@@ -22,18 +22,25 @@ fn change(
     follow(state, kept, &edit)
 }
 
+/// The residual network that is kept while arcs 1 and 4 get the capacities 4 and 3.
+fn raised(alloc: Global, state: &mut State) -> Result<ResidualNetwork, Fail>
+    ensures { IfOk result (IsResidualOf state.new) }
+{
+    let kept = ResidualNetwork::new(alloc, state)?;
+    let kept = change(alloc, state, kept, 1, 4)?;
+    change(alloc, state, kept, 4, 3)
+}
+
 /// Arcs 2 and 5 are the limit on the way by node 3, and arcs 1 and 4 on the way by node 2: with 1 more on arcs 1 and 4 one more
 /// comes through.
 #[test]
 fn raised_capacities_are_followed(rt: HostRuntime) -> Result<(), Fail> {
     let alloc = rt.alloc();
     let mut state = solved_example(alloc)?;
-    let kept = ResidualNetwork::new(alloc, &state)?;
-    let kept = change(alloc, &mut state, kept, 1, 4)?;
-    let kept = change(alloc, &mut state, kept, 4, 3)?;
+    let kept = raised(alloc, &mut state)?;
     let (edit, _) = kept.plan_solve(alloc, &state, &mut Unwatched)?;
     let moves = listed(alloc, &[(1, 3, 4), (4, 2, 3)])?;
-    assert_eq!(rt; edit, Edit::Solve { moves });
+    assert!(rt; edit == Edit::Solve { moves });
     Ok(())
 }
 

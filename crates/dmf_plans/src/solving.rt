@@ -1,27 +1,25 @@
 //! Tests of solving.
 use dmf_net::{Edit, plan_solve};
-use dmf_scanning::{detour, example, listed};
+use dmf_scanning::{detour, listed, solved_example};
 use std::test::Fail;
 
 #[test]
 fn a_greatest_flow_is_planned_and_applied(rt: HostRuntime) -> Result<(), Fail> {
-    let mut state = example(rt.alloc())?;
-    let edit = plan_solve(rt.alloc(), &state)?;
-    state.apply(&edit)?;
-    assert_eq!(rt; state.value(), 5);
-    assert_eq!(rt; state.arcs().len(), 5);
-    assert_eq!(rt; state.flow(1), 3);
-    assert_eq!(rt; state.flow(2), 2);
-    assert_eq!(rt; state.flow(3), 1);
-    assert_eq!(rt; state.flow(4), 2);
-    assert_eq!(rt; state.flow(5), 3);
-    let again = plan_solve(rt.alloc(), &state)?;
-    assert_eq!(rt;
-        again,
-        Edit::Solve {
-            moves: Vec::new(rt.alloc())
-        }
+    let alloc = rt.alloc();
+    let state = solved_example(alloc)?;
+    assert!(rt; state.value() == 5 && state.arcs().len() == 5);
+    let flows = (
+        state.flow(1),
+        state.flow(2),
+        state.flow(3),
+        state.flow(4),
+        state.flow(5),
     );
+    assert!(rt; flows == (3, 2, 1, 2, 3));
+    let nothing = Edit::Solve {
+        moves: Vec::new(alloc),
+    };
+    assert!(rt; plan_solve(alloc, &state) == Ok(nothing));
     Ok(())
 }
 
@@ -31,6 +29,6 @@ fn a_greatest_flow_is_planned_and_applied(rt: HostRuntime) -> Result<(), Fail> {
 fn a_backward_step_goes_by_its_rank(rt: HostRuntime) -> Result<(), Fail> {
     let state = detour(rt.alloc())?;
     let moves = listed(rt.alloc(), &[(1, 1, 0), (4, 0, 1), (5, 0, 1)])?;
-    assert_eq!(rt; plan_solve(rt.alloc(), &state)?, Edit::Solve { moves });
+    assert!(rt; plan_solve(rt.alloc(), &state) == Ok(Edit::Solve { moves }));
     Ok(())
 }

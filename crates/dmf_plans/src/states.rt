@@ -1,123 +1,139 @@
 //! Tests of building states, of reading them, and of adding arcs.
+use crate::networks::self_loop;
 use dmf_net::{Arc, Edit, FlowFault, NetFault, PlanFault, State, plan_add};
-use dmf_scanning::example;
+use dmf_scanning::{example, flowing, network};
+use std::alloc::Global;
+use std::process::Abort;
 use std::test::Fail;
+
+const HALF: u64 = 1 << 63;
+
+/// Arcs that are pushed on two nodes one after the other, each with the answer.
+const PUSHED_ARCS: [(u64, u64, u64, Result<(), NetFault>); 8] = [
+    (3, 1, 0, Err(NetFault::NoSuchNode)),
+    (1, 0, 0, Err(NetFault::NoSuchNode)),
+    (1, 2, HALF, Ok(())),
+    (1, 2, HALF, Err(NetFault::SumTooLarge)),
+    (9, 2, HALF, Err(NetFault::NoSuchNode)),
+    (2, 2, HALF - 1, Ok(())),
+    (2, 1, 0, Ok(())),
+    (2, 1, 1, Err(NetFault::SumTooLarge)),
+];
+
+/// The third arc of the example.
+const THIRD_ARC: Arc = Arc {
+    tail: 2,
+    head: 3,
+    cap: 5,
+    closed: false,
+};
+
+/// The arc that is added to the example.
+const ADDED_ARC: Arc = Arc {
+    tail: 1,
+    head: 4,
+    cap: 7,
+    closed: false,
+};
+
+/// The largest capacity of one more arc after that.
+const LARGEST: u64 = u64::MAX - 22;
 
 #[test]
 fn a_network_is_built_and_read(rt: HostRuntime) -> Result<(), Fail> {
     let state = example(rt.alloc())?;
-    assert_eq!(rt; state.nodes(), 4);
-    assert_eq!(rt; state.source(), 1);
-    assert_eq!(rt; state.sink(), 4);
-    assert_eq!(rt; state.arcs().len(), 5);
-    assert_eq!(rt;
-        state.arcs()[2],
-        Arc {
-            tail: 2,
-            head: 3,
-            cap: 5,
-            closed: false
-        }
-    );
-    assert_eq!(rt; state.open_count(), 5);
-    assert_eq!(rt; state.value(), 0);
+    assert!(rt; (state.nodes(), state.source(), state.sink()) == (4, 1, 4));
+    assert!(rt; (state.open_count(), state.value()) == (5, 0));
+    assert!(rt; state.arcs().len() == 5 && state.arcs()[2] == THIRD_ARC);
     Ok(())
 }
 
 #[test]
 fn arcs_are_refused_in_order(rt: HostRuntime) -> Result<(), Fail> {
     let mut state = State::new(rt.alloc(), 2, 1, 2);
-    let half = 1 << 63;
-    assert_eq!(rt; state.push_arc(3, 1, 0), Err(NetFault::NoSuchNode));
-    assert_eq!(rt; state.push_arc(1, 0, 0), Err(NetFault::NoSuchNode));
-    assert_eq!(rt; state.push_arc(1, 2, half), Ok(()));
-    assert_eq!(rt; state.push_arc(1, 2, half), Err(NetFault::SumTooLarge));
-    assert_eq!(rt; state.push_arc(9, 2, half), Err(NetFault::NoSuchNode));
-    assert_eq!(rt; state.push_arc(2, 2, half - 1), Ok(()));
-    assert_eq!(rt; state.push_arc(2, 1, 0), Ok(()));
-    assert_eq!(rt; state.push_arc(2, 1, 1), Err(NetFault::SumTooLarge));
-    assert_eq!(rt; state.arcs().len(), 3);
+    for (tail, head, cap, answer) in PUSHED_ARCS {
+        assert!(rt;
+            state.push_arc(tail, head, cap) == answer,
+            "{tail} {head} {cap}"
+        );
+    }
+    assert!(rt; state.arcs().len() == 3);
     Ok(())
 }
 
 #[test]
 fn a_flow_is_taken(rt: HostRuntime) -> Result<(), Fail> {
-    let state = example(rt.alloc())?;
-    assert_eq!(rt; state.arcs().len(), 5);
-    let flowing = state.with_flows(rt.alloc(), vec![in rt.alloc(); 3, 2, 1, 2, 3]?)?;
-    assert_eq!(rt; flowing.value(), 5);
-    let copy = flowing.copy(rt.alloc())?;
-    assert_eq!(rt; copy, flowing);
-    assert!(rt; copy != example(rt.alloc())?);
-    assert_eq!(rt; copy.value(), 5);
-    assert_eq!(rt; copy.flow(4), 2);
+    let alloc = rt.alloc();
+    let empty = example(alloc)?;
+    let state = flowing(alloc, &empty, &[3, 2, 1, 2, 3])?;
+    let copy = state.copy(alloc)?;
+    assert!(rt; copy == state && copy != empty);
+    assert!(rt; (state.value(), copy.value()) == (5, 5));
+    assert!(rt; copy.arcs().len() == 5 && copy.flow(4) == 2);
     Ok(())
 }
 
 #[test]
 fn a_self_loop_may_carry_flow(rt: HostRuntime) -> Result<(), Fail> {
-    let mut state = State::new(rt.alloc(), 2, 1, 2);
-    state.push_arc(1, 1, 5)?;
-    let flowing = state.with_flows(rt.alloc(), vec![in rt.alloc(); 3]?)?;
-    assert_eq!(rt; flowing.value(), 0);
-    assert_eq!(rt; flowing.arcs().len(), 1);
-    assert_eq!(rt; flowing.flow(1), 3);
+    let state = self_loop(rt.alloc())?;
+    assert!(rt; state.value() == 0);
+    assert!(rt; state.arcs().len() == 1 && state.flow(1) == 3);
     Ok(())
+}
+
+/// The fault of these flows. There is none where they are taken, or are not one for each arc.
+fn fault_of(alloc: Global, state: &State, flows: &[u64]) -> Option<FlowFault> {
+    if flows.len() != state.arcs().len() {
+        return None;
+    }
+    let flows = Vec::from_slice(alloc, flows).ok()?;
+    state.with_flows(alloc, flows).err()
 }
 
 #[test]
 fn faulty_flows_are_told(rt: HostRuntime) -> Result<(), Fail> {
-    let state = example(rt.alloc())?;
-    assert_eq!(rt; state.arcs().len(), 5);
-    let over = state.with_flows(rt.alloc(), vec![in rt.alloc(); 4, 0, 0, 0, 0]?);
-    assert_eq!(rt; over.err(), Some(FlowFault::OverCapacity(1)));
-    let unbalanced = state.with_flows(rt.alloc(), vec![in rt.alloc(); 3, 2, 0, 0, 0]?);
-    assert_eq!(rt; unbalanced.err(), Some(FlowFault::NotConserved(2)));
-    let mut backward = State::new(rt.alloc(), 2, 1, 2);
-    backward.push_arc(2, 1, 5)?;
-    let negative = backward.with_flows(rt.alloc(), vec![in rt.alloc(); 3]?);
-    assert_eq!(rt; negative.err(), Some(FlowFault::Negative));
+    let alloc = rt.alloc();
+    let state = example(alloc)?;
+    let backward = network(alloc, 2, 1, 2, &[(2, 1, 5)])?;
+    assert!(rt; fault_of(alloc, &state, &[4, 0, 0, 0, 0]) == Some(FlowFault::OverCapacity(1)));
+    assert!(rt; fault_of(alloc, &state, &[3, 2, 0, 0, 0]) == Some(FlowFault::NotConserved(2)));
+    assert!(rt; fault_of(alloc, &backward, &[3]) == Some(FlowFault::Negative));
     Ok(())
 }
 
-#[test]
-fn an_arc_is_planned_and_added(rt: HostRuntime) -> Result<(), Fail> {
-    let mut state = example(rt.alloc())?;
+/// The example with one more arc, whose plan is compared.
+fn with_added_arc(rt: &impl Abort, alloc: Global) -> Result<State, Fail> {
+    let mut state = example(alloc)?;
     let edit = plan_add(&state, 1, 4, 7)?;
-    assert_eq!(rt;
-        edit,
-        Edit::Add {
+    assert!(rt;
+        edit == Edit::Add {
             tail: 1,
             head: 4,
             cap: 7
         }
     );
     state.apply(&edit)?;
-    assert_eq!(rt; state.arcs().len(), 6);
-    assert_eq!(rt;
-        state.arcs()[5],
-        Arc {
-            tail: 1,
-            head: 4,
-            cap: 7,
-            closed: false
-        }
-    );
-    assert_eq!(rt; state.flow(6), 0);
-    assert_eq!(rt; state.open_count(), 6);
-    assert_eq!(rt; plan_add(&state, 1, 5, 1), Err(PlanFault::NoSuchNode));
-    let largest = u64::MAX - 22;
-    assert_eq!(rt;
-        plan_add(&state, 1, 1, largest + 1),
-        Err(PlanFault::SumTooLarge)
-    );
-    assert_eq!(rt;
-        plan_add(&state, 1, 1, largest),
-        Ok(Edit::Add {
-            tail: 1,
-            head: 1,
-            cap: largest
-        })
-    );
+    Ok(state)
+}
+
+#[test]
+fn an_arc_is_planned_and_added(rt: HostRuntime) -> Result<(), Fail> {
+    let state = with_added_arc(&rt, rt.alloc())?;
+    assert!(rt; state.open_count() == 6);
+    assert!(rt; state.arcs().len() == 6 && state.arcs()[5] == ADDED_ARC && state.flow(6) == 0);
+    Ok(())
+}
+
+#[test]
+fn an_arc_without_a_node_or_room_is_refused(rt: HostRuntime) -> Result<(), Fail> {
+    let state = with_added_arc(&rt, rt.alloc())?;
+    assert!(rt; plan_add(&state, 1, 5, 1).err() == Some(PlanFault::NoSuchNode));
+    assert!(rt; plan_add(&state, 1, 1, LARGEST + 1).err() == Some(PlanFault::SumTooLarge));
+    let last = Edit::Add {
+        tail: 1,
+        head: 1,
+        cap: LARGEST,
+    };
+    assert!(rt; plan_add(&state, 1, 1, LARGEST) == Ok(last));
     Ok(())
 }

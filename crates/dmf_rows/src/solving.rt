@@ -44,13 +44,13 @@ const ROWS: [Row; 5] = [
 ];
 
 /// Whether the run ended well and wrote just the row's solution.
-fn is_solved(outcome: Outcome, written: &Vec<u8>, row: Row) -> bool {
+fn is_solved(outcome: Outcome, written: &Vec<u8>, row: &Row) -> bool {
     outcome == Ok(Status::Well) && written.as_slice() == row.written
 }
 
 #[test]
 fn problems_are_solved(rt: HostRuntime) -> Result<(), Fail> {
-    for row in ROWS {
+    for row in &ROWS {
         let about = row.about;
         let mut written = Vec::new(rt.alloc());
         let outcome = solve(rt.alloc(), row.problem, &mut written);
@@ -61,7 +61,7 @@ fn problems_are_solved(rt: HostRuntime) -> Result<(), Fail> {
 
 #[test]
 fn bytes_may_come_and_go_one_by_one(rt: HostRuntime) -> Result<(), Fail> {
-    for row in ROWS {
+    for row in &ROWS {
         let about = row.about;
         let mut written = Vec::new(rt.alloc());
         let outcome = solve_over(
@@ -77,10 +77,10 @@ fn bytes_may_come_and_go_one_by_one(rt: HostRuntime) -> Result<(), Fail> {
 
 #[test]
 fn a_faulty_problem_is_told_and_nothing_is_written(rt: HostRuntime) -> Result<(), Fail> {
-    for (problem, fault) in FAULTY {
+    for &(problem, fault) in &FAULTY {
         let mut written = Vec::new(rt.alloc());
         let outcome = solve(rt.alloc(), problem, &mut written);
-        assert_eq!(rt; outcome, Err(EngineFault::Problem(fault)), "{fault}");
+        assert!(rt; outcome == Err(EngineFault::Problem(fault)), "{fault}");
         assert!(rt; written.is_empty(), "{fault}");
     }
     Ok(())
@@ -95,7 +95,7 @@ fn a_solution_is_flushed_once(rt: HostRuntime) -> Result<(), Fail> {
         FlushMarker { held: &mut written },
         false,
     );
-    assert_eq!(rt; outcome, Ok(Status::Well));
+    assert!(rt; outcome == Ok(Status::Well));
     let solution = b"s 18446744073709551615\nf 1 2 18446744073709551615\n|";
     assert!(rt; written.as_slice() == solution.as_slice());
     Ok(())
@@ -110,29 +110,27 @@ fn a_failed_read_leaves_nothing_written(rt: HostRuntime) -> Result<(), Fail> {
         &mut written,
         false,
     );
-    assert_eq!(rt; outcome, Err(EngineFault::Read));
+    assert!(rt; outcome == Err(EngineFault::Read));
     assert!(rt; written.is_empty());
     Ok(())
 }
 
+/// What the writer is like, its bytes a call, its limit, whether its flushes fail, and how many bytes are held.
+const WRITERS: &[(&str, usize, usize, bool, usize)] = &[
+    ("it takes 7 bytes and then fails", 1, 7, false, 7),
+    ("it takes a line and then fails", 99, 4, false, 4),
+    ("its flush fails", 99, 99, true, 44),
+    ("it takes no byte", 0, 99, false, 0),
+    ("it fails at once", 99, 0, false, 0),
+];
+
 #[test]
 fn a_failed_write_leaves_a_front_of_the_solution(rt: HostRuntime) -> Result<(), Fail> {
-    // What the writer is like, its bytes a call, its limit, whether its flushes fail, and how many bytes are held.
-    for (about, most, limit, flush_fails, held) in [
-        ("it takes 7 bytes and then fails", 1, 7, false, 7),
-        ("it takes a line and then fails", 99, 4, false, 4),
-        ("its flush fails", 99, 99, true, 44),
-        ("it takes no byte", 0, 99, false, 0),
-        ("it fails at once", 99, 0, false, 0),
-    ] {
+    for &(about, most, limit, flush_fails, held) in WRITERS {
         let mut written = Vec::new(rt.alloc());
-        let outcome = solve_over(
-            rt.alloc(),
-            NETWORK_A,
-            SlowWriter::limited(&mut written, most, limit, flush_fails),
-            false,
-        );
-        assert_eq!(rt; outcome, Err(EngineFault::Write), "{about}");
+        let writer = SlowWriter::limited(&mut written, most, limit, flush_fails);
+        let outcome = solve_over(rt.alloc(), NETWORK_A, writer, false);
+        assert!(rt; outcome == Err(EngineFault::Write), "{about}");
         assert!(rt; is_front(&written, SOLUTION_A, held), "{about}");
     }
     Ok(())

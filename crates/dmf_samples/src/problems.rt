@@ -1,5 +1,6 @@
 //! Tests of problem texts: what is read, what is told of faulty ones, and what is written.
 use dmf_fixtures::{LENIENT, NETWORK_A, SlowWriter, is_front};
+use dmf_net::State;
 use dmf_text::{ProblemFault, ProblemFaultKind, StdSink, WriteFault, read_problem, write_problem};
 use std::alloc::Global;
 use std::test::Fail;
@@ -13,7 +14,7 @@ fn fault_in(alloc: Global, text: &[u8]) -> (u64, u8) {
 }
 
 /// Problem texts, each with the line and the number of its fault.
-const FAULTY_PROBLEMS: [(&[u8], u64, u8); 28] = [
+const FAULTY_PROBLEMS: &[(&[u8], u64, u8)] = &[
     (b"", 1, 1),
     (b"n 1 s", 1, 1),
     (b"x", 1, 3),
@@ -54,108 +55,155 @@ const FAULTY_PROBLEMS: [(&[u8], u64, u8); 28] = [
 
 #[test]
 fn faults_are_told(rt: HostRuntime) -> Result<(), Fail> {
-    for (text, line, number) in FAULTY_PROBLEMS {
-        assert_eq!(rt; fault_in(rt.alloc(), text), (line, number), "{text:?}");
+    for &(text, line, number) in FAULTY_PROBLEMS {
+        assert!(rt; fault_in(rt.alloc(), text) == (line, number), "{text:?}");
+    }
+    Ok(())
+}
+
+/// The fault, as above, in the first bytes of [`NETWORK_A`], which has so many.
+fn fault_in_front(alloc: Global, len: usize) -> (u64, u8) {
+    fault_in(alloc, NETWORK_A.get(..len).unwrap_or_default())
+}
+
+/// How many bytes of [`NETWORK_A`], with the line and the number of the fault in them.
+const CUT_TEXTS: &[(usize, u64, u8)] = &[
+    (0, 1, 1),
+    (1, 1, 5),
+    (8, 1, 5),
+    (9, 2, 16),
+    (54, 8, 15),
+    (60, 8, 5),
+    (61, 0, 0),
+    (62, 0, 0),
+];
+
+#[test]
+fn a_cut_text_has_a_fault(rt: HostRuntime) -> Result<(), Fail> {
+    assert!(rt; NETWORK_A.len() == 62);
+    for &(len, line, number) in CUT_TEXTS {
+        assert!(rt;
+            fault_in_front(rt.alloc(), len) == (line, number),
+            "{len} bytes"
+        );
     }
     Ok(())
 }
 
 #[test]
 fn a_cut_text_is_refused(rt: HostRuntime) -> Result<(), Fail> {
-    assert_eq!(rt; NETWORK_A.len(), 62);
-    let told = [
-        (0, 1, 1),
-        (1, 1, 5),
-        (8, 1, 5),
-        (9, 2, 16),
-        (54, 8, 15),
-        (60, 8, 5),
-        (61, 0, 0),
-        (62, 0, 0),
-    ];
-    for (len, line, number) in told {
-        if let Some(front) = NETWORK_A.get(..len) {
-            assert_eq!(rt; fault_in(rt.alloc(), front), (line, number), "{len} bytes");
-        }
-    }
     for len in 0..61 {
-        if let Some(front) = NETWORK_A.get(..len) {
-            assert!(rt; read_problem(rt.alloc(), front).is_err(), "{len} bytes");
-        }
+        assert!(rt; fault_in_front(rt.alloc(), len) != (0, 0), "{len} bytes");
     }
     Ok(())
 }
+
+/// Whether the state has just these arcs, each given by its tail, its head and its capacity, and all are open.
+fn has_open_arcs(state: &State, arcs: &[(u32, u32, u64)]) -> bool {
+    for (arc, &(tail, head, cap)) in state.arcs().iter().zip(arcs) {
+        if (arc.tail, arc.head, arc.cap, arc.closed) != (tail, head, cap, false) {
+            return false;
+        }
+    }
+    state.arcs().len() == arcs.len()
+}
+
+/// The arcs of [`LENIENT`].
+const LENIENT_ARCS: &[(u32, u32, u64)] = &[(1, 2, 4), (2, 2, 9), (1, 2, 7), (2, 1, 6), (2, 3, 9)];
 
 #[test]
 fn a_lenient_text_is_read(rt: HostRuntime) -> Result<(), Fail> {
     let state = read_problem(rt.alloc(), LENIENT)?;
-    assert_eq!(rt; (state.nodes(), state.source(), state.sink()), (3, 1, 3));
-    let arcs = [(1, 2, 4), (2, 2, 9), (1, 2, 7), (2, 1, 6), (2, 3, 9)];
-    assert_eq!(rt; state.arcs().len(), arcs.len());
-    for (arc, (tail, head, cap)) in state.arcs().iter().zip(arcs) {
-        assert_eq!(rt;
-            (arc.tail, arc.head, arc.cap, arc.closed),
-            (tail, head, cap, false)
-        );
-    }
-    assert_eq!(rt; state.value(), 0);
+    assert!(rt; (state.nodes(), state.source(), state.sink()) == (3, 1, 3));
+    assert!(rt; has_open_arcs(&state, LENIENT_ARCS));
+    assert!(rt; state.value() == 0);
     Ok(())
 }
+
+/// Writes the problem text by so many bytes a call, up to the limit, and tells what is answered, and whether just so many
+/// bytes of the text are held then.
+fn written(
+    alloc: Global,
+    state: &State,
+    most: usize,
+    limit: usize,
+    held: usize,
+) -> (Result<(), WriteFault>, bool) {
+    let text = b"p max 3 5\nn 1 s\nn 3 t\na 1 2 4\na 2 2 9\na 1 2 7\na 2 1 6\na 2 3 9\n";
+    let mut written = Vec::new(alloc);
+    let mut sink = StdSink::new(SlowWriter::limited(&mut written, most, limit, true));
+    let answer = write_problem(state, &mut sink);
+    (answer, is_front(&written, text, held))
+}
+
+/// Bytes a call, the limit, what is answered, and how many bytes are held then.
+const WRITERS: &[(usize, usize, Result<(), WriteFault>, usize)] = &[
+    (99, 999, Ok(()), 62),
+    (1, 999, Ok(()), 62),
+    (1, 30, Err(WriteFault), 30),
+    (0, 999, Err(WriteFault), 0),
+];
 
 #[test]
 fn a_problem_is_written(rt: HostRuntime) -> Result<(), Fail> {
     let state = read_problem(rt.alloc(), LENIENT)?;
-    let text = b"p max 3 5\nn 1 s\nn 3 t\na 1 2 4\na 2 2 9\na 1 2 7\na 2 1 6\na 2 3 9\n";
-    // Bytes a call, the limit, what is answered, and how many bytes are held then.
-    for (most, limit, answer, held) in [
-        (99, 999, Ok(()), 62),
-        (1, 999, Ok(()), 62),
-        (1, 30, Err(WriteFault), 30),
-        (0, 999, Err(WriteFault), 0),
-    ] {
-        let mut written = Vec::new(rt.alloc());
-        let mut sink = StdSink::new(SlowWriter::limited(&mut written, most, limit, true));
-        assert_eq!(rt;
-            write_problem(&state, &mut sink),
-            answer,
-            "{most} a call, a limit of {limit}"
-        );
+    for &(most, limit, answer, held) in WRITERS {
+        let outcome = written(rt.alloc(), &state, most, limit, held);
         assert!(rt;
-            is_front(&written, text, held),
+            outcome == (answer, true),
             "{most} a call, a limit of {limit}"
         );
     }
     Ok(())
 }
 
+/// Each fault with its text, in the order of their numbers from 1 on.
+const FAULT_TEXTS: &[(ProblemFaultKind, &str)] = &[
+    (
+        ProblemFaultKind::ProblemLineExpected,
+        "problem line expected",
+    ),
+    (ProblemFaultKind::SecondProblemLine, "second problem line"),
+    (ProblemFaultKind::UnknownLine, "unknown line"),
+    (ProblemFaultKind::NotMax, "not a max problem"),
+    (ProblemFaultKind::FieldCount, "wrong number of fields"),
+    (ProblemFaultKind::NotANumber, "not a number"),
+    (ProblemFaultKind::TooLarge, "number too large"),
+    (ProblemFaultKind::CountOutOfRange, "count out of range"),
+    (ProblemFaultKind::NodeOutOfRange, "no such node"),
+    (ProblemFaultKind::NotSourceOrSink, "neither source nor sink"),
+    (ProblemFaultKind::SecondTerminal, "terminal named twice"),
+    (
+        ProblemFaultKind::SameTerminals,
+        "source and sink are the same",
+    ),
+    (
+        ProblemFaultKind::ArcBeforeTerminals,
+        "arc before source and sink",
+    ),
+    (ProblemFaultKind::TooManyArcs, "too many arcs"),
+    (ProblemFaultKind::TooFewArcs, "too few arcs"),
+    (ProblemFaultKind::TerminalMissing, "source or sink missing"),
+    (ProblemFaultKind::SumTooLarge, "capacities past 64 bits"),
+    (ProblemFaultKind::NoMemory, "no memory"),
+];
+
+/// Whether this is the text of the fault.
+fn has_text(alloc: Global, kind: ProblemFaultKind, text: &str) -> bool {
+    let Ok(shown) = format!(in alloc; "{kind}") else {
+        return false;
+    };
+    shown.as_str() == text
+}
+
 #[test]
 fn faults_have_texts(rt: HostRuntime) -> Result<(), Fail> {
-    use ProblemFaultKind::*;
-    let table = [
-        (ProblemLineExpected, "problem line expected"),
-        (SecondProblemLine, "second problem line"),
-        (UnknownLine, "unknown line"),
-        (NotMax, "not a max problem"),
-        (FieldCount, "wrong number of fields"),
-        (NotANumber, "not a number"),
-        (TooLarge, "number too large"),
-        (CountOutOfRange, "count out of range"),
-        (NodeOutOfRange, "no such node"),
-        (NotSourceOrSink, "neither source nor sink"),
-        (SecondTerminal, "terminal named twice"),
-        (SameTerminals, "source and sink are the same"),
-        (ArcBeforeTerminals, "arc before source and sink"),
-        (TooManyArcs, "too many arcs"),
-        (TooFewArcs, "too few arcs"),
-        (TerminalMissing, "source or sink missing"),
-        (SumTooLarge, "capacities past 64 bits"),
-        (NoMemory, "no memory"),
-    ];
     let mut number = 1u8;
-    for (kind, text) in table {
-        assert_eq!(rt; kind as u8, number, "{text}");
-        let shown = format!(in rt.alloc(); "{kind}")?;
-        assert_eq!(rt; shown.as_str(), text);
+    for &(kind, text) in FAULT_TEXTS {
+        assert!(rt;
+            kind as u8 == number && has_text(rt.alloc(), kind, text),
+            "{text}"
+        );
         number = number.saturating_add(1);
     }
     Ok(())
@@ -167,6 +215,6 @@ fn a_fault_has_a_text(rt: HostRuntime) -> Result<(), Fail> {
         return Err(Fail::from("the terminals are one node"));
     };
     let text = format!(in rt.alloc(); "{fault}")?;
-    assert_eq!(rt; text.as_str(), "line 4: source and sink are the same");
+    assert!(rt; text.as_str() == "line 4: source and sink are the same");
     Ok(())
 }

@@ -18,12 +18,15 @@ fn state(rt: &HostRuntime, text: &[u8]) -> Result<State, Fail> {
     Ok(state)
 }
 
-/// What a solution is told to be wrong, and nothing where nothing is.
-fn told(alloc: Global, state: &State, solution: &[u8]) -> Result<String, Fail> {
-    match read_solution(alloc, solution, state) {
-        Ok(_) => Ok(String::new(alloc)),
-        Err(fault) => Ok(format!(in alloc; "{fault}")?),
-    }
+/// Whether just this is told to be wrong with the solution.
+fn is_told(alloc: Global, state: &State, solution: &[u8], wanted: &str) -> bool {
+    let Err(fault) = read_solution(alloc, solution, state) else {
+        return false;
+    };
+    let Ok(told) = format!(in alloc; "{fault}") else {
+        return false;
+    };
+    told.as_str() == wanted
 }
 
 /// Whether the solution gives the problem's network, with just these flows and this value.
@@ -46,7 +49,7 @@ fn gives(alloc: Global, state: &State, solution: &[u8], flows: &[u64], value: u6
 }
 
 /// Solution texts of [`NETWORK_A`], each with what is told of it.
-const FAULTY_SOLUTIONS: [(&[u8], &str); 38] = [
+const FAULTY_SOLUTIONS: &[(&[u8], &str)] = &[
     (b"", "line 1: value line missing"),
     (b"c\n\n", "line 3: value line missing"),
     (b"x", "line 1: unknown line"),
@@ -101,44 +104,70 @@ const FAULTY_SOLUTIONS: [(&[u8], &str); 38] = [
 #[test]
 fn faults_of_solutions_are_told(rt: HostRuntime) -> Result<(), Fail> {
     let state = state(&rt, NETWORK_A)?;
-    for (solution, wanted) in FAULTY_SOLUTIONS {
-        let told = told(rt.alloc(), &state, solution)?;
-        assert_eq!(rt; told.as_str(), wanted, "{solution:?}");
+    for &(solution, wanted) in FAULTY_SOLUTIONS {
+        assert!(rt;
+            is_told(rt.alloc(), &state, solution, wanted),
+            "{solution:?}"
+        );
     }
     Ok(())
 }
+
+/// Solution texts of [`NETWORK_A`], each with its flows and its value.
+const SOLUTIONS: &[(&[u8], [u64; 5], u64)] = &[
+    (
+        b"f 3 4 3\ns 5\nf 1 2 3\nf 2 4 2\nf 1 3 2\nf 2 3 1\n",
+        [3, 2, 1, 2, 3],
+        5,
+    ),
+    (
+        b"s 3\nf 1 2 3\nf 2 3 1\nf 2 4 2\nf 3 4 1",
+        [3, 0, 1, 2, 1],
+        3,
+    ),
+    (b"s 0", [0, 0, 0, 0, 0], 0),
+    (b"s 0\nf 1 2 0\nf 3 4 0", [0, 0, 0, 0, 0], 0),
+    (
+        b"s 2\nf 1 2 1\nf 2 4 1\nf 1 2 1\nf 2 4 0\nf 2 4 1",
+        [2, 0, 0, 2, 0],
+        2,
+    ),
+    (
+        b"comment\r\n\r\n \t\r\n  f 1\t3 002 \r\nf  3 4 0000000000000000000000002\r\n\ts 2\r\ncx\r\n",
+        [0, 2, 0, 0, 2],
+        2,
+    ),
+    (b"s 2\nf 2 4 2\nf 1 2 2\n\n", [2, 0, 0, 2, 0], 2),
+];
 
 #[test]
 fn solutions_are_read(rt: HostRuntime) -> Result<(), Fail> {
     let state = state(&rt, NETWORK_A)?;
-    let table: [(&[u8], [u64; 5], u64); 7] = [
-        (
-            b"f 3 4 3\ns 5\nf 1 2 3\nf 2 4 2\nf 1 3 2\nf 2 3 1\n",
-            [3, 2, 1, 2, 3],
-            5,
-        ),
-        (
-            b"s 3\nf 1 2 3\nf 2 3 1\nf 2 4 2\nf 3 4 1",
-            [3, 0, 1, 2, 1],
-            3,
-        ),
-        (b"s 0", [0, 0, 0, 0, 0], 0),
-        (b"s 0\nf 1 2 0\nf 3 4 0", [0, 0, 0, 0, 0], 0),
-        (
-            b"s 2\nf 1 2 1\nf 2 4 1\nf 1 2 1\nf 2 4 0\nf 2 4 1",
-            [2, 0, 0, 2, 0],
-            2,
-        ),
-        (
-            b"comment\r\n\r\n \t\r\n  f 1\t3 002 \r\nf  3 4 0000000000000000000000002\r\n\ts 2\r\ncx\r\n",
-            [0, 2, 0, 0, 2],
-            2,
-        ),
-        (b"s 2\nf 2 4 2\nf 1 2 2\n\n", [2, 0, 0, 2, 0], 2),
-    ];
-    for (solution, flows, value) in table {
+    for (solution, flows, value) in SOLUTIONS {
         assert!(rt;
-            gives(rt.alloc(), &state, solution, &flows, value),
+            gives(rt.alloc(), &state, solution, flows, *value),
+            "{solution:?}"
+        );
+    }
+    Ok(())
+}
+
+/// Solution texts of [`LENIENT`], each with its flows and its value.
+const SOLUTIONS_OF_PAIRS: &[(&[u8], [u64; 5], u64)] = &[
+    (b"s 9\nf 1 2 9\nf 2 3 9", [4, 0, 5, 0, 9], 9),
+    (b"s 9\nf 1 2 5\nf 2 3 9\nf 1 2 4", [4, 0, 5, 0, 9], 9),
+    (b"s 4\nf 1 2 4\nf 2 3 4", [4, 0, 0, 0, 4], 4),
+    (b"s 3\nf 1 2 3\nf 2 3 3", [3, 0, 0, 0, 3], 3),
+    (b"s 5\nf 1 2 11\nf 2 1 6\nf 2 3 5", [4, 0, 7, 6, 5], 5),
+    (b"s 0\nf 2 2 9", [0, 9, 0, 0, 0], 0),
+];
+
+#[test]
+fn the_flow_of_a_pair_fills_its_arcs_in_order(rt: HostRuntime) -> Result<(), Fail> {
+    let state = state(&rt, LENIENT)?;
+    for (solution, flows, value) in SOLUTIONS_OF_PAIRS {
+        assert!(rt;
+            gives(rt.alloc(), &state, solution, flows, *value),
             "{solution:?}"
         );
     }
@@ -146,75 +175,64 @@ fn solutions_are_read(rt: HostRuntime) -> Result<(), Fail> {
 }
 
 #[test]
-fn the_flow_of_a_pair_fills_its_arcs_in_order(rt: HostRuntime) -> Result<(), Fail> {
+fn a_pair_carries_no_more_than_its_arcs(rt: HostRuntime) -> Result<(), Fail> {
+    let alloc = rt.alloc();
     let state = state(&rt, LENIENT)?;
-    let table: [(&[u8], [u64; 5], u64); 6] = [
-        (b"s 9\nf 1 2 9\nf 2 3 9", [4, 0, 5, 0, 9], 9),
-        (b"s 9\nf 1 2 5\nf 2 3 9\nf 1 2 4", [4, 0, 5, 0, 9], 9),
-        (b"s 4\nf 1 2 4\nf 2 3 4", [4, 0, 0, 0, 4], 4),
-        (b"s 3\nf 1 2 3\nf 2 3 3", [3, 0, 0, 0, 3], 3),
-        (b"s 5\nf 1 2 11\nf 2 1 6\nf 2 3 5", [4, 0, 7, 6, 5], 5),
-        (b"s 0\nf 2 2 9", [0, 9, 0, 0, 0], 0),
-    ];
-    for (solution, flows, value) in table {
-        assert!(rt;
-            gives(rt.alloc(), &state, solution, &flows, value),
-            "{solution:?}"
-        );
-    }
-    let over = told(rt.alloc(), &state, b"s 9\nf 1 2 12\nf 2 3 9")?;
-    assert_eq!(rt; over.as_str(), "line 2: over capacity");
-    let over = told(rt.alloc(), &state, b"f 1 2 11\ns 9\nf 1 2 0\nf 1 2 1")?;
-    assert_eq!(rt; over.as_str(), "line 4: over capacity");
+    let over = b"s 9\nf 1 2 12\nf 2 3 9";
+    assert!(rt; is_told(alloc, &state, over, "line 2: over capacity"));
+    let over = b"f 1 2 11\ns 9\nf 1 2 0\nf 1 2 1";
+    assert!(rt; is_told(alloc, &state, over, "line 4: over capacity"));
     Ok(())
 }
 
 #[test]
 fn the_value_may_be_below_0(rt: HostRuntime) -> Result<(), Fail> {
+    let alloc = rt.alloc();
     let state = state(&rt, BACKWARDS)?;
-    let below = told(rt.alloc(), &state, b"s 0\nf 2 1 3")?;
-    assert_eq!(rt; below.as_str(), "line 3: value differs");
-    let below = told(rt.alloc(), &state, b"s 3\nf 2 1 3")?;
-    assert_eq!(rt; below.as_str(), "line 3: value differs");
-    assert!(rt; gives(rt.alloc(), &state, b"s 0", &[0], 0));
+    assert!(rt; is_told(alloc, &state, b"s 0\nf 2 1 3", "line 3: value differs"));
+    assert!(rt; is_told(alloc, &state, b"s 3\nf 2 1 3", "line 3: value differs"));
+    assert!(rt; gives(alloc, &state, b"s 0", &[0], 0));
     Ok(())
 }
+
+/// Solution texts of [`FULL`] whose value is the largest number, in one line for the pair and in two.
+const LARGEST: [&[u8]; 2] = [
+    b"s 18446744073709551615\nf 1 2 18446744073709551615",
+    b"f 1 2 18446744073709551614\ns 18446744073709551615\nf 1 2 1",
+];
+
+/// Solution texts of [`FULL`] that are past its capacities, each with what is told of it.
+const PAST: &[(&[u8], &str)] = &[
+    (
+        b"s 0\nf 1 2 18446744073709551615\nf 1 2 1",
+        "line 3: over capacity",
+    ),
+    (
+        b"s 0\nf 1 2 18446744073709551615\nf 1 2 18446744073709551615",
+        "line 3: over capacity",
+    ),
+    (
+        b"s 0\nf 1 2 18446744073709551616",
+        "line 2: number too large",
+    ),
+];
 
 #[test]
 fn sums_do_not_wrap(rt: HostRuntime) -> Result<(), Fail> {
     let state = state(&rt, FULL)?;
-    assert!(rt;
-        gives(
-            rt.alloc(),
-            &state,
-            b"s 18446744073709551615\nf 1 2 18446744073709551615",
-            &[18446744073709551614, 0, 1],
-            18446744073709551615,
-        )
-    );
-    assert!(rt;
-        gives(
-            rt.alloc(),
-            &state,
-            b"f 1 2 18446744073709551614\ns 18446744073709551615\nf 1 2 1",
-            &[18446744073709551614, 0, 1],
-            18446744073709551615,
-        )
-    );
-    let past = told(
-        rt.alloc(),
-        &state,
-        b"s 0\nf 1 2 18446744073709551615\nf 1 2 1",
-    )?;
-    assert_eq!(rt; past.as_str(), "line 3: over capacity");
-    let past = told(
-        rt.alloc(),
-        &state,
-        b"s 0\nf 1 2 18446744073709551615\nf 1 2 18446744073709551615",
-    )?;
-    assert_eq!(rt; past.as_str(), "line 3: over capacity");
-    let past = told(rt.alloc(), &state, b"s 0\nf 1 2 18446744073709551616")?;
-    assert_eq!(rt; past.as_str(), "line 2: number too large");
+    let flows = [18446744073709551614, 0, 1];
+    for solution in LARGEST {
+        assert!(rt;
+            gives(rt.alloc(), &state, solution, &flows, u64::MAX),
+            "{solution:?}"
+        );
+    }
+    for &(solution, wanted) in PAST {
+        assert!(rt;
+            is_told(rt.alloc(), &state, solution, wanted),
+            "{solution:?}"
+        );
+    }
     Ok(())
 }
 
@@ -225,6 +243,6 @@ fn want_of_memory_has_line_0(rt: HostRuntime) -> Result<(), Fail> {
         kind: SolutionFaultKind::NoMemory,
     };
     let text = format!(in rt.alloc(); "{fault}")?;
-    assert_eq!(rt; text.as_str(), "line 0: no memory");
+    assert!(rt; text.as_str() == "line 0: no memory");
     Ok(())
 }

@@ -1,6 +1,7 @@
 //! Tests of what texts are read from and written to.
 use dmf_fixtures::{ByteReader, Counted, SlowWriter, is_front};
 use dmf_text::{Sink, Source, StdSink, StdSource, WriteFault, put_all};
+use std::alloc::Global;
 use std::test::Fail;
 
 /// 5,000 bytes, of which no two neighbours are equal.
@@ -21,9 +22,8 @@ fn one_read_gives_a_long_text(rt: HostRuntime) -> Result<(), Fail> {
         calls: &mut calls,
     });
     let mut buffer = [0u8; 5000];
-    assert_eq!(rt; source.read(&mut buffer), Ok(5000));
-    assert_eq!(rt; buffer.as_slice(), text.as_slice());
-    assert_eq!(rt; calls, 1);
+    assert!(rt; source.read(&mut buffer) == Ok(5000));
+    assert!(rt; buffer.as_slice() == text.as_slice() && calls == 1);
     Ok(())
 }
 
@@ -36,10 +36,9 @@ fn one_put_takes_a_long_text(rt: HostRuntime) -> Result<(), Fail> {
         inner: &mut held,
         calls: &mut calls,
     });
-    assert_eq!(rt; sink.put(&text), Ok(5000));
-    assert_eq!(rt; sink.flush(), Ok(()));
-    assert_eq!(rt; held.as_slice(), text.as_slice());
-    assert_eq!(rt; calls, 1);
+    assert!(rt; sink.put(&text) == Ok(5000));
+    assert!(rt; sink.flush() == Ok(()));
+    assert!(rt; held.as_slice() == text.as_slice() && calls == 1);
     Ok(())
 }
 
@@ -47,35 +46,40 @@ fn one_put_takes_a_long_text(rt: HostRuntime) -> Result<(), Fail> {
 fn a_source_gives_bytes_and_failures(rt: HostRuntime) -> Result<(), Fail> {
     let mut source = StdSource::new(ByteReader::failing_at(b"ab", 1));
     let mut buffer = [0u8; 8];
-    assert_eq!(rt; source.read(&mut buffer), Ok(1));
+    assert!(rt; source.read(&mut buffer) == Ok(1));
     assert!(rt; source.read(&mut buffer).is_err());
-    assert_eq!(rt; source.read(&mut buffer), Ok(1));
-    assert_eq!(rt; buffer[0], b'b');
-    assert_eq!(rt; source.read(&mut buffer), Ok(0));
+    assert!(rt; source.read(&mut buffer) == Ok(1));
+    assert!(rt; buffer[0] == b'b');
+    assert!(rt; source.read(&mut buffer) == Ok(0));
     Ok(())
 }
 
+/// Puts the text by so many bytes a call, up to the limit, and tells what is answered, and whether the flush fails and just so
+/// many bytes are held then.
+fn put(alloc: Global, most: usize, limit: usize, held: usize) -> (Result<(), WriteFault>, bool) {
+    let text = b"p max 4 5\n";
+    let mut written = Vec::new(alloc);
+    let mut sink = StdSink::new(SlowWriter::limited(&mut written, most, limit, true));
+    let answer = put_all(&mut sink, text);
+    let fails = sink.flush().is_err();
+    (answer, fails && is_front(&written, text, held))
+}
+
+/// Bytes a call, the limit, what is answered, and how many bytes are held then.
+const WRITERS: &[(usize, usize, Result<(), WriteFault>, usize)] = &[
+    (1, 99, Ok(()), 10),
+    (99, 99, Ok(()), 10),
+    (1, 7, Err(WriteFault), 7),
+    (3, 7, Err(WriteFault), 9),
+    (0, 99, Err(WriteFault), 0),
+];
+
 #[test]
 fn a_text_is_put_in_pieces(rt: HostRuntime) -> Result<(), Fail> {
-    let text = b"p max 4 5\n";
-    // Bytes a call, the limit, what is answered, and how many bytes are held then.
-    for (most, limit, answer, held) in [
-        (1, 99, Ok(()), 10),
-        (99, 99, Ok(()), 10),
-        (1, 7, Err(WriteFault), 7),
-        (3, 7, Err(WriteFault), 9),
-        (0, 99, Err(WriteFault), 0),
-    ] {
-        let mut written = Vec::new(rt.alloc());
-        let mut sink = StdSink::new(SlowWriter::limited(&mut written, most, limit, true));
-        assert_eq!(rt;
-            put_all(&mut sink, text),
-            answer,
-            "{most} a call, a limit of {limit}"
-        );
-        assert!(rt; sink.flush().is_err());
+    for &(most, limit, answer, held) in WRITERS {
+        let outcome = put(rt.alloc(), most, limit, held);
         assert!(rt;
-            is_front(&written, text, held),
+            outcome == (answer, true),
             "{most} a call, a limit of {limit}"
         );
     }

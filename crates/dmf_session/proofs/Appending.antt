@@ -91,10 +91,10 @@ appended-present t s within =
     let last = extended-present t s within in
     within_bound-keeps (λ u. IsPresent u s) (extended t s) last (λ past. forgotten-present (extended t s) s last (omega (arith, past)))
 
--- What an edit makes is appended where the bound leaves room for the present state.
+-- What an edit makes is appended where the bound allows one state more before the present one.
 pub appends-all : (edit : Edit) (t : Timeline) (s : NetworkState) → IsPresent t s → t.place < t.bound → Appends edit t (extended t (applied edit s))
-appends-all edit t s present room =
-    record { state = s; present = present; gives = sym (within_bound-all (extended t (applied edit s)) (omega (arith, room))) }
+appends-all edit t s present fewer =
+    record { state = s; present = present; gives = sym (within_bound-all (extended t (applied edit s)) (omega (arith, fewer))) }
 
 -- And where it leaves none, the oldest state is forgotten, and the place stays.
 pub appends-past : (edit : Edit) (t : Timeline) (s : NetworkState) → IsPresent t s → t.bound ≤ t.place → Appends edit t (record { states = drop 1 (take (t.place + 1) t.states ++ applied edit s ∷ []); place = t.place; bound = t.bound })

@@ -290,9 +290,9 @@ module _ (present : NetworkState) (edits : List Edit) (place bound : ℕ) (are :
     }
 
     pub put-within_bound : GivesBack → place < bound → bound ≤ 1000000 → AreWithinBound (applied edit present) put (place + 1) bound
-    put-within_bound law room limit = record {
+    put-within_bound law fewer limit = record {
       are = put-edits law;
-      at_most = omega (arith, length-put edits place edit are.within, room);
+      at_most = omega (arith, length-put edits place edit are.within, fewer);
       limit = limit;
     }
 
@@ -316,11 +316,11 @@ module _ (present : NetworkState) (edits : List Edit) (place bound : ℕ) (are :
         ∙ ap (λ s. take (place + 1) (states_from s edits) ++ applied edit present ∷ []) (sym are.first_is) in
         λ i. record { states = gives i; place = place + 1; bound = bound }
 
-    -- It is appended where the bound leaves room for the present state.
+    -- It is appended where the bound allows one state more before the present one.
     pub put-appends : GivesBack → place < bound → Appends edit (timeline_of present edits place bound) (timeline_of (applied edit present) put (place + 1) bound)
-    put-appends law room =
+    put-appends law fewer =
         subst (Appends edit (timeline_of present edits place bound)) (sym (put-extends law))
-        (appends-all edit (timeline_of present edits place bound) present is-present room)
+        (appends-all edit (timeline_of present edits place bound) present is-present fewer)
 
     -- And where it leaves none, the oldest edit is dropped.
     pub put-forgets : GivesBack → bound ≤ place → Appends edit (timeline_of present edits place bound) (timeline_of (applied edit present) (drop 1 put) place bound)

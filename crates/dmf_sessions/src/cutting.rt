@@ -113,11 +113,11 @@ fn cuts_are_printed(rt: HostRuntime) -> Result<(), Fail> {
 
 #[test]
 fn cuts_are_told_after_solutions(rt: HostRuntime) -> Result<(), Fail> {
-    for row in TELLING_ROWS {
+    for row in &TELLING_ROWS {
         let about = row.about;
         let mut written = Vec::new(rt.alloc());
         let outcome = hold_over(rt.alloc(), row.problem, row.commands, &mut written, true);
-        assert_eq!(rt; outcome, row.outcome, "{about}");
+        assert!(rt; outcome == row.outcome, "{about}");
         assert!(rt; written.as_slice() == row.written, "{about}");
     }
     Ok(())
@@ -133,7 +133,7 @@ fn a_solution_and_its_cut_are_flushed_together(rt: HostRuntime) -> Result<(), Fa
         FlushMarker { held: &mut written },
         true,
     );
-    assert_eq!(rt; outcome, Ok(Status::Well));
+    assert!(rt; outcome == Ok(Status::Well));
     assert!(rt; written.as_slice() == b"s 0\nc cut 0\nc side 1\n|c cut 0\nc side 1\n|".as_slice());
     Ok(())
 }

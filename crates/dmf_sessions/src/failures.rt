@@ -14,7 +14,7 @@ fn a_failed_read_of_the_problem_stops_the_run(rt: HostRuntime) -> Result<(), Fai
         &mut written,
         false,
     );
-    assert_eq!(rt; outcome, Err(EngineFault::Read));
+    assert!(rt; outcome == Err(EngineFault::Read));
     assert!(rt; written.is_empty());
     Ok(())
 }
@@ -31,7 +31,7 @@ fn a_failed_read_of_the_commands_leaves_the_replies_to_whole_lines(
         &mut written,
         false,
     );
-    assert_eq!(rt; outcome, Err(EngineFault::Read));
+    assert!(rt; outcome == Err(EngineFault::Read));
     assert!(rt; written.as_slice() == b"c add 6 value 0\n".as_slice());
     Ok(())
 }
@@ -46,28 +46,30 @@ fn the_end_of_the_commands_ends_their_last_line(rt: HostRuntime) -> Result<(), F
         &mut written,
         false,
     );
-    assert_eq!(rt; outcome, Ok(Status::SomeRefused));
+    assert!(rt; outcome == Ok(Status::SomeRefused));
     let replies = b"c add 6 value 0\nc refused 2 unknown command\n";
     assert!(rt; written.as_slice() == replies.as_slice());
     Ok(())
 }
 
+/// What the writer is like, its bytes a call, its limit, whether its flushes fail, and how many bytes are held.
+const WRITERS: &[(&str, usize, usize, bool, usize)] = &[
+    ("it takes 7 bytes and then fails", 1, 7, false, 7),
+    ("it takes a reply and then fails", 99, 16, false, 16),
+    ("its flush fails", 99, 99, true, 16),
+    ("it takes no byte", 0, 99, false, 0),
+    ("it fails at once", 99, 0, false, 0),
+];
+
 #[test]
 fn a_failed_write_leaves_a_front_of_the_replies(rt: HostRuntime) -> Result<(), Fail> {
     let commands = b"add 1 4 7\nundo\n".as_slice();
     let replies = b"c add 6 value 0\nc undo value 0\n";
-    // What the writer is like, its bytes a call, its limit, whether its flushes fail, and how many bytes are held.
-    for (about, most, limit, flush_fails, held) in [
-        ("it takes 7 bytes and then fails", 1, 7, false, 7),
-        ("it takes a reply and then fails", 99, 16, false, 16),
-        ("its flush fails", 99, 99, true, 16),
-        ("it takes no byte", 0, 99, false, 0),
-        ("it fails at once", 99, 0, false, 0),
-    ] {
+    for &(about, most, limit, flush_fails, held) in WRITERS {
         let mut written = Vec::new(rt.alloc());
         let writer = SlowWriter::limited(&mut written, most, limit, flush_fails);
         let outcome = hold_over(rt.alloc(), NETWORK_A, commands, writer, false);
-        assert_eq!(rt; outcome, Err(EngineFault::Write), "{about}");
+        assert!(rt; outcome == Err(EngineFault::Write), "{about}");
         assert!(rt; is_front(&written, replies, held), "{about}");
     }
     Ok(())

@@ -86,7 +86,7 @@ fn a_reply_is_flushed_before_more_is_read(rt: HostRuntime) -> Result<(), Fail> {
         },
         false,
     );
-    assert_eq!(rt; outcome, Ok(Status::SomeRefused));
+    assert!(rt; outcome == Ok(Status::SomeRefused));
     assert!(rt; !watch.misused.get());
     Ok(())
 }
@@ -107,7 +107,7 @@ fn nothing_is_read_once_a_write_failed(rt: HostRuntime) -> Result<(), Fail> {
         },
         false,
     );
-    assert_eq!(rt; outcome, Err(EngineFault::Write));
+    assert!(rt; outcome == Err(EngineFault::Write));
     assert!(rt; watch.failed.get());
     assert!(rt; !watch.misused.get());
     Ok(())
