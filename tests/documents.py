@@ -11,8 +11,15 @@ import re
 import sys
 from pathlib import Path
 
-CRATES = ["dmf_path", "dmf_net", "dmf_text", "dmf_session", "dmf_run"]
-LIBRARIES = ["net", "text", "session", "run"]
+CRATES = ["dmf_arguments", "dmf_path", "dmf_net", "dmf_text", "dmf_session", "dmf_run"]
+# The test that each library's example is.
+EXAMPLES = {
+    "dmf_arguments": "dmf_usage/src/example.rt",
+    "dmf_net": "dmf_words/src/examples/net.rt",
+    "dmf_text": "dmf_words/src/examples/text.rt",
+    "dmf_session": "dmf_words/src/examples/session.rt",
+    "dmf_run": "dmf_words/src/examples/run.rt",
+}
 FILES = Path("docs/FILES.md")
 CODE = re.compile(r"^```rust\n(.*?)^```$", re.MULTILINE | re.DOTALL)
 # A definition or lemma begins in the first column with its name and its type.
@@ -23,7 +30,7 @@ WORD = re.compile(r"[^\s(){}\[\],;.`\"]+")
 
 def wrong_examples(library, page):
     """What is wrong with the example on a page, which is that of a library."""
-    test = Path(f"crates/dmf_words/src/examples/{library}.rt")
+    test = Path("crates") / EXAMPLES[library]
     if CODE.findall(page.read_text()) != [test.read_text()]:
         yield f"the example of {page} is not {test}"
 
@@ -117,7 +124,7 @@ def unused():
 def main():
     if sys.argv[1:] == ["--write"]:
         FILES.write_text(files_text())
-    pages = [("session", Path("README.md")), *((it, Path(f"crates/dmf_{it}/README.md")) for it in LIBRARIES)]
+    pages = [("dmf_session", Path("README.md")), *((it, Path(f"crates/{it}/README.md")) for it in EXAMPLES)]
     checks = [*([*wrong_examples(*page)] for page in pages), [*wrong_files()], [*dead_links()], [*unused()]]
     for found in checks:
         print(*found, sep="\n", end="\n" if found else "")

@@ -91,7 +91,7 @@ run_on_full "a full device under the help" --help </dev/null
 run_on_full "a full device under the version" --version </dev/null
 run_script "a closed pipe" tests/closed_pipe.py
 
-# A problem past its limit, of 1 GiB and one byte, which takes no room on the disk.
+# A problem past its limit, of 1 GiB and one byte, which takes no space on the disk.
 truncate -s 1073741825 "$work/huge.max"
 run "too large a problem" 4 "" $'dmf: too much input\n' session "$work/huge.max" <<<"print flow"
 run "too large a problem of a check" 4 "" $'dmf: too much input\n' check "$work/huge.max" <<<"s 0"

@@ -36,7 +36,7 @@ case $PWD$1 in
 esac
 END
 call "the first call" 0 $'ran solve --cut\n' \
-    "dmf: the program is proved and built. This happens once, and takes some 7 minutes on 4 idle processors.
+    "$first_call
 dmf: 1 of 2: low
 dmf: 2 of 2: dmf
 "
@@ -56,7 +56,7 @@ exit 1
 END
 rm "$root/crates/dmf/out/dmf"
 call "a first call that fails" 70 "" \
-    "dmf: the program is proved and built. This happens once, and takes some 7 minutes on 4 idle processors.
+    "$first_call
 dmf: 1 of 2: low
 no proof
 "

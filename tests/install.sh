@@ -54,7 +54,7 @@ lines() {
 putting="$(lines put "$prefix")
 $prefix/bin is not in PATH
 "
-first="dmf: the program is proved and built. This happens once, and takes some 7 minutes on 4 idle processors.
+first="$first_call
 dmf: 1 of 1: dmf
 "
 
