@@ -1,9 +1,12 @@
 //! Taking back an edit.
-ghost use Rattle.std.specs.Prelude.{◌≡◌};
-ghost use Rattle.dmf_net.specs.Revert.{Stands, reverted};
+ghost use Rattle.std.specs.Prelude.{◌≡◌, true, map};
+ghost use Rattle.dmf_net.specs.Network.{has_arc};
+ghost use Rattle.dmf_net.specs.NetworkState.{IsState};
+ghost use Rattle.dmf_net.specs.Edit.{MovesFit};
+ghost use Rattle.dmf_net.specs.Revert.{Stands, opposite, moved_back, reverted, with_open};
 
 use crate::arc::Arc;
-use crate::edit::Edit;
+use crate::edit::{Edit, Move};
 use crate::moves::Direction;
 use crate::state::State;
 
@@ -16,20 +19,16 @@ impl State {
     {
         match *edit {
             Edit::Cap {
-                arc: j,
+                arc,
                 old,
                 ref moves,
                 ..
-            }
-            | Edit::Close {
-                arc: j,
+            } => self.open_again(arc, old, moves),
+            Edit::Close {
+                arc,
                 old,
                 ref moves,
-            } => {
-                let arc = self.arc(j);
-                let arc = Arc::open(arc.tail, arc.head, old);
-                self.change_arc(j, arc, moves, Direction::Back);
-            }
+            } => self.open_again(arc, old, moves),
             Edit::Shut {
                 ref arcs,
                 ref moves,
@@ -40,5 +39,16 @@ impl State {
             Edit::Add { .. } => self.drop_last(),
             Edit::Solve { ref moves } => self.move_flows(moves, Direction::Back),
         }
+    }
+    /// Opens arc number `j` with its old capacity, and takes the moves back.
+    fn open_again(&mut self, j: u32, old: u64, moves: &[Move])
+        requires is_there { has_arc self.old.network j ≡ true }
+        requires fit { MovesFit 0 (map opposite moves.now) self.old.flows }
+        requires state { IsState (record { network = with_open self.old.network j old; flows = moved_back moves.now self.old.flows }) }
+        ensures { self.new ≡ record { network = with_open self.old.network j old; flows = moved_back moves.now self.old.flows } }
+    {
+        let arc = self.arc(j);
+        let arc = Arc::open(arc.tail, arc.head, old);
+        self.change_arc(j, arc, moves, Direction::Back);
     }
 }
