@@ -163,12 +163,15 @@ carries-first s search state nodes pairs none = record {
 }
 
 -- There is a pair for each flow.
-pub length-carries : (s : NetworkState) (unpaired flows : List ℕ) (search : Searched) → Carries s unpaired flows search → length s.flows ≤ length search.pairs
-length-carries s unpaired flows search carries =
+pub length-carried : (s : NetworkState) (unpaired flows : List ℕ) (search : Searched) → Carries s unpaired flows search → length search.pairs ≡ length s.flows + 1
+length-carried s unpaired flows search carries =
     let first = carries.no_more.one_each in
     let same = AllZip-long _ s.flows flows carries.no_more.no_more in
     let all = length-carrying_pairs s.network s.flows flows first (same ∙ first) in
     omega (arith, all, first, ap (λ (pairs : List (Option Pair)). length pairs) carries.pairs_are)
+
+pub length-carries : (s : NetworkState) (unpaired flows : List ℕ) (search : Searched) → Carries s unpaired flows search → length s.flows ≤ length search.pairs
+length-carries s unpaired flows search carries = omega (arith, length-carried s unpaired flows search carries)
 
 -- What the search tells of an arc that leads to another node is what flows there.
 pub carries-along : (s : NetworkState) (unpaired flows : List ℕ) (search : Searched) (j : ℕ) → has_arc s.network j ≡ true → (arc_number s.network j).head ≢ (arc_number s.network j).tail → Carries s unpaired flows search → unwrap_or (along_at search.pairs (j - 1)) 0 ≡ flow_on flows j

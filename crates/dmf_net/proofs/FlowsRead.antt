@@ -1,6 +1,7 @@
 -- The flows that are read off a search.
-use Rattle.std.proofs.Common.{ℕ, ◌≡◌, ◌≤◌, ◌<◌, List, [], ◌∷◌, length, get_or, zero, suc, refl, ap, arith, Option, Bool, true, false, ◌==◌}
+use Rattle.std.proofs.Common.{ℕ, ◌≡◌, ◌≤◌, ◌<◌, List, [], ◌∷◌, length, get_or, zero, suc, refl, ap, sym, ◌∙◌, ⊎_elim, arith, Option, None, Bool, true, false, ◌==◌}
 use Rattle.std.specs.Option.{option_map}
+use Rattle.std.proofs.lemmas.Bool.{cases_lt}
 use Rattle.dmf_path.specs.declared.pair.Pair.{Pair}
 use Rattle.dmf_path.specs.Search.{pair_number, along_at}
 use Rattle.dmf_net.specs.declared.moves.FlowLink.{FlowLink}
@@ -9,7 +10,9 @@ use Rattle.dmf_net.specs.declared.arc.Arc.{Arc}
 use Rattle.dmf_net.specs.Arc.{no_arc}
 use Rattle.dmf_net.specs.Flow.{AreWithinCapacities}
 use Rattle.dmf_net.specs.ResidualNetwork.{residual_pair, residual_pairs}
+use Rattle.dmf_net.specs.Moves.{Stays}
 use Rattle.dmf_net.specs.Pairs.{flow_read, flows_read, flow_left}
+use Rattle.dmf_net.proofs.ListedMoves.{stays-past}
 
 -- There is one for each flow before,
 pub length-flows_read : (link : FlowLink) (firsts : List ℕ) (pairs : List (Option Pair)) → length firsts ≤ length pairs → length (flows_read link firsts pairs) ≡ length firsts
@@ -23,6 +26,14 @@ get_or-flows_read link [] pairs k long h = absurd (omega (arith, h))
 get_or-flows_read link (first ∷ firsts) [] k long h = absurd (omega (arith, long))
 get_or-flows_read link (first ∷ firsts) (pair ∷ pairs) zero long h = refl
 get_or-flows_read link (first ∷ firsts) (pair ∷ pairs) (suc k) long h = get_or-flows_read link firsts pairs k (omega (arith, long)) (omega (arith, h))
+
+-- Where there is no pair, it is the flow before.
+pub stays-unpaired : (link : FlowLink) (firsts : List ℕ) (pairs : List (Option Pair)) (k : ℕ) → length firsts ≤ length pairs → pair_number pairs k ≡ None → Stays firsts (flows_read link firsts pairs) k
+stays-unpaired link firsts pairs k long none =
+    ⊎_elim
+    (λ (within : k < length firsts). sym (get_or-flows_read link firsts pairs k long within ∙ ap (flow_read link (get_or firsts k 0)) none))
+    (λ (past : length firsts ≤ k). stays-past firsts (flows_read link firsts pairs) (length-flows_read link firsts pairs long) k past)
+    (cases_lt k (length firsts))
 
 -- On an arc flows its capacity less the room along its pair.
 left-here : (arc : Arc) (first flow : ℕ) (loop : Bool) → (arc.tail == arc.head) ≡ loop → flow ≤ arc.cap

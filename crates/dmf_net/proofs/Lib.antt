@@ -4,6 +4,7 @@ pub mod OverCapacity
 pub mod Balance
 pub mod Changing
 pub mod Moving
+pub mod ListedMoves
 pub mod TakenBack
 pub mod Reverting
 pub mod ResidualSteps

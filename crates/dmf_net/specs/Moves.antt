@@ -1,6 +1,6 @@
 -- The moves that drain an arc.
 -- Private: only contracts inside the crate and proofs use this.
-use Rattle.std.specs.Prelude.{ℕ, ◌≡◌, ◌-◌, List, [], ◌∷◌}
+use Rattle.std.specs.Prelude.{ℕ, ◌≡◌, ◌≢◌, ◌+◌, ◌-◌, List, [], ◌∷◌, slice_index}
 use Rattle.dmf_net.specs.declared.edit.Move.{Move}
 use Rattle.dmf_net.specs.Drain.{Drains, TakesOff}
 use Rattle.dmf_net.specs.Flow.{flow_on, flow_on_all}
@@ -28,3 +28,12 @@ pub record AreDrainingMoves (s : NetworkState) (j limit : ℕ) (moves : List Mov
   pub drains : Drains s.network j limit s.flows (moved moves s.flows)
   pub state : IsState (with_flows s (moved moves s.flows))
   pub takes_off : TakesOff s.network (flow_on s.flows j - limit) s.flows (moved moves s.flows)
+
+-- The flow on the arc at index `k` stays as it was.
+abbrev pub Stays : List ℕ → List ℕ → ℕ → Type 0
+Stays before after k = slice_index before k ≡ slice_index after k
+
+-- The move is that of the arc at index `k`, whose flow differs.
+pub record IsMoveAt (before after : List ℕ) (k : ℕ) (m : Move) : Type 0 where
+  pub is : m ≡ record { arc = k + 1; from = slice_index before k; to = slice_index after k }
+  pub differs : slice_index before k ≢ slice_index after k

@@ -31,7 +31,8 @@ pub fn drain(alloc: Global, state: &State, j: u32, limit: u64) -> Result<Vec<Mov
     }
     let mut search = carrying_search(alloc, state)?;
     drain_along(state, j, limit, &mut search);
-    list_moves(alloc, before, before, &search, FlowLink::Along)
+    let indices = search.indices();
+    list_moves(alloc, before, before, &search, FlowLink::Along, indices)
 }
 
 /// The move that drains arc number `j`, which comes back to its tail: no other arc carries its flow.

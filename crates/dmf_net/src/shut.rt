@@ -1,5 +1,5 @@
 //! Every open arc at a node is closed.
-ghost use Rattle.std.specs.Prelude.{◌≡◌, ◌≤◌, ℕ, true, length, map, IfOk};
+ghost use Rattle.std.specs.Prelude.{◌≡◌, ◌≤◌, ℕ, true, false, length, map, IfOk};
 ghost use Rattle.dmf_net.specs.declared.moves.FlowLink.TheVariants.{Along};
 ghost use Rattle.dmf_net.specs.Arc.{open_arcs_at};
 ghost use Rattle.dmf_net.specs.Drain.{Drains};
@@ -13,7 +13,7 @@ use crate::drain::{carrying_search, drain_along};
 use crate::edit::{Move, Shutting};
 use crate::moves::{FlowLink, list_moves};
 use crate::state::State;
-use dmf_path::Search;
+use dmf_path::{Indices, Search};
 use std::alloc::{AllocError, Global};
 
 /// The open arcs at node `v`, in the order of their numbers.
@@ -49,10 +49,17 @@ pub fn shutting_moves(
     }
     let mut search = carrying_search(alloc, state)?;
     let mut unpaired = Vec::from_slice(alloc, before)?;
+    let mut are_loops_drained = false;
     for shutting in arcs {
-        drain_in_turn(state, shutting.arc, &mut search, &mut unpaired);
+        are_loops_drained |= drain_in_turn(state, shutting.arc, &mut search, &mut unpaired);
     }
-    list_moves(alloc, before, &unpaired, &search, FlowLink::Along)
+    // The search lists no arc that comes back to its tail.
+    let indices = if are_loops_drained {
+        Indices::Below(before.len() + 1)
+    } else {
+        search.indices()
+    };
+    list_moves(alloc, before, &unpaired, &search, FlowLink::Along, indices)
 }
 
 /// Whether nothing flows on any of these arcs.
@@ -69,17 +76,21 @@ fn are_without_flow(state: &State, arcs: &[Shutting]) -> bool
 }
 
 /// Drains arc number `j` of the flows that the search and the list tell: its search for least paths, and where the arc comes
-/// back to its tail, and so has no pair, the list alone.
-fn drain_in_turn(state: &State, j: u32, search: &mut Search, unpaired: &mut [u64])
+/// back to its tail, and so has no pair, the list alone. Tells whether something flowed on an arc of that kind.
+fn drain_in_turn(state: &State, j: u32, search: &mut Search, unpaired: &mut [u64]) -> bool
     requires is_there { has_arc state.now.network j ≡ true }
     requires carrying { IsCarryingSearch state.now unpaired.old search.old }
     ensures carrying { IsCarryingSearch state.now unpaired.new search.new }
     ensures drains { Drains state.now.network j 0 (flows_read Along unpaired.old search.old.pairs) (flows_read Along unpaired.new search.new.pairs) }
+    ensures list_stays { result ≡ false → unpaired.new ≡ unpaired.old }
 {
     let arc = state.arc(j);
-    if arc.tail == arc.head {
-        unpaired[j as usize - 1] = 0;
-    } else {
+    if arc.tail != arc.head {
         drain_along(state, j, 0, search);
+        return false;
     }
+    let i = j as usize - 1;
+    let flow = unpaired[i];
+    unpaired[i] = 0;
+    flow > 0
 }

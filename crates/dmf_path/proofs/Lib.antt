@@ -38,6 +38,7 @@ pub mod Marks
 pub mod Counting
 pub mod CountingLinks
 pub mod Listing
+pub mod Covering
 pub mod Spread
 pub mod Sums
 pub mod Starts

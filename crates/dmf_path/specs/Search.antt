@@ -1,7 +1,10 @@
 -- What a search is to its callers: pairs of links between nodes, and the nodes between which it looks for least paths.
 -- Public: a public contract says no more than this.
-use Rattle.std.specs.Prelude.{ℕ, ◌≡◌, ◌-◌, ◌≤◌, Bool, List, length, Option, Some, None, slice_index_or, slice_get, slice_set, option_map}
+use Rattle.std.specs.Prelude.{ℕ, ◌≡◌, ◌-◌, ◌<◌, ◌≤◌, ◌⊎◌, Bool, List, length, slice_index, Option, Some, None, slice_index_or, slice_get, slice_set, option_map}
+use Rattle.std.specs.List.{range_with_len}
 use Rattle.dmf_path.specs.declared.pair.Pair.{Pair}
+use Rattle.dmf_path.specs.declared.places.Indices.{Indices}
+use Rattle.dmf_path.specs.declared.places.Indices.TheVariants.{Below, Listed}
 use Rattle.dmf_path.specs.declared.search.AugmentingPath.{AugmentingPath}
 use Rattle.dmf_path.specs.Step.{Step}
 use Rattle.dmf_path.specs.Path.{IsLeastPath, bottleneck_up_to}
@@ -65,3 +68,14 @@ with_rooms pairs k along against = slice_set pairs k (option_map (pair_with alon
 -- the pairs, with so much less room along that at index `k`
 abbrev pub lowered_along : List (Option Pair) → ℕ → ℕ → List (Option Pair)
 lowered_along pairs k amount = slice_set pairs k (option_map (lowered_pair amount) (pair_number pairs k))
+
+-- the list of these indices
+abbrev pub indices_of : Indices → List ℕ
+indices_of (Below count) = range_with_len 0 count
+indices_of (Listed indices) = indices.now
+
+-- The indices ascend and are below the count, and each that is left out may be left out.
+pub record Covers (count : ℕ) (MayBeLeftOut : ℕ → Type 0) (indices : List ℕ) : Type 0 where
+  pub below : (i : ℕ) → i < length indices → slice_index indices i < count
+  pub ascending : (i j : ℕ) → i < j → j < length indices → slice_index indices i < slice_index indices j
+  pub others : (k : ℕ) → k < count → MayBeLeftOut k ⊎ ((i : ℕ) × (i < length indices) × (slice_index indices i ≡ k))

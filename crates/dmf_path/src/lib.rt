@@ -3,6 +3,7 @@
 
 pub use pair::{Pair, Pairs};
 pub use passed::is_passed;
+pub use places::Indices;
 pub use search::{AugmentingPath, Search};
 
 mod label;
@@ -11,6 +12,7 @@ mod listed;
 mod pair;
 mod passed;
 mod phase;
+mod places;
 mod push;
 mod reach;
 mod release;

@@ -1,9 +1,7 @@
-//! Pairs of which few are there: these are listed, and what is found for the list is told of all.
-ghost use Rattle.std.specs.Prelude.{◌≡◌, ℕ, ◌+◌, ◌*◌, ◌^◌, ◌<◌, ◌≤◌, length, slice_index, IfOk};
-ghost use Rattle.dmf_path.specs.Links.{no_place};
-ghost use Rattle.dmf_path.specs.Listed.{AreListed, AreSpread};
+//! Pairs of which few are there: these are listed.
+ghost use Rattle.std.specs.Prelude.{◌+◌, ◌*◌, ◌^◌, ◌≤◌, length, IfOk};
+ghost use Rattle.dmf_path.specs.Listed.{AreListed};
 
-use crate::links::NO_PLACE;
 use crate::pair::{Pair, Pairs};
 use std::alloc::{AllocError, Global};
 
@@ -47,34 +45,4 @@ pub fn list_pairs<P: Pairs>(alloc: Global, pairs: &P) -> Result<Listed, AllocErr
         indices,
         pairs: listed,
     })
-}
-
-/// Of so many pairs the places, where those of the listed ones are known; the others have none.
-pub fn spread_places(
-    alloc: Global,
-    places: &[u32],
-    indices: &[u32],
-    count: usize,
-) -> Result<Vec<u32>, AllocError>
-    requires one_each { length places.now ≡ length indices.now }
-    requires below { (i : ℕ) → i < length indices.now → slice_index indices.now i < count }
-    requires ascending { (i j : ℕ) → i < j → j < length indices.now → slice_index indices.now i < slice_index indices.now j }
-    ensures { IfOk result (λ spread. AreSpread indices.now places.now (length indices.now) count spread.items) }
-{
-    let mut spread = vec![in alloc; NO_PLACE; count]?;
-    put_places(places, indices, &mut spread);
-    Ok(spread)
-}
-
-/// Puts each of these places at its index.
-fn put_places(places: &[u32], indices: &[u32], spread: &mut [u32])
-    requires none { (k : ℕ) → k < length spread.old → slice_index spread.old k ≡ no_place }
-    requires one_each { length places.now ≡ length indices.now }
-    requires below { (i : ℕ) → i < length indices.now → slice_index indices.now i < length spread.old }
-    requires ascending { (i j : ℕ) → i < j → j < length indices.now → slice_index indices.now i < slice_index indices.now j }
-    ensures { AreSpread indices.now places.now (length indices.now) (length spread.old) spread.new }
-{
-    for (i, &k) in indices.iter().enumerate() {
-        spread[k as usize] = places[i];
-    }
 }

@@ -1,17 +1,20 @@
 //! The search for least paths, one after the other, from one node to another.
-ghost use Rattle.std.specs.Prelude.{◌≡◌, ◌≢◌, ℕ, ◌+◌, ◌-◌, ◌^◌, ◌≤◌, ◌<◌, ◌↔◌, false, IsTrue, length, slice_index_or, IfOk, MatchOption};
+ghost use Rattle.std.specs.Prelude.{◌≡◌, ◌≢◌, ℕ, ◌+◌, ◌-◌, ◌^◌, ◌≤◌, ◌<◌, ◌↔◌, false, IsTrue, length, slice_index_or, IfOk, MatchOption, None};
 ghost use Rattle.dmf_path.specs.Node.{IsNode};
 ghost use Rattle.dmf_path.specs.Path.{HasNoPath, IsReachable};
 ghost use Rattle.dmf_path.specs.Pair.{ArePairs, steps_of};
 ghost use Rattle.dmf_path.specs.Passed.{Passes};
-ghost use Rattle.dmf_path.specs.Search.{Augments, HasAlong, along_at, against_at, aimed, lowered_along, with_rooms, with_pairs};
+ghost use Rattle.dmf_path.specs.Links.{AreLinks, AreRooms, ArePlaces, links_of};
+ghost use Rattle.dmf_path.specs.Search.{Augments, Covers, HasAlong, indices_of, pair_number, along_at, against_at, aimed, lowered_along, with_rooms, with_pairs};
+ghost use Rattle.dmf_path.specs.Searching.{searched};
 
 use crate::label::label_nodes;
 use crate::links::{LinkTable, NO_PLACE, build, opposite_flags};
-use crate::listed::{list_pairs, spread_places};
+use crate::listed::list_pairs;
 use crate::pair::Pairs;
 use crate::passed::mark_ends;
 use crate::phase::{begin_anew, find};
+use crate::places::{Indices, Places};
 use crate::push::{push_once, set_pair};
 use crate::reach::{labelled, settled_flags};
 use crate::release::release;
@@ -37,7 +40,7 @@ pub struct AugmentingPath {
 #[derive(Drop)]
 pub struct Search {
     table: LinkTable,
-    places: Vec<u32>,
+    places: Places,
     rooms: Vec<u64>,
     flags: Vec<u8>,
     labels: Vec<u32>,
@@ -58,10 +61,10 @@ impl Model for Search {
 
     ghost Value = { Searched };
 
-    ghost view = { λ a. searched (links_of a.table) a.places.items (rooms_with (links_of a.table) a.takes_back (way_of a.trail) a.rooms.items)
+    ghost view = { λ a. searched (links_of a.table) a.places (rooms_with (links_of a.table) a.takes_back (way_of a.trail) a.rooms.items)
         a.trail.start a.trail.goal a.takes_back };
 
-    ghost invariant = { λ a. IsSearch (links_of a.table) a.takes_back a.places.items a.rooms.items a.flags.items a.labels.items
+    ghost invariant = { λ a. IsSearch (links_of a.table) a.takes_back a.places a.rooms.items a.flags.items a.labels.items
         a.current.items (way_of a.trail) (vec_capacity a.queue) (vec_capacity a.trail.slots) a.is_fresh };
 }
 
@@ -90,28 +93,16 @@ impl Search {
         }) }
     {
         let built = build(alloc, nodes, pairs)?;
-        let flags = opposite_flags(alloc, &built.table, &built.rooms)?;
-        let current = Vec::from_slice(alloc, &built.table.first[..nodes as usize + 1])?;
-        Ok(Search {
-            table: built.table,
-            places: built.places,
-            rooms: built.rooms,
-            flags,
-            labels: vec![in alloc; 0u32; nodes as usize + 1]?,
-            current,
-            queue: Vec::with_capacity(alloc, nodes as usize + 1)?,
-            trail: Trail {
-                slots: Vec::with_capacity(alloc, nodes as usize)?,
-                walked: 0,
-                rest: 0,
-                joint: goal,
-                sent: 0,
-                start,
-                goal,
-            },
+        let places = Places::each(built.places);
+        Search::over(
+            alloc,
+            built.table,
+            built.rooms,
+            places,
+            start,
+            goal,
             takes_back,
-            is_fresh: true,
-        })
+        )
     }
 
     /// The same search, for pairs of which few are there: these are listed first, and the others are not asked for again. Takes
@@ -138,9 +129,60 @@ impl Search {
         }) }
     {
         let listed = list_pairs(alloc, pairs)?;
-        let mut search = Search::new(alloc, nodes, &listed, start, goal, takes_back)?;
-        search.places = spread_places(alloc, &search.places, &listed.indices, pairs.len())?;
-        Ok(search)
+        let built = build(alloc, nodes, &listed)?;
+        let places = Places::listed(listed.indices, built.places, pairs.len());
+        Search::over(
+            alloc,
+            built.table,
+            built.rooms,
+            places,
+            start,
+            goal,
+            takes_back,
+        )
+    }
+
+    /// A search over links, whose pairs have these places.
+    fn over(
+        alloc: Global,
+        table: LinkTable,
+        rooms: Vec<u64>,
+        places: Places,
+        start: u32,
+        goal: u32,
+        takes_back: bool,
+    ) -> Result<Search, AllocError>
+        requires links { AreLinks (links_of table) }
+        requires rooms { AreRooms (links_of table) rooms.items }
+        requires places { ArePlaces (links_of table) places }
+        requires start { IsNode table.nodes start }
+        requires goal { IsNode table.nodes goal }
+        requires apart { start ≢ goal }
+        ensures { IfOk result (λ search. search ≡ searched (links_of table) places rooms.items start goal takes_back) }
+    {
+        let nodes = table.nodes as usize;
+        let flags = opposite_flags(alloc, &table, &rooms)?;
+        let current = Vec::from_slice(alloc, &table.first[..nodes + 1])?;
+        Ok(Search {
+            table,
+            places,
+            rooms,
+            flags,
+            labels: vec![in alloc; 0u32; nodes + 1]?,
+            current,
+            queue: Vec::with_capacity(alloc, nodes + 1)?,
+            trail: Trail {
+                slots: Vec::with_capacity(alloc, nodes)?,
+                walked: 0,
+                rest: 0,
+                joint: goal,
+                sent: 0,
+                start,
+                goal,
+            },
+            takes_back,
+            is_fresh: true,
+        })
     }
 
     /// Pushes along the least path from the start to the goal as much as the limit and its rooms allow, and answers how
@@ -185,7 +227,7 @@ impl Search {
         requires { k < length self.now.pairs }
         ensures { result ≡ against_at self.now.pairs k }
     {
-        let place = self.places[k];
+        let place = self.places.place(k);
         if place == NO_PLACE {
             return None;
         }
@@ -205,7 +247,7 @@ impl Search {
         requires { k < length self.now.pairs }
         ensures { result ≡ along_at self.now.pairs k }
     {
-        let place = self.places[k];
+        let place = self.places.place(k);
         if place == NO_PLACE {
             return None;
         }
@@ -219,12 +261,19 @@ impl Search {
         Some(along)
     }
 
+    /// The indices of all pairs that are there; where pairs were listed, of these alone. Takes no memory.
+    pub fn indices(&self) -> Indices<'_>
+        ensures { Covers (length self.now.pairs) (λ k. pair_number self.now.pairs k ≡ None) (indices_of result) }
+    {
+        self.places.indices()
+    }
+
     /// Takes an amount off the room of the link along the pair at index `k`. Takes no memory.
     pub fn lower(&mut self, k: usize, amount: u64)
         requires { HasAlong self.old.pairs k amount }
         ensures { self.new ≡ with_pairs self.old (lowered_along self.old.pairs k amount) }
     {
-        let place = self.places[k];
+        let place = self.places.place(k);
         release(
             &self.table,
             self.takes_back,
@@ -298,7 +347,7 @@ impl Search {
             );
             self.is_fresh = true;
         }
-        let place = self.places[k];
+        let place = self.places.place(k);
         if place == NO_PLACE {
             return;
         }

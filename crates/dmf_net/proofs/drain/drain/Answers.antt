@@ -1,12 +1,15 @@
-use Rattle.std.proofs.Common.{List, ℕ, ap, arith, length, Vec, Global}
+use Rattle.std.proofs.Common.{List, ℕ, ◌≡◌, None, ap, arith, length, Vec, Global}
 use Rattle.std.proofs.lemmas.Result.{IfOk-weaker}
 use Rattle.std.proofs.lemmas.Slice.Zip.{AllZip-long}
+use Rattle.dmf_path.specs.Search.{indices_of, pair_number}
+use Rattle.dmf_path.proofs.Covering.{Covers-weaker}
 use Rattle.dmf_net.specs.declared.edit.Move.{Move}
 use Rattle.dmf_net.specs.declared.moves.FlowLink.TheVariants.{Along}
 use Rattle.dmf_net.specs.Flow.{flow_on}
 use Rattle.dmf_net.specs.Pairs.{flows_read}
 use Rattle.dmf_net.proofs.ChangedArc.{has_arc-within}
 use Rattle.dmf_net.proofs.DrainingSearch.{length-carries}
+use Rattle.dmf_net.proofs.FlowsRead.{stays-unpaired}
 use Rattle.dmf_net.proofs.DrainingWalk.{draining-moves, draining-none, draining-loop}
 use Rattle.dmf_net.proofs.drain.drain.Goals as goal
 
@@ -45,6 +48,16 @@ list_moves-requires-clause-no_more c =
     let s = c.args.state.now in
     let drained = c.drain_along.ensures s.flows c.in_ok-search.ensures.carrying in
     rw c.flows-before.ensures.value drained.0.no_more.no_more
+
+pub list_moves-requires-clause-others_stay : goal.list_moves-requires-clause-others_stay
+list_moves-requires-clause-others_stay c =
+    let s = c.args.state.now in
+    let search = c.drain_along.new.search in
+    let drained = c.drain_along.ensures s.flows c.in_ok-search.ensures.carrying in
+    rw c.flows-before.ensures.value
+    (Covers-weaker (length search.pairs) (λ k. pair_number search.pairs k ≡ None) _ (indices_of c.indices-indices.result)
+    (λ k _ none. stays-unpaired Along s.flows search.pairs k (length-carries s s.flows _ search drained.0) none)
+    c.indices-indices.ensures)
 
 pub returns-clause-moves : goal.returns-clause-moves
 returns-clause-moves c =

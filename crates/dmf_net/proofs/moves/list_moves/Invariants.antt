@@ -1,7 +1,8 @@
-use Rattle.std.proofs.Common.{◌≡◌, take}
-use Rattle.dmf_net.specs.Edit.{differences}
+use Rattle.std.proofs.Common.{◌≡◌}
+use Rattle.dmf_path.specs.Search.{indices_of}
 use Rattle.dmf_net.specs.Pairs.{flows_read}
+use Rattle.dmf_net.proofs.ListedMoves.{index_behind, moves_before}
 use Rattle.dmf_net.proofs.moves.list_moves.Given as goal
 
 abbrev pub invariant-loop-i : goal.invariant-loop-i
-invariant-loop-i l = l.moves.items ≡ differences 1 (take l.i l.before) (take l.i (flows_read l.link l.unpaired l.search.pairs))
+invariant-loop-i l = l.moves.items ≡ moves_before l.before (flows_read l.link l.unpaired l.search.pairs) (index_behind (indices_of l.indices) l.i)

@@ -22,7 +22,7 @@ invariant_of-self c =
     let current = with_items_is c.self.inside.current c.begin_anew.new.current (c.begin_anew.auto.current ∙ c.deref_mut-4.ensures.len) in
     let labelled = rw c.deref_mut-3.ensures.value at c.begin_anew.ensures.labels in
     rw (rooms, flags, labels, current)
-    (IsSearch-anew l c.self.inside.takes_back c.self.inside.places.items c.self.inside.rooms.items c.self.inside.flags.items c.self.inside.labels.items c.self.inside.current.items (way_of c.self.inside.trail) _ _ c.args.start c.args.goal c.begin_anew.new.rooms c.begin_anew.new.flags c.begin_anew.new.labels c.begin_anew.new.current (way_of c.begin_anew.new.trail) _ c.self.invariant
+    (IsSearch-anew l c.self.inside.takes_back c.self.inside.places c.self.inside.rooms.items c.self.inside.flags.items c.self.inside.labels.items c.self.inside.current.items (way_of c.self.inside.trail) _ _ c.args.start c.args.goal c.begin_anew.new.rooms c.begin_anew.new.flags c.begin_anew.new.labels c.begin_anew.new.current (way_of c.begin_anew.new.trail) _ c.self.invariant
     c.begin_anew.ensures.sums c.begin_anew.ensures.flags (rw (← c.self.view_is) at c.requires.start) (rw (← c.self.view_is) at c.requires.goal) c.requires.apart labelled c.begin_anew.ensures.current c.begin_anew.ensures.way c.begin_anew.ensures.slots_capacity)
 
 pub returns : goal.returns
@@ -35,4 +35,4 @@ returns c =
     ap (λ (u : Way). rooms_with l takes_back u c.begin_anew.new.rooms) way ∙ rooms_with-free l takes_back (between (way_of c.self.inside.trail) c.args.start c.args.goal) [] c.begin_anew.new.rooms
     ∙ (rw c.deref_mut.ensures.value at c.begin_anew.ensures.rooms) ∙ sym (search-settles c.self.invariant).same in
     rw (← c.self.view_is, rooms)
-    (same-searched l c.self.inside.places.items _ _ _ c.args.start _ c.args.goal takes_back told (ap (λ (u : Way). u.start) way) (ap (λ (u : Way). u.goal) way))
+    (same-searched l c.self.inside.places _ _ _ c.args.start _ c.args.goal takes_back told (ap (λ (u : Way). u.start) way) (ap (λ (u : Way). u.goal) way))

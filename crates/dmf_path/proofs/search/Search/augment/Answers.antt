@@ -46,7 +46,7 @@ returns-then-not-found-clause-found c =
     let none = rw c.deref_mut-3.ensures.value at (c.find-found.ensures.none c.if-not-found.true) in
     rw (← c.self.view_is, rooms) (
       no_path-search _ _ _ _ _ i.links i.places_are i.start_is none,
-      same-searched l c.self.inside.places.items _ _ _ _ _ _ c.self.inside.takes_back (rw c.deref_mut-3.ensures.value at c.find-found.ensures.same) c.find-found.ensures.start c.find-found.ensures.goal,
+      same-searched l c.self.inside.places _ _ _ _ _ _ c.self.inside.takes_back (rw c.deref_mut-3.ensures.value at c.find-found.ensures.same) c.find-found.ensures.start c.find-found.ensures.goal,
     )
 
 pub returns-then-not-found-clause-passed : goal.returns-then-not-found-clause-passed
@@ -56,7 +56,7 @@ returns-then-not-found-clause-passed c = record {
 }
 
 -- what the search keeps once a path is found
-found : (c : After-cut-arg-2-1) → IsSearch (links_of c.self.inside.table) c.self.inside.takes_back c.self.inside.places.items c.find-found.new.rooms c.find-found.new.flags c.find-found.new.labels c.find-found.new.current (way_of c.find-found.new.trail) (vec_capacity c.find-found.new.queue) (vec_capacity c.find-found.new.trail.slots) false
+found : (c : After-cut-arg-2-1) → IsSearch (links_of c.self.inside.table) c.self.inside.takes_back c.self.inside.places c.find-found.new.rooms c.find-found.new.flags c.find-found.new.labels c.find-found.new.current (way_of c.find-found.new.trail) (vec_capacity c.find-found.new.queue) (vec_capacity c.find-found.new.trail.slots) false
 found c =
     IsSearch-found _ _ _ c.self.inside.rooms.items c.self.inside.flags.items c.self.inside.labels.items c.self.inside.current.items (way_of c.self.inside.trail) _ _ c.find-found.new.rooms c.find-found.new.flags c.find-found.new.labels c.find-found.new.current (way_of c.find-found.new.trail) _ _ c.self.invariant
     (omega (arith, c.find-found.auto.labels, c.deref_mut.ensures.len, c.self.inside.labels.ok.0)) c.find-found.ensures.start_label c.find-found.ensures.holding
@@ -64,11 +64,11 @@ found c =
     c.find-found.ensures.start c.find-found.ensures.goal c.find-found.ensures.queue_capacity c.find-found.ensures.slots_capacity
 
 -- So much can be sent along it,
-can : (c : After-cut-arg-2-1) → CanAugment (links_of c.self.inside.table) c.self.inside.takes_back c.self.inside.places.items c.find-found.new.rooms c.find-found.new.labels c.find-found.new.current (way_of c.find-found.new.trail) c.args.limit c.bottleneck-amount.result
+can : (c : After-cut-arg-2-1) → CanAugment (links_of c.self.inside.table) c.self.inside.takes_back c.self.inside.places c.find-found.new.rooms c.find-found.new.labels c.find-found.new.current (way_of c.find-found.new.trail) c.args.limit c.bottleneck-amount.result
 can c =
     let w = way_of c.find-found.new.trail in
     let least : c.bottleneck-amount.result ≡ least_left w.sent c.args.limit w.slots = rw c.deref.ensures.value at c.bottleneck-amount.ensures in
-    can-augment (links_of c.self.inside.table) c.self.inside.takes_back c.self.inside.places.items c.find-found.new.rooms c.find-found.new.flags c.find-found.new.labels c.find-found.new.current w _ _ c.args.limit c.bottleneck-amount.result (found c) (c.find-found.ensures.found c.if-not-found.false) least
+    can-augment (links_of c.self.inside.table) c.self.inside.takes_back c.self.inside.places c.find-found.new.rooms c.find-found.new.flags c.find-found.new.labels c.find-found.new.current w _ _ c.args.limit c.bottleneck-amount.result (found c) (c.find-found.ensures.found c.if-not-found.false) least
 
 -- and its rooms are read.
 read : (c : After-cut-arg-2-1) → c.deref_mut-5.result.now ≡ c.find-found.new.rooms
@@ -79,12 +79,12 @@ mark_ends-requires-clause-places c =
     let l = links_of c.self.inside.table in
     let w = way_of c.find-found.new.trail in
     let is =
-    IsSearch-found l c.self.inside.takes_back c.self.inside.places.items c.self.inside.rooms.items c.self.inside.flags.items c.self.inside.labels.items c.self.inside.current.items (way_of c.self.inside.trail) _ _ c.find-found.new.rooms c.find-found.new.flags c.find-found.new.labels c.find-found.new.current w _ _ c.self.invariant
+    IsSearch-found l c.self.inside.takes_back c.self.inside.places c.self.inside.rooms.items c.self.inside.flags.items c.self.inside.labels.items c.self.inside.current.items (way_of c.self.inside.trail) _ _ c.find-found.new.rooms c.find-found.new.flags c.find-found.new.labels c.find-found.new.current w _ _ c.self.invariant
     (omega (arith, c.find-found.auto.labels, c.deref_mut.ensures.len, c.self.inside.labels.ok.0)) c.find-found.ensures.start_label c.find-found.ensures.holding
     (rw c.deref_mut-3.ensures.value at c.find-found.ensures.same) (rw c.deref_mut-3.ensures.value at c.find-found.ensures.valid) (rw c.deref_mut-3.ensures.value at c.find-found.ensures.under_way)
     c.find-found.ensures.start c.find-found.ensures.goal c.find-found.ensures.queue_capacity c.find-found.ensures.slots_capacity in
     let least : c.bottleneck-amount.result ≡ least_left w.sent c.args.limit w.slots = rw c.deref.ensures.value at c.bottleneck-amount.ensures in
-    let can = can-augment l c.self.inside.takes_back c.self.inside.places.items c.find-found.new.rooms c.find-found.new.flags c.find-found.new.labels c.find-found.new.current w _ _ c.args.limit c.bottleneck-amount.result is (c.find-found.ensures.found c.if-not-found.false) least in
+    let can = can-augment l c.self.inside.takes_back c.self.inside.places c.find-found.new.rooms c.find-found.new.flags c.find-found.new.labels c.find-found.new.current w _ _ c.args.limit c.bottleneck-amount.result is (c.find-found.ensures.found c.if-not-found.false) least in
     rw c.deref-2.ensures.value (λ i inside. slot-within l c.find-found.new.labels _ _ w.slots i can.descends inside)
 
 pub cut-requires-clause-flags : goal.cut-requires-clause-flags
@@ -115,7 +115,7 @@ cut c =
     let at = (goal.at.After-self-8-1 c).After-cut-arg-2-1 in
     let l = links_of c.self.inside.table in
     let w = way_of c.find-found.new.trail in
-    let sent = is-sent l c.self.inside.takes_back c.self.inside.places.items c.find-found.new.rooms c.find-found.new.flags c.find-found.new.labels c.find-found.new.current w _ _ c.args.limit c.bottleneck-amount.result (found at) (c.find-found.ensures.found c.if-not-found.false) (can at) in
+    let sent = is-sent l c.self.inside.takes_back c.self.inside.places c.find-found.new.rooms c.find-found.new.flags c.find-found.new.labels c.find-found.new.current w _ _ c.args.limit c.bottleneck-amount.result (found at) (c.find-found.ensures.found c.if-not-found.false) (can at) in
     has-cut l c.self.inside.takes_back c.find-found.new.labels _ c.find-found.new.current (sent_on w c.bottleneck-amount.result) (way_of c.cut.new.trail) c.find-found.new.rooms c.cut.new.rooms c.cut.new.flags sent (found at).under_way.joint_is (way c) c.cut.ensures.sums c.cut.ensures.flags
 
 start : (c : After-self-8-1) → c.cut.new.trail.start ≡ c.find-found.new.trail.start
@@ -133,7 +133,7 @@ invariant_of-self-2 c =
     let rooms = with_items_is (with_items c.self.inside.rooms c.find-found.new.rooms) c.cut.new.rooms (c.cut.auto.rooms ∙ c.deref_mut-5.ensures.len) in
     let flags = with_items_is (with_items c.self.inside.flags c.find-found.new.flags) c.cut.new.flags (c.cut.auto.flags ∙ c.deref_mut-6.ensures.len) in
     rw (rooms, flags, labels, current)
-    (IsSearch-cut (links_of c.self.inside.table) c.self.inside.takes_back c.self.inside.places.items c.find-found.new.rooms c.find-found.new.flags c.find-found.new.labels c.find-found.new.current (way_of c.find-found.new.trail) _ _ c.args.limit c.bottleneck-amount.result c.cut.new.rooms c.cut.new.flags (way_of c.cut.new.trail) _ (found at) (can at) (cut after) (start after) (end after) c.cut.ensures.slots_capacity)
+    (IsSearch-cut (links_of c.self.inside.table) c.self.inside.takes_back c.self.inside.places c.find-found.new.rooms c.find-found.new.flags c.find-found.new.labels c.find-found.new.current (way_of c.find-found.new.trail) _ _ c.args.limit c.bottleneck-amount.result c.cut.new.rooms c.cut.new.flags (way_of c.cut.new.trail) _ (found at) (can at) (cut after) (start after) (end after) c.cut.ensures.slots_capacity)
 
 pub returns-clause-found : goal.returns-clause-found
 returns-clause-found c =
@@ -143,8 +143,8 @@ returns-clause-found c =
     let links : c.len-links.result ≡ length c.find-found.new.trail.slots.items = omega (arith, c.len-links.ensures, c.find-found.new.trail.slots.ok.0) in
     rw (← c.self.view_is, rooms, links)
     (augments-between c.args.limit (record { amount = c.bottleneck-amount.result; links = length c.find-found.new.trail.slots.items }) _ _ _ _
-    (same-searched l c.self.inside.places.items _ _ _ _ _ _ c.self.inside.takes_back (rw c.deref_mut-3.ensures.value at c.find-found.ensures.same) c.find-found.ensures.start c.find-found.ensures.goal)
-    (same-searched l c.self.inside.places.items _ _ _ _ _ _ c.self.inside.takes_back (sym (cut after).same) (sym (start after)) (sym (end after)))
+    (same-searched l c.self.inside.places _ _ _ _ _ _ c.self.inside.takes_back (rw c.deref_mut-3.ensures.value at c.find-found.ensures.same) c.find-found.ensures.start c.find-found.ensures.goal)
+    (same-searched l c.self.inside.places _ _ _ _ _ _ c.self.inside.takes_back (sym (cut after).same) (sym (start after)) (sym (end after)))
     (can (goal.at.returns-clause-found c).After-cut-arg-2-1).augments)
 
 pub returns-clause-passed : goal.returns-clause-passed
@@ -153,7 +153,7 @@ returns-clause-passed c =
     let at = (goal.at.returns-clause-passed c).After-cut-arg-2-1 in
     let l = links_of c.self.inside.table in
     let back = c.self.inside.takes_back in
-    let places = c.self.inside.places.items in
+    let places = c.self.inside.places in
     let w = way_of c.find-found.new.trail in
     let marks = c.mark_ends.new.passed in
     let rooms = with_items_is (with_items c.self.inside.rooms c.find-found.new.rooms) c.cut.new.rooms (c.cut.auto.rooms ∙ c.deref_mut-5.ensures.len) in

@@ -1,7 +1,7 @@
 -- The link is released, and its room lowered.
 use Rattle.std.proofs.Common.{◌≡◌, get_or, ap, ◌∙◌, arith, vec_capacity}
 use Rattle.std.specs.Vec.{with_items}
-use Rattle.std.proofs.lemmas.List.{with_items_is, get_or_default}
+use Rattle.std.proofs.lemmas.List.{with_items_is}
 use Rattle.dmf_path.specs.Links.{links_of, pairs_at}
 use Rattle.dmf_path.specs.Held.{way_of, rooms_with}
 use Rattle.dmf_path.specs.Search.{with_pairs, lowered_along}
@@ -12,14 +12,14 @@ use Rattle.dmf_path.proofs.search.Search.lower.Goals as goal
 use Rattle.dmf_path.proofs.search.Search.lower.Goals.{After-deref_mut-4, After-self-4-1}
 
 -- The pair's link along has a place,
-has : (c : After-deref_mut-4) → HasPlace (links_of c.self.inside.table) c.self.inside.places.items (rooms_with (links_of c.self.inside.table) c.self.inside.takes_back (way_of c.self.inside.trail) c.self.inside.rooms.items) c.args.k c.args.amount
+has : (c : After-deref_mut-4) → HasPlace (links_of c.self.inside.table) c.self.inside.places (rooms_with (links_of c.self.inside.table) c.self.inside.takes_back (way_of c.self.inside.trail) c.self.inside.rooms.items) c.args.k c.args.amount
 has c =
     let along = rw (← c.self.view_is) at c.requires in
-    HasPlace-along (links_of c.self.inside.table) c.self.inside.places.items (rooms_with (links_of c.self.inside.table) c.self.inside.takes_back (way_of c.self.inside.trail) c.self.inside.rooms.items) c.args.k c.args.amount c.self.invariant.places_are along
+    HasPlace-along (links_of c.self.inside.table) c.self.inside.places (rooms_with (links_of c.self.inside.table) c.self.inside.takes_back (way_of c.self.inside.trail) c.self.inside.rooms.items) c.args.k c.args.amount c.self.invariant.places_are along
 
 -- which is read,
-place : (c : After-deref_mut-4) → c.index-place.result.now ≡ get_or c.self.inside.places.items c.args.k 0
-place c = c.index-place.ensures ∙ get_or_default c.self.inside.places.items c.args.k _ 0 (has c).index
+place : (c : After-deref_mut-4) → c.place-place.result ≡ get_or c.self.inside.places c.args.k 0
+place c = c.place-place.ensures
 
 -- as are the rooms once it is released.
 read : (c : After-deref_mut-4) → c.deref_mut-3.result.now ≡ c.release.new.rooms
@@ -44,21 +44,21 @@ push_once-requires-clause-room c =
     omega (
       arith,
       (has at).enough,
-      ap (λ rs. get_or rs c.index-place.result.now 0) (read at),
+      ap (λ rs. get_or rs c.place-place.result 0) (read at),
       rw c.deref_mut.ensures.value at c.release.ensures.room,
       ap (λ p. get_or (rooms_with (links_of c.self.inside.table) c.self.inside.takes_back (way_of c.self.inside.trail) c.self.inside.rooms.items) p 0) (place at),
     )
 
 -- what the search keeps then, and what callers see of it
-lowered : (c : After-self-4-1) → IsSearch (links_of c.self.inside.table) c.self.inside.takes_back c.self.inside.places.items c.push_once.new.rooms c.push_once.new.flags c.self.inside.labels.items c.self.inside.current.items (way_of c.release.new.trail) (vec_capacity c.self.inside.queue) (vec_capacity c.release.new.trail.slots) c.self.inside.is_fresh
-    × (searched (links_of c.self.inside.table) c.self.inside.places.items (rooms_with (links_of c.self.inside.table) c.self.inside.takes_back (way_of c.release.new.trail) c.push_once.new.rooms) c.release.new.trail.start c.release.new.trail.goal c.self.inside.takes_back
-    ≡ with_pairs (searched (links_of c.self.inside.table) c.self.inside.places.items (rooms_with (links_of c.self.inside.table) c.self.inside.takes_back (way_of c.self.inside.trail) c.self.inside.rooms.items) c.self.inside.trail.start c.self.inside.trail.goal c.self.inside.takes_back)
-    (lowered_along (pairs_at (links_of c.self.inside.table) c.self.inside.places.items (rooms_with (links_of c.self.inside.table) c.self.inside.takes_back (way_of c.self.inside.trail) c.self.inside.rooms.items)) c.args.k c.args.amount))
+lowered : (c : After-self-4-1) → IsSearch (links_of c.self.inside.table) c.self.inside.takes_back c.self.inside.places c.push_once.new.rooms c.push_once.new.flags c.self.inside.labels.items c.self.inside.current.items (way_of c.release.new.trail) (vec_capacity c.self.inside.queue) (vec_capacity c.release.new.trail.slots) c.self.inside.is_fresh
+    × (searched (links_of c.self.inside.table) c.self.inside.places (rooms_with (links_of c.self.inside.table) c.self.inside.takes_back (way_of c.release.new.trail) c.push_once.new.rooms) c.release.new.trail.start c.release.new.trail.goal c.self.inside.takes_back
+    ≡ with_pairs (searched (links_of c.self.inside.table) c.self.inside.places (rooms_with (links_of c.self.inside.table) c.self.inside.takes_back (way_of c.self.inside.trail) c.self.inside.rooms.items) c.self.inside.trail.start c.self.inside.trail.goal c.self.inside.takes_back)
+    (lowered_along (pairs_at (links_of c.self.inside.table) c.self.inside.places (rooms_with (links_of c.self.inside.table) c.self.inside.takes_back (way_of c.self.inside.trail) c.self.inside.rooms.items)) c.args.k c.args.amount))
 lowered c =
     let at = (goal.at.After-self-4-1 c).After-deref_mut-4 in
     let i = c.self.invariant in
     let along = rw (← c.self.view_is) at c.requires in
-    is-lowered (links_of c.self.inside.table) c.self.inside.takes_back c.self.inside.places.items c.self.inside.rooms.items c.self.inside.flags.items c.self.inside.labels.items c.self.inside.current.items (way_of c.self.inside.trail) (vec_capacity c.self.inside.queue) (vec_capacity c.self.inside.trail.slots) c.args.k c.index-place.result.now c.args.amount
+    is-lowered (links_of c.self.inside.table) c.self.inside.takes_back c.self.inside.places c.self.inside.rooms.items c.self.inside.flags.items c.self.inside.labels.items c.self.inside.current.items (way_of c.self.inside.trail) (vec_capacity c.self.inside.queue) (vec_capacity c.self.inside.trail.slots) c.args.k c.place-place.result c.args.amount
     (way_of c.release.new.trail) c.release.new.rooms c.release.new.flags c.push_once.new.rooms c.push_once.new.flags (vec_capacity c.release.new.trail.slots) i along (place at)
     c.release.ensures.holding (rw c.deref_mut.ensures.value at c.release.ensures.same) ((rw c.deref.ensures.value at c.release.ensures.under_way) _ _ i.under_way)
     c.release.ensures.off (rw c.deref_mut.ensures.value at c.release.ensures.room) c.release.ensures.start c.release.ensures.goal c.release.ensures.slots_capacity

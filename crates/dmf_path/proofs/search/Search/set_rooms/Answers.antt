@@ -1,7 +1,7 @@
 -- The search begins anew, where it had begun, and then the rooms of one pair's links are set.
-use Rattle.std.proofs.Common.{ℕ, ◌≡◌, ◌<◌, true, length, get_or, refl, ap, sym, ◌∙◌, subst, arith}
+use Rattle.std.proofs.Common.{◌≡◌, ◌<◌, true, length, get_or, refl, ap, sym, ◌∙◌, subst, arith}
 use Rattle.std.specs.Vec.{vec_capacity}
-use Rattle.std.proofs.lemmas.List.{with_items_is, get_or_default, length-map}
+use Rattle.std.proofs.lemmas.List.{with_items_is, length-map}
 use Rattle.dmf_path.specs.declared.search.Search.TheInside.{Inside}
 use Rattle.dmf_path.specs.Links.{links_of, pair_at, no_place}
 use Rattle.dmf_path.specs.Held.{Way, way_of, rooms_with}
@@ -21,9 +21,9 @@ begin_anew-requires-clause-rest c = rw c.deref_mut.ensures.value (search-settles
 
 -- The search has not begun, and callers see of it what they saw before.
 record IsAnew (x : Inside) (before : Searched) : Type 0 where
-  is : IsSearch (links_of x.table) x.takes_back x.places.items x.rooms.items x.flags.items x.labels.items x.current.items (way_of x.trail) (vec_capacity x.queue) (vec_capacity x.trail.slots) true
+  is : IsSearch (links_of x.table) x.takes_back x.places x.rooms.items x.flags.items x.labels.items x.current.items (way_of x.trail) (vec_capacity x.queue) (vec_capacity x.trail.slots) true
   marked : x.is_fresh ≡ true
-  same : searched (links_of x.table) x.places.items x.rooms.items x.trail.start x.trail.goal x.takes_back ≡ before
+  same : searched (links_of x.table) x.places x.rooms.items x.trail.start x.trail.goal x.takes_back ≡ before
 
 anew : (c : Joined-not-self) → IsAnew c.if-not-self.self-inside c.args.self.now
 anew c =
@@ -42,32 +42,28 @@ anew c =
           let way = v.begin_anew.ensures.way in
           rw v.self-inside-is (record {
             is = rw (rooms, flags, labels, current)
-                (IsSearch-anew l c.self.inside.takes_back c.self.inside.places.items c.self.inside.rooms.items c.self.inside.flags.items c.self.inside.labels.items c.self.inside.current.items w _ _ w.start w.goal v.begin_anew.new.rooms v.begin_anew.new.flags v.begin_anew.new.labels v.begin_anew.new.current (way_of v.begin_anew.new.trail) _ i
+                (IsSearch-anew l c.self.inside.takes_back c.self.inside.places c.self.inside.rooms.items c.self.inside.flags.items c.self.inside.labels.items c.self.inside.current.items w _ _ w.start w.goal v.begin_anew.new.rooms v.begin_anew.new.flags v.begin_anew.new.labels v.begin_anew.new.current (way_of v.begin_anew.new.trail) _ i
                 v.begin_anew.ensures.sums v.begin_anew.ensures.flags i.start_is i.goal_is i.apart labelled v.begin_anew.ensures.current way v.begin_anew.ensures.slots_capacity);
             marked = refl;
             same = rw (← c.self.view_is, rooms)
-                (same-searched l c.self.inside.places.items _ _ _ _ _ _ c.self.inside.takes_back now (ap (λ (u : Way). u.start) way) (ap (λ (u : Way). u.goal) way));
+                (same-searched l c.self.inside.places _ _ _ _ _ _ c.self.inside.takes_back now (ap (λ (u : Way). u.start) way) (ap (λ (u : Way). u.goal) way));
           })
       | else-not-self v ↦
           let fresh : c.self.inside.is_fresh ≡ true = v.if-not-self.false in
-          let is = subst (λ b. IsSearch l c.self.inside.takes_back c.self.inside.places.items c.self.inside.rooms.items c.self.inside.flags.items c.self.inside.labels.items c.self.inside.current.items w (vec_capacity c.self.inside.queue) (vec_capacity c.self.inside.trail.slots) b) fresh i in
-          let none = rooms_with-fresh l c.self.inside.takes_back c.self.inside.places.items c.self.inside.rooms.items c.self.inside.flags.items c.self.inside.labels.items c.self.inside.current.items w _ _ c.self.inside.rooms.items is in
+          let is = subst (λ b. IsSearch l c.self.inside.takes_back c.self.inside.places c.self.inside.rooms.items c.self.inside.flags.items c.self.inside.labels.items c.self.inside.current.items w (vec_capacity c.self.inside.queue) (vec_capacity c.self.inside.trail.slots) b) fresh i in
+          let none = rooms_with-fresh l c.self.inside.takes_back c.self.inside.places c.self.inside.rooms.items c.self.inside.flags.items c.self.inside.labels.items c.self.inside.current.items w _ _ c.self.inside.rooms.items is in
           rw v.self-inside-is (record {
             is = is;
             marked = fresh;
-            same = rw (← c.self.view_is) (same-searched l c.self.inside.places.items _ _ w.start w.start w.goal w.goal c.self.inside.takes_back (sym none) refl refl);
+            same = rw (← c.self.view_is) (same-searched l c.self.inside.places _ _ w.start w.start w.goal w.goal c.self.inside.takes_back (sym none) refl refl);
           })
     ]
 
 -- the index is one of the places
-index : (c : Joined-not-self) → c.args.k < length c.if-not-self.self-inside.places.items
+index : (c : Joined-not-self) → c.args.k < length c.if-not-self.self-inside.places
 index c =
     let x = c.if-not-self.self-inside in
-    omega (arith, c.requires.number, ap (λ (s : Searched). length s.pairs) (anew c).same, length-map x.places.items (pair_at (links_of x.table) x.rooms.items))
-
--- the place is read there
-read : (c : Joined-not-self) (place : ℕ) → place ≡ get_or c.if-not-self.self-inside.places.items c.args.k place → place ≡ get_or c.if-not-self.self-inside.places.items c.args.k 0
-read c place is = is ∙ get_or_default c.if-not-self.self-inside.places.items c.args.k place 0 (index c)
+    omega (arith, c.requires.number, ap (λ (s : Searched). length s.pairs) (anew c).same, length-map x.places (pair_at (links_of x.table) x.rooms.items))
 
 pub invariant_of-self : goal.invariant_of-self
 invariant_of-self c = let a = anew (goal.at.invariant_of-self c).Joined-not-self in rw a.marked a.is
@@ -78,10 +74,10 @@ returns-then-place c =
     let a = anew at in
     let x = c.if-not-self.self-inside in
     let l = links_of x.table in
-    let none : get_or x.places.items c.args.k 0 ≡ no_place = sym (read at c.index-place.result.now c.index-place.ensures) ∙ c.if-place.true in
-    same-searched l x.places.items _ _ x.trail.start x.trail.start x.trail.goal x.trail.goal x.takes_back
-    (rooms_with-fresh l x.takes_back x.places.items x.rooms.items x.flags.items x.labels.items x.current.items (way_of x.trail) _ _ x.rooms.items a.is) refl refl
-    ∙ sym (unset-searched l x.places.items x.rooms.items x.trail.start x.trail.goal x.takes_back c.args.k c.args.along c.args.against (index at) none)
+    let none : get_or x.places c.args.k 0 ≡ no_place = sym c.place-place.ensures ∙ c.if-place.true in
+    same-searched l x.places _ _ x.trail.start x.trail.start x.trail.goal x.trail.goal x.takes_back
+    (rooms_with-fresh l x.takes_back x.places x.rooms.items x.flags.items x.labels.items x.current.items (way_of x.trail) _ _ x.rooms.items a.is) refl refl
+    ∙ sym (unset-searched l x.places x.rooms.items x.trail.start x.trail.goal x.takes_back c.args.k c.args.along c.args.against (index at) none)
     ∙ ap (λ (s : Searched). with_pairs s (with_rooms s.pairs c.args.k c.args.along c.args.against)) a.same
 
 pub set_pair-requires-clause-links : goal.set_pair-requires-clause-links
@@ -96,7 +92,7 @@ set_pair-requires-clause-flags c = rw (c.deref_mut-2.ensures.value, c.deref_mut-
 pub set_pair-requires-clause-within : goal.set_pair-requires-clause-within
 set_pair-requires-clause-within c =
     let at = (goal.at.set_pair-requires-clause-within c).Joined-not-self in
-    let place = read at c.index-place.result.now c.index-place.ensures in
+    let place = c.place-place.ensures in
     let within = (anew at).is.places_are.within c.args.k (index at) (λ none. c.if-place.false (place ∙ none)) in
     omega (arith, place, within)
 
@@ -107,7 +103,7 @@ invariant_of-self-2 c =
     let rooms = with_items_is x.rooms c.set_pair.new.rooms (c.set_pair.auto.rooms ∙ c.deref_mut-2.ensures.len) in
     let flags = with_items_is x.flags c.set_pair.new.flags (c.set_pair.auto.flags ∙ c.deref_mut-3.ensures.len) in
     rw (rooms, flags, a.marked)
-    (IsSearch-set (links_of x.table) x.takes_back x.places.items x.rooms.items x.flags.items x.labels.items x.current.items (way_of x.trail) _ _ c.set_pair.new.rooms c.set_pair.new.flags a.is c.set_pair.ensures.sums c.set_pair.ensures.flags)
+    (IsSearch-set (links_of x.table) x.takes_back x.places x.rooms.items x.flags.items x.labels.items x.current.items (way_of x.trail) _ _ c.set_pair.new.rooms c.set_pair.new.flags a.is c.set_pair.ensures.sums c.set_pair.ensures.flags)
 
 pub returns : goal.returns
 returns c =
@@ -115,11 +111,11 @@ returns c =
     let a = anew at in
     let x = c.if-not-self.self-inside in
     let l = links_of x.table in
-    let place = read at c.index-place.result.now c.index-place.ensures in
+    let place = c.place-place.ensures in
     let rooms = with_items_is x.rooms c.set_pair.new.rooms (c.set_pair.auto.rooms ∙ c.deref_mut-2.ensures.len) in
     let made = rw (c.deref_mut-2.ensures.value, place) at c.set_pair.ensures.rooms in
     rw rooms
-    (same-searched l x.places.items _ _ x.trail.start x.trail.start x.trail.goal x.trail.goal x.takes_back
-    (rooms_with-fresh l x.takes_back x.places.items x.rooms.items x.flags.items x.labels.items x.current.items (way_of x.trail) _ _ c.set_pair.new.rooms a.is ∙ made) refl refl
-    ∙ set-searched l x.places.items x.rooms.items x.trail.start x.trail.goal x.takes_back c.args.k c.args.along c.args.against a.is.links a.is.places_are a.is.holding.rooms_are.0 (index at) (λ none. c.if-place.false (place ∙ none))
+    (same-searched l x.places _ _ x.trail.start x.trail.start x.trail.goal x.trail.goal x.takes_back
+    (rooms_with-fresh l x.takes_back x.places x.rooms.items x.flags.items x.labels.items x.current.items (way_of x.trail) _ _ c.set_pair.new.rooms a.is ∙ made) refl refl
+    ∙ set-searched l x.places x.rooms.items x.trail.start x.trail.goal x.takes_back c.args.k c.args.along c.args.against a.is.links a.is.places_are a.is.holding.rooms_are.0 (index at) (λ none. c.if-place.false (place ∙ none))
     ∙ ap (λ (s : Searched). with_pairs s (with_rooms s.pairs c.args.k c.args.along c.args.against)) a.same)

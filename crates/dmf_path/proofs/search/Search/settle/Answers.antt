@@ -16,10 +16,10 @@ pub settle-requires-clause-rest : goal.settle-requires-clause-rest
 settle-requires-clause-rest c = rw c.deref_mut.ensures.value (search-settles c.self.invariant).rest
 
 -- what the search keeps then, and that its rooms are told as before
-settled : (c : After-self-2-1) → IsSearch (links_of c.self.inside.table) c.self.inside.takes_back c.self.inside.places.items c.settle.new.rooms c.settle.new.flags c.self.inside.labels.items c.self.inside.current.items (way_of c.settle.new.trail) (vec_capacity c.self.inside.queue) (vec_capacity c.settle.new.trail.slots) c.self.inside.is_fresh
+settled : (c : After-self-2-1) → IsSearch (links_of c.self.inside.table) c.self.inside.takes_back c.self.inside.places c.settle.new.rooms c.settle.new.flags c.self.inside.labels.items c.self.inside.current.items (way_of c.settle.new.trail) (vec_capacity c.self.inside.queue) (vec_capacity c.settle.new.trail.slots) c.self.inside.is_fresh
     × (rooms_with (links_of c.self.inside.table) c.self.inside.takes_back (way_of c.settle.new.trail) c.settle.new.rooms ≡ rooms_with (links_of c.self.inside.table) c.self.inside.takes_back (way_of c.self.inside.trail) c.self.inside.rooms.items)
 settled c =
-    IsSearch-settled (links_of c.self.inside.table) c.self.inside.takes_back c.self.inside.places.items c.self.inside.rooms.items c.self.inside.flags.items c.self.inside.labels.items c.self.inside.current.items (way_of c.self.inside.trail) (vec_capacity c.self.inside.queue) (vec_capacity c.self.inside.trail.slots)
+    IsSearch-settled (links_of c.self.inside.table) c.self.inside.takes_back c.self.inside.places c.self.inside.rooms.items c.self.inside.flags.items c.self.inside.labels.items c.self.inside.current.items (way_of c.self.inside.trail) (vec_capacity c.self.inside.queue) (vec_capacity c.self.inside.trail.slots)
     c.settle.new.rooms c.settle.new.flags (way_of c.settle.new.trail) (vec_capacity c.settle.new.trail.slots) c.self.invariant
     ((rw c.deref_mut.ensures.value at c.settle.ensures.rooms) ∙ sym (search-settles c.self.invariant).same) c.settle.ensures.sums c.settle.ensures.flags c.settle.ensures.way c.settle.ensures.slots_capacity
 
@@ -33,4 +33,4 @@ pub returns : goal.returns
 returns c =
     let rooms = with_items_is c.self.inside.rooms c.settle.new.rooms (c.settle.auto.rooms ∙ c.deref_mut.ensures.len) in
     rw (← c.self.view_is, rooms)
-    (same-searched (links_of c.self.inside.table) c.self.inside.places.items _ _ _ c.self.inside.trail.start _ c.self.inside.trail.goal c.self.inside.takes_back (settled (goal.at.returns c).After-self-2-1).1 (ap (λ (u : Way). u.start) c.settle.ensures.way) (ap (λ (u : Way). u.goal) c.settle.ensures.way))
+    (same-searched (links_of c.self.inside.table) c.self.inside.places _ _ _ c.self.inside.trail.start _ c.self.inside.trail.goal c.self.inside.takes_back (settled (goal.at.returns c).After-self-2-1).1 (ap (λ (u : Way). u.start) c.settle.ensures.way) (ap (λ (u : Way). u.goal) c.settle.ensures.way))

@@ -1,0 +1,134 @@
+//! The places of the links along of pairs, kept for each pair, or for those alone that are listed.
+ghost use Rattle.std.specs.Prelude.{◌≡◌, ℕ, ◌^◌, ◌<◌, ◌≤◌, length, slice_index};
+ghost use Rattle.dmf_path.specs.Links.{no_place};
+ghost use Rattle.dmf_path.specs.Search.{Covers, indices_of};
+ghost use Rattle.dmf_path.specs.Listed.{spread};
+
+use crate::links::NO_PLACE;
+use std::marker::Model;
+
+/// Indices in ascending order.
+#[derive(Clone, Copy, Debug)]
+pub enum Indices<'a> {
+    /// All below this number.
+    Below(usize),
+    /// Those that are listed.
+    Listed(&'a [u32]),
+}
+
+impl Indices<'_> {
+    /// How many there are. Takes no memory.
+    pub fn len(&self) -> usize
+        ensures { result ≡ length (indices_of self.now) }
+    {
+        match self {
+            Indices::Below(count) => *count,
+            Indices::Listed(indices) => indices.len(),
+        }
+    }
+
+    /// That which is number `i`, counted from 0. Takes no memory.
+    pub fn at(&self, i: usize) -> usize
+        requires { i < length (indices_of self.now) }
+        ensures { result ≡ slice_index (indices_of self.now) i }
+    {
+        match self {
+            Indices::Below(_) => i,
+            Indices::Listed(indices) => number_at(indices, i),
+        }
+    }
+}
+
+/// Number `i` of a list.
+fn number_at(numbers: &[u32], i: usize) -> usize
+    requires { i < length numbers.now }
+    ensures { result ≡ slice_index numbers.now i }
+{
+    numbers[i] as usize
+}
+
+/// Of each pair the place of its link along, or [`NO_PLACE`].
+#[derive(Drop)]
+pub struct Places {
+    kept: Kept,
+}
+
+/// How places are kept.
+#[derive(Drop)]
+enum Kept {
+    /// One for each pair.
+    Each(Vec<u32>),
+    /// Those of the pairs at these indices, among so many pairs. The others have none.
+    Listed {
+        indices: Vec<u32>,
+        places: Vec<u32>,
+        count: usize,
+    },
+}
+
+impl Model for Places {
+    ghost use Rattle.std.specs.Prelude.{ℕ, List};
+    ghost use Rattle.dmf_path.specs.Listed.{kept_places, IsKept};
+
+    ghost Value = { List ℕ };
+
+    ghost view = { λ a. kept_places a.kept };
+
+    ghost invariant = { λ a. IsKept a.kept };
+}
+
+impl Places {
+    /// One place for each pair.
+    pub fn each(places: Vec<u32>) -> Places
+        ensures { result ≡ places.items }
+    {
+        Places {
+            kept: Kept::Each(places),
+        }
+    }
+
+    /// The places of the pairs at these indices, among so many pairs.
+    pub fn listed(indices: Vec<u32>, places: Vec<u32>, count: usize) -> Places
+        requires one_each { length places.items ≡ length indices.items }
+        requires below { (i : ℕ) → i < length indices.items → slice_index indices.items i < count }
+        requires ascending { (i j : ℕ) → i < j → j < length indices.items → slice_index indices.items i < slice_index indices.items j }
+        requires at_most { count < 2 ^ 32 }
+        ensures { result ≡ spread indices.items places.items count }
+    {
+        Places {
+            kept: Kept::Listed {
+                indices,
+                places,
+                count,
+            },
+        }
+    }
+
+    /// The place of the pair at index `k`, or [`NO_PLACE`].
+    pub fn place(&self, k: usize) -> u32
+        requires { k < length self.now }
+        ensures { result ≡ slice_index self.now k }
+    {
+        match &self.kept {
+            Kept::Each(places) => places[k],
+            Kept::Listed {
+                indices,
+                places,
+                ..
+            } => match indices.binary_search(&(k as u32)) {
+                Ok(i) => places[i],
+                Err(_) => NO_PLACE,
+            },
+        }
+    }
+
+    /// The indices of all pairs that have a place.
+    pub fn indices(&self) -> Indices<'_>
+        ensures { Covers (length self.now) (λ k. slice_index self.now k ≡ no_place) (indices_of result) }
+    {
+        match &self.kept {
+            Kept::Each(places) => Indices::Below(places.len()),
+            Kept::Listed { indices, .. } => Indices::Listed(indices),
+        }
+    }
+}
