@@ -1,49 +1,13 @@
 -- The moves of the arcs at some indices, where the flow on every other arc stays.
-use Rattle.std.proofs.Common.{ℕ, ◌≡◌, ◌≢◌, ◌+◌, ◌-◌, ◌<◌, ◌≤◌, zero, suc, List, ◌++◌, length, get_or, take, refl, ap, sym, ◌∙◌, ⊎_elim, arith}
-use Rattle.std.proofs.lemmas.Bool.{cases_eq, cases_lt}
+use Rattle.std.proofs.Common.{ℕ, ◌≡◌, ◌+◌, ◌-◌, ◌<◌, ◌≤◌, zero, suc, List, ◌++◌, length, get_or, take, refl, ap, sym, ◌∙◌, ⊎_elim, arith}
+use Rattle.std.proofs.lemmas.Bool.{cases_lt}
 use Rattle.std.proofs.lemmas.List.{append-nil, get_or_past, take_all}
 use Rattle.dmf_path.specs.Search.{Covers}
+use Rattle.dmf_path.proofs.Covering.{index_behind, not-before, is-out}
 use Rattle.dmf_net.specs.declared.edit.Move.{Move}
 use Rattle.dmf_net.specs.Edit.{differences}
 use Rattle.dmf_net.specs.Moves.{Stays}
 use Rattle.dmf_net.proofs.Moving.{differences-more, move_of, move_of-same}
-
--- the index behind the first `i` of these
-abbrev pub index_behind : List ℕ → ℕ → ℕ
-index_behind indices zero = 0
-index_behind indices (suc i) = get_or indices i 0 + 1
-
-module _ (count : ℕ) (P : ℕ → Type 0) (indices : List ℕ) (covers : Covers count P indices) where
-  -- The first ones are before it,
-  is-before : (m i : ℕ) → m < i → i ≤ length indices → get_or indices m 0 < index_behind indices i
-  is-before m zero before within = absurd (omega (arith, before))
-  is-before m (suc i) before within =
-      ⊎_elim
-      (λ (same : m ≡ i). rw same (omega arith))
-      (λ (other : m ≢ i). let up = covers.ascending m i (omega (arith, before, other)) (omega (arith, within)) in omega (arith, up))
-      (cases_eq m i)
-
-  -- the next one is not,
-  not-before : (i : ℕ) → i < length indices → index_behind indices i ≤ get_or indices i 0
-  not-before zero h = omega arith
-  not-before (suc i) h = let up = covers.ascending i (suc i) (omega arith) h in omega (arith, up)
-
-  -- and what stands between is left out.
-  is-out : (i k : ℕ) → i ≤ length indices → index_behind indices i ≤ k → (i < length indices → k < get_or indices i 0) → k < count → P k
-  is-out i k within behind before below =
-      ⊎_elim
-      (λ (out : P k). out)
-      (λ (has : (m : ℕ) × (m < length indices) × (get_or indices m 0 ≡ k)).
-      ⊎_elim
-      (λ (first : has.0 < i). let up = is-before has.0 i first within in absurd (omega (arith, up, has.2, behind)))
-      (λ (last : i ≤ has.0).
-      let next = before (omega (arith, last, has.1)) in
-      ⊎_elim
-      (λ (same : i ≡ has.0). let here = ap (λ n. get_or indices n 0) same in absurd (omega (arith, next, has.2, here)))
-      (λ (other : i ≢ has.0). let up = covers.ascending i has.0 (omega (arith, last, other)) has.1 in absurd (omega (arith, up, next, has.2)))
-      (cases_eq i has.0))
-      (cases_lt has.0 i))
-      (covers.others k below)
 
 -- the moves of the first `k` arcs
 abbrev pub moves_before : List ℕ → List ℕ → ℕ → List Move

@@ -33,6 +33,13 @@ impl Pairs for CarryingPairs<'_> {
         let arc = arcs[k];
         carrying_pair(arc.tail, arc.head, flow)
     }
+
+    fn may_be_there(&self, k: usize) -> bool {
+        match self.state.flows().get(k) {
+            Some(flow) => *flow > 0,
+            None => true,
+        }
+    }
 }
 
 /// The pair of a link from a node to another that carries so much.

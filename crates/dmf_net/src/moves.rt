@@ -42,20 +42,23 @@ pub fn list_moves(
 {
     let mut moves = Vec::new(alloc);
     for i in 0..indices.len() {
-        if let Some(m) = move_at(before, unpaired, search, link, indices.at(i)) {
+        let k = indices.at(i);
+        if let Some(m) = move_at(before, unpaired, search, link, k, i) {
             moves.push(m)?;
         }
     }
     Ok(moves)
 }
 
-/// The move of the arc at index `k`, where there is one and its flow differs.
+/// The move of the arc at index `k`, where there is one and its flow differs. It is best found where `k` is number `i` of the
+/// indices that the search tells.
 fn move_at(
     before: &[u64],
     unpaired: &[u64],
     search: &Search,
     link: FlowLink,
     k: usize,
+    i: usize,
 ) -> Option<Move>
     requires unpaired { length unpaired.now ≡ length before.now }
     requires one_each { length before.now ≤ length search.now.pairs }
@@ -69,7 +72,7 @@ fn move_at(
         return None;
     }
     let from = before[k];
-    let to = flow_left_of(from, search, k, link, unpaired);
+    let to = flow_left_of(from, search, k, i, link, unpaired);
     if from == to {
         return None;
     }
@@ -78,7 +81,14 @@ fn move_at(
 }
 
 /// The flow that a search has reached on the arc at index `k`, of so much before. Where that was nothing, nothing is looked at.
-fn flow_left_of(before: u64, search: &Search, k: usize, link: FlowLink, unpaired: &[u64]) -> u64
+fn flow_left_of(
+    before: u64,
+    search: &Search,
+    k: usize,
+    i: usize,
+    link: FlowLink,
+    unpaired: &[u64],
+) -> u64
     requires pairs { k < length search.now.pairs }
     requires unpaired { k < length unpaired.now }
     requires no_more { flow_read link (slice_index unpaired.now k) (pair_number search.now.pairs k) ≤ before }
@@ -87,16 +97,16 @@ fn flow_left_of(before: u64, search: &Search, k: usize, link: FlowLink, unpaired
     if before == 0 {
         return 0;
     }
-    flow_read(search, k, link, unpaired[k])
+    flow_read(search, k, i, link, unpaired[k])
 }
 
 /// The flow that a search has reached on the arc at index `k`: where the arc has no pair, `unpaired`.
-fn flow_read(search: &Search, k: usize, link: FlowLink, unpaired: u64) -> u64
+fn flow_read(search: &Search, k: usize, i: usize, link: FlowLink, unpaired: u64) -> u64
     requires { k < length search.now.pairs }
     ensures { result ≡ flow_read link unpaired (pair_number search.now.pairs k) }
 {
     let room = match link {
-        FlowLink::Along => search.along(k),
+        FlowLink::Along => search.along_near(k, i),
         FlowLink::Against => search.against(k),
     };
     room.unwrap_or(unpaired)

@@ -37,8 +37,8 @@ pub mod Labelled
 pub mod Marks
 pub mod Counting
 pub mod CountingLinks
-pub mod Listing
 pub mod Covering
+pub mod Listing
 pub mod Spread
 pub mod Sums
 pub mod Starts

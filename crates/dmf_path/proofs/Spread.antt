@@ -18,7 +18,7 @@ pub record AreSpread (indices places : List ℕ) (count : ℕ) (all : List ℕ) 
   pub others : (k : ℕ) → k < count → (get_or all k 0 ≡ no_place) ⊎ ((i : ℕ) × (i < length indices) × (get_or indices i 0 ≡ k))
 
 -- beside a listed index stands its place,
-beside-at : (indices places : List ℕ) (i : ℕ) → length places ≡ length indices → ((i j : ℕ) → i < j → j < length indices → get_or indices i 0 < get_or indices j 0) → i < length indices → place_beside indices places (get_or indices i 0) ≡ get_or places i 0
+pub beside-at : (indices places : List ℕ) (i : ℕ) → length places ≡ length indices → ((i j : ℕ) → i < j → j < length indices → get_or indices i 0 < get_or indices j 0) → i < length indices → place_beside indices places (get_or indices i 0) ≡ get_or places i 0
 beside-at [] places i one_each ascending h = absurd (omega (arith, h))
 beside-at (j ∷ indices) [] i one_each ascending h = absurd (omega (arith, one_each))
 beside-at (j ∷ indices) (place ∷ places) zero one_each ascending h = rw (eq-eqb j j refl) refl
@@ -28,7 +28,7 @@ beside-at (j ∷ indices) (place ∷ places) (suc i) one_each ascending h =
     (beside-at indices places i (omega (arith, one_each)) (λ a b before within. ascending (suc a) (suc b) (omega (arith, before)) (omega (arith, within))) (omega (arith, h)))
 
 -- and beside any other none.
-beside-cases : (indices places : List ℕ) (k : ℕ) → (place_beside indices places k ≡ no_place) ⊎ ((i : ℕ) × (i < length indices) × (get_or indices i 0 ≡ k))
+pub beside-cases : (indices places : List ℕ) (k : ℕ) → (place_beside indices places k ≡ no_place) ⊎ ((i : ℕ) × (i < length indices) × (get_or indices i 0 ≡ k))
 beside-cases [] places k = inl refl
 beside-cases (j ∷ indices) [] k = inl refl
 beside-cases (j ∷ indices) (place ∷ places) k =
@@ -41,7 +41,7 @@ beside-cases (j ∷ indices) (place ∷ places) k =
     (cases_eq j k)
 
 -- what is read of the places of all pairs
-get_or-spread : (indices places : List ℕ) (count k : ℕ) → k < count → get_or (spread indices places count) k 0 ≡ place_beside indices places k
+pub get_or-spread : (indices places : List ℕ) (count k : ℕ) → k < count → get_or (spread indices places count) k 0 ≡ place_beside indices places k
 get_or-spread indices places count k h = get_or-map-range_with_len (place_beside indices places) 0 count k k 0 h (omega arith)
 
 -- The places that are kept for a list are spread.
@@ -57,11 +57,11 @@ AreSpread-spread indices places count are = record {
 }
 
 -- Listed indices do not decrease.
-pub not_decreasing : (indices places : List ℕ) (count : ℕ) → AreBeside indices places count → (i j : ℕ) → i ≤ j → j < length indices → get_or indices i 0 ≤ get_or indices j 0
-not_decreasing indices places count are i j before within =
+pub not_decreasing : (indices : List ℕ) → ((i j : ℕ) → i < j → j < length indices → get_or indices i 0 < get_or indices j 0) → (i j : ℕ) → i ≤ j → j < length indices → get_or indices i 0 ≤ get_or indices j 0
+not_decreasing indices ascending i j before within =
     ⊎_elim
     (λ (same : i ≡ j). omega (arith, ap (λ k. get_or indices k 0) same))
-    (λ (other : i ≢ j). let up = are.ascending i j (omega (arith, before, other)) within in omega (arith, up))
+    (λ (other : i ≢ j). let up = ascending i j (omega (arith, before, other)) within in omega (arith, up))
     (cases_eq i j)
 
 -- The listed indices leave out only what has no place.

@@ -2,7 +2,7 @@
 ghost use Rattle.std.specs.Prelude.{◌≡◌, ℕ, ◌^◌, ◌<◌, ◌≤◌, length, slice_index};
 ghost use Rattle.dmf_path.specs.Links.{no_place};
 ghost use Rattle.dmf_path.specs.Search.{Covers, indices_of};
-ghost use Rattle.dmf_path.specs.Listed.{spread};
+ghost use Rattle.dmf_path.specs.Listed.{place_beside, spread};
 
 use crate::links::NO_PLACE;
 use std::marker::Model;
@@ -66,6 +66,21 @@ enum Kept {
     },
 }
 
+/// The place beside this index, or [`NO_PLACE`] where it is not among the indices. If it is number `i` of them, none is looked for.
+fn place_among(indices: &[u32], places: &[u32], index: u32, i: usize) -> u32
+    requires one_each { length places.now ≡ length indices.now }
+    requires ascending { (i j : ℕ) → i < j → j < length indices.now → slice_index indices.now i < slice_index indices.now j }
+    ensures { result ≡ place_beside indices.now places.now index }
+{
+    if i < indices.len() && indices[i] == index {
+        return places[i];
+    }
+    match indices.binary_search(&index) {
+        Ok(found) => places[found],
+        Err(_) => NO_PLACE,
+    }
+}
+
 impl Model for Places {
     ghost use Rattle.std.specs.Prelude.{ℕ, List};
     ghost use Rattle.dmf_path.specs.Listed.{kept_places, IsKept};
@@ -104,8 +119,8 @@ impl Places {
         }
     }
 
-    /// The place of the pair at index `k`, or [`NO_PLACE`].
-    pub fn place(&self, k: usize) -> u32
+    /// The place of the pair at index `k`, or [`NO_PLACE`]. Where `k` is number `i` of the listed indices, it is found at once.
+    pub fn place(&self, k: usize, i: usize) -> u32
         requires { k < length self.now }
         ensures { result ≡ slice_index self.now k }
     {
@@ -115,10 +130,7 @@ impl Places {
                 indices,
                 places,
                 ..
-            } => match indices.binary_search(&(k as u32)) {
-                Ok(i) => places[i],
-                Err(_) => NO_PLACE,
-            },
+            } => place_among(indices, places, k as u32, i),
         }
     }
 

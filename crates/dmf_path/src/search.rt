@@ -227,7 +227,7 @@ impl Search {
         requires { k < length self.now.pairs }
         ensures { result ≡ against_at self.now.pairs k }
     {
-        let place = self.places.place(k);
+        let place = self.places.place(k, k);
         if place == NO_PLACE {
             return None;
         }
@@ -247,7 +247,16 @@ impl Search {
         requires { k < length self.now.pairs }
         ensures { result ≡ along_at self.now.pairs k }
     {
-        let place = self.places.place(k);
+        self.along_near(k, k)
+    }
+
+    /// The same, for a caller that goes over the indices: where `k` is number `i` of these, counted from 0, it is not looked for
+    /// among them. Takes no memory.
+    pub fn along_near(&self, k: usize, i: usize) -> Option<u64>
+        requires { k < length self.now.pairs }
+        ensures { result ≡ along_at self.now.pairs k }
+    {
+        let place = self.places.place(k, i);
         if place == NO_PLACE {
             return None;
         }
@@ -273,7 +282,7 @@ impl Search {
         requires { HasAlong self.old.pairs k amount }
         ensures { self.new ≡ with_pairs self.old (lowered_along self.old.pairs k amount) }
     {
-        let place = self.places.place(k);
+        let place = self.places.place(k, k);
         release(
             &self.table,
             self.takes_back,
@@ -347,7 +356,7 @@ impl Search {
             );
             self.is_fresh = true;
         }
-        let place = self.places.place(k);
+        let place = self.places.place(k, k);
         if place == NO_PLACE {
             return;
         }

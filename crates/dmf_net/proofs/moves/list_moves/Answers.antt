@@ -26,7 +26,7 @@ loop-i-preserved c =
     let k : ℕ = get_or indices i 0 in
     let long : length after ≡ length before = length-flows_read c.args.link c.args.unpaired.now pairs (omega (arith, c.requires.unpaired, c.requires.one_each)) ∙ c.requires.unpaired in
     let within : i < length indices = omega (arith, c.loop-i-test.true, c.len-i-end.ensures) in
-    let told : MatchOption c.move_at.result (Stays before after k) (IsMoveAt before after k) = rw c.at.ensures at c.move_at.ensures in
+    let told : MatchOption c.move_at.result (Stays before after k) (IsMoveAt before after k) = rw c.at-k.ensures at c.move_at.ensures in
     elim c.match-move_at.branch [
       | in-Some+in_ok-push w ↦
           let m = w.in-Some.m in

@@ -1,7 +1,8 @@
 use Rattle.std.proofs.Common.{◌≡◌}
 use Rattle.dmf_path.specs.Search.{indices_of}
 use Rattle.dmf_net.specs.Pairs.{flows_read}
-use Rattle.dmf_net.proofs.ListedMoves.{index_behind, moves_before}
+use Rattle.dmf_path.proofs.Covering.{index_behind}
+use Rattle.dmf_net.proofs.ListedMoves.{moves_before}
 use Rattle.dmf_net.proofs.moves.list_moves.Given as goal
 
 abbrev pub invariant-loop-i : goal.invariant-loop-i

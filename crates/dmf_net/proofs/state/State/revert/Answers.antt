@@ -1,7 +1,6 @@
 use Rattle.std.proofs.Common.{sym, ap, ◌∙◌, subst}
-use Rattle.dmf_net.specs.NetworkState.{IsState}
 use Rattle.dmf_net.specs.Edit.{moves_of}
-use Rattle.dmf_net.specs.Revert.{Stands, reverted}
+use Rattle.dmf_net.specs.Revert.{Stands}
 use Rattle.dmf_net.proofs.ClosedStates.{AreClosed-stands}
 use Rattle.dmf_net.proofs.Reverting.{fit-back, IsState-reverted}
 use Rattle.dmf_net.proofs.state.State.revert.Goals as goal
