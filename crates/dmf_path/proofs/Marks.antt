@@ -1,21 +1,13 @@
 -- Which nodes are reached is told by which have a label.
-use Rattle.std.proofs.Common.{ℕ, ◌≡◌, ◌≢◌, ◌+◌, ◌-◌, ◌<◌, ◌↔◌, Bool, false, IsTrue, List, length, get_or, map, drop, refl, ap, sym, ◌∙◌, arith, eq-eqb, length-drop}
+use Rattle.std.proofs.Common.{ℕ, ◌≡◌, ◌+◌, ◌-◌, ◌<◌, ◌↔◌, Bool, false, IsTrue, List, length, get_or, map, drop, ap, sym, ◌∙◌, arith, length-drop}
 use Rattle.std.specs.List.{slice_index_or}
-use Rattle.std.proofs.lemmas.Bool.{ne_eqb}
 use Rattle.std.proofs.lemmas.List.{get_or-map, get_or-drop}
 use Rattle.dmf_path.specs.Node.{IsNode}
 use Rattle.dmf_path.specs.Path.{IsReachable}
 use Rattle.dmf_path.specs.Pair.{steps_of}
 use Rattle.dmf_path.specs.Links.{Links, AreLinks, ArePlaces, AreRooms, open_flag, pairs_at}
-use Rattle.dmf_path.specs.Labels.{AreLabels, no_label, is_label}
-use Rattle.dmf_path.proofs.Reaching.{reachable-labelled}
-
--- what the test says of a label
-label-from : (label : ℕ) → IsTrue (is_label label) → label ≢ no_label
-label-from label is same = let no : is_label label ≡ false = rw (eq-eqb label no_label same) refl in cc
-
-label-to : (label : ℕ) → label ≢ no_label → IsTrue (is_label label)
-label-to label other = rw (ne_eqb label no_label other) refl
+use Rattle.dmf_path.specs.Labels.{AreLabels, is_label}
+use Rattle.dmf_path.proofs.Reaching.{AreOpen-map, label-from, label-to, reachable-labelled}
 
 -- the mark of a node
 mark_is : (labels : List ℕ) (marks : List Bool) (nodes v : ℕ) → length labels ≡ nodes + 1 → marks ≡ map is_label (drop 1 labels) → IsNode nodes v → slice_index_or marks (v - 1) false ≡ is_label (get_or labels v 0)
@@ -28,8 +20,7 @@ mark_is labels marks nodes v long are node =
 pub marks-reached : (l : Links) (places rooms opens labels : List ℕ) (root : ℕ) (marks : List Bool) → AreLinks l → ArePlaces l places → AreRooms l rooms → opens ≡ map open_flag rooms → AreLabels l opens root 0 labels → IsNode l.nodes root → marks ≡ map is_label (drop 1 labels)
     → (v : ℕ) → IsNode l.nodes v → IsTrue (slice_index_or marks (v - 1) false) ↔ IsReachable (steps_of (pairs_at l places rooms)) root v
 marks-reached l places rooms opens labels root marks links places_are rooms_are told are node is v inside =
-    let flags : (p : ℕ) → p < length l.heads → get_or opens p 0 ≡ open_flag (get_or rooms p 0) = λ p h. ap (λ os. get_or os p 0) told ∙ get_or-map open_flag rooms p 0 0 (omega (arith, h, rooms_are.0)) in
-    let reached = reachable-labelled l places rooms opens labels root links places_are flags are are.zero node v inside in
+    let reached = reachable-labelled l places rooms opens labels root links places_are (AreOpen-map l rooms opens rooms_are told) are node v inside in
     let mark = mark_is labels marks l.nodes v are.one_each is inside in (
       λ marked. reached.0 (label-from (get_or labels v 0) (sym mark ∙ marked)),
       λ leads. mark ∙ label-to (get_or labels v 0) (reached.1 leads),

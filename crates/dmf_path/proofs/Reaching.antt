@@ -1,13 +1,16 @@
 -- What has a label is what paths reach.
-use Rattle.std.proofs.Common.{ℕ, ◌≡◌, ◌≢◌, ◌+◌, ◌<◌, ◌≤◌, ◌↔◌, List, [], ◌∷◌, ◌++◌, length, get_or, zero, suc, refl, ap, sym, subst, ◌∙◌, ⊎_elim, arith}
-use Rattle.std.proofs.lemmas.Bool.{cases_eq}
+use Rattle.std.proofs.Common.{ℕ, ◌≡◌, ◌≢◌, ◌+◌, ◌<◌, ◌≤◌, ◌↔◌, ◌==◌, Bool, true, false, List, [], ◌∷◌, ◌++◌, length, get_or, map, zero, suc, refl, ap, sym, subst, ◌∙◌, ⊎_elim, arith, eq-eqb}
+use Rattle.std.proofs.lemmas.Bool.{cases_eq, ne_eqb, eqb-true}
+use Rattle.std.proofs.lemmas.List.{get_or-map}
 use Rattle.dmf_path.specs.Node.{IsNode}
 use Rattle.dmf_path.specs.Path.{HasNoPath, IsReachable}
 use Rattle.dmf_path.specs.Pair.{steps_of}
-use Rattle.dmf_path.specs.Links.{Links, LiesAt, AreLinks, ArePlaces, AreFlags, open_flag, pairs_at, tail_of}
-use Rattle.dmf_path.specs.Labels.{AreLabels, IsBacked, no_label}
+use Rattle.dmf_path.specs.Links.{Links, LiesAt, AreLinks, ArePlaces, AreRooms, AreFlags, open_flag, pairs_at, tail_of}
+use Rattle.dmf_path.specs.Labels.{AreLabels, IsBacked, no_label, is_label}
+use Rattle.dmf_path.specs.Searching.{IsClosed, IsSeparated}
 use Rattle.dmf_path.proofs.Flags.{room-of_flag, flag-of_room}
 use Rattle.dmf_path.proofs.LinkPlaces.{lies-within}
+use Rattle.dmf_path.proofs.Labelled.{valid-labelled}
 use Rattle.dmf_path.proofs.Steps.{path_on}
 use Rattle.dmf_path.proofs.OpenPaths.{IsOpenPath, IsPathOn, head-node, path-of_links, links-of_path}
 
@@ -18,45 +21,73 @@ label-below l opens labels root stop v are node has = ⊎_elim
     (λ (small : get_or labels v 0 < l.nodes). small)
     (are.small v node)
 
+-- ---- sets of nodes that no link with room leads out of
+
+-- What a path reaches from a node of such a set is in the set.
+inside-on_path : (l : Links) (rooms : List ℕ) (inside : ℕ → Bool) (u v : ℕ) (ps : List ℕ) → AreLinks l → IsClosed l rooms inside → IsNode l.nodes u → inside u ≡ true → IsOpenPath l rooms v u ps → inside v ≡ true
+inside-on_path l rooms inside u v [] links closed node within leads = sym (ap inside leads) ∙ within
+inside-on_path l rooms inside u v (p ∷ ps) links closed node within leads =
+    inside-on_path l rooms inside (get_or l.heads p 0) v ps links closed (head-node l u p links node leads.0) (closed u p node leads.0 leads.1 within) leads.2
+
+-- No path leads out of a set that has the start and not the goal.
+pub no_path-separated : (l : Links) (places rooms : List ℕ) (start goal : ℕ) → AreLinks l → ArePlaces l places → IsNode l.nodes start → IsSeparated l rooms start goal → HasNoPath (steps_of (pairs_at l places rooms)) start goal
+no_path-separated l places rooms start goal links places_are node separated path leads =
+    let on : IsPathOn l places rooms goal start path = links-of_path l places rooms goal start path links places_are leads in
+    let reached : separated.inside goal ≡ true = inside-on_path l rooms separated.inside start goal on.on links separated.closed node separated.start_in on.leads in
+    let out = separated.goal_out in
+    absurd (cc)
+
 -- ---- the search backwards from the goal
 
--- Where a path leads to the goal, the node has a label, if the search did not stop early.
-labelled-before : (l : Links) (rooms flags labels : List ℕ) (start goal v : ℕ) (ps : List ℕ) → AreLinks l → AreFlags l rooms flags → AreLabels l flags goal start labels → get_or labels start 0 ≡ no_label → IsNode l.nodes v → IsOpenPath l rooms goal v ps → get_or labels v 0 ≢ no_label
-labelled-before l rooms flags labels start goal v [] links told are unlabelled node leads none = omega (arith, are.root_is, ap (λ u. get_or labels u 0) leads)
-labelled-before l rooms flags labels start goal v (p ∷ ps) links told are unlabelled node leads none =
-    let head : ℕ = get_or l.heads p 0 in
-    let q : ℕ = get_or l.partners p 0 in
-    let link = links.each p (lies-within l v p links node leads.0) in
-    let labelled : get_or labels head 0 ≢ no_label = labelled-before l rooms flags labels start goal head ps links told are unlabelled link.head leads.2 in
-    let small : get_or labels head 0 < l.nodes = label-below l flags labels goal start head are link.head labelled in
-    let lies : LiesAt l head q = subst (λ r. LiesAt l (get_or l.heads r 0) q) link.turned (links.each q link.partner).lies in
-    let flag : get_or flags q 0 ≡ 1 = told.1 q link.partner ∙ ap (λ r. open_flag (get_or rooms r 0)) link.turned ∙ flag-of_room (get_or rooms p 0) leads.1 in
-    let near : get_or labels (tail_of l p) 0 ≤ get_or labels head 0 + 1 = are.near head q link.head lies flag (omega (arith, small, unlabelled, links.at_most_nodes)) in
-    omega (arith, near, small, none, links.at_most_nodes, ap (λ u. get_or labels u 0) (links.at_tail v p node leads.0))
-
--- Where the start has no label, no path leads from it to the goal.
-pub no_path-unlabelled : (l : Links) (places rooms flags labels : List ℕ) (start goal : ℕ) → AreLinks l → ArePlaces l places → AreFlags l rooms flags → AreLabels l flags goal start labels → IsNode l.nodes start → get_or labels start 0 ≡ no_label → HasNoPath (steps_of (pairs_at l places rooms)) start goal
-no_path-unlabelled l places rooms flags labels start goal links places_are told are node unlabelled path leads =
-    let on : IsPathOn l places rooms goal start path = links-of_path l places rooms goal start path links places_are leads in
-    labelled-before l rooms flags labels start goal start on.on links told are unlabelled node on.leads unlabelled
+-- Where the start has no label, the nodes without one are such a set.
+pub separated-unlabelled : (l : Links) (rooms flags labels : List ℕ) (start goal : ℕ) → AreLinks l → AreFlags l rooms flags → AreLabels l flags goal start labels → get_or labels start 0 ≡ no_label → IsSeparated l rooms start goal
+separated-unlabelled l rooms flags labels start goal links told are unlabelled = record {
+  inside = λ v. get_or labels v 0 == no_label;
+  start_in = eq-eqb (get_or labels start 0) no_label unlabelled;
+  goal_out = ne_eqb (get_or labels goal 0) no_label (omega (arith, are.root_is));
+  closed = λ v p node lies room within.
+      let link = links.each p (lies-within l v p links node lies) in
+      let none : get_or labels v 0 ≡ no_label = eqb-true (get_or labels v 0) no_label within in
+      ⊎_elim
+      (λ (out : get_or labels (get_or l.heads p 0) 0 ≡ no_label). eq-eqb (get_or labels (get_or l.heads p 0) 0) no_label out)
+      (λ (small : get_or labels (get_or l.heads p 0) 0 < l.nodes).
+      let valid = valid-labelled l rooms flags labels start goal links told are v p node lies room (omega (arith, small, unlabelled, links.at_most_nodes)) in
+      absurd (omega (arith, valid, small, none, links.at_most_nodes)))
+      (are.small (get_or l.heads p 0) link.head);
+}
 
 -- ---- the search forwards from a root
 
 -- Each flag tells whether the link has room.
-abbrev AreOpen : Links → List ℕ → List ℕ → Type 0
+abbrev pub AreOpen : Links → List ℕ → List ℕ → Type 0
 AreOpen l rooms opens = (p : ℕ) → p < length l.heads → get_or opens p 0 ≡ open_flag (get_or rooms p 0)
 
--- What a path reaches from a node with a label has one too.
-labelled-behind : (l : Links) (rooms opens labels : List ℕ) (root u v : ℕ) (ps : List ℕ) → AreLinks l → AreOpen l rooms opens → AreLabels l opens root 0 labels → get_or labels 0 0 ≡ no_label → IsNode l.nodes u → get_or labels u 0 ≢ no_label → IsOpenPath l rooms v u ps → get_or labels v 0 ≢ no_label
-labelled-behind l rooms opens labels root u v [] links told are unlabelled node labelled leads = λ none. labelled (ap (λ w. get_or labels w 0) leads ∙ none)
-labelled-behind l rooms opens labels root u v (p ∷ ps) links told are unlabelled node labelled leads =
-    let head : ℕ = get_or l.heads p 0 in
-    let within = lies-within l u p links node leads.0 in
-    let small : get_or labels u 0 < l.nodes = label-below l opens labels root 0 u are node labelled in
-    let flag : get_or opens p 0 ≡ 1 = told p within ∙ flag-of_room (get_or rooms p 0) leads.1 in
-    let near : get_or labels head 0 ≤ get_or labels u 0 + 1 = are.near u p node leads.0 flag (omega (arith, small, unlabelled, links.at_most_nodes)) in
-    let next : get_or labels head 0 ≢ no_label = omega (arith, near, small, links.at_most_nodes) in
-    labelled-behind l rooms opens labels root head v ps links told are unlabelled (head-node l u p links node leads.0) next leads.2
+pub AreOpen-map : (l : Links) (rooms opens : List ℕ) → AreRooms l rooms → opens ≡ map open_flag rooms → AreOpen l rooms opens
+AreOpen-map l rooms opens are told p within = ap (λ os. get_or os p 0) told ∙ get_or-map open_flag rooms p 0 0 (omega (arith, within, are.0))
+
+-- what the test says of a label
+pub label-from : (label : ℕ) → is_label label ≡ true → label ≢ no_label
+label-from label is same = let no : is_label label ≡ false = rw (eq-eqb label no_label same) refl in cc
+
+pub label-to : (label : ℕ) → label ≢ no_label → is_label label ≡ true
+label-to label other = rw (ne_eqb label no_label other) refl
+
+-- Where the node `stop` has no label, the nodes with one are such a set.
+closed-labelled : (l : Links) (rooms opens labels : List ℕ) (root stop : ℕ) → AreLinks l → AreOpen l rooms opens → AreLabels l opens root stop labels → get_or labels stop 0 ≡ no_label → IsClosed l rooms (λ v. is_label (get_or labels v 0))
+closed-labelled l rooms opens labels root stop links told are unlabelled v p node lies room within =
+    let labelled = label-from (get_or labels v 0) within in
+    let small : get_or labels v 0 < l.nodes = label-below l opens labels root stop v are node labelled in
+    let flag : get_or opens p 0 ≡ 1 = told p (lies-within l v p links node lies) ∙ flag-of_room (get_or rooms p 0) room in
+    let near : get_or labels (get_or l.heads p 0) 0 ≤ get_or labels v 0 + 1 = are.near v p node lies flag (omega (arith, small, unlabelled, links.at_most_nodes)) in
+    label-to (get_or labels (get_or l.heads p 0) 0) (omega (arith, near, small, links.at_most_nodes))
+
+pub separated-labelled : (l : Links) (rooms opens labels : List ℕ) (start goal : ℕ) → AreLinks l → AreOpen l rooms opens → AreLabels l opens start goal labels → get_or labels goal 0 ≡ no_label → IsSeparated l rooms start goal
+separated-labelled l rooms opens labels start goal links told are unlabelled = record {
+  inside = λ v. is_label (get_or labels v 0);
+  start_in = label-to (get_or labels start 0) (omega (arith, are.root_is));
+  goal_out = rw (eq-eqb (get_or labels goal 0) no_label unlabelled) refl;
+  closed = closed-labelled l rooms opens labels start goal links told are unlabelled;
+}
 
 -- a path, and one link more
 open-push : (l : Links) (rooms : List ℕ) (u v : ℕ) (ps : List ℕ) (p : ℕ) → IsOpenPath l rooms v u ps → LiesAt l v p → 0 < get_or rooms p 0 → IsOpenPath l rooms (get_or l.heads p 0) u (ps ++ p ∷ [])
@@ -81,12 +112,14 @@ path-to_labelled l rooms opens labels root v (suc n) links told are node labelle
     (cases_eq v root)
 
 -- The nodes with labels are those that paths reach from the root.
-pub reachable-labelled : (l : Links) (places rooms opens labels : List ℕ) (root : ℕ) → AreLinks l → ArePlaces l places → ((p : ℕ) → p < length l.heads → get_or opens p 0 ≡ open_flag (get_or rooms p 0)) → AreLabels l opens root 0 labels → get_or labels 0 0 ≡ no_label → IsNode l.nodes root → (v : ℕ) → IsNode l.nodes v → (get_or labels v 0 ≢ no_label) ↔ IsReachable (steps_of (pairs_at l places rooms)) root v
-reachable-labelled l places rooms opens labels root links places_are told are unlabelled root_is v node = (
+pub reachable-labelled : (l : Links) (places rooms opens labels : List ℕ) (root : ℕ) → AreLinks l → ArePlaces l places → AreOpen l rooms opens → AreLabels l opens root 0 labels → IsNode l.nodes root → (v : ℕ) → IsNode l.nodes v → (get_or labels v 0 ≢ no_label) ↔ IsReachable (steps_of (pairs_at l places rooms)) root v
+reachable-labelled l places rooms opens labels root links places_are told are root_is v node = (
   (λ labelled.
       let found = path-to_labelled l rooms opens labels root v (get_or labels v 0 + 1) links told are node labelled (omega arith) in
       (path_on l places rooms found.0, path-of_links l places rooms v root found.0 links places_are root_is found.1)),
   (λ reached.
       let on : IsPathOn l places rooms v root reached.0 = links-of_path l places rooms v root reached.0 links places_are reached.1 in
-      labelled-behind l rooms opens labels root root v on.on links told are unlabelled root_is (omega (arith, are.root_is)) on.leads),
+      label-from (get_or labels v 0)
+      (inside-on_path l rooms (λ u. is_label (get_or labels u 0)) root v on.on links (closed-labelled l rooms opens labels root 0 links told are are.zero) root_is
+      (label-to (get_or labels root 0) (omega (arith, are.root_is))) on.leads)),
 )

@@ -2,17 +2,13 @@
 use Rattle.std.proofs.Common.{ℕ, ◌≡◌, ◌+◌, ◌%◌, ◌^◌, Bool, List, length, get_or, ap, sym, ◌∙◌, subst, arith}
 use Rattle.std.proofs.lemmas.List.{length-map}
 use Rattle.dmf_path.specs.declared.trail.Slot.{Slot}
-use Rattle.dmf_path.specs.Path.{HasNoPath}
-use Rattle.dmf_path.specs.Pair.{steps_of}
-use Rattle.dmf_path.specs.Node.{IsNode}
-use Rattle.dmf_path.specs.Links.{Links, AreLinks, ArePlaces, pairs_at}
+use Rattle.dmf_path.specs.Links.{Links, pairs_at}
 use Rattle.dmf_path.specs.Walk.{IsWalking, end_of, bottleneck_on, pushed}
 use Rattle.dmf_path.specs.Held.{Way, places_of, walked_slots, filled_slots, settled, rooms_with, HaveLeft, least_left}
 use Rattle.dmf_path.specs.Search.{Augments}
-use Rattle.dmf_path.specs.Searching.{IsSearch, IsUnlabelled, searched}
+use Rattle.dmf_path.specs.Searching.{IsSearch, searched}
 use Rattle.dmf_path.proofs.Steps.{path_on, step_on, bottleneck_up_to-path_on}
 use Rattle.dmf_path.proofs.LeastTrail.{least-trail}
-use Rattle.dmf_path.proofs.Reaching.{no_path-unlabelled}
 use Rattle.dmf_path.proofs.Pushed.{FallsOn-trail, OpensUpwards, opens-pushed}
 use Rattle.dmf_path.proofs.PushedPairs.{pushed_pairs-pushed}
 use Rattle.dmf_path.proofs.Descending.{Descends, descends-trail}
@@ -66,8 +62,3 @@ can-augment l takes_back places rooms flags labels current w queue_capacity slot
             (ap (pairs_at l places) made ∙ pushed_pairs-pushed l takes_back places after labels current (places_of w.slots) w.start amount is.links is.places_are after_long is.start_is whole.trail);
       };
     }
-
--- Where labelling does not reach the start no path is left.
-pub no_path-search : (l : Links) (places rooms : List ℕ) (start goal : ℕ) → AreLinks l → ArePlaces l places → IsNode l.nodes start → IsUnlabelled l rooms start goal → HasNoPath (steps_of (pairs_at l places rooms)) start goal
-no_path-search l places rooms start goal links places_are start_is none =
-    no_path-unlabelled l places rooms none.flags none.labels start goal links places_are none.flags_are none.are start_is none.none

@@ -1,9 +1,8 @@
 -- What a search keeps.
 -- Private: only contracts inside the crate and proofs use this.
-use Rattle.std.specs.Prelude.{ℕ, ◌≡◌, ◌≢◌, ◌+◌, ◌^◌, ◌<◌, ◌≤◌, Bool, false, List, length, slice_index, take}
+use Rattle.std.specs.Prelude.{ℕ, ◌≡◌, ◌≢◌, ◌+◌, ◌^◌, ◌<◌, ◌≤◌, Bool, true, false, List, length, slice_index, take}
 use Rattle.dmf_path.specs.Node.{IsNode}
-use Rattle.dmf_path.specs.Links.{Links, AreLinks, ArePlaces, AreRooms, AreFlags, pairs_at}
-use Rattle.dmf_path.specs.Labels.{AreLabels, no_label}
+use Rattle.dmf_path.specs.Links.{Links, LiesAt, AreLinks, ArePlaces, AreRooms, AreFlags, pairs_at}
 use Rattle.dmf_path.specs.Walk.{AreValid, IsTrail, IsWalking, end_of}
 use Rattle.dmf_path.specs.Held.{Way, places_of, walked_slots, rest_slots, filled_slots, rooms_with, HaveLeft}
 use Rattle.dmf_path.specs.Search.{Searched}
@@ -60,10 +59,15 @@ abbrev pub searched : Links → List ℕ → List ℕ → ℕ → ℕ → Bool �
 searched l places rooms start goal takes_back =
     record { nodes = l.nodes; pairs = pairs_at l places rooms; start = start; goal = goal; takes_back = takes_back }
 
--- Labelling from the goal, over flags that tell of these rooms, does not reach the start.
-pub record IsUnlabelled (l : Links) (rooms : List ℕ) (start goal : ℕ) : Type 0 where
-  pub flags : List ℕ
-  pub flags_are : AreFlags l rooms flags
-  pub labels : List ℕ
-  pub are : AreLabels l flags goal start labels
-  pub none : slice_index labels start ≡ no_label
+-- No link with room leads out of this set of nodes.
+abbrev pub IsClosed : Links → List ℕ → (ℕ → Bool) → Type 0
+IsClosed l rooms inside =
+    (v p : ℕ) → IsNode l.nodes v → LiesAt l v p → 0 < slice_index rooms p
+    → inside v ≡ true → inside (slice_index l.heads p) ≡ true
+
+-- A set of nodes has the start, and not the goal, and no link with room leads out of it.
+pub record IsSeparated (l : Links) (rooms : List ℕ) (start goal : ℕ) : Type 0 where
+  pub inside : ℕ → Bool
+  pub start_in : inside start ≡ true
+  pub goal_out : inside goal ≡ false
+  pub closed : IsClosed l rooms inside

@@ -1,31 +1,56 @@
 //! Labels: how far the nodes are from a root, over open links.
-ghost use Rattle.std.specs.Prelude.{◌≡◌, ◌≢◌, ℕ, ◌+◌, ◌++◌, ◌≤◌, ◌<◌, List, length, replicate, slice_index, vec_capacity};
+ghost use Rattle.std.specs.Prelude.{◌≡◌, ◌≢◌, ℕ, ◌+◌, ◌++◌, ◌≤◌, ◌<◌, List, true, length, replicate, slice_index, vec_capacity};
 ghost use Rattle.dmf_path.specs.Node.{IsNode};
 ghost use Rattle.dmf_path.specs.Links.{AreLinks, links_of};
 ghost use Rattle.dmf_path.specs.Labels.{AreLabels, Spreads, no_label, unlabelled_count};
 
 use crate::links::LinkTable;
+use crate::open::OpenLinks;
 
 /// What stands for the label of a node that has none.
 pub const NO_LABEL: u32 = u32::MAX;
 
 /// Labels each node that open links reach from the root with the number of links that it takes, level by level, until
 /// node `stop` has a label. Node 0 never has one.
-pub fn label_nodes(
+pub fn label_nodes<O: OpenLinks>(
     table: &LinkTable,
-    opens: &[u8],
+    opens: &O,
     root: u32,
     stop: u32,
     labels: &mut [u32],
     queue: &mut Vec<u32>,
 )
     requires links { AreLinks (links_of table.now) }
-    requires one_flag_each { length opens.now ≡ length table.now.heads.items }
+    requires one_flag_each { length (O.flags opens.now) ≡ length table.now.heads.items }
     requires one_label_each { length labels.old ≡ table.now.nodes + 1 }
     requires queue_capacity { table.now.nodes + 1 ≤ vec_capacity queue.old }
     requires root { IsNode table.now.nodes root }
     requires stop { stop ≤ table.now.nodes }
-    ensures labels { AreLabels (links_of table.now) opens.now root stop labels.new }
+    ensures labels { AreLabels (links_of table.now) (O.flags opens.now) root stop labels.new }
+    ensures queue_capacity { vec_capacity queue.new ≡ vec_capacity queue.old }
+{
+    let most = table.nodes as usize;
+    let _ended = label_most(table, opens, root, stop, most, labels, queue);
+}
+
+/// Does the same, but looks at the links of `most` nodes at most. Whether that was enough; else labels are missing.
+pub fn label_most<O: OpenLinks>(
+    table: &LinkTable,
+    opens: &O,
+    root: u32,
+    stop: u32,
+    most: usize,
+    labels: &mut [u32],
+    queue: &mut Vec<u32>,
+) -> bool
+    requires links { AreLinks (links_of table.now) }
+    requires one_flag_each { length (O.flags opens.now) ≡ length table.now.heads.items }
+    requires one_label_each { length labels.old ≡ table.now.nodes + 1 }
+    requires queue_capacity { table.now.nodes + 1 ≤ vec_capacity queue.old }
+    requires root { IsNode table.now.nodes root }
+    requires stop { stop ≤ table.now.nodes }
+    ensures labels { result ≡ true → AreLabels (links_of table.now) (O.flags opens.now) root stop labels.new }
+    ensures all { table.now.nodes ≤ most → result ≡ true }
     ensures queue_capacity { vec_capacity queue.new ≡ vec_capacity queue.old }
 {
     clear(labels);
@@ -34,6 +59,9 @@ pub fn label_nodes(
     queue.push_reserved(root);
     let mut done = 0;
     while done < queue.len() && labels[stop as usize] == NO_LABEL {
+        if done == most {
+            return false;
+        }
         let node = queue[done];
         let label = labels[node as usize] + 1;
         let from = table.first[node as usize];
@@ -41,6 +69,7 @@ pub fn label_nodes(
         spread(&table.heads, opens, from, end, label, labels, queue);
         done += 1;
     }
+    true
 }
 
 /// Takes off every label.
@@ -53,9 +82,9 @@ fn clear(labels: &mut [u32])
 }
 
 /// Labels the nodes without a label to which the open links at the places from `from` up to `end` lead, and queues them.
-fn spread(
+fn spread<O: OpenLinks>(
     heads: &[u32],
-    opens: &[u8],
+    opens: &O,
     from: u32,
     end: u32,
     label: u32,
@@ -64,17 +93,17 @@ fn spread(
 )
     requires range { from ≤ end }
     requires links { end ≤ length heads.now }
-    requires one_flag_each { length opens.now ≡ length heads.now }
+    requires one_flag_each { length (O.flags opens.now) ≡ length heads.now }
     requires heads { (p : ℕ) → p < end → slice_index heads.now p < length labels.old }
     requires label { label ≢ no_label }
     requires queue_capacity { length queue.old.items + unlabelled_count labels.old ≤ vec_capacity queue.old }
     ensures spreads { (fresh : List ℕ) × (queue.new.items ≡ queue.old.items ++ fresh)
-        × Spreads heads.now opens.now from end label labels.old labels.new fresh }
+        × Spreads heads.now (O.flags opens.now) from end label labels.old labels.new fresh }
     ensures queue_capacity { vec_capacity queue.new ≡ vec_capacity queue.old }
 {
     for place in from as usize..end as usize {
         let head = heads[place];
-        if opens[place] == 1 && labels[head as usize] == NO_LABEL {
+        if opens.is_open(place) && labels[head as usize] == NO_LABEL {
             labels[head as usize] = label;
             queue.push_reserved(head);
         }

@@ -9,6 +9,7 @@ pub use search::{AugmentingPath, Search};
 mod label;
 mod links;
 mod listed;
+mod open;
 mod pair;
 mod passed;
 mod phase;

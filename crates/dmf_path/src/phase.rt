@@ -4,10 +4,11 @@ ghost use Rattle.dmf_path.specs.Node.{IsNode};
 ghost use Rattle.dmf_path.specs.Links.{AreLinks, AreRooms, AreFlags, links_of};
 ghost use Rattle.dmf_path.specs.Walk.{AreValid, IsWalk, end_of};
 ghost use Rattle.dmf_path.specs.Held.{way_of, places_of, walked_slots, rest_slots, rooms_with, with_slots, CanPut, put_each};
-ghost use Rattle.dmf_path.specs.Searching.{IsHolding, IsUnderWay, IsUnlabelled};
+ghost use Rattle.dmf_path.specs.Searching.{IsHolding, IsUnderWay, IsSeparated};
 
-use crate::label::{NO_LABEL, label_nodes};
+use crate::label::{NO_LABEL, label_most, label_nodes};
 use crate::links::LinkTable;
+use crate::open::{Flagged, Roomy};
 use crate::trail::{Trail, free_slots, settle};
 use crate::walk::walk;
 
@@ -49,7 +50,7 @@ pub fn find(
     ensures queue_capacity { vec_capacity queue.new ≡ vec_capacity queue.old }
     ensures slots_capacity { vec_capacity trail.new.slots ≡ vec_capacity trail.old.slots }
     ensures found { result ≡ true → end_of (links_of table.now) trail.new.start (places_of (walked_slots (way_of trail.new))) ≡ trail.new.joint }
-    ensures none { result ≡ false → IsUnlabelled (links_of table.now)
+    ensures none { result ≡ false → IsSeparated (links_of table.now)
         (rooms_with (links_of table.now) takes_back (way_of trail.old) rooms.old) trail.old.start trail.old.goal }
 {
     if walk(table, labels, takes_back, current, rooms, flags, trail) {
@@ -89,23 +90,48 @@ fn relabel(
     ensures queue_capacity { vec_capacity queue.new ≡ vec_capacity queue.old }
     ensures slots_capacity { vec_capacity trail.new.slots ≡ vec_capacity trail.old.slots }
     ensures labelled { result ≡ true → (ps : List ℕ) × IsWalk (links_of table.now) labels.new rooms.now trail.old.goal trail.old.start ps }
-    ensures none { result ≡ false → IsUnlabelled (links_of table.now) rooms.now trail.old.start trail.old.goal }
+    ensures none { result ≡ false → IsSeparated (links_of table.now) rooms.now trail.old.start trail.old.goal }
 {
-    let start = trail.start as usize;
-    label_nodes(table, flags, trail.goal, trail.start, labels, queue);
-    current.copy_from_slice(&table.first[..current.len()]);
-    if labels[start] == NO_LABEL {
-        // A label that nothing falls to ends the next walk at once.
-        labels[start] = 0;
-        free_slots(trail, 0);
+    if is_enclosed(table, rooms, trail, labels, queue) {
+        make_fresh(table, labels, current, trail);
         return false;
     }
-    free_slots(trail, labels[start]);
+    let opens = Flagged(flags);
+    label_nodes(table, &opens, trail.goal, trail.start, labels, queue);
+    let start_label = labels[trail.start as usize];
+    if start_label == NO_LABEL {
+        make_fresh(table, labels, current, trail);
+        return false;
+    }
+    current.copy_from_slice(&table.first[..current.len()]);
+    free_slots(trail, start_label);
     true
 }
 
-/// Begins anew: all links leave, the first link of each node is its current one, and a label that nothing falls to ends the
-/// next walk at once.
+/// Whether few nodes are seen to be all that links with room lead to from the start, without the goal. It is looked for before
+/// the nodes are labelled from the goal, since those which lead there are then often nearly all. Leaves other labels.
+fn is_enclosed(
+    table: &LinkTable,
+    rooms: &[u64],
+    trail: &Trail,
+    labels: &mut [u32],
+    queue: &mut Vec<u32>,
+) -> bool
+    requires links { AreLinks (links_of table.now) }
+    requires rooms { AreRooms (links_of table.now) rooms.now }
+    requires one_label_each { length labels.old ≡ table.now.nodes + 1 }
+    requires start { IsNode table.now.nodes trail.now.start }
+    requires goal { IsNode table.now.nodes trail.now.goal }
+    requires queue_capacity { table.now.nodes + 1 ≤ vec_capacity queue.old }
+    ensures separated { result ≡ true → IsSeparated (links_of table.now) rooms.now trail.now.start trail.now.goal }
+    ensures queue_capacity { vec_capacity queue.new ≡ vec_capacity queue.old }
+{
+    let few = (table.nodes / 32 + 64) as usize;
+    let (opens, start, goal) = (Roomy(rooms), trail.start, trail.goal);
+    label_most(table, &opens, start, goal, few, labels, queue) && labels[goal as usize] == NO_LABEL
+}
+
+/// Begins anew: all links leave, and the next walk ends at once.
 pub fn begin_anew(
     table: &LinkTable,
     takes_back: bool,
@@ -138,6 +164,23 @@ pub fn begin_anew(
     ensures slots_capacity { vec_capacity trail.new.slots ≡ vec_capacity trail.old.slots }
 {
     settle(table, takes_back, rooms, flags, trail);
+    make_fresh(table, labels, current, trail);
+}
+
+/// Makes the first link of each node its current one, and gives the start a label that nothing falls to, which ends the next
+/// walk at once.
+fn make_fresh(table: &LinkTable, labels: &mut [u32], current: &mut [u32], trail: &mut Trail)
+    requires links { AreLinks (links_of table.now) }
+    requires one_label_each { length labels.old ≡ table.now.nodes + 1 }
+    requires one_current_each { length current.old ≡ table.now.nodes + 1 }
+    requires start { IsNode table.now.nodes trail.old.start }
+    requires goal { IsNode table.now.nodes trail.old.goal }
+    ensures labels { labels.new ≡ slice_set (slice_set labels.old trail.old.start 0) trail.old.goal 0 }
+    ensures current { current.new ≡ take (table.now.nodes + 1) table.now.first.items }
+    ensures none { trail.new.slots.items ≡ [] }
+    ensures way { way_of trail.new ≡ with_slots (way_of trail.old) [] }
+    ensures slots_capacity { vec_capacity trail.new.slots ≡ vec_capacity trail.old.slots }
+{
     labels[trail.start as usize] = 0;
     labels[trail.goal as usize] = 0;
     current.copy_from_slice(&table.first[..current.len()]);

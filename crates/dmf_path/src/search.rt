@@ -11,6 +11,7 @@ ghost use Rattle.dmf_path.specs.Searching.{searched};
 use crate::label::label_nodes;
 use crate::links::{LinkTable, NO_PLACE, build, opposite_flags};
 use crate::listed::list_pairs;
+use crate::open::Flagged;
 use crate::pair::Pairs;
 use crate::passed::mark_ends;
 use crate::phase::{begin_anew, find};
@@ -390,7 +391,7 @@ impl Search {
         let mut queue = Vec::with_capacity(alloc, nodes + 1)?;
         label_nodes(
             &self.table,
-            &opens,
+            &Flagged(&opens),
             self.trail.start,
             0,
             &mut labels,

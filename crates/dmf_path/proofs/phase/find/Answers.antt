@@ -3,7 +3,7 @@ use Rattle.std.proofs.Common.{◌≡◌, get_or, ap, sym, ◌∙◌, subst}
 use Rattle.dmf_path.specs.Links.{links_of}
 use Rattle.dmf_path.specs.Walk.{AreValid, IsWalk}
 use Rattle.dmf_path.specs.Held.{Way, way_of, rooms_with}
-use Rattle.dmf_path.specs.Searching.{IsUnderWay, IsUnlabelled}
+use Rattle.dmf_path.specs.Searching.{IsUnderWay, IsSeparated}
 use Rattle.dmf_path.proofs.Settling.{can-settle, rooms_with-free}
 use Rattle.dmf_path.proofs.phase.find.Goals as goal
 
@@ -98,6 +98,6 @@ returns-clause-none c =
     let start : c.settle.new.trail.start ≡ c.args.trail.now.start = ap (λ (w : Way). w.start) c.settle.ensures.way ∙ c.walk.ensures.start in
     λ no.
     let goal_is : c.settle.new.trail.goal ≡ c.args.trail.now.goal = ap (λ (w : Way). w.goal) c.settle.ensures.way ∙ c.walk.ensures.goal in
-    subst (λ rs. IsUnlabelled l rs c.args.trail.now.start c.args.trail.now.goal) now
-    (subst (λ g. IsUnlabelled l c.settle.new.rooms c.args.trail.now.start g) goal_is
-    (subst (λ s. IsUnlabelled l c.settle.new.rooms s c.settle.new.trail.goal) start (c.relabel.ensures.none c.if-relabel.false)))
+    subst (λ rs. IsSeparated l rs c.args.trail.now.start c.args.trail.now.goal) now
+    (subst (λ g. IsSeparated l c.settle.new.rooms c.args.trail.now.start g) goal_is
+    (subst (λ s. IsSeparated l c.settle.new.rooms s c.settle.new.trail.goal) start (c.relabel.ensures.none c.if-relabel.false)))

@@ -11,7 +11,8 @@ use Rattle.dmf_path.specs.Searching.{IsSearch}
 use Rattle.dmf_path.proofs.SettledSent.{HaveLeft-sent}
 use Rattle.dmf_path.proofs.UnderWayWhole.{slot-within}
 use Rattle.dmf_path.proofs.Cutting.{HasCut, middle-leaves, has-cut, cut-start, cut-goal}
-use Rattle.dmf_path.proofs.Searching.{CanAugment, can-augment, no_path-search}
+use Rattle.dmf_path.proofs.Searching.{CanAugment, can-augment}
+use Rattle.dmf_path.proofs.Reaching.{no_path-separated}
 use Rattle.dmf_path.proofs.SearchTurns.{IsSearch-found, sent_on, is-sent, IsSearch-cut, same-searched, augments-between}
 use Rattle.dmf_path.proofs.Unpassed.{AreMarked, kept-unpassed}
 use Rattle.dmf_path.proofs.search.Search.augment.Goals as goal
@@ -45,7 +46,7 @@ returns-then-not-found-clause-found c =
     let i = c.self.invariant in
     let none = rw c.deref_mut-3.ensures.value at (c.find-found.ensures.none c.if-not-found.true) in
     rw (← c.self.view_is, rooms) (
-      no_path-search _ _ _ _ _ i.links i.places_are i.start_is none,
+      no_path-separated _ _ _ _ _ i.links i.places_are i.start_is none,
       same-searched l c.self.inside.places _ _ _ _ _ _ c.self.inside.takes_back (rw c.deref_mut-3.ensures.value at c.find-found.ensures.same) c.find-found.ensures.start c.find-found.ensures.goal,
     )
 

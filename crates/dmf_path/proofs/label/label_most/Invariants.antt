@@ -1,13 +1,13 @@
 use Rattle.std.proofs.Common.{◌≡◌, ◌+◌, ◌-◌, vec_capacity}
 use Rattle.dmf_path.specs.Links.{links_of}
 use Rattle.dmf_path.proofs.Labelling.{AreSpread}
-use Rattle.dmf_path.proofs.label.label_nodes.Given as goal
+use Rattle.dmf_path.proofs.label.label_most.Given as goal
 
 abbrev pub invariant-loop-done : goal.invariant-loop-done
-invariant-loop-done l = record {
-  so_far : AreSpread (links_of l.table) l.opens l.root l.labels l.queue.items l.done;
+invariant-loop-done g l = record {
+  so_far : AreSpread (links_of l.table) (g.O.OpenLinks.flags l.opens) l.root l.labels l.queue.items l.done;
   queue_capacity : vec_capacity l.queue ≡ vec_capacity l.fn.queue;
 }
 
 abbrev pub decreases-loop-done : goal.decreases-loop-done
-decreases-loop-done l = l.table.nodes + 1 - l.done
+decreases-loop-done g l = l.table.nodes + 1 - l.done
