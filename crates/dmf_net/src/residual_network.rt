@@ -96,8 +96,8 @@ impl ResidualNetwork {
     /// The smallest side of the state's network, whose flow must be greatest, as [`smallest_side`](crate::smallest_side) tells
     /// it.
     ///
-    /// Refused by [`CutFault::NotGreatest`] where some flow has a larger value. Takes memory for the side, a mark a node and
-    /// a flag a link; where it is refused, the answer is [`CutFault::NoMemory`].
+    /// Refused by [`CutFault::NotGreatest`] where some flow has a larger value. Takes memory for the side, a mark and two numbers
+    /// a node; where it is refused, the answer is [`CutFault::NoMemory`].
     pub fn smallest_side(&self, alloc: Global, state: &State) -> Result<Side, CutFault>
         requires { IsResidualOf state.now self.now }
         ensures side { IfOk result (λ side. IsSmallestSide state.now.network side) }

@@ -8,16 +8,14 @@ ghost use Rattle.dmf_path.specs.Links.{AreLinks, AreRooms, ArePlaces, links_of};
 ghost use Rattle.dmf_path.specs.Search.{Augments, Covers, HasAlong, indices_of, pair_number, along_at, against_at, aimed, lowered_along, with_rooms, with_pairs};
 ghost use Rattle.dmf_path.specs.Searching.{searched};
 
-use crate::label::label_nodes;
 use crate::links::{LinkTable, NO_PLACE, build, opposite_flags};
 use crate::listed::list_pairs;
-use crate::open::Flagged;
 use crate::pair::Pairs;
 use crate::passed::mark_ends;
 use crate::phase::{begin_anew, find};
 use crate::places::{Indices, Places};
 use crate::push::{push_once, set_pair};
-use crate::reach::{labelled, settled_flags};
+use crate::reach::{labelled, labels_from_start};
 use crate::release::release;
 use crate::room::settled_room;
 use crate::trail::{Trail, bottleneck, cut, settle};
@@ -371,15 +369,14 @@ impl Search {
         );
     }
 
-    /// Which nodes paths lead to from the start, that of node 1 first. Takes memory for a mark a node, and for a flag a link;
-    /// as long as paths may be left, for its room too.
+    /// Which nodes paths lead to from the start, that of node 1 first. Takes memory for a mark and two numbers a node; as long
+    /// as paths may be left, for a room and a flag a link too.
     pub fn reached(&self, alloc: Global) -> Result<Vec<bool>, AllocError>
         ensures one_each { IfOk result (λ marks. length marks.items ≡ self.now.nodes) }
         ensures marks { IfOk result (λ marks. (v : ℕ) → IsNode self.now.nodes v →
             IsTrue (slice_index_or marks.items (v - 1) false) ↔ IsReachable (steps_of self.now.pairs) self.now.start v) }
     {
-        let nodes = self.table.nodes as usize;
-        let opens = settled_flags(
+        let labels = labels_from_start(
             alloc,
             &self.table,
             self.takes_back,
@@ -387,16 +384,6 @@ impl Search {
             &self.flags,
             &self.trail,
         )?;
-        let mut labels = vec![in alloc; 0u32; nodes + 1]?;
-        let mut queue = Vec::with_capacity(alloc, nodes + 1)?;
-        label_nodes(
-            &self.table,
-            &Flagged(&opens),
-            self.trail.start,
-            0,
-            &mut labels,
-            &mut queue,
-        );
         labelled(alloc, &labels)
     }
 }
