@@ -70,7 +70,7 @@ impl ResidualNetwork {
 
     /// Plans the same, and tells the smallest side of the network, which does not change by it.
     ///
-    /// Takes memory for the side too, and for more marks and flags while it is looked for; where it is refused, the answer is
+    /// Takes memory for the side too, and for marks and numbers while it is looked for; where it is refused, the answer is
     /// [`PlanFault::NoMemory`].
     pub fn plan_solve_with_side<W: Watch>(
         self,

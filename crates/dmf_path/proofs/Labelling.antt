@@ -2,11 +2,11 @@
 use Rattle.std.proofs.Common.{ℕ, ◌≡◌, ◌≢◌, ◌+◌, ◌≤◌, ◌<◌, ◌⊎◌, ⊎_elim, inl, inr, List, [], ◌∷◌, length, set, replicate, slice_index, refl, ap, sym, subst, ◌∙◌, arith, true, false, ◌==◌, cond, Contains}
 use Rattle.std.proofs.lemmas.Bool.Decides.{eqb_tells}
 use Rattle.std.proofs.lemmas.Bool.{cases_lt}
-use Rattle.std.proofs.lemmas.List.{get_or-replicate, get_or-set_same, length-set, length-replicate, get_or_default}
+use Rattle.std.proofs.lemmas.List.{get_or-replicate, get_or-set_same, length-set, length-replicate, get_or_default, ext_get_or}
 use Rattle.std.proofs.lemmas.List.Folds.{sum_by-replicate}
 use Rattle.dmf_path.specs.Node.{IsNode}
 use Rattle.dmf_path.specs.Links.{Links, LiesAt, AreLinks}
-use Rattle.dmf_path.specs.Labels.{no_label, unlabelled_count, IsBacked, AreLabels}
+use Rattle.dmf_path.specs.Labels.{no_label, unlabelled_count, IsBacked, AreLabels, AreQueued}
 use Rattle.dmf_path.proofs.Spreading.{unlabelled_count-set, cases-set}
 
 -- At this place of the queue stands a node whose label is at most the place.
@@ -105,6 +105,38 @@ label-most l opens root labels queue done v are spread within =
     let stands = queued-at l opens root labels queue done v spread (label-node l opens root labels queue done v spread within has.1) has.1 in
     omega (arith, stands.1, stands.3, queue-short l opens root labels queue done spread, are.at_most_nodes))
     (eqb_tells (slice_index labels v) no_label)
+
+-- The nodes with labels stand in the queue from place `k` on.
+abbrev pub AreLeft : List ℕ → List ℕ → ℕ → Type 0
+AreLeft labels queue k =
+    (v : ℕ) → v < length labels → slice_index labels v ≢ no_label → (i : ℕ) × (k ≤ i) × (i < length queue) × (slice_index queue i ≡ v)
+
+pub left-first : (labels queue : List ℕ) → AreQueued labels queue → AreLeft labels queue 0
+left-first labels queue queued v within has =
+    let here = queued.listed v within has in
+    (here.0, omega arith, here.1, get_or_default queue here.0 0 v here.1 ∙ here.2)
+
+-- The label of the next one is taken off.
+pub left-next : (labels queue : List ℕ) (k : ℕ) → slice_index queue k < length labels → AreLeft labels queue k → AreLeft (set labels (slice_index queue k) no_label) queue (k + 1)
+left-next labels queue k inside left v within has =
+    ⊎_elim
+    (λ (here : (v ≡ slice_index queue k) × (slice_index (set labels (slice_index queue k) no_label) v ≡ no_label)). absurd (has here.1))
+    (λ (elsewhere : (v ≢ slice_index queue k) × (slice_index (set labels (slice_index queue k) no_label) v ≡ slice_index labels v)).
+    let at = left v (omega (arith, within, length-set labels (slice_index queue k) no_label)) (λ none. has (elsewhere.1 ∙ none)) in
+    let other : at.0 ≢ k = λ same. elsewhere.0 (sym at.3 ∙ ap (λ i. slice_index queue i) same) in
+    (at.0, omega (arith, at.1, other), at.2, at.3))
+    (cases-set labels (slice_index queue k) v no_label inside)
+
+pub left-last : (labels queue : List ℕ) (k : ℕ) → length queue ≤ k → AreLeft labels queue k → labels ≡ replicate (length labels) no_label
+left-last labels queue k all left =
+    ext_get_or 0 labels (replicate (length labels) no_label) (sym (length-replicate (length labels) no_label))
+    (λ v within.
+    let none : slice_index labels v ≡ no_label = ⊎_elim
+    (λ (is : ((slice_index labels v == no_label) ≡ true) × (slice_index labels v ≡ no_label)). is.1)
+    (λ (has : ((slice_index labels v == no_label) ≡ false) × (slice_index labels v ≢ no_label)).
+    let at = left v within has.1 in absurd (omega (arith, all, at.1, at.2)))
+    (eqb_tells (slice_index labels v) no_label) in
+    none ∙ sym (get_or-replicate (length labels) v no_label 0 within))
 
 -- The labels once the queue is used up, or the node `stop` has a label.
 pub labels-spread : (l : Links) (opens : List ℕ) (root stop : ℕ) (labels queue : List ℕ) (done : ℕ) → AreLinks l → AreSpread l opens root labels queue done → stop ≤ l.nodes → (done ≡ length queue) ⊎ (slice_index labels stop ≢ no_label) → AreLabels l opens root stop labels

@@ -1,5 +1,5 @@
 -- One turn of spreading labels from a root: the node that is next in the queue.
-use Rattle.std.proofs.Common.{ℕ, ◌≡◌, ◌≢◌, ◌+◌, ◌-◌, ◌≤◌, ◌<◌, ◌⊎◌, ⊎_elim, inl, inr, List, ◌++◌, length, slice_index, get_or, refl, ap, sym, subst, ◌∙◌, arith, true, false, ◌==◌, Contains}
+use Rattle.std.proofs.Common.{ℕ, ◌≡◌, ◌≢◌, ◌+◌, ◌-◌, ◌*◌, ◌^◌, ◌≤◌, ◌<◌, ◌⊎◌, ⊎_elim, inl, inr, List, ◌++◌, length, slice_index, get_or, refl, ap, sym, subst, ◌∙◌, arith, true, false, ◌==◌, Contains}
 use Rattle.std.proofs.lemmas.Bool.Decides.{eqb_tells}
 use Rattle.std.proofs.lemmas.Bool.{cases_lt}
 use Rattle.std.proofs.lemmas.List.{length-append, get_or_append_left, get_or-append_right, get_or_default}
@@ -7,7 +7,7 @@ use Rattle.std.proofs.lemmas.List.Elements.{Contains-append_left, Contains-appen
 use Rattle.dmf_path.specs.Node.{IsNode}
 use Rattle.dmf_path.specs.Links.{Links, LiesAt, AreLinks, tail_of}
 use Rattle.dmf_path.specs.Labels.{no_label, IsBacked, Spreads}
-use Rattle.dmf_path.proofs.LinkPlaces.{lies-within}
+use Rattle.dmf_path.proofs.LinkPlaces.{lies-within, end-within}
 use Rattle.dmf_path.proofs.Labelling.{IsQueued, AreSpread, queue-short, queued-at}
 
 -- One turn: the open links of the node that is next in the queue are looked at.
@@ -219,6 +219,13 @@ node-read l opens root labels queue done node are so_far ahead read =
     let next = so_far.queued done ahead in
     let P : ℕ → Type 0 = IsNode l.nodes in
     (is, subst P is next.node, omega (arith, ap (λ v. slice_index labels v) is, next.small, queue-short l opens root labels queue done so_far, are.at_most_nodes))
+
+-- How many links are looked at by the end of a turn.
+pub looked-next : (l : Links) (opens : List ℕ) (root : ℕ) (labels queue : List ℕ) (done node from end looked : ℕ) → AreLinks l → AreSpread l opens root labels queue done → done < length queue → node ≡ get_or queue done node → end ≡ get_or l.first (node + 1) end → looked ≤ done * 2 ^ 31 → (looked + (end - from) ≤ (done + 1) * 2 ^ 31) × ((done + 1) * 2 ^ 31 < 2 ^ 62)
+looked-next l opens root labels queue done node from end looked are so_far ahead node_read end_read before =
+    let read = node-read l opens root labels queue done node are so_far ahead node_read in
+    let within : end ≤ length l.heads = end-within l node end are read.1.to_last end_read in
+    (omega (arith, within, are.at_most, before), omega (arith, ahead, queue-short l opens root labels queue done so_far, are.at_most_nodes))
 
 -- A turn, where what is read has names of its own.
 pub spread-turn : (l : Links) (opens : List ℕ) (root : ℕ) (old queue : List ℕ) (done : ℕ) (new after heads : List ℕ) (node from end : ℕ) → AreLinks l → AreSpread l opens root old queue done → done < length queue → length new ≡ length old → heads ≡ l.heads → node ≡ get_or queue done node → from ≡ get_or l.first node from → end ≡ get_or l.first (node + 1) end → (fresh : List ℕ) × (after ≡ queue ++ fresh) × Spreads heads opens from end (slice_index old node + 1) old new fresh → AreSpread l opens root new after (done + 1)

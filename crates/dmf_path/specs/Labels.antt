@@ -32,6 +32,11 @@ pub record AreLabels (l : Links) (opens : List ℕ) (root stop : ℕ) (labels : 
       → slice_index labels (slice_index l.heads p) ≤ slice_index labels v + 1
   pub backed : (v : ℕ) → IsNode l.nodes v → v ≢ root → slice_index labels v ≢ no_label → IsBacked l opens labels v
 
+-- The queue has the nodes with labels.
+pub record AreQueued (labels queue : List ℕ) : Type 0 where
+  pub within : (k : ℕ) → k < length queue → slice_index queue k < length labels
+  pub listed : (v : ℕ) → v < length labels → slice_index labels v ≢ no_label → Contains queue v
+
 -- how many numbers stand for no label
 abbrev pub unlabelled_count : List ℕ → ℕ
 unlabelled_count labels = count_by (λ label. label == no_label) labels

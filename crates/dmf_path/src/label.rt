@@ -1,8 +1,8 @@
 //! Labels: how far the nodes are from a root, over open links.
-ghost use Rattle.std.specs.Prelude.{◌≡◌, ◌≢◌, ℕ, ◌+◌, ◌++◌, ◌≤◌, ◌<◌, List, true, length, replicate, slice_index, vec_capacity};
+ghost use Rattle.std.specs.Prelude.{◌≡◌, ◌≢◌, ℕ, ◌+◌, ◌++◌, ◌≤◌, ◌<◌, ◌^◌, List, None, length, replicate, slice_index, vec_capacity};
 ghost use Rattle.dmf_path.specs.Node.{IsNode};
 ghost use Rattle.dmf_path.specs.Links.{AreLinks, links_of};
-ghost use Rattle.dmf_path.specs.Labels.{AreLabels, Spreads, no_label, unlabelled_count};
+ghost use Rattle.dmf_path.specs.Labels.{AreLabels, AreQueued, Spreads, no_label, unlabelled_count};
 
 use crate::links::LinkTable;
 use crate::open::OpenLinks;
@@ -11,7 +11,7 @@ use crate::open::OpenLinks;
 pub const NO_LABEL: u32 = u32::MAX;
 
 /// Labels each node that open links reach from the root with the number of links that it takes, level by level, until
-/// node `stop` has a label. Node 0 never has one.
+/// node `stop` has a label. Node 0 never has one. Answers how many links were looked at.
 pub fn label_nodes<O: OpenLinks>(
     table: &LinkTable,
     opens: &O,
@@ -19,65 +19,76 @@ pub fn label_nodes<O: OpenLinks>(
     stop: u32,
     labels: &mut [u32],
     queue: &mut Vec<u32>,
-)
+) -> u64
     requires links { AreLinks (links_of table.now) }
     requires one_flag_each { length (O.flags opens.now) ≡ length table.now.heads.items }
-    requires one_label_each { length labels.old ≡ table.now.nodes + 1 }
+    requires clean { labels.old ≡ replicate (table.now.nodes + 1) no_label }
     requires queue_capacity { table.now.nodes + 1 ≤ vec_capacity queue.old }
     requires root { IsNode table.now.nodes root }
     requires stop { stop ≤ table.now.nodes }
     ensures labels { AreLabels (links_of table.now) (O.flags opens.now) root stop labels.new }
     ensures queue_capacity { vec_capacity queue.new ≡ vec_capacity queue.old }
 {
-    let most = table.nodes as usize;
-    let _ended = label_most(table, opens, root, stop, most, labels, queue);
+    label_most(table, opens, root, stop, u64::MAX, labels, queue).unwrap()
 }
 
-/// Does the same, but looks at the links of `most` nodes at most. Whether that was enough; else labels are missing.
+/// Does the same, but looks at `most` links at most; where these are too few, some labels are missing, and it answers nothing.
 pub fn label_most<O: OpenLinks>(
     table: &LinkTable,
     opens: &O,
     root: u32,
     stop: u32,
-    most: usize,
+    most: u64,
     labels: &mut [u32],
     queue: &mut Vec<u32>,
-) -> bool
+) -> Option<u64>
     requires links { AreLinks (links_of table.now) }
     requires one_flag_each { length (O.flags opens.now) ≡ length table.now.heads.items }
-    requires one_label_each { length labels.old ≡ table.now.nodes + 1 }
+    requires clean { labels.old ≡ replicate (table.now.nodes + 1) no_label }
     requires queue_capacity { table.now.nodes + 1 ≤ vec_capacity queue.old }
     requires root { IsNode table.now.nodes root }
     requires stop { stop ≤ table.now.nodes }
-    ensures labels { result ≡ true → AreLabels (links_of table.now) (O.flags opens.now) root stop labels.new }
-    ensures all { table.now.nodes ≤ most → result ≡ true }
+    ensures labels { result ≢ None → AreLabels (links_of table.now) (O.flags opens.now) root stop labels.new }
+    ensures enough { 2 ^ 62 ≤ most → result ≢ None }
+    ensures queued { AreQueued labels.new queue.new.items }
     ensures queue_capacity { vec_capacity queue.new ≡ vec_capacity queue.old }
 {
-    clear(labels);
     labels[root as usize] = 0;
     queue.clear();
     queue.push_reserved(root);
+    let mut looked = 0u64;
     let mut done = 0;
     while done < queue.len() && labels[stop as usize] == NO_LABEL {
-        if done == most {
-            return false;
-        }
         let node = queue[done];
-        let label = labels[node as usize] + 1;
         let from = table.first[node as usize];
         let end = table.first[node as usize + 1];
+        looked += u64::from(end - from);
+        if looked > most {
+            return None;
+        }
+        let label = labels[node as usize] + 1;
         spread(&table.heads, opens, from, end, label, labels, queue);
         done += 1;
     }
-    true
+    Some(looked)
 }
 
 /// Takes off every label.
-fn clear(labels: &mut [u32])
+pub fn clear(labels: &mut [u32])
     ensures { labels.new ≡ replicate (length labels.old) no_label }
 {
     for label in labels.iter_mut() {
         *label = NO_LABEL;
+    }
+}
+
+/// Takes off the labels, where all nodes that have one are in the queue.
+pub fn clear_queued(labels: &mut [u32], queue: &[u32])
+    requires queued { AreQueued labels.old queue.now }
+    ensures { labels.new ≡ replicate (length labels.old) no_label }
+{
+    for node in queue {
+        labels[*node as usize] = NO_LABEL;
     }
 }
 

@@ -1,12 +1,13 @@
 //! The search for the next path: the walk goes on, or the nodes are labelled anew and it begins again.
-ghost use Rattle.std.specs.Prelude.{◌≡◌, ◌≢◌, ℕ, List, ◌+◌, ◌≤◌, true, false, [], length, take, slice_index, slice_set, vec_capacity};
+ghost use Rattle.std.specs.Prelude.{◌≡◌, ◌≢◌, ℕ, List, ◌+◌, ◌≤◌, true, false, [], length, take, replicate, slice_index, slice_set, vec_capacity};
 ghost use Rattle.dmf_path.specs.Node.{IsNode};
 ghost use Rattle.dmf_path.specs.Links.{AreLinks, AreRooms, AreFlags, links_of};
+ghost use Rattle.dmf_path.specs.Labels.{no_label};
 ghost use Rattle.dmf_path.specs.Walk.{AreValid, IsWalk, end_of};
 ghost use Rattle.dmf_path.specs.Held.{way_of, places_of, walked_slots, rest_slots, rooms_with, with_slots, CanPut, put_each};
 ghost use Rattle.dmf_path.specs.Searching.{IsHolding, IsUnderWay, IsSeparated};
 
-use crate::label::{NO_LABEL, label_most, label_nodes};
+use crate::label::{NO_LABEL, clear, clear_queued, label_most, label_nodes};
 use crate::links::LinkTable;
 use crate::open::{Flagged, Roomy};
 use crate::trail::{Trail, free_slots, settle};
@@ -92,12 +93,13 @@ fn relabel(
     ensures labelled { result ≡ true → (ps : List ℕ) × IsWalk (links_of table.now) labels.new rooms.now trail.old.goal trail.old.start ps }
     ensures none { result ≡ false → IsSeparated (links_of table.now) rooms.now trail.old.start trail.old.goal }
 {
+    clear(labels);
     if is_enclosed(table, rooms, trail, labels, queue) {
         make_fresh(table, labels, current, trail);
         return false;
     }
     let opens = Flagged(flags);
-    label_nodes(table, &opens, trail.goal, trail.start, labels, queue);
+    trail.looked = label_nodes(table, &opens, trail.goal, trail.start, labels, queue);
     let start_label = labels[trail.start as usize];
     if start_label == NO_LABEL {
         make_fresh(table, labels, current, trail);
@@ -108,8 +110,9 @@ fn relabel(
     true
 }
 
-/// Whether few nodes are seen to be all that links with room lead to from the start, without the goal. It is looked for before
-/// the nodes are labelled from the goal, since those which lead there are then often nearly all. Leaves other labels.
+/// Whether few links are enough to see that those with room lead from the start nowhere near the goal. Else no node has a label.
+///
+/// Few are a part of those that labelling from the goal looked at the last time, which are often nearly all.
 fn is_enclosed(
     table: &LinkTable,
     rooms: &[u64],
@@ -119,16 +122,22 @@ fn is_enclosed(
 ) -> bool
     requires links { AreLinks (links_of table.now) }
     requires rooms { AreRooms (links_of table.now) rooms.now }
-    requires one_label_each { length labels.old ≡ table.now.nodes + 1 }
+    requires clean { labels.old ≡ replicate (table.now.nodes + 1) no_label }
     requires start { IsNode table.now.nodes trail.now.start }
     requires goal { IsNode table.now.nodes trail.now.goal }
     requires queue_capacity { table.now.nodes + 1 ≤ vec_capacity queue.old }
     ensures separated { result ≡ true → IsSeparated (links_of table.now) rooms.now trail.now.start trail.now.goal }
+    ensures clean { result ≡ false → labels.new ≡ labels.old }
     ensures queue_capacity { vec_capacity queue.new ≡ vec_capacity queue.old }
 {
-    let few = (table.nodes / 32 + 64) as usize;
+    let few = trail.looked / 32;
     let (opens, start, goal) = (Roomy(rooms), trail.start, trail.goal);
-    label_most(table, &opens, start, goal, few, labels, queue) && labels[goal as usize] == NO_LABEL
+    let looked = label_most(table, &opens, start, goal, few, labels, queue);
+    if looked.is_some() && labels[goal as usize] == NO_LABEL {
+        return true;
+    }
+    clear_queued(labels, queue);
+    false
 }
 
 /// Begins anew: all links leave, and the next walk ends at once.

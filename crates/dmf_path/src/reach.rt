@@ -51,9 +51,9 @@ fn labels_over(
     ensures { IfOk result (λ labels. AreLabels (links_of table.now) (map open_flag rooms.now) root 0 labels.items) }
 {
     let nodes = table.nodes as usize;
-    let mut labels = vec![in alloc; 0u32; nodes + 1]?;
+    let mut labels = vec![in alloc; NO_LABEL; nodes + 1]?;
     let mut queue = Vec::with_capacity(alloc, nodes + 1)?;
-    label_nodes(table, &Roomy(rooms), root, 0, &mut labels, &mut queue);
+    let _looked = label_nodes(table, &Roomy(rooms), root, 0, &mut labels, &mut queue);
     Ok(labels)
 }
 

@@ -178,6 +178,7 @@ impl Search {
                 sent: 0,
                 start,
                 goal,
+                looked: 0,
             },
             takes_back,
             is_fresh: true,

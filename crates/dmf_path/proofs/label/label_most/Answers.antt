@@ -1,20 +1,34 @@
 -- The labels at first, a turn of the loop, and the labels where the loop ends.
-use Rattle.std.proofs.Common.{ap, ◌∙◌, arith, inl, inr, ◌≡◌, ◌+◌, ◌++◌, ◌∷◌, [], length, replicate}
+use Rattle.std.proofs.Common.{ap, ◌∙◌, arith, inl, inr, ◌≡◌, ◌++◌, ◌∷◌, [], length}
 use Rattle.dmf_path.specs.Links.{links_of}
-use Rattle.dmf_path.specs.Labels.{no_label}
 use Rattle.dmf_path.proofs.LinkPlaces.{end-within}
 use Rattle.dmf_path.proofs.Labelling.{spread-first, labels-spread}
-use Rattle.dmf_path.proofs.LabellingTurn.{node-read, spread-turn}
+use Rattle.dmf_path.proofs.LabellingTurn.{node-read, looked-next, spread-turn}
 use Rattle.dmf_path.proofs.label.label_most.Goals as goal
 
 pub loop-done-init : goal.loop-done-init
 loop-done-init g c =
-    let labels : c.clear.new.labels ≡ replicate (c.args.table.now.nodes + 1) no_label = c.clear.ensures ∙ ap (λ n. replicate n no_label) c.requires.one_label_each in
-    let queue : c.push_reserved.new.self.items ≡ c.args.root ∷ [] = c.push_reserved.ensures.items ∙ ap (λ items. items ++ c.args.root ∷ []) c.clear-2.ensures.items in
+    let queue : c.push_reserved.new.self.items ≡ c.args.root ∷ [] = c.push_reserved.ensures.items ∙ ap (λ items. items ++ c.args.root ∷ []) c.clear.ensures.items in
     record {
-      so_far = rw (labels, queue) (spread-first (links_of c.args.table.now) (g.O.OpenLinks.flags c.args.opens.now) c.args.root c.requires.root);
-      queue_capacity = c.push_reserved.ensures.capacity ∙ c.clear-2.ensures.capacity;
+      so_far = rw (c.requires.clean, queue) (spread-first (links_of c.args.table.now) (g.O.OpenLinks.flags c.args.opens.now) c.args.root c.requires.root);
+      counted = omega arith;
+      queue_capacity = c.push_reserved.ensures.capacity ∙ c.clear.ensures.capacity;
     }
+
+pub overflow_add-looked : goal.overflow_add-looked
+overflow_add-looked g c =
+    let next = looked-next (links_of c.args.table.now) (g.O.OpenLinks.flags c.args.opens.now) c.args.root c.loop-done.labels c.loop-done.queue.items c.loop-done.done c.index-node.result.now c.index-from.result.now c.index-end.result.now c.loop-done.looked c.requires.links c.loop-done.invariant.so_far (omega arith) c.index-node.ensures c.index-end.ensures c.loop-done.invariant.counted in
+    omega (arith, next.0, next.1, c.from-looked.ensures)
+
+pub overflow_add-label : goal.overflow_add-label
+overflow_add-label g c =
+    let read = node-read (links_of c.args.table.now) (g.O.OpenLinks.flags c.args.opens.now) c.args.root c.loop-done.labels c.loop-done.queue.items c.loop-done.done c.index-node.result.now c.requires.links c.loop-done.invariant.so_far (omega arith) c.index-node.ensures in
+    omega (arith, read.2)
+
+pub returns-then-looked-most-clause-enough : goal.returns-then-looked-most-clause-enough
+returns-then-looked-most-clause-enough g c many =
+    let next = looked-next (links_of c.args.table.now) (g.O.OpenLinks.flags c.args.opens.now) c.args.root c.loop-done.labels c.loop-done.queue.items c.loop-done.done c.index-node.result.now c.index-from.result.now c.index-end.result.now c.loop-done.looked c.requires.links c.loop-done.invariant.so_far (omega arith) c.index-node.ensures c.index-end.ensures c.loop-done.invariant.counted in
+    absurd (omega (arith, next.0, next.1, c.from-looked.ensures, c.if-looked-most.true, many))
 
 pub spread-requires-clause-links : goal.spread-requires-clause-links
 spread-requires-clause-links g c =
@@ -30,6 +44,7 @@ pub loop-done-preserved : goal.loop-done-preserved
 loop-done-preserved g c = record {
   so_far = spread-turn (links_of c.args.table.now) (g.O.OpenLinks.flags c.args.opens.now) c.args.root c.loop-done.labels c.loop-done.queue.items c.loop-done.done c.spread.new.labels c.spread.new.queue.items c.deref.result.now c.index-node.result.now c.index-from.result.now c.index-end.result.now
       c.requires.links c.loop-done.invariant.so_far (omega arith) c.spread.auto.labels c.deref.ensures.value c.index-node.ensures c.index-from.ensures c.index-end.ensures c.spread.ensures.spreads;
+  counted = let next = looked-next (links_of c.args.table.now) (g.O.OpenLinks.flags c.args.opens.now) c.args.root c.loop-done.labels c.loop-done.queue.items c.loop-done.done c.index-node.result.now c.index-from.result.now c.index-end.result.now c.loop-done.looked c.requires.links c.loop-done.invariant.so_far (omega arith) c.index-node.ensures c.index-end.ensures c.loop-done.invariant.counted in omega (arith, next.0, c.from-looked.ensures);
   queue_capacity = c.spread.ensures.queue_capacity ∙ c.loop-done.invariant.queue_capacity;
 }
 

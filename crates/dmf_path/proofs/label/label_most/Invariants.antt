@@ -1,4 +1,4 @@
-use Rattle.std.proofs.Common.{◌≡◌, ◌+◌, ◌-◌, vec_capacity}
+use Rattle.std.proofs.Common.{◌≡◌, ◌+◌, ◌-◌, ◌*◌, ◌^◌, ◌≤◌, vec_capacity}
 use Rattle.dmf_path.specs.Links.{links_of}
 use Rattle.dmf_path.proofs.Labelling.{AreSpread}
 use Rattle.dmf_path.proofs.label.label_most.Given as goal
@@ -6,6 +6,7 @@ use Rattle.dmf_path.proofs.label.label_most.Given as goal
 abbrev pub invariant-loop-done : goal.invariant-loop-done
 invariant-loop-done g l = record {
   so_far : AreSpread (links_of l.table) (g.O.OpenLinks.flags l.opens) l.root l.labels l.queue.items l.done;
+  counted : l.looked ≤ l.done * 2 ^ 31;
   queue_capacity : vec_capacity l.queue ≡ vec_capacity l.fn.queue;
 }
 
