@@ -81,7 +81,7 @@ off-rising l labels top bottom p (q ∷ qs) descends rises = (
 pub partner-rises : (l : Links) (labels : List ℕ) (p : ℕ) → AreLinks l → p < length l.heads → get_or labels (get_or l.heads p 0) 0 + 1 ≡ get_or labels (tail_of l p) 0 →
     get_or labels (get_or l.heads (get_or l.partners p 0) 0) 0 + 1 ≢ get_or labels (tail_of l (get_or l.partners p 0)) 0
 partner-rises l labels p links within falls rises =
-    omega (arith, falls, rises, ap (λ q. get_or labels (get_or l.heads q 0) 0) (links.each p within).turned)
+    omega (arith, falls, rises, ap (λ q. get_or labels (get_or l.heads q 0) 0) (links.each p within).partner_back)
 
 pub off-partner : (l : Links) (labels : List ℕ) (top bottom p : ℕ) (ps : List ℕ) → AreLinks l → p < length l.heads → get_or labels (get_or l.heads p 0) 0 + 1 ≡ get_or labels (tail_of l p) 0 → Descends l labels top bottom ps → IsOff (get_or l.partners p 0) ps
 off-partner l labels top bottom p ps links within falls descends =

@@ -16,7 +16,7 @@ valid-labelled l rooms flags labels start goal are flagged labelled v p node lie
     let link = are.each p within in
     let partner : ℕ = slice_index l.partners p in
     let opened : slice_index flags partner ≡ 1 =
-    flagged.1 partner link.partner ∙ ap (λ q. open_flag (slice_index rooms q)) link.turned ∙ flag-of_room (slice_index rooms p) room in
+    flagged.1 partner link.partner ∙ ap (λ q. open_flag (slice_index rooms q)) link.partner_back ∙ flag-of_room (slice_index rooms p) room in
     let most = labelled.near (slice_index l.heads p) partner link.head (lies-partner l p are within) opened below in
     omega (arith, most, ap (λ u. slice_index labels u) (are.at_tail v p node lies))
 

@@ -31,7 +31,7 @@ pub mod WayStart
 pub mod Settling
 pub mod SettledRoom
 pub mod UnderWayWhole
-pub mod Cutting
+pub mod Splitting
 pub mod SearchTurns
 pub mod Labelled
 pub mod Marks

@@ -40,4 +40,4 @@ pub lies-partner : (l : Links) (p : ℕ) → AreLinks l → p < length l.heads �
 lies-partner l p are within =
     let link = are.each p within in
     let P : ℕ → Type 0 = λ v. LiesAt l v (get_or l.partners p 0) in
-    subst P (ap (λ q. get_or l.heads q 0) link.turned) (are.each (get_or l.partners p 0) link.partner).lies
+    subst P (ap (λ q. get_or l.heads q 0) link.partner_back) (are.each (get_or l.partners p 0) link.partner).lies

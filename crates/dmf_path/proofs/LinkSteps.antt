@@ -125,7 +125,7 @@ against-is l places rooms k links are within has =
     let p : ℕ = get_or l.partners q 0 in
     let link = links.each q (are.within k within has) in
     let rank : rank_of l places p ≡ 2 * (1 + k) + 1 = rank_of-against l places p k links are link.partner within has refl in
-    let from : tail_of l p ≡ get_or l.heads q 0 = ap (λ r. get_or l.heads r 0) link.turned in
+    let from : tail_of l p ≡ get_or l.heads q 0 = ap (λ r. get_or l.heads r 0) link.partner_back in
     λ i. record { from = from i; to = tail_of l q; rank = rank i; room = get_or rooms p 0 }
 
 -- The step is that of a link with room.

@@ -155,7 +155,7 @@ pair-pushed l takes_back places rooms labels u amount k ps links are long falls 
     let has = has_rank-path_on l places rooms labels k u ps links are within there falls in
     let mine = room-pushed l takes_back amount labels rooms u ps q links long falls link in
     let its = room-pushed l takes_back amount labels rooms u ps (get_or l.partners q 0) links long falls partner.partner in
-    let back : loss amount (get_or l.partners (get_or l.partners q 0) 0) ps ≡ loss amount q ps = ap (λ r. loss amount r ps) partner.turned in
+    let back : loss amount (get_or l.partners (get_or l.partners q 0) 0) ps ≡ loss amount q ps = ap (λ r. loss amount r ps) partner.partner_back in
     rw (ne_eqb q no_place there, has.0, has.1)
     (pair-rooms (tail_of l q) (get_or l.heads q 0) _ _ _ _ mine (its ∙ ap (λ x. get_or rooms (get_or l.partners q 0) 0 - loss amount (get_or l.partners q 0) ps + cond takes_back x 0) back)))
     (cases_eq q no_place)

@@ -51,11 +51,11 @@ is_beside l p q links within in_range =
     ⊎_elim
     (λ (same : q ≡ p). own same)
     (λ (not_own : q ≢ p). ⊎_elim
-    (λ (same : q ≡ get_or l.partners p 0). partner same (ap (λ r. get_or l.partners r 0) same ∙ (links.each p within).turned))
+    (λ (same : q ≡ get_or l.partners p 0). partner same (ap (λ r. get_or l.partners r 0) same ∙ (links.each p within).partner_back))
     (λ (not_partner : q ≢ get_or l.partners p 0).
     other not_own not_partner
-    (λ e. not_partner (sym (links.each q in_range).turned ∙ ap (λ r. get_or l.partners r 0) e))
-    (λ e. not_own (sym (links.each q in_range).turned ∙ ap (λ r. get_or l.partners r 0) e ∙ (links.each p within).turned)))
+    (λ e. not_partner (sym (links.each q in_range).partner_back ∙ ap (λ r. get_or l.partners r 0) e))
+    (λ e. not_own (sym (links.each q in_range).partner_back ∙ ap (λ r. get_or l.partners r 0) e ∙ (links.each p within).partner_back)))
     (cases_eq q (get_or l.partners p 0)))
     (cases_eq q p)
 

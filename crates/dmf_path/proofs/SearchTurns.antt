@@ -13,7 +13,7 @@ use Rattle.dmf_path.proofs.Pushed.{AreValid-opens, ArePassed-opens}
 use Rattle.dmf_path.proofs.SettledSent.{HaveLeft-sent}
 use Rattle.dmf_path.proofs.Settling.{rooms_with-free, holding-free, way-free, way-emptied}
 use Rattle.dmf_path.proofs.Searching.{CanAugment}
-use Rattle.dmf_path.proofs.Cutting.{IsSent, HasCut}
+use Rattle.dmf_path.proofs.Splitting.{IsSent, HasSplit}
 
 -- with free slots, where nothing falls to the label of the start, and the current links of all nodes are their first ones
 free-search : (l : Links) (takes_back : Bool) (places rooms flags labels current : List ℕ) (w : Way) (queue_capacity slots_capacity : ℕ) → AreLinks l → ArePlaces l places → AreRooms l rooms → AreFlags l rooms flags → w.sent < 2 ^ 64
@@ -108,15 +108,15 @@ is-sent l takes_back places rooms flags labels current w queue_capacity slots_ca
   descends = can.descends;
 }
 
--- after the path is cut
-pub IsSearch-cut : (l : Links) (takes_back : Bool) (places rooms flags labels current : List ℕ) (w : Way) (queue_capacity slots_capacity limit amount : ℕ) (new_rooms new_flags : List ℕ) (new : Way) (new_slots_capacity : ℕ)
+-- after the path is split
+pub IsSearch-split : (l : Links) (takes_back : Bool) (places rooms flags labels current : List ℕ) (w : Way) (queue_capacity slots_capacity limit amount : ℕ) (new_rooms new_flags : List ℕ) (new : Way) (new_slots_capacity : ℕ)
     → IsSearch l takes_back places rooms flags labels current w queue_capacity slots_capacity false → CanAugment l takes_back places rooms labels current w limit amount
-    → HasCut l takes_back labels (settled l takes_back ((w.sent + amount) % 2 ^ 64) w.slots rooms) current new new_rooms new_flags
+    → HasSplit l takes_back labels (settled l takes_back ((w.sent + amount) % 2 ^ 64) w.slots rooms) current new new_rooms new_flags
     → new.start ≡ w.start → new.goal ≡ w.goal → new_slots_capacity ≡ slots_capacity → IsSearch l takes_back places new_rooms new_flags labels current new queue_capacity new_slots_capacity false
-IsSearch-cut l takes_back places rooms flags labels current w queue_capacity slots_capacity limit amount new_rooms new_flags new new_slots_capacity is can cut start goal slots_same =
+IsSearch-split l takes_back places rooms flags labels current w queue_capacity slots_capacity limit amount new_rooms new_flags new new_slots_capacity is can split start goal slots_same =
     let after : List ℕ = settled l takes_back ((w.sent + amount) % 2 ^ 64) w.slots rooms in
     let valid = AreValid-opens l labels (rooms_with l takes_back w rooms) after (get_or labels w.start 0) can.opens is.valid in
-    IsSearch-next l takes_back places rooms flags labels current w queue_capacity slots_capacity new_rooms new_flags labels current after new queue_capacity new_slots_capacity false is refl is.start_label cut.holding cut.same valid cut.way start goal refl slots_same (begun refl)
+    IsSearch-next l takes_back places rooms flags labels current w queue_capacity slots_capacity new_rooms new_flags labels current after new queue_capacity new_slots_capacity false is refl is.start_label split.holding split.same valid split.way start goal refl slots_same (begun refl)
 
 -- after all links have left, or some
 pub IsSearch-released : {is_fresh : Bool} (l : Links) (takes_back : Bool) (places rooms flags labels current : List ℕ) (w : Way) (queue_capacity slots_capacity : ℕ) (new_rooms new_flags : List ℕ) (new : Way) (new_slots_capacity : ℕ)

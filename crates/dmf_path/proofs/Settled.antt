@@ -139,7 +139,7 @@ AreRooms-settled l takes_back sent slots rooms links are = (
   λ p within.
       let q : ℕ = get_or l.partners p 0 in
       let partner_in = (links.each p within).partner in
-      let back : get_or l.partners q 0 ≡ p = (links.each p within).turned in
+      let back : get_or l.partners q 0 ≡ p = (links.each p within).partner_back in
       rw (room-settled l takes_back sent slots rooms p (omega (arith, within, are.0)), room-settled l takes_back sent slots rooms q (omega (arith, partner_in, are.0)), back)
       (fits takes_back (get_or rooms p 0) (get_or rooms q 0) (held_for sent rooms slots p) (held_for sent rooms slots q) _ (held-le sent rooms slots p) (held-le sent rooms slots q) (are.1 p within)),
 )

@@ -39,7 +39,7 @@ room-kept l takes_back sent more slots rooms marks p links long marked within un
     let link = links.each p within in
     let off = off-marked l marks slots p marked unmarked in
     let partner_off = off-partner-marked l marks slots p marked unmarked in
-    let back_off : IsOff (get_or l.partners q 0) (places_of slots) = subst (λ r. IsOff r (places_of slots)) (sym link.turned) off in
+    let back_off : IsOff (get_or l.partners q 0) (places_of slots) = subst (λ r. IsOff r (places_of slots)) (sym link.partner_back) off in
     let here : (n : ℕ) → get_or (settled l takes_back n slots rooms) p 0 ≡ get_or rooms p 0 = λ n. room-off l takes_back n slots rooms p (omega (arith, within, long)) off partner_off in
     let there : (n : ℕ) → get_or (settled l takes_back n slots rooms) q 0 ≡ get_or rooms q 0 = λ n. room-off l takes_back n slots rooms q (omega (arith, link.partner, long)) partner_off back_off in
     (here more ∙ sym (here sent), there more ∙ sym (there sent))

@@ -141,8 +141,8 @@ pub record AreOpen (sent : ℕ) (slots : List Slot) (first behind : ℕ) : Type 
   pub after : (i : ℕ) → behind ≤ i → i < length slots → (slot_at slots i).full_at ≢ sent
 
 -- The full links of a path leave, with those between them; or none is full.
-pub data IsCut (l : Links) (takes_back : Bool) (old : Way) (rooms : List ℕ) (new : Way) (after : List ℕ) : Type 0 where
-  stays : (first behind : ℕ) → behind ≤ first → AreOpen old.sent old.slots first behind → new ≡ old → after ≡ rooms → IsCut l takes_back old rooms new after
-  cut_at : (first behind : ℕ) → first < behind → behind ≤ length old.slots → AreOpen old.sent old.slots first behind
+pub data IsSplit (l : Links) (takes_back : Bool) (old : Way) (rooms : List ℕ) (new : Way) (after : List ℕ) : Type 0 where
+  stays : (first behind : ℕ) → behind ≤ first → AreOpen old.sent old.slots first behind → new ≡ old → after ≡ rooms → IsSplit l takes_back old rooms new after
+  split_at : (first behind : ℕ) → first < behind → behind ≤ length old.slots → AreOpen old.sent old.slots first behind
       → new ≡ record { slots = old.slots; walked = first; rest = behind; joint = slice_index l.heads (slot_at old.slots (behind - 1)).place; sent = old.sent; start = old.start; goal = old.goal }
-      → after ≡ put_each l takes_back old.sent (take (behind - first) (drop first old.slots)) rooms → IsCut l takes_back old rooms new after
+      → after ≡ put_each l takes_back old.sent (take (behind - first) (drop first old.slots)) rooms → IsSplit l takes_back old rooms new after

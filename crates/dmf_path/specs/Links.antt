@@ -33,7 +33,7 @@ pub record IsLink (l : Links) (p : ℕ) : Type 0 where
   pub tail : IsNode l.nodes (tail_of l p)
   pub lies : LiesAt l (tail_of l p) p
   pub partner : slice_index l.partners p < length l.heads
-  pub turned : slice_index l.partners (slice_index l.partners p) ≡ p
+  pub partner_back : slice_index l.partners (slice_index l.partners p) ≡ p
   pub no_loop : tail_of l p ≢ slice_index l.heads p
 
 -- The links of the nodes lie one after the other, and each is a link.

@@ -18,7 +18,7 @@ use crate::push::{push_once, set_pair};
 use crate::reach::{labelled, labels_from_start};
 use crate::release::release;
 use crate::room::settled_room;
-use crate::trail::{Trail, bottleneck, cut, settle};
+use crate::trail::{Trail, bottleneck, settle, split_path};
 use std::alloc::{AllocError, Global};
 use std::marker::Model;
 
@@ -35,7 +35,7 @@ pub struct AugmentingPath {
 /// is taken.
 ///
 /// It goes by phases (Dinic): the nodes are labelled by their distances to the goal, and as long as paths of that length
-/// are left, each is found by going on from where the one before was cut.
+/// are left, each is found by going on from where the one before was split.
 #[derive(Drop)]
 pub struct Search {
     table: LinkTable,
@@ -212,7 +212,7 @@ impl Search {
         let links = self.trail.slots.len() as u32;
         mark_ends(&self.table, &self.trail.slots, passed);
         self.trail.sent = self.trail.sent.wrapping_add(amount);
-        cut(
+        split_path(
             &self.table,
             self.takes_back,
             &mut self.rooms,

@@ -1,7 +1,7 @@
 //! The trail: a slot for each link of a path, in which what is sent along the link is held until it leaves.
 ghost use Rattle.std.specs.Prelude.{◌≡◌, ◌≢◌, ℕ, true, [], ◌+◌, ◌-◌, ◌≤◌, ◌<◌, length, take, drop, vec_capacity};
 ghost use Rattle.dmf_path.specs.Links.{AreLinks, AreRooms, AreFlags, links_of};
-ghost use Rattle.dmf_path.specs.Held.{room_left, least_left, put_once, put_each, CanPut, IsSlot, MakesWay, way_of, IsCut, walked_slots, rest_slots, filled_slots, slot_at, entered, stepped_back, emptied, with_slots};
+ghost use Rattle.dmf_path.specs.Held.{room_left, least_left, put_once, put_each, CanPut, IsSlot, MakesWay, way_of, IsSplit, walked_slots, rest_slots, filled_slots, slot_at, entered, stepped_back, emptied, with_slots};
 
 use crate::links::LinkTable;
 use crate::push::push_once;
@@ -233,7 +233,7 @@ impl Trail {
 }
 
 /// Cuts a path at its full links: the first leaves, the last, and those between.
-pub fn cut(
+pub fn split_path(
     table: &LinkTable,
     takes_back: bool,
     rooms: &mut [u64],
@@ -247,7 +247,7 @@ pub fn cut(
         CanPut (links_of table.now) takes_back trail.old.sent (take (behind - first) (drop first trail.old.slots.items)) rooms.old }
     requires places { (i : ℕ) → i < length trail.old.slots.items →
         (slot_at trail.old.slots.items i).place < length table.now.heads.items }
-    ensures way { IsCut (links_of table.now) takes_back (way_of trail.old) rooms.old (way_of trail.new) rooms.new }
+    ensures way { IsSplit (links_of table.now) takes_back (way_of trail.old) rooms.old (way_of trail.new) rooms.new }
     ensures sums { AreRooms (links_of table.now) rooms.new }
     ensures flags { AreFlags (links_of table.now) rooms.new flags.new }
     ensures slots_capacity { vec_capacity trail.new.slots ≡ vec_capacity trail.old.slots }

@@ -1,8 +1,8 @@
 use Rattle.std.proofs.Common.{◌≡◌, ◌-◌, ◌≤◌, length, get_or, refl, ap, ◌∙◌, arith}
 use Rattle.std.proofs.lemmas.List.{get_or_default}
 use Rattle.dmf_path.specs.declared.trail.Slot.{Slot}
-use Rattle.dmf_path.specs.Held.{slot_at, stays, cut_at}
-use Rattle.dmf_path.proofs.trail.cut.Goals as goal
+use Rattle.dmf_path.specs.Held.{slot_at, stays, split_at}
+use Rattle.dmf_path.proofs.trail.split_path.Goals as goal
 
 pub put_each_on-requires-clause-can : goal.put_each_on-requires-clause-can
 put_each_on-requires-clause-can c =
@@ -19,7 +19,7 @@ returns-then-first-behind-clause-way c =
     let joint : c.index-then-first-behind.result.now ≡ get_or c.args.table.now.heads.items (slot_at slots (behind - 1)).place 0 =
     c.index-then-first-behind.ensures ∙ ap (λ (s : Slot). get_or c.args.table.now.heads.items s.place c.index-then-first-behind.result.now) slot
     ∙ get_or_default c.args.table.now.heads.items (slot_at slots (behind - 1)).place _ 0 (c.requires.places (behind - 1) (omega (arith, within, c.if-first-behind.true))) in
-    cut_at first behind c.if-first-behind.true within
+    split_at first behind c.if-first-behind.true within
     (record { before = rw c.deref.ensures.value at c.first_full-first.ensures.open_links; after = rw c.deref-2.ensures.value at c.behind_last_full-behind.ensures.open_links })
     (rw joint refl)
     (rw c.deref-then-first-behind.ensures.value at c.put_each_on.ensures.rooms)

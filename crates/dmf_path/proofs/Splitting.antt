@@ -1,4 +1,4 @@
--- A path is cut at its full links: the links before them and behind them are the walk and the rest from then on.
+-- A path is split at its full links: the links before them and behind them are the walk and the rest from then on.
 use Rattle.std.proofs.Common.{ℕ, ◌≡◌, ◌≢◌, ◌+◌, ◌-◌, ◌^◌, ◌<◌, ◌≤◌, min, Bool, List, [], ◌∷◌, ◌++◌, length, take, drop, get_or, ap, sym, ◌∙◌, subst, ⊎_elim, arith}
 use Rattle.std.proofs.lemmas.Bool.{cases_lt}
 use Rattle.std.proofs.lemmas.List.{take-append-drop, drop-drop, take_more, take-map, get_or-map, get_or-take, get_or-drop, length-take, length-drop, length-map, map_push}
@@ -6,7 +6,7 @@ use Rattle.dmf_path.specs.declared.trail.Slot.{Slot}
 use Rattle.dmf_path.specs.Node.{IsNode}
 use Rattle.dmf_path.specs.Links.{Links, AreLinks, AreRooms, AreFlags}
 use Rattle.dmf_path.specs.Walk.{AreCurrent, ArePassed, IsTrail, end_of}
-use Rattle.dmf_path.specs.Held.{Way, places_of, walked_slots, rest_slots, filled_slots, settled, rooms_with, HaveLeft, slot_at, IsCut, stays, cut_at}
+use Rattle.dmf_path.specs.Held.{Way, places_of, walked_slots, rest_slots, filled_slots, settled, rooms_with, HaveLeft, slot_at, IsSplit, stays, split_at}
 use Rattle.dmf_path.specs.Searching.{IsUnderWay, IsHolding}
 use Rattle.dmf_path.proofs.Walking.{end_of-push, end-node}
 use Rattle.dmf_path.proofs.Pushed.{IsTrail-open, IsTrail-take}
@@ -72,8 +72,8 @@ rest-ends : (l : Links) (takes_back : Bool) (labels before current : List ℕ) (
 rest-ends l takes_back labels before current w rooms n is =
     sym (end_of-append l w.start (places_of (take n w.slots)) (places_of (drop n w.slots))) ∙ ap (end_of l w.start) (sym (split-whole w.slots n)) ∙ is.ends
 
--- What the cut leaves.
-pub record HasCut (l : Links) (takes_back : Bool) (labels after current : List ℕ) (new : Way) (rooms flags : List ℕ) : Type 0 where
+-- What the split leaves.
+pub record HasSplit (l : Links) (takes_back : Bool) (labels after current : List ℕ) (new : Way) (rooms flags : List ℕ) : Type 0 where
   pub way : IsUnderWay l labels after current new
   pub holding : IsHolding l new rooms flags
   pub same : rooms_with l takes_back new rooms ≡ after
@@ -94,24 +94,24 @@ middle-leaves l takes_back labels sent top rooms slots first behind links long d
     )
 
 -- The ends of the path stay.
-pub cut-start : (l : Links) (takes_back : Bool) (w new : Way) (rooms new_rooms : List ℕ) → IsCut l takes_back w rooms new new_rooms → new.start ≡ w.start
-cut-start l takes_back w new rooms new_rooms (stays first behind none open_links same kept) = ap (λ (u : Way). u.start) same
-cut-start l takes_back w new rooms new_rooms (cut_at first behind less within open_links same kept) = ap (λ (u : Way). u.start) same
+pub split-start : (l : Links) (takes_back : Bool) (w new : Way) (rooms new_rooms : List ℕ) → IsSplit l takes_back w rooms new new_rooms → new.start ≡ w.start
+split-start l takes_back w new rooms new_rooms (stays first behind none open_links same kept) = ap (λ (u : Way). u.start) same
+split-start l takes_back w new rooms new_rooms (split_at first behind less within open_links same kept) = ap (λ (u : Way). u.start) same
 
-pub cut-goal : (l : Links) (takes_back : Bool) (w new : Way) (rooms new_rooms : List ℕ) → IsCut l takes_back w rooms new new_rooms → new.goal ≡ w.goal
-cut-goal l takes_back w new rooms new_rooms (stays first behind none open_links same kept) = ap (λ (u : Way). u.goal) same
-cut-goal l takes_back w new rooms new_rooms (cut_at first behind less within open_links same kept) = ap (λ (u : Way). u.goal) same
+pub split-goal : (l : Links) (takes_back : Bool) (w new : Way) (rooms new_rooms : List ℕ) → IsSplit l takes_back w rooms new new_rooms → new.goal ≡ w.goal
+split-goal l takes_back w new rooms new_rooms (stays first behind none open_links same kept) = ap (λ (u : Way). u.goal) same
+split-goal l takes_back w new rooms new_rooms (split_at first behind less within open_links same kept) = ap (λ (u : Way). u.goal) same
 
-pub has-cut : (l : Links) (takes_back : Bool) (labels before current : List ℕ) (w new : Way) (rooms new_rooms new_flags : List ℕ) → IsSent l takes_back labels before current w rooms → IsNode l.nodes w.joint → IsCut l takes_back w rooms new new_rooms → AreRooms l new_rooms → AreFlags l new_rooms new_flags
-    → HasCut l takes_back labels (settled l takes_back w.sent w.slots rooms) current new new_rooms new_flags
-has-cut l takes_back labels before current w new rooms new_rooms new_flags is joint_is (stays first behind none open_links same kept) sums told =
+pub has-split : (l : Links) (takes_back : Bool) (labels before current : List ℕ) (w new : Way) (rooms new_rooms new_flags : List ℕ) → IsSent l takes_back labels before current w rooms → IsNode l.nodes w.joint → IsSplit l takes_back w rooms new new_rooms → AreRooms l new_rooms → AreFlags l new_rooms new_flags
+    → HasSplit l takes_back labels (settled l takes_back w.sent w.slots rooms) current new new_rooms new_flags
+has-split l takes_back labels before current w new rooms new_rooms new_flags is joint_is (stays first behind none open_links same kept) sums told =
     let after : List ℕ = settled l takes_back w.sent w.slots rooms in
     let not_full : (i : ℕ) → i < length w.slots → (slot_at w.slots i).full_at ≢ w.sent = λ i inside. ⊎_elim
     (λ (early : i < first). open_links.before i early)
     (λ (late : first ≤ i). open_links.after i (omega (arith, late, none)) inside)
     (cases_lt i first) in
     let joins : end_of l w.start (places_of (take w.rest w.slots)) ≡ w.joint = ap (λ n. end_of l w.start (places_of (take n w.slots))) (sym is.meets) ∙ is.joins in
-    let at : HasCut l takes_back labels after current w new_rooms new_flags = record {
+    let at : HasSplit l takes_back labels after current w new_rooms new_flags = record {
       way = record {
         walking = record { current_is = is.current_is; passed = is.passed; trail_is = front-open l takes_back labels before current w rooms w.walked is (λ i below inside. not_full i inside) };
         rest_is = subst (λ v. IsTrail l labels after current v (places_of (rest_slots w))) joins (rest-open l takes_back labels before current w rooms w.rest is (λ i from inside. not_full i inside));
@@ -130,8 +130,8 @@ has-cut l takes_back labels before current w new rooms new_rooms new_flags is jo
       };
       same = ap (rooms_with l takes_back w) kept ∙ ap (λ (ss : List Slot). settled l takes_back w.sent ss rooms) is.filled;
     } in
-    subst (λ (u : Way). HasCut l takes_back labels after current u new_rooms new_flags) (sym same) at
-has-cut l takes_back labels before current w new rooms new_rooms new_flags is joint_is (cut_at first behind less within open_links same kept) sums told =
+    subst (λ (u : Way). HasSplit l takes_back labels after current u new_rooms new_flags) (sym same) at
+has-split l takes_back labels before current w new rooms new_rooms new_flags is joint_is (split_at first behind less within open_links same kept) sums told =
     let after : List ℕ = settled l takes_back w.sent w.slots rooms in
     let left = middle-leaves l takes_back labels w.sent (get_or labels w.start 0) rooms w.slots first behind is.links is.rooms_are.0 is.descends is.have less in
     let p : ℕ = (slot_at w.slots (behind - 1)).place in
@@ -141,7 +141,7 @@ has-cut l takes_back labels before current w new rooms new_rooms new_flags is jo
     let joins : end_of l w.start (places_of (take behind w.slots)) ≡ get_or l.heads p 0 = ap (end_of l w.start) last ∙ end_of-push l w.start (places_of (take (behind - 1) w.slots)) p in
     let front = IsTrail-take l labels before current w.start behind (places_of w.slots) is.trail in
     let next : Way = record { slots = w.slots; walked = first; rest = behind; joint = get_or l.heads p 0; sent = w.sent; start = w.start; goal = w.goal } in
-    let at : HasCut l takes_back labels after current next new_rooms new_flags = record {
+    let at : HasSplit l takes_back labels after current next new_rooms new_flags = record {
       way = record {
         walking = record { current_is = is.current_is; passed = is.passed; trail_is = front-open l takes_back labels before current w rooms first is (λ i below inside. open_links.before i below) };
         rest_is = subst (λ v. IsTrail l labels after current v (places_of (drop behind w.slots))) joins (rest-open l takes_back labels before current w rooms behind is (λ i from inside. open_links.after i from inside));
@@ -160,4 +160,4 @@ has-cut l takes_back labels before current w new rooms new_rooms new_flags is jo
       };
       same = ap (settled l takes_back w.sent (take first w.slots ++ drop behind w.slots)) kept ∙ sym left.1.same ∙ ap (λ (ss : List Slot). settled l takes_back w.sent ss rooms) (sym left.0);
     } in
-    subst (λ (u : Way). HasCut l takes_back labels after current u new_rooms new_flags) (sym same) at
+    subst (λ (u : Way). HasSplit l takes_back labels after current u new_rooms new_flags) (sym same) at
