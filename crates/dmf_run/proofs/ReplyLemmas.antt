@@ -1,6 +1,6 @@
 -- Texts that are put one after the other, and flushed.
-use Rattle.std.proofs.Common.{◌≡◌, ℕ, List, [], ◌++◌, Bool, Option, Result, Ok, Err, append_assoc, append-nil, subst, sym, ap, ◌∙◌}
-use Rattle.std.specs.Io.KnownBytes.{Appends}
+use Rattle.std.proofs.Common.{◌≡◌, ℕ, List, [], ◌++◌, Bool, Option, Some, None, Result, Ok, Err, append_assoc, append-nil, subst, sym, ap, ◌∙◌}
+use Rattle.std.specs.Io.KnownBytes.{Appends, Keeps}
 use Rattle.std.proofs.KnownBytes.{Appends-trans}
 use Rattle.dmf_text.specs.Writing.{Writes}
 
@@ -19,3 +19,9 @@ Writes-more contents has_failed a b c (Err e) text more held mark then = (
 pub Writes-flushed : {S V E : Type 0} (contents : S → Option (List ℕ)) (has_failed : S → Bool) (a b c : S) (outcome : Result V E) (text : List ℕ) → Appends (contents a) (contents b) text → has_failed b ≡ has_failed a → Writes contents has_failed b c outcome [] → Writes contents has_failed a c outcome text
 Writes-flushed contents has_failed a b c outcome text held mark then =
     subst (λ t. Writes contents has_failed a c outcome t) (append-nil text) (Writes-more contents has_failed a b c outcome text [] held mark then)
+
+-- Bytes that stayed as they were grew by none.
+pub Appends-kept : (a b : Option (List ℕ)) → Keeps a b → Appends a b []
+Appends-kept None b kept = tt
+Appends-kept (Some x) None kept = absurd kept
+Appends-kept (Some x) (Some y) kept = kept ∙ sym (append-nil x)

@@ -4,7 +4,9 @@ use Rattle.std.specs.List.{slice_range}
 use Rattle.std.specs.Io.KnownBytes.{prepend_known, Consumes}
 use Rattle.std.proofs.KnownBytes.{Consumes-trans}
 use Rattle.std.proofs.lemmas.List.{drop_more, length-append, append-nil}
-use Rattle.dmf_run.specs.Input.{InputState, Takes, left}
+use Rattle.dmf_run.specs.Streams.{Reader}
+use Rattle.dmf_run.specs.Pending.{Pending}
+use Rattle.dmf_run.specs.Input.{InputState, input_over, Takes, left}
 
 pub Takes-trans : (a b c : InputState) (x y : List ℕ) → Takes a b x → Takes b c y → Takes a c (x ++ y)
 Takes-trans a b c x y t u = record {
@@ -30,3 +32,21 @@ some-length (x ∷ xs) not_empty = omega arith
 
 pub Takes-nil : (a b c : InputState) (x : List ℕ) → Takes a b x → Takes b c [] → Takes a c x
 Takes-nil a b c x t u = subst (λ l. Takes a c l) (append-nil x) (Takes-trans a b c x [] t u)
+
+pub nothing-pending : (piece : List ℕ) (start end : ℕ) → end ≤ start → slice_range piece start end ≡ []
+nothing-pending piece start end none =
+    let no : end - start ≡ 0 = omega arith in
+    rw no refl
+
+-- bytes that were read are pending, so that none is taken yet
+Consumes-read : (from to : Option (List ℕ)) (bytes : List ℕ) → Consumes from to bytes → Consumes (prepend_known [] from) (prepend_known bytes to) []
+Consumes-read None to bytes read = tt
+Consumes-read (Some xs) None bytes read = absurd read
+Consumes-read (Some xs) (Some ys) bytes read = read
+
+-- what the reader gave is pending where nothing was
+pub Takes-read : (old new : Pending) (from to : Reader) → old.bytes ≡ [] → new.count ≡ old.count → Consumes from.known to.known new.bytes → Takes (input_over old from) (input_over new to) []
+Takes-read old new from to none count read = record {
+  consumes = rw none (Consumes-read from.known to.known new.bytes read);
+  counts = omega (arith, count);
+}
