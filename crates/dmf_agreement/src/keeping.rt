@@ -1,12 +1,11 @@
 //! A residual network that is kept plans what one made anew plans, on random networks.
 ghost use Rattle.std.specs.Prelude.{IfOk};
 ghost use Rattle.dmf_net.specs.Edit.{Fits};
-ghost use Rattle.dmf_net.specs.ResidualNetwork.{IsResidualOf};
+ghost use Rattle.dmf_solver.specs.ResidualNetwork.{IsResidualOf};
 
-use dmf_net::{
-    Edit, PlanFault, ResidualNetwork, State, Unwatched, plan_cap, plan_close, plan_shut,
-    plan_solve, smallest_side,
-};
+use dmf_net::{Edit, State};
+
+use dmf_solver::{PlanFault, ResidualNetwork, Unwatched, plan_cap, plan_close, plan_shut, plan_solve, smallest_side};
 use dmf_scanning::{Draws, follow, random_network};
 use std::alloc::Global;
 use std::process::Abort;

@@ -10,7 +10,7 @@ use Rattle.std.proofs.Math.Seq.{get_or-append_seam}
 use Rattle.std.proofs.lemmas.List.Folds.{list_any_at, list_any-append}
 use Rattle.std.proofs.lemmas.List.Kept.{AllPairs-from_increasing}
 use Rattle.std.proofs.lemmas.List.Sorted.{searched}
-use Rattle.dmf_path.specs.Node.{IsNode}
+use Rattle.dmf_node.specs.Node.{IsNode}
 use Rattle.dmf_net.specs.Side.{has_node}
 
 -- A node of the list stands at some place of it.

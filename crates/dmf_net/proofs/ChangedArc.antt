@@ -5,7 +5,7 @@ use Rattle.std.proofs.lemmas.Bool.Decides.{nat_tests}
 use Rattle.std.proofs.lemmas.List.Elements.{All-set}
 use Rattle.std.proofs.lemmas.List.Sums.{sum_by-set, sum_by-cons}
 use Rattle.dmf_net.specs.declared.arc.Arc.{Arc}
-use Rattle.dmf_path.specs.Node.{IsNode}
+use Rattle.dmf_node.specs.Node.{IsNode}
 use Rattle.dmf_net.specs.Arc.{IsArc, no_arc, capacity_sum}
 use Rattle.dmf_net.specs.Network.{Network, IsNetwork, arc_number, has_arc, with_arc}
 use Rattle.dmf_net.specs.Flow.{flow_on, flow_at, AreWithinCapacities, IsFlow, flow_value}

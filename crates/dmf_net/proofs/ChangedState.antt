@@ -8,7 +8,7 @@ use Rattle.dmf_net.specs.declared.arc.Arc.{Arc}
 use Rattle.dmf_net.specs.declared.flow_sums.NodeFlow.{NodeFlow}
 use Rattle.dmf_net.specs.Arc.{no_arc, with_cap, closed_arc}
 use Rattle.dmf_net.specs.Network.{Network, IsNetwork, arc_number, has_arc, with_arc}
-use Rattle.dmf_net.specs.Change.{sum_with}
+use Rattle.dmf_net.specs.Network.{sum_with}
 use Rattle.dmf_net.specs.Flow.{flow_on}
 use Rattle.dmf_net.specs.NetworkState.{NetworkState, IsState}
 use Rattle.dmf_net.specs.Totals.{KeepsTotals}

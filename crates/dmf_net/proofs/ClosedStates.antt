@@ -15,9 +15,8 @@ use Rattle.dmf_net.specs.Revert.{with_open, with_opened, Stands}
 use Rattle.dmf_net.proofs.ChangedArc.{has_arc-within}
 use Rattle.dmf_net.proofs.ChangedState.{IsState-with_arc_back}
 use Rattle.dmf_net.proofs.Changing.{within-at}
-use Rattle.dmf_net.proofs.ClosedArcs.{closed_at, open-rest, IsState-all_closed}
+use Rattle.dmf_net.proofs.ClosedArcs.{closed_at, open-rest, IsState-all_closed, AreWithoutFlow}
 use Rattle.dmf_net.proofs.ClosedTogether.{IsNetwork-closed, open-before, with_open-replaced, length-closed}
-use Rattle.dmf_net.proofs.DrainedInTurn.{AreWithoutFlow}
 
 -- The flow of a state with arcs closed is one with them open, and nothing flows on them.
 pub IsState-before_closed : (last : ℕ) (arcs : List Shutting) (n : Network) (flows : List ℕ) → IsNetwork n → AreOpenWith last arcs n → IsState (record { network = with_closed arcs n; flows = flows }) → IsState (record { network = n; flows = flows }) × AreWithoutFlow flows (numbers arcs)

@@ -7,13 +7,12 @@ use Rattle.dmf_net.specs.declared.arc.Arc.{Arc}
 use Rattle.dmf_net.specs.declared.edit.Shutting.{Shutting}
 use Rattle.dmf_net.specs.Arc.{no_arc, open_arc, closed_arc, open_arcs_at}
 use Rattle.dmf_net.specs.Edit.{AreOpenWith, IsOpenWith, numbers, with_closed}
-use Rattle.dmf_net.specs.Edited.{shuts}
+use Rattle.dmf_net.specs.Edit.{shuts}
 use Rattle.dmf_net.specs.Flow.{flow_value}
 use Rattle.dmf_net.specs.Network.{Network, IsNetwork, arc_number, has_arc, with_arc}
 use Rattle.dmf_net.specs.Revert.{with_open, with_opened}
 use Rattle.dmf_net.proofs.ChangedArc.{has_arc-within, IsNetwork-with_arc, flow_value-with_arc}
-use Rattle.dmf_net.proofs.ClosedArcs.{closed_at, HasArcs-open}
-use Rattle.dmf_net.proofs.DrainedInTurn.{HasArcs}
+use Rattle.dmf_net.proofs.ClosedArcs.{closed_at, HasArcs-open, HasArcs}
 use Rattle.dmf_net.proofs.OpenArcs.{listed_from, numbers-listed, open-listed}
 
 -- ---- one of them

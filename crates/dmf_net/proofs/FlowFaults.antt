@@ -14,7 +14,7 @@ use Rattle.dmf_net.specs.Flow.{outflow, inflow, flow_value, AreWithinCapacities,
 use Rattle.dmf_net.specs.FlowFault.{is_over_capacity, first_over_capacity, is_unbalanced, first_unbalanced, flow_fault}
 use Rattle.dmf_net.specs.FlowSums.{IsLeast, IsOverCapacity, IsUnbalanced}
 use Rattle.dmf_net.specs.NetworkState.{IsState}
-use Rattle.dmf_net.proofs.ResidualSearch.{flow-within}
+use Rattle.dmf_net.proofs.Changing.{within-at}
 
 -- the first of some numbers
 find-least : (p : ℕ → Bool) (a n v : ℕ) → a ≤ v → v < a + n → p v ≡ true → ((i : ℕ) → a ≤ i → i < v → p i ≡ false) → find p (range_with_len a n) ≡ Some v
@@ -55,7 +55,7 @@ below-told (negsuc a) less = omega (arith, ints)
 -- Where all are within their capacities, no arc is over it.
 pub none-over : (arcs : List Arc) (flows : List ℕ) → AreWithinCapacities arcs flows → first_over_capacity arcs flows ≡ None
 none-over arcs flows within =
-    find-none (is_over_capacity arcs flows) 1 (length arcs) (λ j from below. not_less-told _ _ (flow-within arcs flows (j - 1) within))
+    find-none (is_over_capacity arcs flows) 1 (length arcs) (λ j from below. not_less-told _ _ (within-at arcs flows (j - 1) within))
 
 -- the least arc over capacity
 least-over : (arcs : List Arc) (flows : List ℕ) (j : ℕ) → IsLeast (IsOverCapacity arcs flows) j → first_over_capacity arcs flows ≡ Some j

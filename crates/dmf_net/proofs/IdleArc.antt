@@ -8,7 +8,7 @@ use Rattle.std.proofs.lemmas.List.Elements.{All-push}
 use Rattle.std.proofs.lemmas.Slice.Zip.{AllZip-long, all_zipped_more}
 use Rattle.dmf_net.specs.declared.arc.Arc.{Arc}
 use Rattle.dmf_net.specs.declared.flow_sums.NodeFlow.{NodeFlow}
-use Rattle.dmf_path.specs.Node.{IsNode, is_node}
+use Rattle.dmf_node.specs.Node.{IsNode, is_node}
 use Rattle.dmf_net.specs.Arc.{IsArc, capacity_sum}
 use Rattle.dmf_net.specs.Network.{Network}
 use Rattle.dmf_net.specs.Flow.{flow_at, IsFlow, flow_value}

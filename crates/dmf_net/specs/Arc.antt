@@ -2,7 +2,7 @@
 -- Public: a public contract says no more than this.
 use Rattle.std.specs.Prelude.{ℕ, ◌≡◌, ◌+◌, ◌==◌, ◌&&◌, ◌||◌, if◌then◌else◌, Bool, List, [], ◌∷◌, true, false, not, sum_by, count_by}
 use Rattle.dmf_net.specs.declared.arc.Arc.{Arc}
-use Rattle.dmf_path.specs.Node.{IsNode}
+use Rattle.dmf_node.specs.Node.{IsNode}
 
 -- Both ends are nodes, and nothing may flow on a closed arc.
 pub record IsArc (nodes : ℕ) (arc : Arc) : Type 0 where

@@ -2,7 +2,7 @@
 -- Public: a public contract says no more than this.
 use Rattle.std.specs.Prelude.{ℕ, ◌≡◌, ◌≤◌, Bool, true, false, not, ◌&&◌, if◌then◌else◌, List, sum_by, ℤ, pos}
 use Rattle.dmf_net.specs.declared.arc.Arc.{Arc}
-use Rattle.dmf_path.specs.Node.{IsNode}
+use Rattle.dmf_node.specs.Node.{IsNode}
 use Rattle.dmf_net.specs.Network.{Network}
 
 -- A cut is a set of nodes that has the source and not the sink. A set is given by its test: whether it has a node.

@@ -4,7 +4,7 @@
 use Rattle.std.specs.Prelude.{ℕ, ◌≡◌, ◌≢◌, ◌-◌, ◌≤◌, ◌==◌, if◌then◌else◌, List, slice_index, sum_by, ℤ, pos, ◌-ℤ◌}
 use Rattle.std.specs.List.{zip, AllZip}
 use Rattle.dmf_net.specs.declared.arc.Arc.{Arc}
-use Rattle.dmf_path.specs.Node.{IsNode}
+use Rattle.dmf_node.specs.Node.{IsNode}
 use Rattle.dmf_net.specs.Network.{Network}
 
 -- the flow on arc number `j`

@@ -1,9 +1,9 @@
 -- Networks, as the textbooks have them (Ahuja, Magnanti and Orlin, Network Flows, chapter 6), with the limits
 -- of this program.
 -- Public: a public contract says no more than this.
-use Rattle.std.specs.Prelude.{ℕ, ◌≢◌, ◌-◌, ◌^◌, ◌<◌, ◌≤◌, Bool, ◌&&◌, nat_le, List, length, All, slice_index_or, slice_set}
+use Rattle.std.specs.Prelude.{ℕ, ◌≢◌, ◌+◌, ◌-◌, ◌^◌, ◌<◌, ◌≤◌, Bool, ◌&&◌, nat_le, List, length, All, slice_index_or, slice_set}
 use Rattle.dmf_net.specs.declared.arc.Arc.{Arc}
-use Rattle.dmf_path.specs.Node.{IsNode}
+use Rattle.dmf_node.specs.Node.{IsNode}
 use Rattle.dmf_net.specs.Arc.{IsArc, no_arc, capacity_sum}
 
 -- A directed network: the nodes 1 to `nodes`, of which one is the source and one the sink, and a list of arcs.
@@ -37,3 +37,7 @@ has_arc n j = nat_le 1 j && nat_le j (length n.arcs)
 abbrev pub with_arc : Network → ℕ → Arc → Network
 with_arc n j arc =
     record { nodes = n.nodes; source = n.source; sink = n.sink; arcs = slice_set n.arcs (j - 1) arc }
+
+-- the sum of the capacities with `cap` in place of that of arc number `j`
+abbrev pub sum_with : Network → ℕ → ℕ → ℕ
+sum_with n j cap = capacity_sum n.arcs - (arc_number n j).cap + cap

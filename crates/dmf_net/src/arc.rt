@@ -30,14 +30,14 @@ impl Arc {
     }
 
     /// The arc with another capacity.
-    pub(crate) fn with_cap(self, cap: u64) -> Self
+    pub fn with_cap(self, cap: u64) -> Self
         ensures { result ≡ with_cap cap self }
     {
         Arc { cap, ..self }
     }
 
     /// The arc, closed.
-    pub(crate) fn close(self) -> Self
+    pub fn close(self) -> Self
         ensures { result ≡ closed_arc self }
     {
         Arc {
@@ -48,7 +48,7 @@ impl Arc {
     }
 
     /// Whether the arc is open, and node `v` is its tail or its head.
-    pub(crate) fn is_open_at(self, v: u32) -> bool
+    pub fn is_open_at(self, v: u32) -> bool
         ensures { result ≡ is_open_at v self }
     {
         !self.closed && (self.tail == v || self.head == v)

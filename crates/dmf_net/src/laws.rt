@@ -1,4 +1,4 @@
-ghost use Rattle.dmf_net.specs.Laws.{HasSmallestSide, IsGreatestOrSurpassed, SolvedIsGreatest, HasOneOutcome, HasOutcome, HasGreatestFlow, MaxFlowMinCut, HasOneBefore, GivesBack, HasOneSmallestSide};
+ghost use Rattle.dmf_net.specs.Laws.{HasOneBefore, GivesBack};
 
 /// The law that an edit can be undone in one way alone: two states that it fits, and of which it makes the same
 /// state, are the same.
@@ -9,42 +9,4 @@ pub fn edit_has_one_state_before()
 /// The law that reverting after applying gives back the state, flows included.
 pub fn reverting_gives_back()
     ensures { GivesBack }
-{}
-
-/// The law that a change has one outcome: any two states that it makes of one state are the same.
-pub fn change_has_one_outcome()
-    ensures { HasOneOutcome }
-{}
-
-/// The law that a change which is not refused has an outcome, which is a state. So asking for the greatest flow ends on
-/// every state.
-pub fn change_has_outcome()
-    ensures { HasOutcome }
-{}
-
-/// Max-flow min-cut: every network has a greatest flow, and the value of each greatest flow is the capacity of a minimum
-/// cut.
-pub fn max_flow_min_cut()
-    ensures flow { HasGreatestFlow }
-    ensures cut { MaxFlowMinCut }
-{}
-
-/// The law that a network has one smallest side: any two lists of nodes with a capacity that are one are the same.
-pub fn network_has_one_smallest_side()
-    ensures { HasOneSmallestSide }
-{}
-
-/// The law that a network has a smallest side.
-pub fn network_has_smallest_side()
-    ensures { HasSmallestSide }
-{}
-
-/// The law that a flow is greatest, or some flow has a larger value.
-pub fn flow_is_greatest_or_surpassed()
-    ensures { IsGreatestOrSurpassed }
-{}
-
-/// The law that the flow which solving makes of a state's is greatest.
-pub fn solved_is_greatest()
-    ensures { SolvedIsGreatest }
 {}

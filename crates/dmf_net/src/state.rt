@@ -1,15 +1,13 @@
 ghost use Rattle.std.specs.Prelude.{◌≡◌, ◌≢◌, true, ◌-◌, ◌^◌, ◌<◌, ◌≤◌, pos, length, slice_get, Some, Ok, Err, IfOk};
 ghost use Rattle.std.specs.Result.{result_err};
-ghost use Rattle.dmf_path.specs.Node.{IsNode};
+ghost use Rattle.dmf_node.specs.Node.{IsNode};
 ghost use Rattle.dmf_net.specs.Arc.{open_arc, open_count};
 ghost use Rattle.dmf_net.specs.Network.{arc_number, has_arc};
 ghost use Rattle.dmf_net.specs.Flow.{flow_value};
 ghost use Rattle.dmf_net.specs.NetworkState.{IsState, without_arcs};
-ghost use Rattle.dmf_net.specs.Change.{arc_refusal};
-ghost use Rattle.dmf_net.specs.Edit.{IsOpenWith};
 
 use crate::arc::Arc;
-use crate::fault::{NoMemory, PlanFault};
+use crate::fault::NoMemory;
 use crate::flow_sums::NodeFlow;
 use std::alloc::Global;
 use std::marker::Model;
@@ -155,27 +153,12 @@ impl State {
         })
     }
 
-    /// Arc number `j`.
-    pub(crate) fn arc(&self, j: u32) -> Arc
+    /// Arc number `j`, which is from 1 to the number of arcs.
+    pub fn arc(&self, j: u32) -> Arc
         requires { has_arc self.now.network j ≡ true }
         ensures value { result ≡ arc_number self.now.network j }
         ensures state { IsState self.now }
     {
         self.arcs[j as usize - 1]
-    }
-
-    /// The number of an arc that can be changed and its capacity, or why arc number `j` cannot.
-    pub(crate) fn open_arc(&self, j: u64) -> Result<(u32, u64), PlanFault>
-        ensures refused { result_err result ≡ arc_refusal self.now.network j }
-        ensures arc { IfOk result (λ found. (found.0 ≡ j) × IsOpenWith self.now.network j found.1) }
-    {
-        if j < 1 || j > self.arcs.len() as u64 {
-            return Err(PlanFault::NoSuchArc);
-        }
-        let arc = self.arcs[j as usize - 1];
-        if arc.closed {
-            return Err(PlanFault::Closed);
-        }
-        Ok((j as u32, arc.cap))
     }
 }

@@ -1,6 +1,6 @@
 -- Links that fall, each from a lower label than the one before: no two are the same, and none is opposite to another.
 use Rattle.std.proofs.Common.{ℕ, ◌≡◌, ◌≢◌, ◌+◌, ◌<◌, ◌≤◌, List, [], ◌∷◌, ◌++◌, length, get_or, ap, sym, ◌∙◌, arith}
-use Rattle.dmf_path.specs.Node.{IsNode}
+use Rattle.dmf_node.specs.Node.{IsNode}
 use Rattle.dmf_path.specs.Links.{Links, AreLinks, tail_of}
 use Rattle.dmf_path.specs.Walk.{IsTrail, end_of}
 use Rattle.dmf_path.specs.Held.{IsOff}

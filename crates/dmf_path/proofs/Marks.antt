@@ -2,7 +2,7 @@
 use Rattle.std.proofs.Common.{ℕ, ◌≡◌, ◌+◌, ◌-◌, ◌<◌, ◌↔◌, Bool, false, IsTrue, List, length, get_or, map, drop, ap, sym, ◌∙◌, arith, length-drop}
 use Rattle.std.specs.List.{slice_index_or}
 use Rattle.std.proofs.lemmas.List.{get_or-map, get_or-drop}
-use Rattle.dmf_path.specs.Node.{IsNode}
+use Rattle.dmf_node.specs.Node.{IsNode}
 use Rattle.dmf_path.specs.Path.{IsReachable}
 use Rattle.dmf_path.specs.Pair.{steps_of}
 use Rattle.dmf_path.specs.Links.{Links, AreLinks, ArePlaces, AreRooms, open_flag, pairs_at}

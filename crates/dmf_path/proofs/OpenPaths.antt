@@ -1,7 +1,7 @@
 -- Paths of steps, as lists of links with room.
 use Rattle.std.proofs.Common.{ℕ, ◌≡◌, ◌<◌, List, [], ◌∷◌, get_or, refl, ap, sym, subst, ◌∙◌}
 use Rattle.dmf_path.specs.Step.{Step}
-use Rattle.dmf_path.specs.Node.{IsNode}
+use Rattle.dmf_node.specs.Node.{IsNode}
 use Rattle.dmf_path.specs.Path.{IsPath}
 use Rattle.dmf_path.specs.Pair.{steps_of}
 use Rattle.dmf_path.specs.Links.{Links, LiesAt, AreLinks, ArePlaces, tail_of, pairs_at}

@@ -2,7 +2,7 @@
 -- have room are one.
 use Rattle.std.proofs.Common.{ℕ, ◌≡◌, ◌+◌, ◌<◌, ◌⊎◌, inl, inr, Bool, List, [], ◌∷◌, length, get_or, take, zero, suc, ap, sym, ◌∙◌, arith, ⊎_elim}
 use Rattle.std.specs.List.{All}
-use Rattle.dmf_path.specs.Node.{IsNode}
+use Rattle.dmf_node.specs.Node.{IsNode}
 use Rattle.dmf_path.specs.Links.{Links, LiesAt, AreLinks, tail_of}
 use Rattle.dmf_path.specs.Walk.{IsAdmissible, IsWalk, AreValid, ArePassed, IsTrail, pushed_once, pushed}
 use Rattle.dmf_path.proofs.LinkPlaces.{lies-within}

@@ -1,7 +1,7 @@
 -- The ranks of links: two for each pair, in the order of the pairs.
 use Rattle.std.proofs.Common.{ℕ, ◌≡◌, ◌≢◌, ◌+◌, ◌*◌, ◌<◌, ◌≤◌, List, [], ◌∷◌, length, get_or, Bool, true, false, cond, eqb, zero, suc, refl, sym, ◌∙◌, ⊎_elim, inl, inr, arith}
 use Rattle.std.proofs.lemmas.Bool.{both_ways, eqb-true, eq-eqb, ne_eqb}
-use Rattle.dmf_path.specs.Node.{IsNode}
+use Rattle.dmf_node.specs.Node.{IsNode}
 use Rattle.dmf_path.specs.Links.{Links, LiesAt, AreLinks, IsOf, ArePlaces, no_place}
 use Rattle.dmf_path.proofs.Steps.{rank_from, rank_of}
 use Rattle.dmf_path.proofs.LinkPlaces.{lies-within, partner-other}

@@ -2,7 +2,7 @@
 use Rattle.std.proofs.Common.{ℕ, ◌≡◌, ◌≢◌, ◌+◌, ◌%◌, ◌^◌, ◌<◌, ◌≤◌, Bool, true, false, List, [], length, get_or, set, take, replicate, refl, ap, sym, ◌∙◌, subst, arith}
 use Rattle.std.proofs.lemmas.List.{length-drop, nil_from_length, get_or-replicate, length-replicate, get_or-set_same, get_or-set_other, length-set}
 use Rattle.dmf_path.specs.declared.trail.Slot.{Slot}
-use Rattle.dmf_path.specs.Node.{IsNode}
+use Rattle.dmf_node.specs.Node.{IsNode}
 use Rattle.dmf_path.specs.Links.{Links, AreLinks, ArePlaces, AreRooms, AreFlags}
 use Rattle.dmf_path.specs.Walk.{AreValid, end_of}
 use Rattle.dmf_path.specs.Held.{Way, places_of, walked_slots, rest_slots, settled, rooms_with, emptied, with_slots}

@@ -2,7 +2,7 @@
 use Rattle.std.proofs.Common.{ℕ, ◌≡◌, ◌≢◌, ◌+◌, ◌-◌, ◌%◌, ◌^◌, ◌<◌, ◌≤◌, Bool, List, [], ◌∷◌, ◌++◌, length, set, take, drop, get_or, ap, sym, ◌∙◌, subst, arith, append_assoc}
 use Rattle.std.proofs.lemmas.List.{drop_more, take_more, take_more_set, drop-set-lt, map_push, length-set}
 use Rattle.dmf_path.specs.declared.trail.Slot.{Slot}
-use Rattle.dmf_path.specs.Node.{IsNode}
+use Rattle.dmf_node.specs.Node.{IsNode}
 use Rattle.dmf_path.specs.Links.{Links, AreLinks, AreRooms, AreFlags}
 use Rattle.dmf_path.specs.Walk.{IsTrail, end_of}
 use Rattle.dmf_path.specs.Held.{Way, places_of, walked_slots, rest_slots, filled_slots, settled, rooms_with, HaveLeft, slot_at, put_once, room_left, MakesWay, free, leaves, entered, stepped_back}

@@ -1,7 +1,7 @@
 -- The walk, turn by turn: what it needs of the rooms as they are told, and what becomes of the trail and of what is held.
 use Rattle.std.proofs.Common.{ℕ, ◌≡◌, ◌≢◌, ◌+◌, ◌-◌, ◌<◌, ◌≤◌, Bool, List, [], ◌∷◌, ◌++◌, length, set, take, get_or, ap, sym, ◌∙◌, subst, arith}
 use Rattle.std.proofs.lemmas.List.{get_or_default, get_or-set_same}
-use Rattle.dmf_path.specs.Node.{IsNode}
+use Rattle.dmf_node.specs.Node.{IsNode}
 use Rattle.dmf_path.specs.Links.{Links, LiesAt, AreLinks, AreRooms, AreFlags, tail_of}
 use Rattle.dmf_path.specs.Walk.{IsWalk, IsTrail, end_of}
 use Rattle.dmf_path.specs.Held.{Way, places_of, walked_slots, IsSlot, slot_at, put_once, MakesWay, free, leaves, entered, stepped_back}

@@ -1,7 +1,7 @@
 -- Labels of nodes: how many links a node is from a root, where they are known.
 -- Private: only contracts inside the crate and proofs use this.
 use Rattle.std.specs.Prelude.{ℕ, ◌≡◌, ◌≢◌, ◌+◌, ◌<◌, ◌≤◌, ◌⊎◌, ◌==◌, not, Bool, List, length, slice_index, count_by, Contains}
-use Rattle.dmf_path.specs.Node.{IsNode}
+use Rattle.dmf_node.specs.Node.{IsNode}
 use Rattle.dmf_path.specs.Links.{Links, LiesAt, tail_of}
 
 -- what stands for the label of a node that has none; it is more than any label

@@ -1,4 +1,3 @@
-pub mod Node
 pub mod Step
 pub mod Path
 pub mod Steps

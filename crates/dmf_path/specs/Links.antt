@@ -4,7 +4,7 @@ use Rattle.std.specs.Prelude.{ℕ, ◌≡◌, ◌≢◌, ◌+◌, ◌^◌, ◌<�
 use Rattle.dmf_path.specs.declared.links.LinkTable.{LinkTable}
 use Rattle.dmf_path.specs.declared.links.Built.{Built}
 use Rattle.dmf_path.specs.declared.pair.Pair.{Pair}
-use Rattle.dmf_path.specs.Node.{IsNode}
+use Rattle.dmf_node.specs.Node.{IsNode}
 
 -- the number of nodes; where the links of each node begin, those of node 0 first; of each link the node to which it leads,
 -- and the place of the opposite link

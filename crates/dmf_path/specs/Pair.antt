@@ -2,7 +2,7 @@
 -- Public: a public contract says no more than this.
 use Rattle.std.specs.Prelude.{ℕ, ◌≡◌, ◌≢◌, ◌+◌, ◌-◌, ◌*◌, ◌^◌, ◌<◌, ◌≤◌, Bool, if◌then◌else◌, List, [], ◌∷◌, ◌++◌, length, nat_lt, slice_get, Option, Some, None}
 use Rattle.dmf_path.specs.declared.pair.Pair.{Pair}
-use Rattle.dmf_path.specs.Node.{IsNode}
+use Rattle.dmf_node.specs.Node.{IsNode}
 use Rattle.dmf_path.specs.Step.{Step}
 use Rattle.dmf_path.specs.Path.{has_rank}
 

@@ -1,7 +1,7 @@
 -- Lists of steps between nodes.
 -- Private: only contracts inside the crate and proofs use this.
 use Rattle.std.specs.Prelude.{ℕ, ◌<◌, List, All, AllPairs}
-use Rattle.dmf_path.specs.Node.{IsNode}
+use Rattle.dmf_node.specs.Node.{IsNode}
 use Rattle.dmf_path.specs.Step.{Step}
 
 -- Both ends of the step are nodes.

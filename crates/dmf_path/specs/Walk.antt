@@ -2,7 +2,7 @@
 -- current arcs, and the trail that a walk has taken.
 -- Private: only contracts inside the crate and proofs use this.
 use Rattle.std.specs.Prelude.{ℕ, ◌≡◌, ◌+◌, ◌-◌, ◌<◌, ◌≤◌, Bool, if◌then◌else◌, List, [], ◌∷◌, length, min, slice_index, slice_set}
-use Rattle.dmf_path.specs.Node.{IsNode}
+use Rattle.dmf_node.specs.Node.{IsNode}
 use Rattle.dmf_path.specs.Links.{Links, LiesAt}
 
 -- Link `p` of node `v` is admissible: it has room, and leads to a node whose label is less by one.

@@ -1,6 +1,6 @@
 //! The search for the next path: the walk goes on, or the nodes are labelled anew and it begins again.
 ghost use Rattle.std.specs.Prelude.{◌≡◌, ◌≢◌, ℕ, List, ◌+◌, ◌≤◌, true, false, [], length, take, replicate, slice_index, slice_set, vec_capacity};
-ghost use Rattle.dmf_path.specs.Node.{IsNode};
+ghost use Rattle.dmf_node.specs.Node.{IsNode};
 ghost use Rattle.dmf_path.specs.Links.{AreLinks, AreRooms, AreFlags, links_of};
 ghost use Rattle.dmf_path.specs.Labels.{no_label};
 ghost use Rattle.dmf_path.specs.Walk.{AreValid, IsWalk, end_of};

@@ -1,6 +1,6 @@
 //! What paths reach: the labels from the start, once what is held is put on, and which nodes have one.
 ghost use Rattle.std.specs.Prelude.{◌≡◌, ℕ, List, drop, length, map, IfOk};
-ghost use Rattle.dmf_path.specs.Node.{IsNode};
+ghost use Rattle.dmf_node.specs.Node.{IsNode};
 ghost use Rattle.dmf_path.specs.Links.{AreLinks, links_of, open_flag};
 ghost use Rattle.dmf_path.specs.Labels.{AreLabels, is_label};
 ghost use Rattle.dmf_path.specs.Held.{way_of, rooms_with};

@@ -1,6 +1,6 @@
 //! Nothing is held for a link any more, so that its room can be changed.
 ghost use Rattle.std.specs.Prelude.{◌≡◌, ℕ, List, ◌+◌, ◌<◌, ◌==◌, length, slice_index, vec_capacity};
-ghost use Rattle.dmf_path.specs.Node.{IsNode};
+ghost use Rattle.dmf_node.specs.Node.{IsNode};
 ghost use Rattle.dmf_path.specs.Links.{AreLinks, links_of, tail_of};
 ghost use Rattle.dmf_path.specs.Held.{way_of, places_of, filled_slots, rooms_with, IsOff};
 ghost use Rattle.dmf_path.specs.Searching.{IsHolding, IsUnderWay};

@@ -1,6 +1,6 @@
 //! The search for least paths, one after the other, from one node to another.
 ghost use Rattle.std.specs.Prelude.{◌≡◌, ◌≢◌, ℕ, ◌+◌, ◌-◌, ◌^◌, ◌≤◌, ◌<◌, ◌↔◌, false, IsTrue, length, slice_index_or, IfOk, MatchOption, None};
-ghost use Rattle.dmf_path.specs.Node.{IsNode};
+ghost use Rattle.dmf_node.specs.Node.{IsNode};
 ghost use Rattle.dmf_path.specs.Path.{HasNoPath, IsReachable};
 ghost use Rattle.dmf_path.specs.Pair.{ArePairs, steps_of};
 ghost use Rattle.dmf_path.specs.Passed.{Passes};

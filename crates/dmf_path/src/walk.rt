@@ -1,6 +1,6 @@
 //! The walk from the start to the goal, along admissible links.
 ghost use Rattle.std.specs.Prelude.{◌≡◌, ◌≢◌, ℕ, true, false, List, ◌+◌, ◌-◌, ◌≤◌, ◌<◌, length, slice_index, vec_capacity};
-ghost use Rattle.dmf_path.specs.Node.{IsNode};
+ghost use Rattle.dmf_node.specs.Node.{IsNode};
 ghost use Rattle.dmf_path.specs.Links.{AreLinks, links_of};
 ghost use Rattle.dmf_path.specs.Walk.{IsWalk, end_of};
 ghost use Rattle.dmf_path.specs.Held.{way_of, places_of, walked_slots, rooms_with, slot_at};

@@ -1,6 +1,7 @@
 //! Tests of draining.
 use crate::networks::{coming_back, going_round, self_loop};
-use dmf_net::{Arc, Edit, NetFault, PlanFault, State, plan_cap, plan_close};
+use dmf_net::{Arc, Edit, NetFault, State};
+use dmf_solver::{PlanFault, plan_cap, plan_close};
 use dmf_scanning::listed;
 use std::alloc::Global;
 use std::process::Abort;

@@ -1,8 +1,10 @@
 //! Tests that a residual network that is kept follows edits, or is let go.
 ghost use Rattle.std.specs.Prelude.{IfOk};
-ghost use Rattle.dmf_net.specs.ResidualNetwork.{IsResidualOf};
+ghost use Rattle.dmf_solver.specs.ResidualNetwork.{IsResidualOf};
 
-use dmf_net::{Edit, ResidualNetwork, State, Unwatched, plan_add, plan_cap};
+use dmf_net::{Edit, State};
+
+use dmf_solver::{ResidualNetwork, Unwatched, plan_add, plan_cap};
 use dmf_scanning::{follow, listed, solved_example};
 use std::alloc::Global;
 use std::test::Fail;

@@ -1,7 +1,9 @@
 //! Tests that edits which are taken back leave the states that were there.
 ghost use Rattle.std.specs.Prelude.{◌≡◌, IfOk};
 
-use dmf_net::{State, plan_add, plan_cap, plan_close, plan_solve};
+use dmf_net::State;
+
+use dmf_solver::{plan_add, plan_cap, plan_close, plan_solve};
 use dmf_scanning::{apply, example, revert};
 use std::alloc::Global;
 use std::process::Abort;

@@ -3,7 +3,8 @@ ghost use Rattle.std.specs.Prelude.{IfOk};
 ghost use Rattle.dmf_net.specs.Edit.{Fits};
 
 use crate::networks::flowing_tangle;
-use dmf_net::{Edit, PlanFault, State, plan_close, plan_shut, side_after};
+use dmf_net::{Edit, State};
+use dmf_solver::{PlanFault, plan_close, plan_shut, side_after};
 use dmf_scanning::{apply, network, revert, shut_edit, solved_example};
 use std::alloc::Global;
 use std::process::Abort;

@@ -1,10 +1,9 @@
 //! Tests of smallest sides.
 ghost use Rattle.dmf_net.specs.Edit.{Fits};
 
-use dmf_net::{
-    CutFault, Edit, Side, State, is_greatest, plan_solve, plan_solve_with_side, side_after,
-    smallest_side,
-};
+use dmf_net::{Edit, Side, State};
+
+use dmf_solver::{CutFault, is_greatest, plan_solve, plan_solve_with_side, side_after, smallest_side};
 use dmf_scanning::{example, network, solved_example};
 use std::alloc::Global;
 use std::test::Fail;

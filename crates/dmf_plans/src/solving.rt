@@ -1,5 +1,6 @@
 //! Tests of solving.
-use dmf_net::{Edit, plan_solve};
+use dmf_net::Edit;
+use dmf_solver::plan_solve;
 use dmf_scanning::{detour, listed, solved_example};
 use std::test::Fail;
 

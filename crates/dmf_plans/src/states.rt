@@ -1,6 +1,7 @@
 //! Tests of building states, of reading them, and of adding arcs.
 use crate::networks::self_loop;
-use dmf_net::{Arc, Edit, FlowFault, NetFault, PlanFault, State, plan_add};
+use dmf_net::{Arc, Edit, FlowFault, NetFault, State};
+use dmf_solver::{PlanFault, plan_add};
 use dmf_scanning::{example, flowing, network};
 use std::alloc::Global;
 use std::process::Abort;

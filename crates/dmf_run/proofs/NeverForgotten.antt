@@ -5,9 +5,9 @@ use Rattle.std.specs.Option.{MatchOption}
 use Rattle.std.proofs.lemmas.List.{length_push, length-take-le, length-drop}
 use Rattle.std.proofs.lemmas.Bool.{leb-true}
 use Rattle.dmf_net.specs.NetworkState.{NetworkState}
-use Rattle.dmf_net.specs.declared.fault.PlanFault.{PlanFault}
-use Rattle.dmf_net.specs.Change.{change_fault}
-use Rattle.dmf_net.specs.Change as change
+use Rattle.dmf_solver.specs.declared.fault.PlanFault.{PlanFault}
+use Rattle.dmf_solver.specs.Change.{change_fault}
+use Rattle.dmf_solver.specs.Change as change
 use Rattle.dmf_session.specs.declared.command.Command.{Command}
 use Rattle.dmf_session.specs.declared.command.Command.TheVariants.{Cap, Add, Close, Shut, Solve, Undo, Redo, PrintProblem, PrintFlow, PrintCut}
 use Rattle.dmf_session.specs.declared.command.Reply.{Reply}

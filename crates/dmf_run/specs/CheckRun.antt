@@ -4,7 +4,7 @@
 use Rattle.std.specs.Prelude.{ℕ, ◌≡◌, ◌⊎◌, List, [], ◌∷◌, Bool, true, false, Option, Some, None, Result, Ok, Err, IfOk, codes, decimal, nat_abs, if◌then◌else◌}
 use Rattle.std.specs.Io.KnownBytes.{Consumes}
 use Rattle.dmf_net.specs.Flow.{flow_value}
-use Rattle.dmf_net.specs.Greatest.{IsGreatest, IsSurpassed}
+use Rattle.dmf_solver.specs.Greatest.{IsGreatest, IsSurpassed}
 use Rattle.dmf_net.specs.NetworkState.{NetworkState}
 use Rattle.dmf_text.specs.declared.fault.SolutionFault.{SolutionFault}
 use Rattle.dmf_text.specs.Solution.{solution_of}

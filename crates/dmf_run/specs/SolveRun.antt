@@ -4,7 +4,7 @@
 use Rattle.std.specs.Prelude.{ℕ, ◌≡◌, List, Bool, Option, Result, Ok, Err}
 use Rattle.std.specs.Io.KnownBytes.{Consumes}
 use Rattle.dmf_net.specs.NetworkState.{NetworkState}
-use Rattle.dmf_net.specs.Change.{Solve, Becomes}
+use Rattle.dmf_solver.specs.Change.{Solve, Becomes}
 use Rattle.dmf_net.specs.Side.{CutSide}
 use Rattle.dmf_session.specs.Step.{IsSideWanted}
 use Rattle.dmf_text.specs.Writing.{Writes}

@@ -1,6 +1,6 @@
 ghost use Rattle.dmf_run.specs.Laws.{HasRun, HasOneRun, StepsAreAnswers, SolvesAreOptimal, RunsAreOptimal, WrittenIsOptimal, MillionIsNeverForgotten};
 
-use dmf_net::solved_is_greatest;
+use dmf_solver::solved_is_greatest;
 use dmf_session::{
     command_has_answer, command_has_one_answer, greatest_is_optimal, solved_is_optimal,
 };

@@ -11,7 +11,7 @@ use crate::input::{Input, Next};
 use crate::kept_line::KeptLine;
 use crate::problem::read_state;
 use crate::reply::{Answer, refuse, show};
-use dmf_net::{Unwatched, Watch};
+use dmf_solver::{Unwatched, Watch};
 use dmf_session::{Command, DeltaHistory, History, MAX_BOUND, Session};
 use dmf_text::{Sink, Source, WriteFault};
 use std::alloc::Global;

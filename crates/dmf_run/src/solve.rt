@@ -1,6 +1,6 @@
 //! A problem is solved, from bytes to bytes.
 ghost use Rattle.std.specs.Prelude.{IfOk};
-ghost use Rattle.dmf_net.specs.Change.{Solve, Becomes};
+ghost use Rattle.dmf_solver.specs.Change.{Solve, Becomes};
 ghost use Rattle.dmf_net.specs.Edit.{applied, Fits};
 ghost use Rattle.dmf_session.specs.Step.{IsSideWanted};
 ghost use Rattle.dmf_run.specs.Streams.{reader_of, writer_of};
@@ -11,10 +11,8 @@ use crate::fault::{EngineFault, Status};
 use crate::laws::written_is_optimal;
 use crate::problem::read_state;
 use crate::reply::put_solved;
-use dmf_net::{
-    Edit, NoMemory, PlanFault, Side, State, Unwatched, Watch, plan_solve_watched,
-    plan_solve_with_side_watched,
-};
+use dmf_net::{Edit, NoMemory, Side, State};
+use dmf_solver::{PlanFault, Unwatched, Watch, plan_solve_watched, plan_solve_with_side_watched};
 use dmf_text::{Sink, Source};
 use std::alloc::Global;
 

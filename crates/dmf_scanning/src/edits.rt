@@ -1,9 +1,11 @@
 //! Edits that tests expect, and what tests do with edits.
 ghost use Rattle.std.specs.Prelude.{◌≡◌, IfOk};
 ghost use Rattle.dmf_net.specs.Edit.{applied, Fits};
-ghost use Rattle.dmf_net.specs.ResidualNetwork.{IsResidualOf};
+ghost use Rattle.dmf_solver.specs.ResidualNetwork.{IsResidualOf};
 
-use dmf_net::{Edit, Move, ResidualNetwork, Shutting, State, reverting_gives_back};
+use dmf_net::{Edit, Move, Shutting, State, reverting_gives_back};
+
+use dmf_solver::ResidualNetwork;
 use std::alloc::{AllocError, Global};
 use std::test::Fail;
 

@@ -1,8 +1,10 @@
 //! Networks that tests begin with.
 ghost use Rattle.std.specs.Prelude.{◌≢◌, ◌^◌, ◌≤◌};
-ghost use Rattle.dmf_path.specs.Node.{IsNode};
+ghost use Rattle.dmf_node.specs.Node.{IsNode};
 
-use dmf_net::{State, plan_solve};
+use dmf_net::State;
+
+use dmf_solver::plan_solve;
 use std::alloc::Global;
 use std::test::Fail;
 

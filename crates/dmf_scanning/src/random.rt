@@ -1,6 +1,6 @@
 //! Numbers and networks that look random, the same in each run.
 ghost use Rattle.std.specs.Prelude.{◌+◌, ◌^◌, ◌<◌, ◌≤◌};
-ghost use Rattle.dmf_path.specs.Node.{IsNode};
+ghost use Rattle.dmf_node.specs.Node.{IsNode};
 
 use dmf_net::State;
 use std::alloc::Global;

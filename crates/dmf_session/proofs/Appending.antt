@@ -7,11 +7,11 @@ use Rattle.std.proofs.lemmas.List.Elements.{All-get_or}
 use Rattle.std.proofs.lemmas.Option.{get_or_from_slice_get, slice_get-get_or, slice_get_cases, slice_get_within}
 use Rattle.std.specs.List.{slice_get}
 use Rattle.dmf_net.specs.declared.edit.Edit.{Edit}
-use Rattle.dmf_net.specs.declared.fault.PlanFault.{PlanFault}
-use Rattle.dmf_net.specs.declared.fault.PlanFault.TheVariants.{NoMemory}
+use Rattle.dmf_solver.specs.declared.fault.PlanFault.{PlanFault}
+use Rattle.dmf_solver.specs.declared.fault.PlanFault.TheVariants.{NoMemory}
 use Rattle.dmf_net.specs.Flow.{flow_value}
 use Rattle.dmf_net.specs.NetworkState.{NetworkState, IsState}
-use Rattle.dmf_net.specs.Change.{Change, change_fault, Becomes}
+use Rattle.dmf_solver.specs.Change.{Change, change_fault, Becomes}
 use Rattle.dmf_net.specs.Edit.{applied}
 use Rattle.dmf_session.specs.declared.command.Reply.{Reply}
 use Rattle.dmf_session.specs.declared.command.Reply.TheVariants.{Value, Added}

@@ -3,7 +3,7 @@ use Rattle.std.proofs.Common.{Option, Some, IfSome, sym, subst}
 use Rattle.dmf_path.specs.Search.{Searched}
 use Rattle.dmf_net.specs.declared.edit.Edit.{Edit}
 use Rattle.dmf_net.specs.NetworkState.{NetworkState}
-use Rattle.dmf_net.specs.ResidualNetwork.{IsResidualOf}
+use Rattle.dmf_solver.specs.ResidualNetwork.{IsResidualOf}
 use Rattle.dmf_session.specs.Timeline.{Timeline, IsPresent, Appends}
 use Rattle.dmf_session.specs.Kept.{KeepsPresent, KeepsApplied}
 use Rattle.dmf_session.proofs.Appending.{one-present, now-present}

@@ -2,13 +2,13 @@
 use Rattle.std.proofs.Common.{◌≡◌, length, Bool, true, false, Option, Some, None, Result, Ok, Err, ◌⊎◌, inl, inr, ⊎_elim, refl, sym, ap, ◌∙◌, subst, nat_le}
 use Rattle.std.specs.Bool.{MatchBool}
 use Rattle.std.specs.Option.{MatchOption}
-use Rattle.dmf_net.specs.declared.fault.PlanFault.{PlanFault}
+use Rattle.dmf_solver.specs.declared.fault.PlanFault.{PlanFault}
 use Rattle.dmf_net.specs.Network.{Network}
 use Rattle.dmf_net.specs.NetworkState.{NetworkState, IsState}
-use Rattle.dmf_net.specs.Greatest.{IsGreatest, IsSurpassed}
+use Rattle.dmf_solver.specs.Greatest.{IsGreatest, IsSurpassed}
 use Rattle.dmf_net.specs.Side.{CutSide, IsSmallestSide}
-use Rattle.dmf_net.specs.Change.{Change, change_fault}
-use Rattle.dmf_net.specs.Change as change
+use Rattle.dmf_solver.specs.Change.{Change, change_fault}
+use Rattle.dmf_solver.specs.Change as change
 use Rattle.dmf_session.specs.declared.command.Command.TheVariants.{Cap, Add, Close, Shut, Solve, Undo, Redo, PrintProblem, PrintFlow, PrintCut}
 use Rattle.dmf_session.specs.declared.command.Reply.{Reply}
 use Rattle.dmf_session.specs.declared.command.Reply.TheVariants.{Value, Added, Solution, Cut}
@@ -19,7 +19,7 @@ use Rattle.dmf_session.specs.Step.{Changes, IsChanged, IsRefused, IsMoved, IsSol
 use Rattle.dmf_session.specs.Laws.{HasStates, HasOneAnswer}
 use Rattle.dmf_session.proofs.Optimal.{not-surpassed}
 use Rattle.dmf_session.proofs.Appending.{one-present, is-state}
-use Rattle.dmf_net.specs.Laws.{HasOneSmallestSide, HasOneOutcome}
+use Rattle.dmf_solver.specs.Laws.{HasOneSmallestSide, HasOneOutcome}
 
 -- what is so of networks
 pub record NetworkOneLaws : Type 0 where

@@ -5,12 +5,12 @@ use Rattle.std.proofs.lemmas.Option.{slice_get_within}
 use Rattle.dmf_net.specs.Network.{Network, IsNetwork}
 use Rattle.dmf_net.specs.NetworkState.{NetworkState}
 use Rattle.dmf_net.specs.declared.edit.Edit.{Edit}
-use Rattle.dmf_net.specs.Change.{Becomes}
-use Rattle.dmf_net.specs.Change as change
+use Rattle.dmf_solver.specs.Change.{Becomes}
+use Rattle.dmf_solver.specs.Change as change
 use Rattle.dmf_net.specs.Edit.{applied, Fits}
-use Rattle.dmf_net.specs.Greatest.{IsGreatest, IsSurpassed}
+use Rattle.dmf_solver.specs.Greatest.{IsGreatest, IsSurpassed}
 use Rattle.dmf_net.specs.Cut.{IsMinimumCut, cut_capacity}
-use Rattle.dmf_net.specs.Laws.{SolvedIsGreatest, MaxFlowMinCut}
+use Rattle.dmf_solver.specs.Laws.{SolvedIsGreatest, MaxFlowMinCut}
 use Rattle.dmf_session.specs.Timeline.{Timeline, IsPresent, appended, Appends}
 use Rattle.dmf_session.specs.Optimal.{IsOptimal, HasOptimalPresent}
 use Rattle.dmf_session.specs.Laws.{SolvedIsOptimal, GreatestIsOptimal}

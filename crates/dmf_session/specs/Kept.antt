@@ -5,7 +5,7 @@ use Rattle.dmf_path.specs.Search.{Searched}
 use Rattle.dmf_net.specs.declared.edit.Edit.{Edit}
 use Rattle.dmf_net.specs.Edit.{applied}
 use Rattle.dmf_net.specs.NetworkState.{NetworkState}
-use Rattle.dmf_net.specs.ResidualNetwork.{IsResidualOf}
+use Rattle.dmf_solver.specs.ResidualNetwork.{IsResidualOf}
 use Rattle.dmf_session.specs.Timeline.{Timeline, IsPresent}
 
 -- Where a network is kept, it is that of the present state.

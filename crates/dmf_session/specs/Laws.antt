@@ -4,7 +4,7 @@
 use Rattle.std.specs.Prelude.{ℕ, ◌≡◌, ◌≢◌, ◌<◌, length, All, Bool, Result, Ok, Err}
 use Rattle.dmf_net.specs.Network.{IsNetwork}
 use Rattle.dmf_net.specs.NetworkState.{NetworkState, IsState}
-use Rattle.dmf_net.specs.Greatest.{IsGreatest}
+use Rattle.dmf_solver.specs.Greatest.{IsGreatest}
 use Rattle.dmf_session.specs.declared.command.Command.{Command}
 use Rattle.dmf_session.specs.declared.command.Command.TheVariants.{Solve, Undo}
 use Rattle.dmf_session.specs.declared.command.Reply.{Reply}

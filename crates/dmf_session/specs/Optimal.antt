@@ -3,7 +3,7 @@
 use Rattle.std.specs.Prelude.{◌≡◌, pos}
 use Rattle.dmf_net.specs.Flow.{flow_value}
 use Rattle.dmf_net.specs.NetworkState.{NetworkState}
-use Rattle.dmf_net.specs.Greatest.{IsGreatest}
+use Rattle.dmf_solver.specs.Greatest.{IsGreatest}
 use Rattle.dmf_net.specs.Cut.{HasMinimumCutOf}
 use Rattle.dmf_net.specs.Side.{CutSide, IsSmallestSide}
 use Rattle.dmf_session.specs.Timeline.{Timeline, IsPresent}

@@ -1,17 +1,17 @@
 -- What a command makes of a timeline, and what it answers.
 -- Public: a public contract says no more than this.
 use Rattle.std.specs.Prelude.{ℕ, ◌≡◌, ◌+◌, ◌<◌, ◌≤◌, length, nat_abs, nat_le, Bool, true, false, Option, Some, None, Result, Ok, Err, MatchOption, MatchBool}
-use Rattle.dmf_net.specs.declared.fault.PlanFault.{PlanFault}
-use Rattle.dmf_net.specs.declared.fault.PlanFault.TheVariants as plan
-use Rattle.dmf_net.specs.declared.fault.CutFault.{CutFault}
-use Rattle.dmf_net.specs.declared.fault.CutFault.TheVariants as cut
+use Rattle.dmf_solver.specs.declared.fault.PlanFault.{PlanFault}
+use Rattle.dmf_solver.specs.declared.fault.PlanFault.TheVariants as plan
+use Rattle.dmf_solver.specs.declared.fault.CutFault.{CutFault}
+use Rattle.dmf_solver.specs.declared.fault.CutFault.TheVariants as cut
 use Rattle.dmf_net.specs.Flow.{flow_value}
 use Rattle.dmf_net.specs.Network.{Network}
 use Rattle.dmf_net.specs.NetworkState.{NetworkState}
-use Rattle.dmf_net.specs.Greatest.{IsGreatest, IsSurpassed}
+use Rattle.dmf_solver.specs.Greatest.{IsGreatest, IsSurpassed}
 use Rattle.dmf_net.specs.Side.{CutSide, IsSmallestSide}
-use Rattle.dmf_net.specs.Change.{Change, change_fault, Becomes}
-use Rattle.dmf_net.specs.Change as change
+use Rattle.dmf_solver.specs.Change.{Change, change_fault, Becomes}
+use Rattle.dmf_solver.specs.Change as change
 use Rattle.dmf_session.specs.declared.command.Command.{Command}
 use Rattle.dmf_session.specs.declared.command.Command.TheVariants.{Cap, Add, Close, Shut, Solve, Undo, Redo, PrintProblem, PrintFlow, PrintCut}
 use Rattle.dmf_session.specs.declared.command.Reply.{Reply}

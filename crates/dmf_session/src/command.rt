@@ -1,4 +1,5 @@
-use dmf_net::{CutFault, NoMemory, PlanFault, Side};
+use dmf_net::{NoMemory, Side};
+use dmf_solver::{CutFault, PlanFault};
 use thiserror::Error;
 
 /// What a session is asked to do.

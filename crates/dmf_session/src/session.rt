@@ -4,19 +4,17 @@ ghost use Rattle.dmf_session.specs.declared.history.RedoFault.TheVariants as red
 ghost use Rattle.dmf_session.specs.Timeline.{IsTimeline, IsPresent, future_of, back, forward, FitsPresent, Appends, AddsArcs};
 ghost use Rattle.dmf_session.specs.Step.{Answers, IsSideWanted};
 ghost use Rattle.dmf_session.specs.Kept.{KeepsPresent, KeepsApplied};
-ghost use Rattle.dmf_net.specs.ResidualNetwork.{IsResidualOf};
+ghost use Rattle.dmf_solver.specs.ResidualNetwork.{IsResidualOf};
 ghost use Rattle.dmf_net.specs.Edit.{applied};
-ghost use Rattle.dmf_net.specs.Planning.{PlansSolve};
+ghost use Rattle.dmf_solver.specs.Planning.{PlansSolve};
 ghost use Rattle.dmf_session.specs.Optimal.{HasOptimalPresent};
 
 use crate::command::{Command, Refusal, Reply};
 use crate::history::{History, RedoFault};
 use crate::kept::{kept_after, kept_before};
 use crate::laws::greatest_is_optimal;
-use dmf_net::{
-    Edit, NoMemory, PlanFault, ResidualNetwork, Side, State, Unwatched, Watch, plan_add, plan_cap,
-    plan_close, plan_shut, smallest_side,
-};
+use dmf_net::{Edit, NoMemory, Side, State};
+use dmf_solver::{PlanFault, ResidualNetwork, Unwatched, Watch, plan_add, plan_cap, plan_close, plan_shut, smallest_side};
 use std::alloc::Global;
 use std::marker::Model;
 

@@ -11,7 +11,7 @@ use Rattle.std.specs.Result.{result_unwrap_or}
 use Rattle.std.specs.Str.{bytes_eq}
 use Rattle.std.specs.Str.Lines.{lines}
 use Rattle.dmf_net.specs.declared.arc.Arc.{Arc}
-use Rattle.dmf_path.specs.Node.{IsNode, is_node}
+use Rattle.dmf_node.specs.Node.{IsNode, is_node}
 use Rattle.dmf_net.specs.Arc.{IsArc, open_arc, capacity_sum}
 use Rattle.dmf_net.specs.Flow.{flow_at, AreWithinCapacities}
 use Rattle.dmf_net.specs.NetworkState.{NetworkState, IsState}

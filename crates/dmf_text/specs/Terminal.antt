@@ -1,7 +1,7 @@
 -- The terminals that node lines name.
 -- Private: only contracts inside the crate and proofs use this.
 use Rattle.std.specs.Prelude.{ℕ, ◌≡◌, List, Ok, true, codes}
-use Rattle.dmf_path.specs.Node.{is_node}
+use Rattle.dmf_node.specs.Node.{is_node}
 use Rattle.dmf_text.specs.declared.terminal.Terminal.{Terminal}
 use Rattle.dmf_text.specs.declared.terminal.Terminal.TheVariants.{Source, Sink}
 use Rattle.dmf_text.specs.Judging.{field, number_at}

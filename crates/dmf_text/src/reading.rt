@@ -1,7 +1,7 @@
 //! The lines of a problem text, taken one after the other.
 ghost use Rattle.std.specs.Prelude.{◌≡◌, ◌≢◌, ◌≤◌, ◌&&◌, ◌∷◌, [], ℕ, false, true, codes, length, replicate, is_some, IsTrue, MatchResult, Ok, Err, Some, None, ◌^◌};
 ghost use Rattle.std.specs.Option.{ForSome};
-ghost use Rattle.dmf_path.specs.Node.{is_node};
+ghost use Rattle.dmf_node.specs.Node.{is_node};
 
 use crate::digits::number;
 use crate::exact_fields::three_fields;

@@ -1,5 +1,6 @@
 //! Sessions by their commands: what is answered, and which states are there then.
-use dmf_net::{Arc, NetFault, State, plan_cap};
+use dmf_net::{Arc, NetFault, State};
+use dmf_solver::plan_cap;
 use dmf_session::{Command, DeltaHistory, History, Refusal, Reply, Session, WholeHistory};
 use std::alloc::Global;
 use std::process::Abort;

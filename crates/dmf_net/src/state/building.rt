@@ -1,12 +1,12 @@
 //! A state is built: arcs are appended, and a flow is put on.
 ghost use Rattle.std.specs.Prelude.{◌≡◌, false, ◌+◌, ◌-◌, ◌<◌, ◌⊎◌, length, Some, Ok, Err, IfOk, OnOk, OnErr, IsErrOf, IsOkUnless, MatchOption};
 ghost use Rattle.std.specs.Result.{result_err};
-ghost use Rattle.dmf_path.specs.Node.{is_node};
+ghost use Rattle.dmf_node.specs.Node.{is_node};
 ghost use Rattle.dmf_net.specs.Arc.{open_arc};
 ghost use Rattle.dmf_net.specs.FlowSums.{IsNodeFlow};
 ghost use Rattle.dmf_net.specs.FlowFault.{flow_fault};
 ghost use Rattle.dmf_net.specs.NetworkState.{IsState, with_flows, with_idle_arc};
-ghost use Rattle.dmf_net.specs.Change.{arc_fault, net_fault};
+ghost use Rattle.dmf_net.specs.ArcFault.{arc_fault, net_fault};
 
 use crate::arc::Arc;
 use crate::fault::{ArcFault, FlowFault, NetFault, NoMemory};
@@ -76,7 +76,7 @@ impl State {
     }
 
     /// The open arc from `tail` to `head`, or the first reason why the network cannot take it.
-    pub(crate) fn new_arc(&self, tail: u64, head: u64, cap: u64) -> Result<Arc, ArcFault>
+    pub fn new_arc(&self, tail: u64, head: u64, cap: u64) -> Result<Arc, ArcFault>
         ensures fault { result_err result ≡ arc_fault self.now.network tail head cap }
         ensures arc { IfOk result (λ arc. arc ≡ open_arc tail head cap) }
         ensures fits { IfOk result (λ arc. IsState (with_idle_arc self.now arc)) }

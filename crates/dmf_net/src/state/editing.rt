@@ -60,7 +60,7 @@ impl State {
     }
 
     /// The largest capacity that can stand in the place of one of these.
-    pub(crate) fn largest_cap(&self, old: u64) -> u64
+    pub fn largest_cap(&self, old: u64) -> u64
         requires { old ≤ capacity_sum self.now.network.arcs }
         ensures { result + (capacity_sum self.now.network.arcs - old) + 1 ≡ 2 ^ 64 }
     {

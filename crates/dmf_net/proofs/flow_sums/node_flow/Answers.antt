@@ -1,6 +1,6 @@
 use Rattle.std.proofs.Common.{get_or}
 use Rattle.dmf_net.specs.declared.arc.Arc.{Arc}
-use Rattle.dmf_net.proofs.EditedState.{sum-next, added-there, added-elsewhere, next-small, sums-whole}
+use Rattle.dmf_net.proofs.NodeSums.{sum-next, added-there, added-elsewhere, next-small, sums-whole}
 use Rattle.dmf_net.proofs.flow_sums.node_flow.Goals.{then-arc-node, else-arc-node, then-arc-node-2, else-arc-node-2}
 use Rattle.dmf_net.proofs.flow_sums.node_flow.Goals as goal
 

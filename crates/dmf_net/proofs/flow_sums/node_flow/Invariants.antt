@@ -1,4 +1,4 @@
-use Rattle.dmf_net.proofs.EditedState.{IsNodeFlowSoFar}
+use Rattle.dmf_net.proofs.NodeSums.{IsNodeFlowSoFar}
 use Rattle.dmf_net.proofs.flow_sums.node_flow.Given as goal
 
 abbrev pub invariant-loop-i : goal.invariant-loop-i

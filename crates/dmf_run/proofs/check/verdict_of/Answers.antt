@@ -1,7 +1,7 @@
 use Rattle.std.proofs.Common.{◌≡◌, ◌↔◌, Bool, true, false, Result, Ok, Err, IfOk, refl}
 use Rattle.std.specs.Bool.{IsTrue}
 use Rattle.dmf_net.specs.NetworkState.{NetworkState}
-use Rattle.dmf_net.specs.Greatest.{IsGreatest, IsSurpassed}
+use Rattle.dmf_solver.specs.Greatest.{IsGreatest, IsSurpassed}
 use Rattle.dmf_run.specs.CheckRun.{IsVerdict}
 use Rattle.dmf_run.proofs.check.verdict_of.Goals as goal
 

@@ -1,5 +1,5 @@
 use Rattle.std.proofs.Common.{IfSome, subst}
-use Rattle.dmf_net.specs.ResidualNetwork.{IsResidualOf}
+use Rattle.dmf_solver.specs.ResidualNetwork.{IsResidualOf}
 use Rattle.dmf_session.proofs.kept.kept_before.Goals as goal
 
 pub follow_back-requires-clause-residual : goal.follow_back-requires-clause-residual

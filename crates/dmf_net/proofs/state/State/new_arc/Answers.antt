@@ -1,5 +1,5 @@
 use Rattle.std.proofs.Common.{◌≡◌, true, arith, subst, rules}
-use Rattle.dmf_path.specs.Node.{is_node}
+use Rattle.dmf_node.specs.Node.{is_node}
 use Rattle.dmf_net.specs.Arc.{IsArc, open_arc}
 use Rattle.dmf_net.specs.NetworkState.{IsState, with_idle_arc}
 use Rattle.dmf_net.proofs.IdleArc.{IsState-idle, IsNode-is_node}

@@ -1,6 +1,6 @@
 use Rattle.std.proofs.Common.{length, ap, subst, Ok, MatchOption}
 use Rattle.dmf_net.specs.NetworkState.{NetworkState}
-use Rattle.dmf_net.specs.Change as change
+use Rattle.dmf_solver.specs.Change as change
 use Rattle.dmf_session.specs.declared.command.Reply.TheVariants.{Added}
 use Rattle.dmf_session.specs.Step.{IsChanged, IsRefused, refusal_of, value_of}
 use Rattle.dmf_session.proofs.Appending.{IsChanged-added}

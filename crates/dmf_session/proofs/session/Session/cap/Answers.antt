@@ -1,4 +1,4 @@
-use Rattle.dmf_net.specs.Change as change
+use Rattle.dmf_solver.specs.Change as change
 use Rattle.dmf_session.proofs.Appending.{Changes-valued}
 use Rattle.dmf_session.proofs.session.Session.cap.Goals as goal
 

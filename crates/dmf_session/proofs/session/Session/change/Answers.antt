@@ -1,5 +1,5 @@
 use Rattle.std.proofs.Common.{IfSome, sym, subst, ◌∙◌}
-use Rattle.dmf_net.specs.ResidualNetwork.{IsResidualOf}
+use Rattle.dmf_solver.specs.ResidualNetwork.{IsResidualOf}
 use Rattle.dmf_session.proofs.session.Session.change.Goals as goal
 
 pub follow-kept-requires-clause-residual : goal.follow-kept-requires-clause-residual

@@ -1,7 +1,7 @@
 use Rattle.std.proofs.Common.{Some, IfOk, sym, subst, ◌∙◌}
 use Rattle.std.proofs.lemmas.Result.{IfOk-weaker}
 use Rattle.dmf_path.specs.Search.{Searched}
-use Rattle.dmf_net.specs.ResidualNetwork.{IsResidualOf}
+use Rattle.dmf_solver.specs.ResidualNetwork.{IsResidualOf}
 use Rattle.dmf_session.specs.Kept.{KeepsPresent}
 use Rattle.dmf_session.proofs.Keeping.{KeepsPresent-one}
 use Rattle.dmf_session.proofs.session.Session.take_network.Goals.{in-Some, in-None}

@@ -1,6 +1,0 @@
-use Rattle.dmf_net.specs.Edit.{moved}
-use Rattle.dmf_net.proofs.EditedState.{ArePut}
-use Rattle.dmf_net.proofs.edited.put_moves.Given as goal
-
-abbrev pub invariant-loop-m : goal.invariant-loop-m
-invariant-loop-m l = ArePut l.moves (moved l.moves l.initial.flows) l.m-index l.flows

@@ -1,6 +1,0 @@
-use Rattle.std.proofs.Common.{drop}
-use Rattle.dmf_net.proofs.Followed.{AreShutUpTo, shut_along}
-use Rattle.dmf_net.proofs.following.put_capacities.Given as goal
-
-abbrev pub invariant-loop-shutting : goal.invariant-loop-shutting
-invariant-loop-shutting l = AreShutUpTo l.direction l.state.network (shut_along l.direction l.shutting-items l.state.network) (drop l.shutting-index l.shutting-items) l.fn.search l.search

@@ -1,5 +1,0 @@
-use Rattle.dmf_net.proofs.SomeSide.{greatest-or-surpassed}
-use Rattle.dmf_net.proofs.laws.flow_is_greatest_or_surpassed.Goals as goal
-
-pub returns : goal.returns
-returns c = greatest-or-surpassed

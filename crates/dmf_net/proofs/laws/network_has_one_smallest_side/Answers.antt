@@ -1,5 +1,0 @@
-use Rattle.dmf_net.proofs.SmallestSide.{one-smallest_side}
-use Rattle.dmf_net.proofs.laws.network_has_one_smallest_side.Goals as goal
-
-pub returns : goal.returns
-returns c = one-smallest_side

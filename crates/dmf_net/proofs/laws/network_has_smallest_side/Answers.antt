@@ -1,5 +1,0 @@
-use Rattle.dmf_net.proofs.SomeSide.{some-smallest_side}
-use Rattle.dmf_net.proofs.laws.network_has_smallest_side.Goals as goal
-
-pub returns : goal.returns
-returns c = some-smallest_side

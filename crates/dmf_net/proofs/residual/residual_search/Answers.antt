@@ -1,5 +1,0 @@
-use Rattle.dmf_net.proofs.ResidualSearch.{ArePairs-residual}
-use Rattle.dmf_net.proofs.residual.residual_search.Goals as goal
-
-pub new-requires-clause-pairs : goal.new-requires-clause-pairs
-new-requires-clause-pairs c = rw c.nodes.ensures.value (ArePairs-residual c.args.state.now c.nodes.ensures.state)

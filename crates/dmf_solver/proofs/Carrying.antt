@@ -1,0 +1,91 @@
+-- What flows on an arc comes back to its tail, along arcs on which something flows, and by the return from the sink to
+-- the source where the value is above 0.
+use Rattle.std.proofs.Common.{ℕ, suc, ◌≡◌, ◌<◌, ◌≤◌, ◌&&◌, List, [], ◌∷◌, get_or, length, Bool, true, false, not, cond, refl, ap, sym, ◌∙◌, arith, ⊎_elim, pos, ◌≤ℤ◌, ◌<ℤ◌}
+use Rattle.std.specs.List.{zip, Contains}
+use Rattle.std.proofs.lemmas.Bool.{cases_lt, cases_Bool, true_from_ne_false, both_ways}
+use Rattle.std.proofs.lemmas.Int.{ints, by_lt_z}
+use Rattle.std.proofs.lemmas.List.Sums.{sum_by-cons, get_or-le-sum_by}
+use Rattle.std.proofs.lemmas.Slice.Zip.{AllZip-long, get_or-zip, length-zip}
+use Rattle.dmf_net.specs.declared.arc.Arc.{Arc}
+use Rattle.dmf_path.specs.Step.{Step}
+use Rattle.dmf_net.specs.Network.{Network, IsNetwork}
+use Rattle.dmf_net.specs.Flow.{IsFlow, flow_value}
+use Rattle.dmf_path.specs.Path.{HasNoPath}
+use Rattle.dmf_net.specs.Arc.{no_arc}
+use Rattle.dmf_solver.proofs.Crossing.{leaving, entering, value-across, value-across_back, none-across, none-across_both}
+use Rattle.dmf_solver.proofs.Reached.{IsClosed, ArriveAtNodes, path-not_none}
+
+-- No flow leaves the set: where something flows on an arc from a node of the set, the set has the arc's head.
+abbrev pub KeepsFlow : List Arc → List ℕ → (ℕ → Bool) → Type 0
+KeepsFlow arcs flows has = (k : ℕ) → k < length arcs → 0 < get_or flows k 0 → has (get_or arcs k no_arc).tail ≡ true → has (get_or arcs k no_arc).head ≡ true
+
+none_out : (a b : Bool) (x : ℕ) → (0 < x → a ≡ true → b ≡ true) → cond (a && not b) x 0 ≡ 0
+none_out true true x keeps = refl
+none_out true false x keeps = ⊎_elim (λ (some : 0 < x). absurd (both_ways false refl (keeps some refl))) (λ (none : x ≤ 0). omega (arith, none)) (cases_lt 0 x)
+none_out false b x keeps = refl
+
+-- So nothing leaves it.
+pub keeps-leaving : (arcs : List Arc) (flows : List ℕ) (has : ℕ → Bool) → KeepsFlow arcs flows has → leaving arcs flows has ≡ 0
+keeps-leaving [] flows has keeps = refl
+keeps-leaving (arc ∷ arcs) [] has keeps = refl
+keeps-leaving (arc ∷ arcs) (flow ∷ flows) has keeps =
+    let out : Arc × ℕ → ℕ = λ p. cond (has p.0.tail && not (has p.0.head)) p.1 0 in
+    let here = none_out (has arc.tail) (has arc.head) flow (keeps 0 (omega arith)) in
+    let rest = keeps-leaving arcs flows has (λ k h some tail. keeps (suc k) (omega (arith, h)) some tail) in
+    omega (arith, here, rest, sum_by-cons out (arc, flow) (zip arcs flows))
+
+-- What flows on an arc that leads into the set is a part of what enters it.
+pub flow-le_entering : (arcs : List Arc) (flows : List ℕ) (has : ℕ → Bool) (k : ℕ) → k < length arcs → k < length flows → has (get_or arcs k no_arc).tail ≡ false → has (get_or arcs k no_arc).head ≡ true → get_or flows k 0 ≤ entering arcs flows has
+flow-le_entering arcs flows has k h l tail head =
+    let into : Arc × ℕ → ℕ = λ p. cond (not (has p.0.tail) && has p.0.head) p.1 0 in
+    let long : k < length (zip arcs flows) = rw length-zip (omega arith) in
+    let part = get_or-le-sum_by into (zip arcs flows) k (no_arc, 0) long in
+    let read = get_or-zip arcs flows k (no_arc, 0) h l in
+    rw (tail, head) at (rw read at part)
+
+-- Nothing enters a set that no flow leaves, by an arc or by the return, where the value is not below 0.
+pub keeps-entering : (n : Network) (flows : List ℕ) (has : ℕ → Bool) → IsNetwork n → IsFlow n flows → pos 0 ≤ℤ flow_value n flows → KeepsFlow n.arcs flows has → (pos 0 <ℤ flow_value n flows → has n.sink ≡ true → has n.source ≡ true) → entering n.arcs flows has ≡ 0
+keeps-entering n flows has network flow from_zero keeps returns =
+    let none = keeps-leaving n.arcs flows has keeps in
+    ⊎_elim
+    (λ (source : has n.source ≡ true). ⊎_elim
+    (λ (sink : has n.sink ≡ true). omega (arith, none, none-across_both n flows has network flow.conserved source sink))
+    (λ (sink : has n.sink ≡ false). omega (arith, ints, none, from_zero, value-across n flows has network flow.conserved source sink))
+    (cases_Bool (has n.sink)))
+    (λ (source : has n.source ≡ false). ⊎_elim
+    (λ (sink : has n.sink ≡ true). by_lt_z (pos 0) (flow_value n flows)
+    (λ (positive : pos 0 <ℤ flow_value n flows). absurd (both_ways (has n.source) source (returns positive sink)))
+    (λ (not_positive : flow_value n flows ≤ℤ pos 0). omega (arith, ints, none, not_positive, value-across_back n flows has network flow.conserved source sink)))
+    (λ (sink : has n.sink ≡ false). omega (arith, none, none-across n flows has network flow.conserved source sink))
+    (cases_Bool (has n.sink)))
+    (cases_Bool (has n.source))
+
+-- A set that no flow leaves, by an arc or by the return, has the tail of an arc on which something flows if it has its
+-- head.
+pub keeps-tail : (n : Network) (flows : List ℕ) (has : ℕ → Bool) (k : ℕ) → IsNetwork n → IsFlow n flows → pos 0 ≤ℤ flow_value n flows → KeepsFlow n.arcs flows has → (pos 0 <ℤ flow_value n flows → has n.sink ≡ true → has n.source ≡ true) → k < length n.arcs → 0 < get_or flows k 0 → has (get_or n.arcs k no_arc).head ≡ true → has (get_or n.arcs k no_arc).tail ≡ true
+keeps-tail n flows has k network flow from_zero keeps returns h some head =
+    true_from_ne_false (has (get_or n.arcs k no_arc).tail) (λ tail.
+    let same = AllZip-long _ n.arcs flows flow.within in
+    let part = flow-le_entering n.arcs flows has k h (omega (arith, same, h)) tail head in
+    omega (arith, part, some, keeps-entering n flows has network flow from_zero keeps returns))
+
+-- The steps have one from the tail to the head of each arc on which something flows, and one from the sink to the source
+-- where the value is above 0.
+pub record CarryFlow (n : Network) (flows : List ℕ) (steps : List Step) : Type 0 where
+  pub arrive : ArriveAtNodes n.nodes steps
+  pub along : (k : ℕ) → k < length n.arcs → 0 < get_or flows k 0 → (s : Step) × Contains steps s × (s.from ≡ (get_or n.arcs k no_arc).tail) × (s.to ≡ (get_or n.arcs k no_arc).head)
+  pub returns : pos 0 <ℤ flow_value n flows → (s : Step) × Contains steps s × (s.from ≡ n.sink) × (s.to ≡ n.source)
+
+-- a set that has where a step leaves and that no step leaves has where it arrives
+closed_step : (steps : List Step) (has : ℕ → Bool) (a b : ℕ) → IsClosed steps has → (s : Step) × Contains steps s × (s.from ≡ a) × (s.to ≡ b) → has a ≡ true → has b ≡ true
+closed_step steps has a b closed s inside = sym (ap has s.3) ∙ closed s.0 s.1 (ap has s.2 ∙ inside)
+
+-- So it is absurd that no path of such steps leads from the head of an arc on which something flows to its tail.
+pub path_back-not_none : (n : Network) (flows : List ℕ) (steps : List Step) (k : ℕ) → IsNetwork n → IsFlow n flows → pos 0 ≤ℤ flow_value n flows → CarryFlow n flows steps → k < length n.arcs → 0 < get_or flows k 0 → ¬ HasNoPath steps (get_or n.arcs k no_arc).head (get_or n.arcs k no_arc).tail
+path_back-not_none n flows steps k network flow from_zero carry h some =
+    path-not_none steps n.nodes (get_or n.arcs k no_arc).head (get_or n.arcs k no_arc).tail carry.arrive (network.arcs k no_arc h).head
+    (λ has head closed.
+    keeps-tail n flows has k network flow from_zero
+    (λ i l positive. closed_step steps has (get_or n.arcs i no_arc).tail (get_or n.arcs i no_arc).head closed (carry.along i l positive))
+    (λ positive. closed_step steps has n.sink n.source closed (carry.returns positive))
+    h some head)

@@ -1,0 +1,101 @@
+-- Arcs drained to 0 in turn: what is left is a flow that is 0 on each of them, and its value is less by at most what was on
+-- them.
+use Rattle.std.proofs.Common.{ℕ, ◌≡◌, ◌-◌, ◌≤◌, List, [], ◌∷◌, get_or, zero, suc, refl, ◌∙◌, subst, arith, pos, ◌≤ℤ◌}
+use Rattle.std.proofs.lemmas.Int.{ints}
+use Rattle.std.proofs.lemmas.List.Sums.{sum_by-cons}
+use Rattle.std.proofs.lemmas.Slice.Zip.{AllZip-long}
+use Rattle.dmf_path.specs.Search.{Searched}
+use Rattle.dmf_net.specs.declared.edit.Move.{Move}
+use Rattle.dmf_solver.specs.declared.moves.FlowLink.TheVariants.{Along}
+use Rattle.dmf_solver.specs.Pairs.{IsCarryingSearch, flows_read}
+use Rattle.dmf_solver.specs.Drain.{Drains, TakesOff}
+use Rattle.dmf_net.specs.Edit.{differences}
+use Rattle.dmf_net.specs.Flow.{flow_on, flow_on_all, IsFlow, flow_value}
+use Rattle.dmf_solver.specs.Moves.{DrainsInTurn, AreShuttingMoves}
+use Rattle.dmf_net.specs.Network.{Network, IsNetwork}
+use Rattle.dmf_net.specs.NetworkState.{NetworkState, IsState}
+use Rattle.dmf_solver.proofs.Draining.{IsNoMore, no_more-in_turn, TakesOff-none, drains-state}
+use Rattle.dmf_net.proofs.ClosedArcs.{HasArcs, AreWithoutFlow}
+use Rattle.dmf_net.proofs.Moving.{moves-between}
+
+-- No flow is more than before, at each place,
+no_more-at : (xs ys : List ℕ) (k : ℕ) → IsNoMore xs ys → get_or ys k 0 ≤ get_or xs k 0
+no_more-at [] [] k less = omega arith
+no_more-at [] (y ∷ ys) k less = absurd less
+no_more-at (x ∷ xs) [] k less = absurd less
+no_more-at (x ∷ xs) (y ∷ ys) zero less = less.0
+no_more-at (x ∷ xs) (y ∷ ys) (suc k) less = no_more-at xs ys k less.1
+
+-- and so on some of the arcs together.
+no_more-on_all : (xs ys js : List ℕ) → IsNoMore xs ys → flow_on_all ys js ≤ flow_on_all xs js
+no_more-on_all xs ys [] less = omega arith
+no_more-on_all xs ys (j ∷ js) less =
+    omega (arith, no_more-at xs ys (j - 1) less, no_more-on_all xs ys js less, sum_by-cons (flow_on xs) j js, sum_by-cons (flow_on ys) j js)
+
+-- What is said of the flows that are left.
+pub record AreLeft (n : Network) (js flows last : List ℕ) : Type 0 where
+  pub takes_off : TakesOff n (flow_on_all flows js) flows last
+  pub value_from_zero : pos 0 ≤ℤ flow_value n last
+  pub without_flow : AreWithoutFlow last js
+
+pub left-in_turn : (n : Network) (js flows last : List ℕ) → IsNetwork n → IsFlow n flows → pos 0 ≤ℤ flow_value n flows → HasArcs n js → DrainsInTurn n js flows last → AreLeft n js flows last
+left-in_turn n [] flows last network flow from_zero has is = record {
+  takes_off = subst (TakesOff n 0 flows) is (TakesOff-none n 0 flows flow);
+  value_from_zero = subst (λ xs. pos 0 ≤ℤ flow_value n xs) is from_zero;
+  without_flow = tt;
+}
+left-in_turn n (j ∷ js) flows last network flow from_zero has drains =
+    let next : List ℕ = drains.0 in
+    let first = drains-state n j 0 flows next network flow from_zero has.0 drains.1 in
+    let rest = left-in_turn n js next last network first.0.flow first.1 has.1 drains.2 in
+    let sum = sum_by-cons (flow_on flows) j js in
+    let fewer = no_more-on_all flows next js first.0.no_more in
+    record {
+      takes_off = record {
+        no_more = no_more-in_turn flows next last first.0.no_more rest.takes_off.no_more;
+        flow = rest.takes_off.flow;
+        value = omega (arith, ints, first.0.value, rest.takes_off.value, sum, fewer);
+        untouched = λ none.
+            let here : next ≡ flows = first.0.untouched (omega (arith, none, sum)) in
+            rest.takes_off.untouched (omega (arith, none, sum, fewer)) ∙ here;
+      };
+      value_from_zero = rest.value_from_zero;
+      without_flow = (omega (arith, no_more-at next last (j - 1) rest.takes_off.no_more, drains.1.within), rest.without_flow);
+    }
+
+-- It holds of the moves between the flows before and those that are left.
+pub shutting-moves : (s : NetworkState) (js last : List ℕ) (moves : List Move) → IsState s → HasArcs s.network js → DrainsInTurn s.network js s.flows last → moves ≡ differences 1 s.flows last → AreShuttingMoves s js moves
+shutting-moves s js last moves state has drains is =
+    let left = left-in_turn s.network js s.flows last state.network state.flow state.value_from_zero has drains in
+    let same = AllZip-long _ s.flows last left.takes_off.no_more in
+    let between = moves-between moves s.flows last same is in
+    let made = between.makes in
+    record {
+      fit = between.fit;
+      differ = between.differ;
+      drains = rw made drains;
+      state = rw made (record { network = state.network; flow = left.takes_off.flow; value_from_zero = left.value_from_zero });
+      takes_off = rw made left.takes_off;
+    }
+
+-- Arcs on which nothing flows are drained.
+pub drained-none_in_turn : (n : Network) (js flows : List ℕ) → flow_on_all flows js ≡ 0 → DrainsInTurn n js flows flows
+drained-none_in_turn n [] flows none = refl
+drained-none_in_turn n (j ∷ js) flows none =
+    let sum = sum_by-cons (flow_on flows) j js in
+    (flows, record { paths = []; lowers = refl; within = omega (arith, none, sum) }, drained-none_in_turn n js flows (omega (arith, none, sum)))
+
+-- The search has come to flows of which draining what is left of the arcs makes what draining all of them makes of the
+-- state's.
+pub record AreDrainedUpTo (s : NetworkState) (all left unpaired : List ℕ) (search : Searched) : Type 0 where
+  pub carrying : IsCarryingSearch s unpaired search
+  pub onward : (last : List ℕ) → DrainsInTurn s.network left (flows_read Along unpaired search.pairs) last → DrainsInTurn s.network all s.flows last
+
+pub drained-next_arc : (s : NetworkState) (all left unpaired next_unpaired : List ℕ) (j : ℕ) (rest : List ℕ) (search next : Searched) → left ≡ j ∷ rest → IsCarryingSearch s next_unpaired next → Drains s.network j 0 (flows_read Along unpaired search.pairs) (flows_read Along next_unpaired next.pairs) → AreDrainedUpTo s all left unpaired search → AreDrainedUpTo s all rest next_unpaired next
+drained-next_arc s all left unpaired next_unpaired j rest search next is carrying drains up_to = record {
+  carrying = carrying;
+  onward = λ last more. up_to.onward last (rw is (flows_read Along next_unpaired next.pairs, drains, more));
+}
+
+pub drained-every_arc : (s : NetworkState) (all left unpaired : List ℕ) (search : Searched) → left ≡ [] → AreDrainedUpTo s all left unpaired search → DrainsInTurn s.network all s.flows (flows_read Along unpaired search.pairs)
+drained-every_arc s all left unpaired search none up_to = up_to.onward (flows_read Along unpaired search.pairs) (rw none refl)

@@ -1,0 +1,91 @@
+-- Draining path by path, and the moves that it makes.
+use Rattle.std.proofs.Common.{ℕ, ◌≡◌, ◌≢◌, ◌<◌, ◌≤◌, true, ◌+◌, ◌-◌, zero, suc, List, [], ◌∷◌, length, get_or, set, refl, ap, sym, ◌∙◌, arith, eq-eqb}
+use Rattle.std.proofs.lemmas.Bool.{ne_eqb}
+use Rattle.std.proofs.lemmas.Slice.Zip.{AllZip-long}
+use Rattle.dmf_net.specs.declared.edit.Move.{Move}
+use Rattle.dmf_path.specs.Step.{Step}
+use Rattle.dmf_net.specs.Network.{arc_number, has_arc}
+use Rattle.dmf_net.specs.Flow.{flow_on}
+use Rattle.dmf_net.specs.NetworkState.{NetworkState, IsState, with_flows}
+use Rattle.dmf_path.specs.Path.{IsLeastPath}
+use Rattle.dmf_solver.specs.Drain.{carrying_steps, lowered, Drains}
+use Rattle.dmf_net.specs.Edit.{moved, differences}
+use Rattle.dmf_solver.specs.Moves.{AreDrainingMoves}
+use Rattle.dmf_net.proofs.ChangedArc.{has_arc-within}
+use Rattle.dmf_solver.proofs.DrainedLoop.{drained-loop}
+use Rattle.dmf_solver.proofs.Draining.{drains-state}
+use Rattle.dmf_net.proofs.Moving.{differences-fit, moved-differences}
+use Rattle.dmf_solver.proofs.Lowering.{lowered-flow, lowered-value}
+
+-- The flows are those of a state, and what draining makes of them it makes of the flows of `s`.
+pub record AreDrainedSoFar (s : NetworkState) (j limit : ℕ) (flows : List ℕ) : Type 0 where
+  pub state : IsState (with_flows s flows)
+  pub onward : (last : List ℕ) → Drains s.network j limit flows last → Drains s.network j limit s.flows last
+
+-- no path yet
+pub drained-none : (s : NetworkState) (j limit : ℕ) → IsState s → AreDrainedSoFar s j limit s.flows
+drained-none s j limit state = record { state = state; onward = λ last drains. drains }
+
+-- one path more
+pub drained-more : (s : NetworkState) (j limit : ℕ) (flows : List ℕ) (path : List Step) → has_arc s.network j ≡ true → limit < flow_on flows j → IsLeastPath (carrying_steps s.network flows) (arc_number s.network j).head (arc_number s.network j).tail path → AreDrainedSoFar s j limit flows → AreDrainedSoFar s j limit (lowered j limit path flows)
+drained-more s j limit flows path has above least so_far = record {
+  state = record {
+    network = so_far.state.network;
+    flow = lowered-flow s.network j limit flows path above has so_far.state.network so_far.state.flow least;
+    value_from_zero = (lowered-value s.network j limit flows path above has so_far.state.network so_far.state.flow so_far.state.value_from_zero least).1;
+  };
+  onward = λ last drains. so_far.onward last (record { paths = path ∷ drains.paths; lowers = (above, least, drains.lowers); within = drains.within });
+}
+
+-- Where no more than the limit flows on the arc, it is drained.
+pub drained-all : (s : NetworkState) (j limit : ℕ) (flows : List ℕ) → flow_on flows j ≤ limit → AreDrainedSoFar s j limit flows → Drains s.network j limit s.flows flows
+drained-all s j limit flows within so_far = so_far.onward flows (record { paths = []; lowers = refl; within = within })
+
+-- the flows that draining leaves are one for each arc
+pub length-drained : (s : NetworkState) (j limit : ℕ) (last : List ℕ) → IsState s → has_arc s.network j ≡ true → Drains s.network j limit s.flows last → length last ≡ length s.flows
+length-drained s j limit last state has drains =
+    AllZip-long _ s.flows last (drains-state s.network j limit s.flows last state.network state.flow state.value_from_zero has drains).0.no_more
+
+-- It holds of the moves between the flows before and those that draining leaves.
+pub draining-moves : (s : NetworkState) (j limit : ℕ) (last : List ℕ) (moves : List Move) → IsState s → has_arc s.network j ≡ true → Drains s.network j limit s.flows last → moves ≡ differences 1 s.flows last → AreDrainingMoves s j limit moves
+draining-moves s j limit last moves state has drains is =
+    let told = drains-state s.network j limit s.flows last state.network state.flow state.value_from_zero has drains in
+    let same = length-drained s j limit last state has drains in
+    let made : moved moves s.flows ≡ last = ap (λ ms. moved ms s.flows) is ∙ moved-differences [] s.flows last same in
+    record {
+      fit = rw is (differences-fit [] s.flows last same);
+      differ = is ∙ ap (differences 1 s.flows) (sym made);
+      drains = rw made drains;
+      state = rw made (record { network = state.network; flow = told.0.flow; value_from_zero = told.1 });
+      takes_off = rw made told.0;
+    }
+
+-- no flow differs from itself
+pub differences-none : (j : ℕ) (flows : List ℕ) → differences j flows flows ≡ []
+differences-none j [] = refl
+differences-none j (x ∷ flows) = rw (eq-eqb x x refl) (differences-none (j + 1) flows)
+
+-- Where no more than the limit flows on the arc, it holds of no moves.
+pub draining-none : (s : NetworkState) (j limit : ℕ) → IsState s → has_arc s.network j ≡ true → flow_on s.flows j ≤ limit → AreDrainingMoves s j limit []
+draining-none s j limit state has within =
+    draining-moves s j limit s.flows [] state has (drained-all s j limit s.flows within (drained-none s j limit state)) (sym (differences-none 1 s.flows))
+
+-- Where the flow of one arc differs, there is one move.
+differences-set : (i k arc y : ℕ) (flows : List ℕ) → arc ≡ i + k → k < length flows → get_or flows k 0 ≢ y → differences i flows (set flows k y) ≡ record { arc = arc; from = get_or flows k 0; to = y } ∷ []
+differences-set i k arc y [] is within differ = absurd (omega (arith, within))
+differences-set i zero arc y (x ∷ flows) is within differ =
+    let here : i ≡ arc = omega (arith, is) in
+    rw (ne_eqb x y differ, differences-none (i + 1) flows) (ap (λ n. record { arc = n; from = x; to = y } ∷ []) here)
+differences-set i (suc k) arc y (x ∷ flows) is within differ =
+    rw (eq-eqb x x refl) (differences-set (i + 1) k arc y flows (omega (arith, is)) (omega (arith, within)) differ)
+
+-- It holds of the move of an arc that comes back to its tail.
+pub draining-loop : (s : NetworkState) (j flow limit : ℕ) (moves : List Move) → IsState s → has_arc s.network j ≡ true → (arc_number s.network j).tail ≡ (arc_number s.network j).head → flow ≡ flow_on s.flows j → limit < flow → moves ≡ record { arc = j; from = flow; to = limit } ∷ [] → AreDrainingMoves s j limit moves
+draining-loop s j flow limit moves state has loop on above is =
+    let at = has_arc-within s.network j has in
+    let within : j - 1 < length s.flows = omega (arith, at.1, AllZip-long _ s.network.arcs s.flows state.flow.within) in
+    let place : j ≡ 1 + (j - 1) = omega (arith, at.0) in
+    let differ : get_or s.flows (j - 1) 0 ≢ limit = λ e. omega (arith, e, on, above) in
+    draining-moves s j limit (set s.flows (j - 1) limit) moves state has
+    (drained-loop s.network j limit s.flows has state.flow loop (omega (arith, on, above)))
+    (is ∙ ap (λ x. record { arc = j; from = x; to = limit } ∷ []) on ∙ sym (differences-set 1 (j - 1) j limit s.flows place within differ))

@@ -1,0 +1,86 @@
+-- Every network has a greatest flow, and with it a minimum cut of the same size.
+use Rattle.std.proofs.Common.{ℕ, ◌≡◌, ◌==◌, List, [], ◌∷◌, Bool, true, false, cond, refl, subst, arith}
+use Rattle.std.specs.List.{zip}
+use Rattle.std.proofs.lemmas.Int.{ints}
+use Rattle.std.proofs.lemmas.List.Sums.{sum_by-cons}
+use Rattle.dmf_net.specs.declared.arc.Arc.{Arc}
+use Rattle.dmf_net.specs.Network.{Network, IsNetwork}
+use Rattle.dmf_net.specs.Flow.{flow_at, AreWithinCapacities, IsFlow, flow_value}
+use Rattle.dmf_net.specs.NetworkState.{NetworkState, IsState}
+use Rattle.dmf_solver.specs.Greatest.{IsGreatest}
+use Rattle.dmf_net.specs.Cut.{HasCutOf}
+use Rattle.dmf_path.specs.Path.{HasNoPath}
+use Rattle.dmf_solver.specs.Residual.{residual_steps}
+use Rattle.dmf_solver.specs.Change.{Solve}
+use Rattle.dmf_net.proofs.Summing.{at_node}
+use Rattle.dmf_solver.proofs.Reached.{is_reached, AreReachedFrom-is_reached}
+use Rattle.dmf_solver.proofs.MaxFlowMinCut.{reached-cut, reached-capacity, reached-greatest, reached-minimum_cut}
+use Rattle.dmf_solver.proofs.LargerFlow.{no_path-from_greatest}
+use Rattle.dmf_solver.proofs.SomeOutcome.{some-outcome}
+use Rattle.dmf_solver.specs.Laws.{HasGreatestFlow, MaxFlowMinCut}
+
+-- ---- a flow whose residual network has no path from the source to the sink
+
+-- It is greatest.
+pub greatest-from_no_path : (n : Network) (flows : List ℕ) → IsNetwork n → IsFlow n flows → HasNoPath (residual_steps n.arcs flows) n.source n.sink → IsGreatest n flows
+greatest-from_no_path n flows network flow none =
+    let steps = residual_steps n.arcs flows in
+    reached-greatest n flows (is_reached steps n.nodes n.source) network flow none (AreReachedFrom-is_reached steps n.nodes n.source)
+
+-- Its value is the capacity of a cut.
+pub cut-from_no_path : (n : Network) (flows : List ℕ) → IsNetwork n → IsFlow n flows → HasNoPath (residual_steps n.arcs flows) n.source n.sink → HasCutOf n (flow_value n flows)
+cut-from_no_path n flows network flow none =
+    let steps = residual_steps n.arcs flows in
+    let has = is_reached steps n.nodes n.source in
+    let r = AreReachedFrom-is_reached steps n.nodes n.source in
+    record { has = has; cut = reached-cut n flows has network r none; capacity = reached-capacity n flows has network flow none r }
+
+-- The theorem that the value of a greatest flow is the capacity of a minimum cut.
+pub max_flow-min_cut : MaxFlowMinCut
+max_flow-min_cut n flows network greatest =
+    let steps = residual_steps n.arcs flows in
+    let has = is_reached steps n.nodes n.source in
+    let r = AreReachedFrom-is_reached steps n.nodes n.source in
+    let none = no_path-from_greatest n flows network greatest in
+    record { has = has; least = reached-minimum_cut n flows has network greatest.flow none r; capacity = reached-capacity n flows has network greatest.flow none r }
+
+-- ---- there is a greatest flow
+
+-- nothing on each arc
+abbrev pub no_flow : List Arc → List ℕ
+no_flow [] = []
+no_flow (arc ∷ arcs) = 0 ∷ no_flow arcs
+
+within-no_flow : (arcs : List Arc) → AreWithinCapacities arcs (no_flow arcs)
+within-no_flow [] = tt
+within-no_flow (arc ∷ arcs) = (omega arith, within-no_flow arcs)
+
+no_part : (b : Bool) → ◌≡◌ {A = ℕ} (cond b 0 0) 0
+no_part true = refl
+no_part false = refl
+
+-- Nothing flows out of a node, or into it.
+flow_at-no_flow : (end : Arc → ℕ) (arcs : List Arc) (v : ℕ) → flow_at end arcs (no_flow arcs) v ≡ 0
+flow_at-no_flow end [] v = refl
+flow_at-no_flow end (arc ∷ arcs) v = omega (arith, sum_by-cons (at_node end v) (arc, 0) (zip arcs (no_flow arcs)), flow_at-no_flow end arcs v, no_part (end arc == v))
+
+-- A network in which nothing flows is a state.
+IsState-no_flow : (n : Network) → IsNetwork n → IsState (record { network = n; flows = no_flow n.arcs })
+IsState-no_flow n network =
+    let none : (end : Arc → ℕ) (v : ℕ) → flow_at end n.arcs (no_flow n.arcs) v ≡ 0 = λ end v. flow_at-no_flow end n.arcs v in
+    record {
+      network = network;
+      flow = record {
+        within = within-no_flow n.arcs;
+        conserved = λ v inner. omega (arith, none (λ arc. arc.tail) v, none (λ arc. arc.head) v);
+      };
+      value_from_zero = omega (arith, ints, none (λ arc. arc.tail) n.source, none (λ arc. arc.head) n.source);
+    }
+
+-- Solving from there ends at a greatest flow.
+pub some-greatest_flow : HasGreatestFlow
+some-greatest_flow n network =
+    let s : NetworkState = record { network = n; flows = no_flow n.arcs } in
+    let outcome = some-outcome s Solve (IsState-no_flow n network) refl in
+    let flow = subst (λ m. IsFlow m outcome.after.flows) outcome.becomes.0 outcome.state.flow in
+    (outcome.after.flows, greatest-from_no_path n outcome.after.flows network flow outcome.becomes.1.no_path)

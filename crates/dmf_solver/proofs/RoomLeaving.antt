@@ -1,0 +1,60 @@
+-- The rooms of the links that leave the source: what more can flow out of it, so that they fall as a flow grows.
+use Rattle.std.proofs.Common.{ℕ, ◌≡◌, ◌+◌, ◌<◌, ◌≤◌, ◌==◌, ◌&&◌, not, cond, List, [], ◌∷◌, sum_by, refl, arith, Option, Some, None}
+use Rattle.std.specs.List.{zip}
+use Rattle.std.proofs.lemmas.Bool.Decides.{nat_tests}
+use Rattle.std.proofs.lemmas.Int.{ints}
+use Rattle.std.proofs.lemmas.List.Sums.{sum_by-cons}
+use Rattle.dmf_path.specs.declared.pair.Pair.{Pair}
+use Rattle.dmf_path.specs.Step.{Step}
+use Rattle.dmf_path.specs.Path.{IsLeastPath}
+use Rattle.dmf_net.specs.declared.arc.Arc.{Arc}
+use Rattle.dmf_net.specs.Flow.{AreWithinCapacities, outflow, inflow}
+use Rattle.dmf_net.specs.NetworkState.{NetworkState, IsState, with_flows}
+use Rattle.dmf_solver.specs.Residual.{residual_steps, augmented}
+use Rattle.dmf_solver.specs.ResidualNetwork.{residual_pair, residual_pairs}
+use Rattle.dmf_solver.proofs.Augmenting.{room-positive, augmented-value}
+
+-- the rooms of the links of a pair that leave node `v`
+abbrev room_at : ℕ → Option Pair → ℕ
+room_at v None = 0
+room_at v (Some p) = cond (p.tail == v) p.along 0 + cond (p.head == v) p.against 0
+
+-- the rooms of all links that leave node `v`
+abbrev pub room_leaving : List (Option Pair) → ℕ → ℕ
+room_leaving pairs v = sum_by (room_at v) pairs
+
+-- how much can flow on an arc that leaves node `v` for another
+abbrev capacity_at : ℕ → Arc → ℕ
+capacity_at v arc = cond (arc.tail == v && not (arc.tail == arc.head)) arc.cap 0
+
+-- at one arc
+room_at-residual : (v : ℕ) (arc : Arc) (flow : ℕ) → flow ≤ arc.cap → room_at v (residual_pair arc flow) + cond (arc.tail == v) flow 0 ≡ cond (arc.head == v) flow 0 + capacity_at v arc
+room_at-residual v arc flow within = grind (arith, nat_tests)
+
+-- What more can flow out of a node is the capacities of its arcs less what flows out.
+room_leaving-residual : (v : ℕ) (arcs : List Arc) (flows : List ℕ) → AreWithinCapacities arcs flows → room_leaving (residual_pairs arcs flows) v + outflow arcs flows v ≡ inflow arcs flows v + sum_by (capacity_at v) arcs
+room_leaving-residual v [] [] within = refl
+room_leaving-residual v [] (flow ∷ flows) within = absurd within
+room_leaving-residual v (arc ∷ arcs) [] within = absurd within
+room_leaving-residual v (arc ∷ arcs) (flow ∷ flows) within =
+    let here = room_at-residual v arc flow within.0 in
+    let rest = room_leaving-residual v arcs flows within.1 in
+    omega (
+      arith,
+      here,
+      rest,
+      sum_by-cons (room_at v) (residual_pair arc flow) (residual_pairs arcs flows),
+      sum_by-cons (capacity_at v) arc arcs,
+      sum_by-cons (λ (p : Arc × ℕ). cond (p.0.tail == v) p.1 0) (arc, flow) (zip arcs flows),
+      sum_by-cons (λ (p : Arc × ℕ). cond (p.0.head == v) p.1 0) (arc, flow) (zip arcs flows),
+    )
+
+-- It falls with each path.
+pub room_leaving-falls : (s : NetworkState) (flows : List ℕ) (path : List Step) → IsState (with_flows s flows) → IsState (with_flows s (augmented path flows)) → IsLeastPath (residual_steps s.network.arcs flows) s.network.source s.network.sink path
+    → room_leaving (residual_pairs s.network.arcs (augmented path flows)) s.network.source < room_leaving (residual_pairs s.network.arcs flows) s.network.source
+room_leaving-falls s flows path state after least =
+    let room = room-positive s.network flows path state.network.two_terminals least in
+    let value = augmented-value s.network flows path state.network state.flow least in
+    let before = room_leaving-residual s.network.source s.network.arcs flows state.flow.within in
+    let then = room_leaving-residual s.network.source s.network.arcs (augmented path flows) after.flow.within in
+    omega (arith, ints, room, value, before, then)

@@ -1,0 +1,64 @@
+use Rattle.std.proofs.Common.{List, ℕ, ◌-◌, ◌≤◌, ap, sym, ◌∙◌, arith}
+use Rattle.std.specs.Option.{unwrap_or}
+use Rattle.dmf_solver.specs.declared.moves.FlowLink.TheVariants.{Along}
+use Rattle.dmf_net.specs.Flow.{flow_on}
+use Rattle.dmf_net.specs.NetworkState.{with_flows}
+use Rattle.dmf_solver.specs.Pairs.{IsCarryingSearch, flows_read}
+use Rattle.dmf_net.proofs.ChangedArc.{has_arc-within}
+use Rattle.dmf_solver.proofs.DrainingSearch.{DrainsOnce, draining-begun, draining-has_path, draining-once, draining-done, carries-along, length-carries}
+use Rattle.dmf_solver.proofs.DrainingWalk.{drained-none, drained-all}
+use Rattle.dmf_solver.proofs.drain.drain_along.Goals as goal
+
+pub along-requires : goal.along-requires
+along-requires c =
+    let s = c.args.state.now in
+    let carries = c.requires.carrying.1 in
+    let at = has_arc-within s.network c.args.j c.requires.is_there in
+    let long = length-carries s c.requires.carrying.0 _ c.args.search.now carries in
+    omega (arith, at.1, carries.no_more.one_each, long)
+
+pub loop-left-init : goal.loop-left-init
+loop-left-init c = λ unpaired carries.
+    let s = c.args.state.now in
+    let differ = c.requires.no_loop in
+    let along = carries-along s unpaired _ c.args.search.now c.args.j c.requires.is_there (λ e. differ (sym e)) carries in
+    rw (c.aim.ensures, c.arc-arc.ensures.value) (draining-begun s unpaired (flows_read Along unpaired c.args.search.now.pairs) c.args.j c.args.limit _ c.args.search.now (c.saturating_sub-left.ensures ∙ ap (λ x. x - c.args.limit) (c.unwrap_or.ensures ∙ ap (λ o. unwrap_or o 0) c.along.ensures ∙ along)) carries)
+
+pub returns-then-left-eq0 : goal.returns-then-left-eq0
+returns-then-left-eq0 c = λ unpaired carries.
+    let s = c.args.state.now in
+    let differ = c.requires.no_loop in
+    let flows = flows_read Along unpaired c.args.search.now.pairs in
+    let along = carries-along s unpaired flows c.args.search.now c.args.j c.requires.is_there (λ e. differ (sym e)) carries in
+    let left = c.saturating_sub-left.ensures ∙ ap (λ x. x - c.args.limit) (c.unwrap_or.ensures ∙ ap (λ o. unwrap_or o 0) c.along.ensures ∙ along) in
+    let within : flow_on flows c.args.j ≤ c.args.limit = omega (arith, left, c.if-left-eq0.true) in
+    (carries, drained-all (with_flows s flows) c.args.j c.args.limit flows within (drained-none (with_flows s flows) c.args.j c.args.limit carries.state))
+
+-- what one path more does
+once : (c : goal.After-lower) (unpaired : List ℕ) → IsCarryingSearch c.args.state.now unpaired c.args.search.now → DrainsOnce c.args.state.now unpaired (flows_read Along unpaired c.args.search.now.pairs) c.args.j c.args.limit c.loop-left.left c.in-Some.found.amount c.augment.new.self
+once c unpaired carries =
+    let differ = c.requires.no_loop in
+    draining-once c.args.state.now unpaired _ c.args.j c.args.limit _ c.in-Some.found _ _ c.requires.is_there (λ e. differ (sym e)) c.loop-left-test.true (c.loop-left.invariant unpaired carries) c.in-Some.ensures.found
+
+pub lower-requires : goal.lower-requires
+lower-requires c =
+    let differ = c.requires.no_loop in
+    (draining-once c.args.state.now c.requires.carrying.0 _ c.args.j c.args.limit _ c.in-Some.found _ _ c.requires.is_there (λ e. differ (sym e)) c.loop-left-test.true (c.loop-left.invariant c.requires.carrying.0 c.requires.carrying.1) c.in-Some.ensures.found).room
+
+pub overflow_sub-left : goal.overflow_sub-left
+overflow_sub-left c = (once c c.requires.carrying.0 c.requires.carrying.1).within
+
+pub loop-left-smaller : goal.loop-left-smaller
+loop-left-smaller c =
+    let told = once c c.requires.carrying.0 c.requires.carrying.1 in
+    omega (arith, told.some, told.within)
+
+pub loop-left-preserved : goal.loop-left-preserved
+loop-left-preserved c = λ unpaired carries. rw c.lower.ensures (once c unpaired carries).draining
+
+-- what flows on the arc comes back
+pub unreachable-requires : goal.unreachable-requires
+unreachable-requires c = draining-has_path c.args.state.now c.requires.carrying.0 _ c.args.j c.args.limit _ _ c.requires.is_there c.loop-left-test.true (c.loop-left.invariant c.requires.carrying.0 c.requires.carrying.1) c.in-None.ensures.found.0
+
+pub returns : goal.returns
+returns c = λ unpaired carries. rw c.settle.ensures (draining-done c.args.state.now unpaired _ c.args.j c.args.limit _ _ c.loop-left-test.false (c.loop-left.invariant unpaired carries))

@@ -1,0 +1,5 @@
+use Rattle.dmf_solver.proofs.OneOutcome.{one-outcome}
+use Rattle.dmf_solver.proofs.laws.change_has_one_outcome.Goals as goal
+
+pub returns : goal.returns
+returns c = one-outcome

@@ -1,0 +1,5 @@
+use Rattle.dmf_solver.proofs.SomeSide.{solved-greatest}
+use Rattle.dmf_solver.proofs.laws.solved_is_greatest.Goals as goal
+
+pub returns : goal.returns
+returns c = solved-greatest

@@ -1,0 +1,14 @@
+use Rattle.dmf_path.specs.Passed.{KeepsUnpassed}
+use Rattle.dmf_solver.specs.ResidualNetwork.{residual_pairs}
+use Rattle.dmf_solver.proofs.SolvingSearch.{IsSolving}
+use Rattle.dmf_solver.proofs.RoomLeaving.{room_leaving}
+use Rattle.dmf_solver.proofs.solve.solve.Given as goal
+
+abbrev pub invariant-loop-found : goal.invariant-loop-found
+invariant-loop-found g l = record {
+  solving : IsSolving l.state l.search l.value;
+  kept : KeepsUnpassed l.passed.items (residual_pairs l.state.network.arcs l.state.flows) l.search.pairs;
+}
+
+abbrev pub decreases-loop-found : goal.decreases-loop-found
+decreases-loop-found g l = room_leaving l.search.pairs l.state.network.source

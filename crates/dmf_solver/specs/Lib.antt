@@ -1,0 +1,11 @@
+pub mod Greatest
+pub mod Residual
+pub mod Solve
+pub mod Drain
+pub mod Change
+pub mod Laws
+pub mod ResidualNetwork
+pub mod Pairs
+pub mod Moves
+pub mod Edited
+pub mod Planning

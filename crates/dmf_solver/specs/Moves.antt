@@ -1,0 +1,39 @@
+-- The moves that drain an arc.
+-- Private: only contracts inside the crate and proofs use this.
+use Rattle.std.specs.Prelude.{ℕ, ◌≡◌, ◌≢◌, ◌+◌, ◌-◌, List, [], ◌∷◌, slice_index}
+use Rattle.dmf_net.specs.declared.edit.Move.{Move}
+use Rattle.dmf_solver.specs.Drain.{Drains, TakesOff}
+use Rattle.dmf_net.specs.Flow.{flow_on, flow_on_all}
+use Rattle.dmf_net.specs.Edit.{moved, MovesFit, differences}
+use Rattle.dmf_net.specs.Network.{Network}
+use Rattle.dmf_net.specs.NetworkState.{NetworkState, IsState, with_flows}
+
+-- Draining the arcs of these numbers to 0 in turn makes `flows` into `last`.
+abbrev pub DrainsInTurn : Network → List ℕ → List ℕ → List ℕ → Type 0
+DrainsInTurn n [] flows last = flows ≡ last
+DrainsInTurn n (j ∷ js) flows last = (next : List ℕ) × Drains n j 0 flows next × DrainsInTurn n js next last
+
+-- What is said of the moves that drain the arcs of these numbers to 0 in turn.
+pub record AreShuttingMoves (s : NetworkState) (js : List ℕ) (moves : List Move) : Type 0 where
+  pub fit : MovesFit 0 moves s.flows
+  pub differ : moves ≡ differences 1 s.flows (moved moves s.flows)
+  pub drains : DrainsInTurn s.network js s.flows (moved moves s.flows)
+  pub state : IsState (with_flows s (moved moves s.flows))
+  pub takes_off : TakesOff s.network (flow_on_all s.flows js) s.flows (moved moves s.flows)
+
+-- What is said of the moves that drain arc number `j`.
+pub record AreDrainingMoves (s : NetworkState) (j limit : ℕ) (moves : List Move) : Type 0 where
+  pub fit : MovesFit 0 moves s.flows
+  pub differ : moves ≡ differences 1 s.flows (moved moves s.flows)
+  pub drains : Drains s.network j limit s.flows (moved moves s.flows)
+  pub state : IsState (with_flows s (moved moves s.flows))
+  pub takes_off : TakesOff s.network (flow_on s.flows j - limit) s.flows (moved moves s.flows)
+
+-- The flow on the arc at index `k` stays as it was.
+abbrev pub Stays : List ℕ → List ℕ → ℕ → Type 0
+Stays before after k = slice_index before k ≡ slice_index after k
+
+-- The move is that of the arc at index `k`, whose flow differs.
+pub record IsMoveAt (before after : List ℕ) (k : ℕ) (m : Move) : Type 0 where
+  pub is : m ≡ record { arc = k + 1; from = slice_index before k; to = slice_index after k }
+  pub differs : slice_index before k ≢ slice_index after k

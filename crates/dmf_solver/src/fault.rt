@@ -1,0 +1,78 @@
+ghost use Rattle.std.specs.Prelude.{◌≡◌};
+ghost use Rattle.dmf_solver.specs.declared.fault.PlanFault.TheVariants as plan;
+ghost use Rattle.dmf_solver.specs.declared.fault.CutFault.TheVariants as cut;
+ghost use Rattle.dmf_solver.specs.Change.{plan_fault};
+
+use dmf_net::{ArcFault, NoMemory};
+use std::alloc::AllocError;
+use thiserror::Error;
+
+/// Why a change cannot be planned.
+#[derive(Clone, Copy, Debug, PartialEq, Eq, Hash, Error)]
+pub enum PlanFault {
+    /// The arc's number is 0 or past the last arc.
+    #[error("no such arc")]
+    NoSuchArc,
+    /// The arc is closed.
+    #[error("arc is closed")]
+    Closed,
+    /// A node's number is 0 or past the last node.
+    #[error("no such node")]
+    NoSuchNode,
+    /// The network has as many arcs as it may have.
+    #[error("too many arcs")]
+    TooManyArcs,
+    /// The sum of the capacities would pass 2^64 - 1.
+    #[error("capacities past 64 bits")]
+    SumTooLarge,
+    /// A request for memory was refused.
+    #[error("no memory")]
+    NoMemory,
+}
+
+impl From<ArcFault> for PlanFault {
+    ghost from_gives = { λ fault e. e ≡ plan_fault fault };
+
+    fn from(fault: ArcFault) -> PlanFault {
+        match fault {
+            ArcFault::NoSuchNode => PlanFault::NoSuchNode,
+            ArcFault::TooManyArcs => PlanFault::TooManyArcs,
+            ArcFault::SumTooLarge => PlanFault::SumTooLarge,
+        }
+    }
+}
+
+impl From<AllocError> for PlanFault {
+    ghost from_gives = { λ _ e. e ≡ plan.NoMemory };
+
+    fn from(_error: AllocError) -> PlanFault {
+        PlanFault::NoMemory
+    }
+}
+
+/// Why the smallest side of a network is not told.
+#[derive(Clone, Copy, Debug, PartialEq, Eq, Hash, Error)]
+pub enum CutFault {
+    /// Some flow of the network has a larger value.
+    #[error("flow is not greatest")]
+    NotGreatest,
+    /// A request for memory was refused.
+    #[error("no memory")]
+    NoMemory,
+}
+
+impl From<AllocError> for CutFault {
+    ghost from_gives = { λ _ e. e ≡ cut.NoMemory };
+
+    fn from(_error: AllocError) -> CutFault {
+        CutFault::NoMemory
+    }
+}
+
+impl From<NoMemory> for CutFault {
+    ghost from_gives = { λ _ e. e ≡ cut.NoMemory };
+
+    fn from(_error: NoMemory) -> CutFault {
+        CutFault::NoMemory
+    }
+}

@@ -1,0 +1,57 @@
+//! The residual network of a state, kept in step with an edit that is made or taken back: links of the arcs that it names get
+//! other rooms.
+ghost use Rattle.std.specs.Prelude.{◌≡◌, ◌-◌, ◌<◌, ◌≤◌, ℕ, List, length};
+ghost use Rattle.dmf_path.specs.Search.{with_pairs};
+ghost use Rattle.dmf_net.specs.Direction.{along, edited_along, FitsAlong};
+ghost use Rattle.dmf_net.specs.Edit.{moved, AddsArc, MovesFit};
+ghost use Rattle.dmf_solver.specs.Pairs.{with_capacity};
+ghost use Rattle.dmf_solver.specs.ResidualNetwork.{residual_search, IsResidualOf};
+
+use dmf_net::{Direction, Edit, Move, State};
+use dmf_path::Search;
+
+/// Gives the links of each arc that the moves name the rooms that its flow leaves once they are made, or taken back.
+pub fn put_flows(search: &mut Search, state: &State, moves: &[Move], direction: Direction)
+    requires residual { IsResidualOf state.now search.old }
+    requires fit { MovesFit 0 (along direction moves.now) state.now.flows }
+    ensures flows { search.new ≡ residual_search state.now.network (moved (along direction moves.now) state.now.flows) }
+    ensures one_each { length search.new.pairs ≡ length state.now.network.arcs }
+{
+    let arcs = state.arcs();
+    for m in moves {
+        let step = direction.step(m);
+        let k = step.arc as usize - 1;
+        search.set_rooms(k, arcs[k].cap.saturating_sub(step.to), step.to);
+    }
+}
+
+/// Gives the link along each arc whose capacity the edit changes the room that the new one leaves, or the old one.
+pub fn put_capacities(search: &mut Search, state: &State, edit: &Edit, direction: Direction)
+    requires fits { FitsAlong direction edit.now state.now }
+    requires adds_none { ¬ AddsArc edit.now }
+    requires one_each { length search.old.pairs ≡ length state.now.network.arcs }
+    ensures { (flows : List ℕ) → search.old ≡ residual_search state.now.network flows → search.new ≡ residual_search (edited_along direction edit.now state.now).network flows }
+{
+    match *edit {
+        Edit::Cap { arc, old, new, .. } => put_capacity(search, arc, direction.cap(old, new)),
+        Edit::Close { arc, old, .. } => put_capacity(search, arc, direction.cap(old, 0)),
+        Edit::Shut { ref arcs, .. } => {
+            for shutting in arcs {
+                put_capacity(search, shutting.arc, direction.cap(shutting.old, 0));
+            }
+        }
+        Edit::Add { .. } | Edit::Solve { .. } => {}
+    }
+}
+
+/// Gives the link along the pair of arc number `j` the room that this capacity leaves, where there is a pair.
+fn put_capacity(search: &mut Search, j: u32, cap: u64)
+    requires from_one { 1 ≤ j }
+    requires within { j - 1 < length search.old.pairs }
+    ensures { search.new ≡ with_pairs search.old (with_capacity search.old.pairs (j - 1) cap) }
+{
+    let k = j as usize - 1;
+    if let Some(flow) = search.against(k) {
+        search.set_rooms(k, cap.saturating_sub(flow), flow);
+    }
+}

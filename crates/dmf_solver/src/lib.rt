@@ -1,0 +1,33 @@
+//! Plans of changes of a network with a flow, solving among them: the solver of `dmf`.
+#![tactic(auto)]
+
+pub use fault::{CutFault, PlanFault};
+pub use laws::{
+    change_has_one_outcome, change_has_outcome, flow_is_greatest_or_surpassed, max_flow_min_cut,
+    network_has_one_smallest_side, network_has_smallest_side, solved_is_greatest,
+};
+pub use plan::{
+    plan_add, plan_cap, plan_close, plan_shut, plan_solve, plan_solve_watched,
+    plan_solve_with_side, plan_solve_with_side_watched,
+};
+pub use residual_network::ResidualNetwork;
+pub use side::{side_after, smallest_side};
+pub use solve::is_greatest;
+pub use watch::{Unwatched, Watch};
+
+mod carrying_pairs;
+mod drain;
+mod edited;
+mod edited_pairs;
+mod fault;
+mod following;
+mod laws;
+mod moves;
+mod plan;
+mod residual;
+mod residual_network;
+mod shut;
+mod side;
+mod solve;
+mod solved_moves;
+mod watch;

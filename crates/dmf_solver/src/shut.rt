@@ -1,0 +1,95 @@
+//! Every open arc at a node is closed.
+ghost use Rattle.std.specs.Prelude.{◌≡◌, ◌≤◌, ℕ, true, false, length, map, IfOk};
+ghost use Rattle.dmf_solver.specs.declared.moves.FlowLink.TheVariants.{Along};
+ghost use Rattle.dmf_net.specs.Arc.{open_arcs_at};
+ghost use Rattle.dmf_solver.specs.Drain.{Drains};
+ghost use Rattle.dmf_net.specs.Edit.{AreOpenWith, numbers};
+ghost use Rattle.dmf_net.specs.Flow.{flow_on_all};
+ghost use Rattle.dmf_solver.specs.Moves.{AreShuttingMoves};
+ghost use Rattle.dmf_net.specs.Network.{has_arc};
+ghost use Rattle.dmf_solver.specs.Pairs.{IsCarryingSearch, flows_read};
+
+use crate::drain::{carrying_search, drain_along};
+use crate::moves::{FlowLink, list_moves};
+use dmf_net::{Move, Shutting, State};
+use dmf_path::{Indices, Search};
+use std::alloc::{AllocError, Global};
+
+/// The open arcs at node `v`, in the order of their numbers.
+pub fn open_arcs_at(alloc: Global, state: &State, v: u32) -> Result<Vec<Shutting>, AllocError>
+    ensures are_open { IfOk result (λ arcs. AreOpenWith 0 arcs.items state.now.network) }
+    ensures numbers { IfOk result (λ arcs. numbers arcs.items ≡ open_arcs_at v 1 state.now.network.arcs) }
+{
+    let mut open = Vec::new(alloc);
+    for (i, arc) in state.arcs().iter().enumerate() {
+        if arc.is_open_at(v) {
+            open.push(Shutting {
+                arc: i as u32 + 1,
+                old: arc.cap,
+            })?;
+        }
+    }
+    Ok(open)
+}
+
+/// The moves that drain these arcs in turn. Where nothing flows on any of them, there are none, and nothing else is looked
+/// at.
+pub fn shutting_moves(
+    alloc: Global,
+    state: &State,
+    arcs: &[Shutting],
+) -> Result<Vec<Move>, AllocError>
+    requires { AreOpenWith 0 arcs.now state.now.network }
+    ensures { IfOk result (λ moves. AreShuttingMoves state.now (numbers arcs.now) moves.items) }
+{
+    let before = state.flows();
+    if are_without_flow(state, arcs) {
+        return Ok(Vec::new(alloc));
+    }
+    let mut search = carrying_search(alloc, state)?;
+    let mut unpaired = Vec::from_slice(alloc, before)?;
+    let mut are_loops_drained = false;
+    for shutting in arcs {
+        are_loops_drained |= drain_in_turn(state, shutting.arc, &mut search, &mut unpaired);
+    }
+    // The search lists no arc that comes back to its tail.
+    let indices = if are_loops_drained {
+        Indices::Below(before.len() + 1)
+    } else {
+        search.indices()
+    };
+    list_moves(alloc, before, &unpaired, &search, FlowLink::Along, indices)
+}
+
+/// Whether nothing flows on any of these arcs.
+fn are_without_flow(state: &State, arcs: &[Shutting]) -> bool
+    requires { AreOpenWith 0 arcs.now state.now.network }
+    ensures { result ≡ true → flow_on_all state.now.flows (numbers arcs.now) ≡ 0 }
+{
+    for shutting in arcs {
+        if state.flow(shutting.arc) != 0 {
+            return false;
+        }
+    }
+    true
+}
+
+/// Drains arc number `j` of the flows that the search and the list tell: its search for least paths, and where the arc comes
+/// back to its tail, and so has no pair, the list alone. Tells whether something flowed on an arc of that kind.
+fn drain_in_turn(state: &State, j: u32, search: &mut Search, unpaired: &mut [u64]) -> bool
+    requires is_there { has_arc state.now.network j ≡ true }
+    requires carrying { IsCarryingSearch state.now unpaired.old search.old }
+    ensures carrying { IsCarryingSearch state.now unpaired.new search.new }
+    ensures drains { Drains state.now.network j 0 (flows_read Along unpaired.old search.old.pairs) (flows_read Along unpaired.new search.new.pairs) }
+    ensures list_stays { result ≡ false → unpaired.new ≡ unpaired.old }
+{
+    let arc = state.arc(j);
+    if arc.tail != arc.head {
+        drain_along(state, j, 0, search);
+        return false;
+    }
+    let i = j as usize - 1;
+    let flow = unpaired[i];
+    unpaired[i] = 0;
+    flow > 0
+}
