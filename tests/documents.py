@@ -11,11 +11,12 @@ import re
 import sys
 from pathlib import Path
 
-CRATES = ["dmf_arguments", "dmf_path", "dmf_net", "dmf_text", "dmf_session", "dmf_run"]
+CRATES = ["dmf_arguments", "dmf_node", "dmf_path", "dmf_net", "dmf_solver", "dmf_text", "dmf_session", "dmf_run"]
 # The test that each library's example is.
 EXAMPLES = {
     "dmf_arguments": "dmf_usage/src/example.rt",
     "dmf_net": "dmf_words/src/examples/net.rt",
+    "dmf_solver": "dmf_words/src/examples/solver.rt",
     "dmf_text": "dmf_words/src/examples/text.rt",
     "dmf_session": "dmf_words/src/examples/session.rt",
     "dmf_run": "dmf_words/src/examples/run.rt",
@@ -54,6 +55,8 @@ def files_text():
         for part, head in ("specs", "| Definitions | What | |"), ("proofs", "| Lemmas | What |"):
             files = [it for it in sorted(Path(f"crates/{crate}/{part}").glob("*.antt")) if it.stem != "Lib"]
             told = [(file.stem, *first_words(file)) for file in files]
+            if not told:
+                continue
             rows = [f"| `{name}` | {what} |" + (f" {kind.lower()} |" if part == "specs" else "") for name, what, kind in told]
             title = f"## `{crate}`\n\n" if part == "specs" else ""
             parts.append(title + table(head, rows))

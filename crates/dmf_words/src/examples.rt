@@ -2,4 +2,5 @@
 mod net;
 mod run;
 mod session;
+mod solver;
 mod text;

@@ -1,27 +1,18 @@
-//! How much can be sent once an arc is closed, and where the limit is then.
-use dmf_net::State;
-use dmf_solver::{plan_close, plan_solve, smallest_side};
+//! A network is built, and a flow is put on it.
+use dmf_net::{NetFault, State};
 use std::test::Fail;
 
 #[test]
-fn an_arc_is_closed(rt: HostRuntime) -> Result<(), Fail> {
+fn a_flow_is_put_on_a_network(rt: HostRuntime) -> Result<(), Fail> {
     let alloc = rt.alloc();
-    // Nodes 1 to 4, the source 1 and the sink 4; arcs with their capacities, numbered from 1.
-    let mut state = State::new(alloc, 4, 1, 4);
-    for (tail, head, cap) in [(1, 2, 3), (1, 3, 2), (2, 3, 5), (2, 4, 2), (3, 4, 3)] {
-        state.push_arc(tail, head, cap)?;
-    }
-    // A change is planned on a state, which stays as it is, and then applied.
-    let solve = plan_solve(alloc, &state)?;
-    state.apply(&solve)?;
-    assert_eq!(rt; state.value(), 5);
-    let close = plan_close(alloc, &state, 1)?;
-    state.apply(&close)?;
-    // What arc 1 carried is taken off, and just that: the flow is greatest here too.
-    assert_eq!(rt; state.value(), 2);
-    let side = smallest_side(alloc, &state)?;
-    assert_eq!(rt; side.capacity(), 2);
-    assert!(rt; side.contains(1));
-    assert!(rt; !side.contains(3));
+    // Nodes 1 to 3, the source 1 and the sink 3; arcs with their capacities, numbered from 1.
+    let mut state = State::new(alloc, 3, 1, 3);
+    state.push_arc(1, 2, 4)?;
+    state.push_arc(2, 3, 3)?;
+    // There is no node 4, and a refused arc changes nothing.
+    assert!(rt; state.push_arc(2, 4, 1) == Err(NetFault::NoSuchNode));
+    // A flow of 3 on each arc: it is judged first.
+    let state = state.with_flows(alloc, vec![in alloc; 3u64; 2]?)?;
+    assert!(rt; state.value() == 3);
     Ok(())
 }
