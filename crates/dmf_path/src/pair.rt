@@ -27,6 +27,7 @@ pub trait Pairs {
     fn pair(&self, k: usize) -> Option<Pair>
         requires { k < length (pairs self.now) }
         ensures { slice_get (pairs self.now) k ≡ Some result };
+
     /// Whether there may be a pair at index `k`, as far as that is told without looking at the pair.
     fn may_be_there(&self, k: usize) -> bool
         requires { k < length (pairs self.now) }

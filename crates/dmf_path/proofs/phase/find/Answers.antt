@@ -1,10 +1,10 @@
 -- The walk, and what follows where it finds nothing: nothing is held, the nodes are labelled anew, and it walks again.
-use Rattle.std.proofs.Common.{◌≡◌, get_or, ap, sym, ◌∙◌, subst}
+use Rattle.std.proofs.Common.{◌≡◌, get_or, ap, sym, ◌∙◌, subst, arith}
 use Rattle.dmf_path.specs.Links.{links_of}
 use Rattle.dmf_path.specs.Walk.{AreValid, IsWalk}
 use Rattle.dmf_path.specs.Held.{Way, way_of, rooms_with}
-use Rattle.dmf_path.specs.Searching.{IsUnderWay, IsSeparated}
-use Rattle.dmf_path.proofs.Settling.{can-settle, rooms_with-free}
+use Rattle.dmf_path.specs.Searching.{IsHolding, IsUnderWay, IsSeparated}
+use Rattle.dmf_path.proofs.Settling.{can-settle, rooms_with-free, holding-free}
 use Rattle.dmf_path.proofs.phase.find.Goals as goal
 
 pub settle-requires-clause-rest : goal.settle-requires-clause-rest
@@ -101,3 +101,17 @@ returns-clause-none c =
     subst (λ rs. IsSeparated l rs c.args.trail.now.start c.args.trail.now.goal) now
     (subst (λ g. IsSeparated l c.settle.new.rooms c.args.trail.now.start g) goal_is
     (subst (λ s. IsSeparated l c.settle.new.rooms s c.settle.new.trail.goal) start (c.relabel.ensures.none c.if-relabel.false)))
+
+pub walk-requires-then-relabel-clause-holding : goal.walk-requires-then-relabel-clause-holding
+walk-requires-then-relabel-clause-holding c =
+    let l = links_of c.args.table.now in
+    let small = ap (λ (w : Way). w.sent) c.settle.ensures.way in
+    subst (λ (w : Way). IsHolding l w c.settle.new.rooms c.settle.new.flags) (sym c.relabel.ensures.way)
+    (holding-free l (way_of c.settle.new.trail) c.relabel.new.trail.slots.items c.settle.new.rooms c.settle.new.flags c.settle.ensures.sums c.settle.ensures.flags (omega (arith, small, c.walk.ensures.holding.small)))
+
+pub returns-clause-holding : goal.returns-clause-holding
+returns-clause-holding c =
+    let l = links_of c.args.table.now in
+    let small = ap (λ (w : Way). w.sent) c.settle.ensures.way in
+    subst (λ (w : Way). IsHolding l w c.settle.new.rooms c.settle.new.flags) (sym c.relabel.ensures.way)
+    (holding-free l (way_of c.settle.new.trail) c.relabel.new.trail.slots.items c.settle.new.rooms c.settle.new.flags c.settle.ensures.sums c.settle.ensures.flags (omega (arith, small, c.walk.ensures.holding.small)))

@@ -1,7 +1,8 @@
-use Rattle.std.proofs.Common.{◌≡◌, get_or, ◌∙◌, arith}
+use Rattle.std.proofs.Common.{◌≡◌, get_or, refl, ◌∙◌, arith}
 use Rattle.std.proofs.lemmas.List.{get_or_default}
 use Rattle.dmf_path.specs.Links.{links_of}
 use Rattle.dmf_path.proofs.RoomsSet.{AreRooms-set, AreFlags-set}
+use Rattle.dmf_path.proofs.Opposite.{opposite-is}
 use Rattle.dmf_path.proofs.push.set_pair.Goals as goal
 
 pub returns-clause-sums : goal.returns-clause-sums
@@ -18,3 +19,8 @@ returns-clause-flags c =
     c.index.ensures ∙ get_or_default c.args.table.now.partners.items c.args.place _ 0 (omega (arith, q.links.partners_long, q.within)) in
     rw (c.renew_flag-2.ensures, c.renew_flag.ensures, partner)
     (AreFlags-set (links_of c.args.table.now) c.args.place c.args.along c.args.against c.args.rooms.now c.args.flags.now q.links q.rooms.0 q.flags q.within)
+
+pub returns-clause-rooms : goal.returns-clause-rooms
+returns-clause-rooms c =
+    let q = c.requires in
+    rw (opposite-is (links_of c.args.table.now) c.args.place c.index.result.now q.links q.within c.index.ensures) refl

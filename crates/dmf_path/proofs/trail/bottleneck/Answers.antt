@@ -1,4 +1,4 @@
-use Rattle.std.proofs.Common.{ℕ, ◌≡◌, ◌<◌, ◌+◌, length, min, List, [], ◌∷◌, drop, ap, sym, ◌∙◌, arith}
+use Rattle.std.proofs.Common.{ℕ, ◌≡◌, ◌<◌, ◌+◌, length, min, List, [], ◌∷◌, drop, refl, ap, sym, ◌∙◌, arith}
 use Rattle.std.proofs.lemmas.List.{drop_more}
 use Rattle.dmf_path.specs.Held.{least_left}
 use Rattle.dmf_path.specs.declared.trail.Slot.{Slot}
@@ -8,6 +8,9 @@ use Rattle.dmf_path.proofs.trail.bottleneck.Goals as goal
 least_left-min : (sent limit x : ℕ) (slots : List Slot) → least_left sent (min limit x) slots ≡ min x (least_left sent limit slots)
 least_left-min sent limit x [] = omega arith
 least_left-min sent limit x (s ∷ slots) = let later = least_left-min sent limit x slots in omega (arith, later)
+
+pub loop-slot-init : goal.loop-slot-init
+loop-slot-init c = refl
 
 pub loop-slot-preserved : goal.loop-slot-preserved
 loop-slot-preserved c =

@@ -88,6 +88,11 @@ mark_ends-requires-clause-places c =
     let can = can-augment l c.self.inside.takes_back c.self.inside.places c.find-found.new.rooms c.find-found.new.flags c.find-found.new.labels c.find-found.new.current w _ _ c.args.limit c.bottleneck-amount.result is (c.find-found.ensures.found c.if-not-found.false) least in
     rw c.deref-2.ensures.value (λ i inside. slot-within l c.find-found.new.labels _ _ w.slots i can.descends inside)
 
+pub split_path-requires-clause-rooms : goal.split_path-requires-clause-rooms
+split_path-requires-clause-rooms c =
+    let at = (goal.at.split_path-requires-clause-rooms c).After-split_path-arg-2-1 in
+    rw (read at) (found at).holding.rooms_are
+
 pub split_path-requires-clause-flags : goal.split_path-requires-clause-flags
 split_path-requires-clause-flags c =
     let at = (goal.at.split_path-requires-clause-flags c).After-split_path-arg-2-1 in

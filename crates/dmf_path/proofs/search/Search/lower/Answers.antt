@@ -11,6 +11,21 @@ use Rattle.dmf_path.proofs.Released.{is-lowered}
 use Rattle.dmf_path.proofs.search.Search.lower.Goals as goal
 use Rattle.dmf_path.proofs.search.Search.lower.Goals.{After-deref_mut-4, After-self-4-1}
 
+pub place-place-requires : goal.place-place-requires
+place-place-requires c =
+    let of = c.self.inside in
+    let l = links_of of.table in
+    let along = rw (← c.self.view_is) at c.requires in
+    (HasPlace-along l of.places (rooms_with l of.takes_back (way_of of.trail) of.rooms.items) c.args.k c.args.amount c.self.invariant.places_are along).index
+
+pub release-requires-clause-place : goal.release-requires-clause-place
+release-requires-clause-place c =
+    let of = c.self.inside in
+    let l = links_of of.table in
+    let along = rw (← c.self.view_is) at c.requires in
+    let has = HasPlace-along l of.places (rooms_with l of.takes_back (way_of of.trail) of.rooms.items) c.args.k c.args.amount c.self.invariant.places_are along in
+    omega (arith, c.place-place.ensures, has.within)
+
 -- The pair's link along has a place,
 has : (c : After-deref_mut-4) → HasPlace (links_of c.self.inside.table) c.self.inside.places (rooms_with (links_of c.self.inside.table) c.self.inside.takes_back (way_of c.self.inside.trail) c.self.inside.rooms.items) c.args.k c.args.amount
 has c =

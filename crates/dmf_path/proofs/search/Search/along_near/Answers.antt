@@ -1,0 +1,37 @@
+-- The pair's place, and the room of the link there.
+use Rattle.std.proofs.Common.{◌≡◌, get_or, ap, sym, ◌∙◌, Some, None}
+use Rattle.std.specs.Option.{option_map}
+use Rattle.dmf_path.specs.declared.pair.Pair.{Pair}
+use Rattle.dmf_path.specs.Links.{links_of}
+use Rattle.dmf_path.specs.Held.{way_of, rooms_with}
+use Rattle.dmf_path.proofs.PairRead.{index-within, place-within, no-pair, its-pair}
+use Rattle.dmf_path.proofs.search.Search.along_near.Goals as goal
+
+pub place-place-requires : goal.place-place-requires
+place-place-requires c =
+    let of = c.self.inside in
+    index-within (links_of of.table) of.places (rooms_with (links_of of.table) of.takes_back (way_of of.trail) of.rooms.items) c.args.k (rw (← c.self.view_is) at c.requires)
+
+pub returns-then-place : goal.returns-then-place
+returns-then-place c =
+    let of = c.self.inside in
+    let l = links_of of.table in
+    let rooms = rooms_with l of.takes_back (way_of of.trail) of.rooms.items in
+    let index = index-within l of.places rooms c.args.k (rw (← c.self.view_is) at c.requires) in
+    rw (← c.self.view_is) (sym (ap (option_map (λ (p : Pair). p.along)) (no-pair l of.places rooms c.args.k c.place-place.result index c.place-place.ensures c.if-place.true)))
+
+pub settled_room-along-requires-clause-place : goal.settled_room-along-requires-clause-place
+settled_room-along-requires-clause-place c =
+    let of = c.self.inside in
+    let l = links_of of.table in
+    let index = index-within l of.places (rooms_with l of.takes_back (way_of of.trail) of.rooms.items) c.args.k (rw (← c.self.view_is) at c.requires) in
+    place-within l of.places c.args.k c.place-place.result c.self.invariant.places_are index c.place-place.ensures c.if-place.false
+
+pub returns : goal.returns
+returns c =
+    let of = c.self.inside in
+    let l = links_of of.table in
+    let rooms = rooms_with l of.takes_back (way_of of.trail) of.rooms.items in
+    let index = index-within l of.places rooms c.args.k (rw (← c.self.view_is) at c.requires) in
+    let room : c.settled_room-along.result ≡ get_or rooms c.place-place.result 0 = rw c.deref.ensures.value at c.settled_room-along.ensures in
+    rw (← c.self.view_is) (ap Some room ∙ sym (ap (option_map (λ (p : Pair). p.along)) (its-pair l of.places rooms c.args.k c.place-place.result index c.place-place.ensures c.if-place.false)))
