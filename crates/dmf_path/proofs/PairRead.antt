@@ -1,5 +1,5 @@
 -- What is read of a pair, where its place is read under a name of its own.
-use Rattle.std.proofs.Common.{ℕ, ◌≡◌, ◌≢◌, ◌<◌, List, length, map, get_or, refl, sym, ◌∙◌, arith, Some, None}
+use Rattle.std.proofs.Common.{ℕ, ◌≡◌, ◌≢◌, ◌<◌, List, length, get_or, refl, sym, ◌∙◌, arith, Some, None}
 use Rattle.std.proofs.lemmas.Bool.{eq-eqb, ne_eqb}
 use Rattle.std.proofs.lemmas.List.{get_or-map, length-map}
 use Rattle.dmf_path.specs.Links.{Links, ArePlaces, no_place, tail_of, pair_at, pairs_at}

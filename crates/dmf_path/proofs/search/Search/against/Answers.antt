@@ -1,5 +1,5 @@
 -- The pair's place, and the room of the opposite link.
-use Rattle.std.proofs.Common.{◌≡◌, get_or, ap, sym, ◌∙◌, arith, Some, None}
+use Rattle.std.proofs.Common.{◌≡◌, get_or, ap, sym, ◌∙◌, arith, Some}
 use Rattle.std.specs.Option.{option_map}
 use Rattle.dmf_path.specs.declared.pair.Pair.{Pair}
 use Rattle.dmf_path.specs.Links.{links_of}
