@@ -1,0 +1,77 @@
+use Rattle.std.proofs.Common.{◌≡◌, ◌≤◌, ◌^◌, ◌&&◌, ◌∷◌, [], ℕ, List, true, false, Some, None, Ok, Err, arith, codes, refl, sym, ap, ◌∙◌, nat_le}
+use Rattle.std.proofs.lemmas.Bool.{and_from, and_left, and_right, le-leb, lt-leb, not-true, not-false}
+use Rattle.std.specs.Str.{bytes_eq}
+use Rattle.dmf_text.specs.declared.fault.ProblemFaultKind.TheVariants.{NotMax, CountOutOfRange}
+use Rattle.dmf_text.specs.Number.{number_of}
+use Rattle.dmf_text.specs.Judging.{◌>>◌, expect}
+use Rattle.dmf_text.specs.Problem.{Facts, Counts, counts_named}
+use Rattle.dmf_text.specs.Reading.{no_facts, with_line}
+use Rattle.dmf_text.proofs.reading.Head.of_problem_line.Goals as goal
+use Rattle.dmf_text.proofs.reading.Head.of_problem_line.Goals.{then-nodes-lt2-via-then-nodes-lt2, then-nodes-lt2-via-else-nodes-lt2+then-nodes-from, then-nodes-lt2-via-else-nodes-lt2+else-nodes-from+then-arcs-from}
+
+-- a problem line of three fields
+other-word : (f g h : List ℕ) → bytes_eq f (codes "max") ≡ false → counts_named (f ∷ g ∷ h ∷ []) ≡ Err NotMax
+unfolding counts_named
+other-word f g h no-max = rw no-max refl
+
+-- whose word and numbers are these
+module _ (f g h : List ℕ) (nodes arcs : ℕ) (word : bytes_eq f (codes "max") ≡ true) (first : number_of g ≡ Ok nodes) (second : number_of h ≡ Ok arcs) where
+  abbrev counts : Counts
+  counts = record { nodes = nodes; arcs = arcs }
+
+  line-judged : counts_named (f ∷ g ∷ h ∷ []) ≡ (expect (nat_le 2 nodes && nat_le nodes (2 ^ 24)) CountOutOfRange >> (expect (nat_le arcs (2 ^ 27)) CountOutOfRange >> Ok counts))
+  unfolding counts_named
+  line-judged = rw (word, first, second) refl
+
+  good-counts : (nat_le 2 nodes && nat_le nodes (2 ^ 24)) ≡ true → nat_le arcs (2 ^ 27) ≡ true → counts_named (f ∷ g ∷ h ∷ []) ≡ Ok counts
+  good-counts range few = line-judged ∙ rw (range, few) refl
+
+  other-nodes : (nat_le 2 nodes && nat_le nodes (2 ^ 24)) ≡ false → counts_named (f ∷ g ∷ h ∷ []) ≡ Err CountOutOfRange
+  other-nodes range = line-judged ∙ rw range refl
+
+  other-arcs : (nat_le 2 nodes && nat_le nodes (2 ^ 24)) ≡ true → nat_le arcs (2 ^ 27) ≡ false → counts_named (f ∷ g ∷ h ∷ []) ≡ Err CountOutOfRange
+  other-arcs range many = line-judged ∙ rw (range, many) refl
+
+  line-says : ◌≡◌ {A = Facts} (record { counts = Some counts; source = None; sink = None; arcs = [] }) (with_line no_facts (codes "p" ∷ f ∷ g ∷ h ∷ []))
+  line-says = rw (first, second) refl
+
+pub returns-then-ne : goal.returns-then-ne
+returns-then-ne c =
+    let word = c.in_ok-word.word.now in
+    let no-max : bytes_eq word (codes "max") ≡ false = ap (bytes_eq word) (sym c.as_slice.ensures) ∙ not-true _ (sym c.ne.ensures ∙ c.if-ne.true) in
+    rw c.in_ok-word.ensures (other-word word c.in_ok-word.nodes.now c.in_ok-word.arcs.now no-max)
+
+pub returns-then-nodes-lt2 : goal.returns-then-nodes-lt2
+returns-then-nodes-lt2 c =
+    let word = c.in_ok-word.word.now in
+    let nodes = c.in_ok-nodes.nodes in
+    let arcs = c.in_ok-arcs.arcs in
+    let max : bytes_eq word (codes "max") ≡ true = ap (bytes_eq word) (sym c.as_slice.ensures) ∙ not-false _ (sym c.ne.ensures ∙ c.if-ne.false) in
+    let first = sym c.in_ok-nodes.ensures in
+    let second = sym c.in_ok-arcs.ensures in
+    let bad-nodes = other-nodes word c.in_ok-word.nodes.now c.in_ok-word.arcs.now nodes arcs max first second in
+    let bad-arcs = other-arcs word c.in_ok-word.nodes.now c.in_ok-word.arcs.now nodes arcs max first second in
+    rw c.in_ok-word.ensures
+    (elim c.then-nodes-lt2.branch [
+      | then-nodes-lt2-via-then-nodes-lt2 w ↦ bad-nodes (and_left _ _ (lt-leb 2 nodes w.if-nodes-lt2.true))
+      | then-nodes-lt2-via-else-nodes-lt2+then-nodes-from w ↦ bad-nodes (and_right _ _ (lt-leb nodes (2 ^ 24) (omega (arith, w.from.ensures, w.if-nodes-from.true))))
+      | then-nodes-lt2-via-else-nodes-lt2+else-nodes-from+then-arcs-from w ↦
+          bad-arcs (and_from _ _ (le-leb 2 nodes w.if-nodes-lt2.false) (le-leb nodes (2 ^ 24) (omega (arith, w.from.ensures, w.if-nodes-from.false))))
+          (lt-leb arcs (2 ^ 27) (omega (arith, w.from-else-nodes-from.ensures, w.if-arcs-from.true)))
+    ])
+
+pub returns : goal.returns
+returns c =
+    let word = c.in_ok-word.word.now in
+    let nodes = c.in_ok-nodes.nodes in
+    let arcs = c.in_ok-arcs.arcs in
+    let max : bytes_eq word (codes "max") ≡ true = ap (bytes_eq word) (sym c.as_slice.ensures) ∙ not-false _ (sym c.ne.ensures ∙ c.if-ne.false) in
+    let first = sym c.in_ok-nodes.ensures in
+    let second = sym c.in_ok-arcs.ensures in
+    let low : 2 ≤ nodes = c.if-nodes-lt2.false in
+    let high : nodes ≤ 2 ^ 24 = omega (arith, c.from.ensures, c.if-nodes-from.false) in
+    let few : arcs ≤ 2 ^ 27 = omega (arith, c.from-else-nodes-from.ensures, c.if-arcs-from.false) in
+    rw c.in_ok-word.ensures (
+      good-counts word c.in_ok-word.nodes.now c.in_ok-word.arcs.now nodes arcs max first second (and_from _ _ (le-leb 2 nodes low) (le-leb nodes (2 ^ 24) high)) (le-leb arcs (2 ^ 27) few),
+      line-says word c.in_ok-word.nodes.now c.in_ok-word.arcs.now nodes arcs max first second,
+    )
