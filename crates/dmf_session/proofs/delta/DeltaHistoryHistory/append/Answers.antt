@@ -9,6 +9,9 @@ apply-requires c =
     let accepted = subst (FitsPresent c.args.edit) (sym c.self.view_is) c.requires.fits in
     fits-present a.present a.edits.items a.place a.bound c.self.invariant.are c.args.edit accepted
 
+pub invariant_of-self-in_err-apply : goal.invariant_of-self-in_err-apply
+invariant_of-self-in_err-apply c = rw (c.in_err-apply.ensures.err, c.reserve.ensures.items) c.self.invariant
+
 pub invariant_of-self-then-self : goal.invariant_of-self-then-self
 invariant_of-self-then-self c =
     let a = c.self.inside in
