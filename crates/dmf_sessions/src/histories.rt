@@ -15,7 +15,8 @@ const SCRIPTS: u32 = 20;
 
 const COMMANDS: u32 = 200;
 
-/// So many words, each with how many numbers follow it. Most of the commands are accepted.
+/// The words of commands, each with how many numbers follow it. A word that stands twice is drawn twice as often. Most of the
+/// commands are accepted.
 const WORDS: [(&[u8], u32); 14] = [
     (b"cap", 2),
     (b"cap", 2),
