@@ -2,7 +2,8 @@
 a call that was interrupted, and as a write that takes no byte. Reads and writes are cut short too.
 
 From the calls of a run it is seen in which order it reads and writes. A session has written the replies to all lines that it
-was given whole before it reads on; other runs write nothing before all is read; and after a call that failed none reads."""
+was given whole before it reads on; other runs write nothing before all is read; and after a call that failed none reads. Where
+no call fails and none is cut short, each reply is one write, and so is all that another run writes."""
 
 import errno
 import sys
@@ -14,9 +15,18 @@ import built
 from built import PROBLEM, Case
 from oracle.program import Outcome, ended_lines, told
 from worked import CHECKS, SOLVES, WORKED
+from worked_forms import text
 from worked_sessions import SESSIONS
 
 INPUT, OUTPUT = 0, 1
+LINE_FEED = 10
+# A solution that is longer than the program's buffer of 1,024 bytes, so that a write fails before the flush, and a session with
+# such replies.
+WIDE = text("p max 2 100 / n 1 s / n 2 t" + " / a 1 2 10000000000000000" * 100)
+LONG = [
+    Case("a long solution", (b"solve", b"--cut"), WIDE, WIDE),
+    Case("long replies", (b"session", PROBLEM), WIDE, text("solve / print problem / print cut")),
+]
 WORDS = [
     Case("the help", (b"--help",), b"", b""),
     Case("the version", (b"--version",), b"", b""),
@@ -101,6 +111,16 @@ def wrong_in(texts, fault, run, calls):
     return None if wanted_end(texts.ample, failed, due, run).allows(*run) else f"it ends so: {run}"
 
 
+def wrong_writes(texts, calls):
+    """Says what is wrong with the writes of a run in which no call fails and none is cut short."""
+    case = texts.case
+    ends = [place for place, byte in enumerate(case.input, 1) if byte == LINE_FEED] if case.words[:1] == (b"session",) else []
+    lengths = [0, *(len(texts.due(end, False)) for end in ends), len(texts.ample.written)]
+    wanted = [end - begin for begin, end in zip(lengths, lengths[1:]) if end > begin]
+    writes = [result for name, file, result in calls if (name, file) == ("write", OUTPUT)]
+    return writes != wanted and f"it writes {writes} bytes, and not {wanted}"
+
+
 def wanted_end(ample, failed, due, run):
     """How a run is to end in which this call failed. A writer that failed once may be given the rest of its text again, but
     none that follows."""
@@ -131,6 +151,10 @@ def judge(case_and_pieces, library):
                     return f"{case.name}: pieces of {piece}, {fault.call} {number} fails with {fault.error}: {wrong}"
                 if sum(name == fault.call for name, *_ in calls) < number:
                     break
+            if piece == WHOLE and case not in LONG + WORDS:
+                wrong = wrong_writes(texts, calls)
+                if wrong:
+                    return f"{case.name}: {wrong}"
     return None
 
 
@@ -143,4 +167,5 @@ if __name__ == "__main__":
     cases = [case for case, _ in WORKED] + WORDS
     items = [(case, pieces_of(case)) for case in cases]
     items += [(kind[-1].case, [ONE]) for kind in (SOLVES, SESSIONS, CHECKS)]
+    items += [(case, [WHOLE, MANY]) for case in LONG]
     sys.exit(built.report(partial(judge, library=sys.argv[1]), items))

@@ -11,9 +11,10 @@ import re
 import subprocess
 import sys
 import tempfile
+from functools import partial
 from itertools import count
 
-from built import tell
+from built import in_parallel, tell
 from oracle import changes
 from oracle.network import Arc, State
 from oracle.session import MOST_KEPT, Session
@@ -167,7 +168,7 @@ def main():
         return 0
     with open(STDOUT) as file:
         said = [file.read() != ample() and "crates/dmf_calls/stdout is not what the second implementation tells"]
-    said += [judge(sys.argv[1], row) for row in (1, 2)] + [judge_many(sys.argv[1])]
+    said += [*in_parallel(partial(judge, sys.argv[1]), (1, 2)), judge_many(sys.argv[1])]
     return tell(said)
 
 

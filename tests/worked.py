@@ -25,6 +25,7 @@ from worked_forms import (
     text,
     wrong,
 )
+from worked_once import ONCE
 from worked_sessions import HISTORIES, SESSIONS
 
 SOLVES = [
@@ -103,25 +104,27 @@ LIMITS = [
 
 
 def fronts():
-    """Cases with each front of a text: a problem, commands and a solution that end anywhere."""
+    """Cases with each front of a text: a problem, commands and a solution that end anywhere. Each is given with its status, where
+    that is known: a problem is whole where at most the end of its last line is missing."""
     problem = text(CROSSED)
     commands, solution = SESSIONS[-1].case.input, text(CROSSED_FLOW)
     for command, whole in (b"solve", problem), (b"session", commands), (b"check", solution):
         words = (command,) if command == b"solve" else (command, PROBLEM)
         for end in range(len(whole) + 1):
-            yield Case(f"the first {end} bytes for {command.decode()}", words, problem, whole[:end])
+            status = 3 * (end + 1 < len(whole)) if command == b"solve" else None
+            yield Case(f"the first {end} bytes for {command.decode()}", words, problem, whole[:end]), status
 
 
 def judge(pair):
-    """Says what is wrong with a case, of which it may be known how it ends."""
+    """Says what is wrong with a case, of which it may be known how it ends, or with which status."""
     case, known = pair
     built.put_problem(case)
     wanted = built.wanted(case)
-    if known and known != wanted:
+    if known not in (None, wanted, wanted.status):
         return f"{case.name}: the second implementation ends so: {wanted}"
     run = built.run(case)
     return None if wanted.allows(*run) else f"{case.name}: the program ends so: {run}"
 
 
 if __name__ == "__main__":
-    sys.exit(built.report(judge, WORKED + LIMITS + [(case, None) for case in fronts()], 10))
+    sys.exit(built.report(judge, WORKED + ONCE + LIMITS + [*fronts()], 10))

@@ -101,11 +101,11 @@ SESSIONS = [
     held(
         "lines for a node to be shut that are refused",
         CROSSED,
-        "shut 1 1 / shut x / shut -1 / shut 18446744073709551616 / shut 18446744073709551615 / shut 4294967297 / "
+        "shut 1 1 / shut x x / shut x / shut -1 / shut 18446744073709551616 / shut 18446744073709551615 / shut 4294967297 / "
         "Shut 1 / shutter 1",
-        "c refused 1 wrong number of fields / c refused 2 not a number / c refused 3 not a number / "
-        "c refused 4 number too large / c refused 5 no such node / c refused 6 no such node / "
-        "c refused 7 unknown command / c refused 8 unknown command",
+        "c refused 1 wrong number of fields / c refused 2 wrong number of fields / c refused 3 not a number / "
+        "c refused 4 not a number / c refused 5 number too large / c refused 6 no such node / c refused 7 no such node / "
+        "c refused 8 unknown command / c refused 9 unknown command",
     ),
     held(
         "a solve of a greatest flow is a change",
@@ -171,9 +171,9 @@ SESSIONS = [
     held(
         "arcs that cannot be added, and one that can",
         CROSSED,
-        "undo / add 1 5 1 / add 1 1 18446744073709551601 / add 1 1 18446744073709551600 / add 1 1 / add x 1 1",
+        "undo / add 1 5 1 / add 1 1 18446744073709551601 / add 1 1 18446744073709551600 / add 1 1 / add x 1 1 / solve",
         "c refused 1 nothing to undo / c refused 2 no such node / c refused 3 capacities past 64 bits / c add 6 value 0 / "
-        "c refused 5 wrong number of fields / c refused 6 not a number",
+        f"c refused 5 wrong number of fields / c refused 6 not a number / {CROSSED_FLOW} / f 1 1 0",
     ),
     held(
         "a loose text is written plainly",
@@ -234,6 +234,20 @@ SESSIONS = [
         CROSSED,
         b"add 1 4 7\nund",
         "c add 6 value 0 / c refused 2 unknown command",
+    ),
+    held(
+        "comments and blank lines between changes, which have no replies",
+        CROSSED,
+        b"add 1 4 7\nc a comment\n\nsolve\ncap 1 9\nclose 6\nclosed 6\nundo",
+        f"c add 6 value 0 / s 12 / {CROSSED_FLOW.removeprefix('s 5 / ')} / f 1 4 7 / c cap value 12 / c close value 5 / "
+        "c refused 7 unknown command / c undo value 12",
+    ),
+    held(
+        "each kind of reply in turn",
+        CROSSED,
+        b"add 1 4 7\nc\nundo\n\nprint problem\nsolve\ncap 5 1\nclose 1\nclose 1\nprint flow\nundo",
+        f"c add 6 value 0 / c undo value 0 / {CROSSED} / {CROSSED_FLOW} / c cap value 3 / c close value 0 / "
+        "c refused 9 arc is closed / s 0 / f 1 3 0 / f 2 3 0 / f 2 4 0 / f 3 4 0 / c undo value 3",
     ),
     held(
         "draining, undoing, closing and solving in turn",

@@ -140,13 +140,29 @@ fn small_networks_agree(rt: HostRuntime) -> Result<(), Fail> {
     Ok(())
 }
 
-/// Parallel arcs, an arc that comes back to its tail, and a cycle: something flows on each of them.
+/// Parallel arcs, an arc that comes back to its tail, and a cycle: something flows on each of them. In the second network the cycle
+/// is away from the node of the others.
 #[test]
 fn a_flow_that_goes_round_agrees(rt: HostRuntime) -> Result<(), Fail> {
     let alloc = rt.alloc();
     let empty = tangle(alloc, &[(4, 2, 5), (4, 4, 1)])?;
     let state = flowing(alloc, &empty, &[4, 5, 2, 8, 2, 2, 1])?;
+    shut_each(&rt, alloc, &state)?;
+    let empty = tangle(alloc, &[(4, 3, 5)])?;
+    let state = flowing(alloc, &empty, &[4, 5, 2, 6, 1, 1])?;
     shut_each(&rt, alloc, &state)
+}
+
+/// 3 flow from the source to the sink, and 1 of them back.
+#[test]
+fn a_flow_that_comes_back_agrees(rt: HostRuntime) -> Result<(), Fail> {
+    let alloc = rt.alloc();
+    let empty = network(alloc, 3, 1, 2, &[(1, 3, 5), (3, 2, 5), (2, 1, 5)])?;
+    let state = flowing(alloc, &empty, &[3, 3, 1])?;
+    for index in 0..3 {
+        halve_and_close(&rt, alloc, &mut state.copy(alloc)?, index)?;
+    }
+    Ok(())
 }
 
 #[test]

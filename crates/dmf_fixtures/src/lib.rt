@@ -1,12 +1,10 @@
-//! What tests give to runs: problem texts, and readers and writers that are slow or fail, mark their flushes or are counted.
+//! What tests give to runs: problem texts, and readers and writers that are slow or fail, or are counted.
 #![tactic(auto)]
 
 pub use counts::Counted;
 pub use readers::ByteReader;
-pub use texts::{
-    FULL_ARC, LENIENT, NETWORK_A, NETWORK_B, NO_ARCS, PARALLEL, SOLUTION_A, TWO_SHORTEST,
-};
-pub use writers::{FlushMarker, SlowWriter, is_front};
+pub use texts::{FULL_ARC, LENIENT, NETWORK_A, NETWORK_B, NO_ARCS, PARALLEL, TWO_SHORTEST};
+pub use writers::{SlowWriter, is_front};
 
 mod counts;
 mod readers;

@@ -24,11 +24,6 @@ impl<'a> ByteReader<'a> {
             calls: 0,
         }
     }
-
-    /// Fails in place of telling the end.
-    pub fn failing_at_end(text: &'a [u8]) -> Self {
-        ByteReader::failing_at(text, text.len())
-    }
 }
 
 impl<'a> Read for ByteReader<'a> {

@@ -4,9 +4,6 @@
 pub const NETWORK_A: &[u8] =
     b"p max 4 5\nn 1 s\nn 4 t\na 1 2 3\na 1 3 2\na 2 3 5\na 2 4 2\na 3 4 3\n";
 
-/// The solution of [`NETWORK_A`].
-pub const SOLUTION_A: &[u8] = b"s 5\nf 1 2 3\nf 1 3 2\nf 2 3 1\nf 2 4 2\nf 3 4 3\n";
-
 /// Two paths of three arcs from node 1 to node 5, which share their last arc.
 pub const NETWORK_B: &[u8] =
     b"p max 5 5\nn 1 s\nn 5 t\na 1 2 1\na 1 3 1\na 2 4 1\na 3 4 1\na 4 5 1\n";

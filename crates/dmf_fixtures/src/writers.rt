@@ -1,4 +1,4 @@
-//! Writers that are slow, fail, or mark where they are flushed.
+//! Writers that are slow, or fail.
 use std::io;
 use std::io::{ErrorKind, Write};
 
@@ -42,24 +42,6 @@ impl<'a> Write for SlowWriter<'a> {
         if self.flush_fails {
             return Err(io::Error::from(ErrorKind::Interrupted));
         }
-        Ok(())
-    }
-}
-
-/// Adds a bar where it is flushed.
-#[derive(Drop)]
-pub struct FlushMarker<'a> {
-    pub held: &'a mut Vec<u8>,
-}
-
-impl<'a> Write for FlushMarker<'a> {
-    fn write(&mut self, bytes: &[u8]) -> io::Result<usize> {
-        self.held.extend_from_slice(bytes)?;
-        Ok(bytes.len())
-    }
-
-    fn flush(&mut self) -> io::Result<()> {
-        self.held.extend_from_slice(b"|")?;
         Ok(())
     }
 }

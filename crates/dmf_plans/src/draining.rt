@@ -1,7 +1,7 @@
 //! Tests of draining.
 use crate::networks::{coming_back, going_round, self_loop};
-use dmf_net::{Arc, Edit, NetFault, State};
-use dmf_solver::{PlanFault, plan_cap, plan_close};
+use dmf_net::{Edit, State};
+use dmf_solver::plan_cap;
 use dmf_scanning::listed;
 use std::alloc::Global;
 use std::process::Abort;
@@ -90,69 +90,4 @@ fn the_return_link_ranks_after_the_arcs(rt: HostRuntime) -> Result<(), Fail> {
     let mut state = coming_back(alloc)?;
     assert!(rt; state.value() == 2);
     give(&rt, alloc, &mut state, LOWERED_BACK)
-}
-
-/// The network whose flow comes back, with its second arc closed. The plan is compared.
-fn closed(rt: &impl Abort, alloc: Global) -> Result<State, Fail> {
-    let mut state = coming_back(alloc)?;
-    let edit = plan_close(alloc, &state, 2)?;
-    let moves = listed(alloc, &[(1, 3, 0), (2, 3, 0), (3, 1, 0)])?;
-    assert!(rt;
-        edit == Edit::Close {
-            arc: 2,
-            old: 5,
-            moves
-        }
-    );
-    state.apply(&edit)?;
-    Ok(state)
-}
-
-const CLOSED_ARC: Arc = Arc {
-    tail: 3,
-    head: 2,
-    cap: 0,
-    closed: true,
-};
-
-#[test]
-fn an_arc_is_closed(rt: HostRuntime) -> Result<(), Fail> {
-    let alloc = rt.alloc();
-    let state = closed(&rt, alloc)?;
-    assert!(rt; (state.value(), state.open_count()) == (0, 2));
-    assert!(rt; state.arcs().len() == 3 && state.arcs()[1] == CLOSED_ARC);
-    assert!(rt; plan_close(alloc, &state, 2).err() == Some(PlanFault::Closed));
-    assert!(rt; plan_cap(alloc, &state, 2, u64::MAX).err() == Some(PlanFault::Closed));
-    Ok(())
-}
-
-/// The largest capacity of one arc beside two of capacity 5.
-const LARGEST: u64 = u64::MAX - 10;
-
-const RAISED: Capacity<'static> = Capacity {
-    arc: 1,
-    old: 5,
-    new: LARGEST,
-    moves: &[],
-    value: 2,
-};
-
-#[test]
-fn a_capacity_is_raised(rt: HostRuntime) -> Result<(), Fail> {
-    let alloc = rt.alloc();
-    let mut state = coming_back(alloc)?;
-    give(&rt, alloc, &mut state, RAISED)?;
-    assert!(rt; state.arcs().len() == 3 && state.arcs()[0].cap == LARGEST);
-    assert!(rt; state.push_arc(1, 2, 1) == Err(NetFault::SumTooLarge));
-    Ok(())
-}
-
-#[test]
-fn a_capacity_without_an_arc_or_room_is_refused(rt: HostRuntime) -> Result<(), Fail> {
-    let alloc = rt.alloc();
-    let state = coming_back(alloc)?;
-    assert!(rt; plan_cap(alloc, &state, 0, 1).err() == Some(PlanFault::NoSuchArc));
-    assert!(rt; plan_cap(alloc, &state, 4, 1).err() == Some(PlanFault::NoSuchArc));
-    assert!(rt; plan_cap(alloc, &state, 1, LARGEST + 1).err() == Some(PlanFault::SumTooLarge));
-    Ok(())
 }

@@ -8,10 +8,6 @@ mod keeping;
 #[cfg(test)]
 mod networks;
 #[cfg(test)]
-mod reverting;
-#[cfg(test)]
-mod shutting;
-#[cfg(test)]
 mod sides;
 #[cfg(test)]
 mod solving;

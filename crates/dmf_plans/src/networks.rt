@@ -1,6 +1,6 @@
 //! Networks with a flow that tests of plans begin with.
 use dmf_net::State;
-use dmf_scanning::{flowing, network, tangle};
+use dmf_scanning::{flowing, network};
 use std::alloc::Global;
 use std::test::Fail;
 
@@ -20,10 +20,4 @@ pub fn going_round(alloc: Global) -> Result<State, Fail> {
 pub fn coming_back(alloc: Global) -> Result<State, Fail> {
     let empty = network(alloc, 3, 1, 2, &[(1, 3, 5), (3, 2, 5), (2, 1, 5)])?;
     flowing(alloc, &empty, &[3, 3, 1])
-}
-
-/// The tangle, with an arc back from node 4 to node 3: something flows on each arc, and 1 round between these nodes.
-pub fn flowing_tangle(alloc: Global) -> Result<State, Fail> {
-    let empty = tangle(alloc, &[(4, 3, 5)])?;
-    flowing(alloc, &empty, &[4, 5, 2, 6, 1, 1])
 }

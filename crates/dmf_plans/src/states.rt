@@ -1,10 +1,7 @@
-//! Tests of building states, of reading them, and of adding arcs.
-use crate::networks::self_loop;
-use dmf_net::{Arc, Edit, FlowFault, NetFault, State};
-use dmf_solver::{PlanFault, plan_add};
+//! Tests of building states and of reading them.
+use dmf_net::{Arc, FlowFault, NetFault, State};
 use dmf_scanning::{example, flowing, network};
 use std::alloc::Global;
-use std::process::Abort;
 use std::test::Fail;
 
 const HALF: u64 = 1 << 63;
@@ -28,17 +25,6 @@ const THIRD_ARC: Arc = Arc {
     cap: 5,
     closed: false,
 };
-
-/// The arc that is added to the example.
-const ADDED_ARC: Arc = Arc {
-    tail: 1,
-    head: 4,
-    cap: 7,
-    closed: false,
-};
-
-/// The largest capacity of one more arc after that.
-const LARGEST: u64 = u64::MAX - 22;
 
 #[test]
 fn a_network_is_built_and_read(rt: HostRuntime) -> Result<(), Fail> {
@@ -74,14 +60,6 @@ fn a_flow_is_taken(rt: HostRuntime) -> Result<(), Fail> {
     Ok(())
 }
 
-#[test]
-fn a_self_loop_may_carry_flow(rt: HostRuntime) -> Result<(), Fail> {
-    let state = self_loop(rt.alloc())?;
-    assert!(rt; state.value() == 0);
-    assert!(rt; state.arcs().len() == 1 && state.flow(1) == 3);
-    Ok(())
-}
-
 /// The fault of these flows. There is none where they are taken, or are not one for each arc.
 fn fault_of(alloc: Global, state: &State, flows: &[u64]) -> Option<FlowFault> {
     if flows.len() != state.arcs().len() {
@@ -99,42 +77,5 @@ fn faulty_flows_are_told(rt: HostRuntime) -> Result<(), Fail> {
     assert!(rt; fault_of(alloc, &state, &[4, 0, 0, 0, 0]) == Some(FlowFault::OverCapacity(1)));
     assert!(rt; fault_of(alloc, &state, &[3, 2, 0, 0, 0]) == Some(FlowFault::NotConserved(2)));
     assert!(rt; fault_of(alloc, &backward, &[3]) == Some(FlowFault::Negative));
-    Ok(())
-}
-
-/// The example with one more arc, whose plan is compared.
-fn with_added_arc(rt: &impl Abort, alloc: Global) -> Result<State, Fail> {
-    let mut state = example(alloc)?;
-    let edit = plan_add(&state, 1, 4, 7)?;
-    assert!(rt;
-        edit == Edit::Add {
-            tail: 1,
-            head: 4,
-            cap: 7
-        }
-    );
-    state.apply(&edit)?;
-    Ok(state)
-}
-
-#[test]
-fn an_arc_is_planned_and_added(rt: HostRuntime) -> Result<(), Fail> {
-    let state = with_added_arc(&rt, rt.alloc())?;
-    assert!(rt; state.open_count() == 6);
-    assert!(rt; state.arcs().len() == 6 && state.arcs()[5] == ADDED_ARC && state.flow(6) == 0);
-    Ok(())
-}
-
-#[test]
-fn an_arc_without_a_node_or_room_is_refused(rt: HostRuntime) -> Result<(), Fail> {
-    let state = with_added_arc(&rt, rt.alloc())?;
-    assert!(rt; plan_add(&state, 1, 5, 1).err() == Some(PlanFault::NoSuchNode));
-    assert!(rt; plan_add(&state, 1, 1, LARGEST + 1).err() == Some(PlanFault::SumTooLarge));
-    let last = Edit::Add {
-        tail: 1,
-        head: 1,
-        cap: LARGEST,
-    };
-    assert!(rt; plan_add(&state, 1, 1, LARGEST) == Ok(last));
     Ok(())
 }

@@ -3,7 +3,7 @@ ghost use Rattle.std.specs.Prelude.{◌≡◌, IfOk};
 ghost use Rattle.dmf_net.specs.Edit.{applied, Fits};
 ghost use Rattle.dmf_solver.specs.ResidualNetwork.{IsResidualOf};
 
-use dmf_net::{Edit, Move, Shutting, State, reverting_gives_back};
+use dmf_net::{Edit, Move, State, reverting_gives_back};
 
 use dmf_solver::ResidualNetwork;
 use std::alloc::{AllocError, Global};
@@ -16,20 +16,6 @@ pub fn listed(alloc: Global, moves: &[(u32, u64, u64)]) -> Result<Vec<Move>, All
         listed.push(Move { arc, from, to })?;
     }
     Ok(listed)
-}
-
-/// The edit that closes these arcs, each given by its number and its old capacity, and makes these moves.
-pub fn shut_edit(
-    alloc: Global,
-    closed: &[(u32, u64)],
-    moves: &[(u32, u64, u64)],
-) -> Result<Edit, AllocError> {
-    let mut arcs = Vec::new(alloc);
-    for &(arc, old) in closed {
-        arcs.push(Shutting { arc, old })?;
-    }
-    let moves = listed(alloc, moves)?;
-    Ok(Edit::Shut { arcs, moves })
 }
 
 /// Applies the edit. What is given is a copy of the state before it.

@@ -1,23 +1,12 @@
-//! Tests of sessions from the bytes that come in to the bytes that go out: worked ones, random ones, and ones that are cut short.
+//! Tests of runs from the bytes that come in to the bytes that go out: over both histories, under a watch, and over slow readers
+//! and writers and ones that fail. What the runs write of worked texts is tested on the built program.
 #![tactic(auto)]
 
 #[cfg(test)]
-mod cutting;
-#[cfg(test)]
-mod draining;
-#[cfg(test)]
-mod failures;
-#[cfg(test)]
 mod histories;
 #[cfg(test)]
-mod limits;
-#[cfg(test)]
-mod order;
-#[cfg(test)]
-mod row;
-#[cfg(test)]
-mod sessions;
-#[cfg(test)]
-mod shutting;
+mod slow;
 #[cfg(test)]
 mod watching;
+#[cfg(test)]
+mod worked;

@@ -1,5 +1,5 @@
-//! Tests of single calls: command lines, texts, the commands of a session; and the examples of the pages of the libraries with
-//! networks.
+//! Tests of single calls: command lines, texts, streams that are slow or fail, the commands of a session; and the examples of the
+//! pages of the libraries with networks.
 #![tactic(auto)]
 
 #[cfg(test)]
@@ -8,3 +8,9 @@ mod calls;
 mod commands;
 #[cfg(test)]
 mod examples;
+#[cfg(test)]
+mod fields;
+#[cfg(test)]
+mod solutions;
+#[cfg(test)]
+mod streams;

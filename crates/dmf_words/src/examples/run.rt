@@ -16,7 +16,7 @@ fn a_session_is_held_over_memory(rt: HostRuntime) -> Result<(), Fail> {
         false,
     );
     // One command was refused, and the session went on.
-    assert_eq!(rt; outcome, Ok(Status::SomeRefused));
+    assert!(rt; outcome == Ok(Status::SomeRefused));
     let replies = b"s 7\nf 1 2 7\nc cap value 3\nc refused 3 no such arc\nc undo value 7\n";
     assert!(rt; written.as_slice() == replies.as_slice());
     Ok(())

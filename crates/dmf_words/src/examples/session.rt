@@ -12,11 +12,11 @@ fn a_change_is_taken_back(rt: HostRuntime) -> Result<(), Fail> {
     for command in [Command::Solve, Command::Cap { arc: 1, cap: 3 }] {
         session.step(alloc, command, false)?;
     }
-    assert_eq!(rt; session.present().value(), 3);
-    assert_eq!(rt; (session.past(), session.future()), (2, 0));
+    assert!(rt; session.present().value() == 3);
+    assert!(rt; (session.past(), session.future()) == (2, 0));
     // Undo gives back exactly the state that was there, its flow included.
     let undone = session.step(alloc, Command::Undo(1), false);
-    assert_eq!(rt; undone, Ok(Reply::Value(7)));
-    assert_eq!(rt; session.present().flow(1), 7);
+    assert!(rt; undone == Ok(Reply::Value(7)));
+    assert!(rt; session.present().flow(1) == 7);
     Ok(())
 }

@@ -2,7 +2,7 @@ use Rattle.std.proofs.Common.{◌≡◌, ◌||◌, ◌∷◌, [], ℕ, List, tru
 use Rattle.std.proofs.lemmas.Bool.{and_from, and_left, and_right, le-leb, lt-leb}
 use Rattle.std.proofs.lemmas.Slice.Eq.{bytes_eq-Decides}
 use Rattle.std.specs.Str.{bytes_eq}
-use Rattle.dmf_path.specs.Node.{is_node}
+use Rattle.dmf_node.specs.Node.{is_node}
 use Rattle.dmf_text.specs.declared.fault.ProblemFaultKind.TheVariants.{NotSourceOrSink, NodeOutOfRange}
 use Rattle.dmf_text.specs.declared.terminal.Terminal.{Terminal}
 use Rattle.dmf_text.specs.declared.terminal.Terminal.TheVariants.{Source, Sink}
