@@ -72,8 +72,24 @@ fn change_and_back(
     }
 }
 
-/// Plans a solve along the kept links, compares it and the smallest side after it with those of links made anew, and makes some
-/// changes, one of which is taken back.
+/// Plans a solve along the kept links, and compares it and the smallest side after it with those of links made anew.
+fn solve(
+    rt: &impl Abort,
+    alloc: Global,
+    state: &mut State,
+    kept: ResidualNetwork,
+) -> Result<ResidualNetwork, Fail>
+    requires { IsResidualOf state.old kept }
+    ensures { IfOk result (IsResidualOf state.new) }
+{
+    let (edit, kept) = kept.plan_solve(alloc, state, &mut Unwatched)?;
+    assert!(rt; edit == plan_solve(alloc, state)?);
+    state.apply(&edit)?;
+    assert!(rt; kept.smallest_side(alloc, state)? == smallest_side(alloc, state)?);
+    Ok(kept)
+}
+
+/// Solves so, and makes some changes, one of which is taken back.
 fn solve_and_change(
     rt: &impl Abort,
     alloc: Global,
@@ -84,10 +100,7 @@ fn solve_and_change(
     requires { IsResidualOf state.old kept }
     ensures { IfOk result (IsResidualOf state.new) }
 {
-    let (edit, kept) = kept.plan_solve(alloc, state, &mut Unwatched)?;
-    assert!(rt; edit == plan_solve(alloc, state)?);
-    state.apply(&edit)?;
-    assert!(rt; kept.smallest_side(alloc, state)? == smallest_side(alloc, state)?);
+    let kept = solve(rt, alloc, state, kept)?;
     let kept = change(alloc, state, kept, draws)?;
     let kept = change(alloc, state, kept, draws)?;
     let kept = change_and_back(rt, alloc, state, kept, draws)?;
