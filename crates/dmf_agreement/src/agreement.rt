@@ -1,10 +1,10 @@
 //! Tests that planning tells the moves that the rules of solving and draining give, computed a second time.
 use dmf_net::{Edit, State};
-use dmf_solver::{plan_cap, plan_close, plan_shut, plan_solve};
 use dmf_scanning::{
     Draws, detour, draining_moves, example, flowing, network, random_network, shutting,
     solving_moves, tangle,
 };
+use dmf_solver::{plan_cap, plan_close, plan_shut, plan_solve};
 use std::alloc::Global;
 use std::process::Abort;
 use std::test::Fail;

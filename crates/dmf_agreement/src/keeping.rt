@@ -4,9 +4,11 @@ ghost use Rattle.dmf_net.specs.Edit.{Fits};
 ghost use Rattle.dmf_solver.specs.ResidualNetwork.{IsResidualOf};
 
 use dmf_net::{Edit, State};
-
-use dmf_solver::{PlanFault, ResidualNetwork, Unwatched, plan_cap, plan_close, plan_shut, plan_solve, smallest_side};
 use dmf_scanning::{Draws, follow, random_network};
+use dmf_solver::{
+    PlanFault, ResidualNetwork, Unwatched, plan_cap, plan_close, plan_shut, plan_solve,
+    smallest_side,
+};
 use std::alloc::Global;
 use std::process::Abort;
 use std::test::Fail;

@@ -3,9 +3,8 @@ ghost use Rattle.std.specs.Prelude.{IfOk};
 ghost use Rattle.dmf_net.specs.Edit.{Fits};
 
 use dmf_net::{Edit, State};
-
-use dmf_solver::{PlanFault, plan_add, plan_cap, plan_close, plan_shut, plan_solve};
 use dmf_scanning::{Draws, apply, random_network, revert};
+use dmf_solver::{PlanFault, plan_add, plan_cap, plan_close, plan_shut, plan_solve};
 use std::alloc::Global;
 use std::test::Fail;
 

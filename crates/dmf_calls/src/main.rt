@@ -6,9 +6,8 @@
 ghost use Rattle.std.specs.Prelude.{◌≤◌};
 
 use dmf_net::{NetFault, State};
-
-use dmf_solver::{plan_add, plan_cap};
 use dmf_session::{Command, DeltaHistory, History, MAX_BOUND, Reply, Session, WholeHistory};
+use dmf_solver::{plan_add, plan_cap};
 use std::process::ExitCode;
 use std::{env, io};
 

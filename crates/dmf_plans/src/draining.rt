@@ -1,8 +1,8 @@
 //! Tests of draining.
 use crate::networks::{coming_back, going_round, self_loop};
 use dmf_net::{Edit, State};
-use dmf_solver::plan_cap;
 use dmf_scanning::listed;
+use dmf_solver::plan_cap;
 use std::alloc::Global;
 use std::process::Abort;
 use std::test::Fail;

@@ -1,6 +1,6 @@
 //! A test that a residual network that is kept is let go where an arc is added.
-use dmf_solver::{ResidualNetwork, plan_add};
 use dmf_scanning::solved_example;
+use dmf_solver::{ResidualNetwork, plan_add};
 use std::test::Fail;
 
 #[test]

@@ -2,9 +2,10 @@
 ghost use Rattle.dmf_net.specs.Edit.{Fits};
 
 use dmf_net::{Edit, Side, State};
-
-use dmf_solver::{is_greatest, plan_shut, plan_solve, plan_solve_with_side, side_after, smallest_side};
 use dmf_scanning::{example, solved_example};
+use dmf_solver::{
+    is_greatest, plan_shut, plan_solve, plan_solve_with_side, side_after, smallest_side,
+};
 use std::alloc::Global;
 use std::test::Fail;
 

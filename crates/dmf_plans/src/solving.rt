@@ -1,7 +1,7 @@
 //! A test of solving.
 use dmf_net::Edit;
-use dmf_solver::plan_solve;
 use dmf_scanning::{detour, listed};
+use dmf_solver::plan_solve;
 use std::test::Fail;
 
 /// The least path has the ranks 8, 3, 10: it comes before that of 8, 12, 14, and takes back what flows from node 3 to

@@ -1,9 +1,9 @@
 ghost use Rattle.dmf_run.specs.Laws.{HasRun, HasOneRun, StepsAreAnswers, SolvesAreOptimal, RunsAreOptimal, WrittenIsOptimal, MillionIsNeverForgotten};
 
-use dmf_solver::solved_is_greatest;
 use dmf_session::{
     command_has_answer, command_has_one_answer, greatest_is_optimal, solved_is_optimal,
 };
+use dmf_solver::solved_is_greatest;
 use dmf_text::accepted_is_state;
 
 /// The law that from the start of each state each command text, of any bytes, has a run in which no command is refused

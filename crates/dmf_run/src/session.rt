@@ -11,8 +11,8 @@ use crate::input::{Input, Next};
 use crate::kept_line::KeptLine;
 use crate::problem::read_state;
 use crate::reply::{Answer, refuse, show};
-use dmf_solver::{Unwatched, Watch};
 use dmf_session::{Command, DeltaHistory, History, MAX_BOUND, Session};
+use dmf_solver::{Unwatched, Watch};
 use dmf_text::{Sink, Source, WriteFault};
 use std::alloc::Global;
 

@@ -4,7 +4,6 @@ ghost use Rattle.dmf_net.specs.Edit.{applied, Fits};
 ghost use Rattle.dmf_solver.specs.ResidualNetwork.{IsResidualOf};
 
 use dmf_net::{Edit, Move, State, reverting_gives_back};
-
 use dmf_solver::ResidualNetwork;
 use std::alloc::{AllocError, Global};
 use std::test::Fail;

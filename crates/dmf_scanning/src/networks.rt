@@ -3,7 +3,6 @@ ghost use Rattle.std.specs.Prelude.{◌≢◌, ◌^◌, ◌≤◌};
 ghost use Rattle.dmf_node.specs.Node.{IsNode};
 
 use dmf_net::State;
-
 use dmf_solver::plan_solve;
 use std::alloc::Global;
 use std::test::Fail;

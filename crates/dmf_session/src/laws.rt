@@ -1,6 +1,9 @@
 ghost use Rattle.dmf_session.specs.Laws.{HasAnswer, HasOneAnswer, SolvedIsOptimal, GreatestIsOptimal, ChangeIsUndone};
 
-use dmf_solver::{change_has_one_outcome, change_has_outcome, flow_is_greatest_or_surpassed, max_flow_min_cut, network_has_one_smallest_side, network_has_smallest_side, solved_is_greatest};
+use dmf_solver::{
+    change_has_one_outcome, change_has_outcome, flow_is_greatest_or_surpassed, max_flow_min_cut,
+    network_has_one_smallest_side, network_has_smallest_side, solved_is_greatest,
+};
 
 /// The law that a greatest flow has as its value the capacity of a minimum cut, and so that of the smallest side.
 pub fn greatest_is_optimal()

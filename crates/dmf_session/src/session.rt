@@ -14,7 +14,10 @@ use crate::history::{History, RedoFault};
 use crate::kept::{kept_after, kept_before};
 use crate::laws::greatest_is_optimal;
 use dmf_net::{Edit, NoMemory, Side, State};
-use dmf_solver::{PlanFault, ResidualNetwork, Unwatched, Watch, plan_add, plan_cap, plan_close, plan_shut, smallest_side};
+use dmf_solver::{
+    PlanFault, ResidualNetwork, Unwatched, Watch, plan_add, plan_cap, plan_close, plan_shut,
+    smallest_side,
+};
 use std::alloc::Global;
 use std::marker::Model;
 

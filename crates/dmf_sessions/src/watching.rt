@@ -1,8 +1,8 @@
 //! What a watch is told of the solves of a session.
 use dmf_fixtures::NETWORK_A;
-use dmf_solver::Watch;
 use dmf_run::{Status, run_session_watched};
 use dmf_session::MAX_BOUND;
+use dmf_solver::Watch;
 use dmf_text::{StdSink, StdSource};
 use std::test::Fail;
 
