@@ -8,10 +8,10 @@ mod progress;
 mod words;
 
 use dmf_arguments::{MAX_HISTORY, Mode, WordsFault, read_words};
+use dmf_history::MAX_BOUND;
 use dmf_run::{
     EngineFault, MAX_BYTES, Status, run_check, run_session_watched, run_solve_watched, status_of,
 };
-use dmf_session::MAX_BOUND;
 use dmf_text::{StdSink, StdSource};
 use fault::Fault;
 use progress::{Progress, WatchedCommands, WatchedSink, WatchedSolve, WatchedSource};

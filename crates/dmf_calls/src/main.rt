@@ -5,8 +5,9 @@
 
 ghost use Rattle.std.specs.Prelude.{◌≤◌};
 
+use dmf_history::{DeltaHistory, History, MAX_BOUND, WholeHistory};
 use dmf_net::{NetFault, State};
-use dmf_session::{Command, DeltaHistory, History, MAX_BOUND, Reply, Session, WholeHistory};
+use dmf_session::{Command, Reply, Session};
 use dmf_solver::{plan_add, plan_cap};
 use std::process::ExitCode;
 use std::{env, io};

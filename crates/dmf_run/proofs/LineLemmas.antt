@@ -4,7 +4,7 @@ use Rattle.dmf_session.specs.declared.command.Command.{Command}
 use Rattle.dmf_session.specs.declared.command.Reply.{Reply}
 use Rattle.dmf_session.specs.declared.command.Refusal.{Refusal}
 use Rattle.dmf_session.specs.declared.command.Refusal.TheVariants.{UnknownCommand, FieldCount, NotANumber, TooLarge, NoSuchArc, Closed, NoSuchNode, TooManyArcs, SumTooLarge, NothingToUndo, NothingToRedo, NotGreatest, NoMemory, LineTooLong}
-use Rattle.dmf_session.specs.Timeline.{Timeline}
+use Rattle.dmf_history.specs.Timeline.{Timeline}
 use Rattle.dmf_session.specs.Step.{Steps, Answers}
 use Rattle.dmf_run.specs.Line.{line_meaning}
 use Rattle.dmf_run.specs.Run.{LineRuns, Runs}

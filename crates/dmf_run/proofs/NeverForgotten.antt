@@ -14,9 +14,9 @@ use Rattle.dmf_session.specs.declared.command.Reply.{Reply}
 use Rattle.dmf_session.specs.declared.command.Reply.TheVariants.{Value, Added}
 use Rattle.dmf_session.specs.declared.command.Refusal.{Refusal}
 use Rattle.dmf_session.specs.declared.command.Refusal.TheVariants.{NothingToUndo, NothingToRedo}
-use Rattle.dmf_session.specs.Timeline.{Timeline, start, extended, appended, back, forward, future_of}
+use Rattle.dmf_history.specs.Timeline.{Timeline, start, extended, appended, back, forward, future_of}
 use Rattle.dmf_session.specs.Step.{Steps, Answers, IsChanged, IsRefused, IsMoved, refusal_of, value_of}
-use Rattle.dmf_session.proofs.Appending.{within_bound-all, within_bound-keeps}
+use Rattle.dmf_history.proofs.Appending.{within_bound-all, within_bound-keeps}
 use Rattle.dmf_run.specs.Laws.{ForgetsNothing, AnswersForgettingNothing, MillionIsNeverForgotten}
 use Rattle.dmf_run.proofs.LineLemmas.{answers-cases}
 use Rattle.dmf_run.proofs.Running.{RunsAll-implied}

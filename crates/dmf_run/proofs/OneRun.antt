@@ -4,7 +4,7 @@ use Rattle.dmf_net.specs.NetworkState.{NetworkState}
 use Rattle.dmf_session.specs.declared.command.Command.{Command}
 use Rattle.dmf_session.specs.declared.command.Reply.{Reply}
 use Rattle.dmf_session.specs.declared.command.Refusal.{Refusal}
-use Rattle.dmf_session.specs.Timeline.{Timeline, IsPresent, start}
+use Rattle.dmf_history.specs.Timeline.{Timeline, IsPresent, start}
 use Rattle.dmf_session.specs.Step.{Steps}
 use Rattle.dmf_session.specs.Laws.{HasStates, HasAnswer, HasOneAnswer}
 use Rattle.dmf_run.specs.Line.{line_meaning}

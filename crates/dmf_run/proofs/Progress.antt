@@ -9,7 +9,7 @@ use Rattle.std.proofs.lemmas.List.Elements.{All-push, All-nil}
 use Rattle.dmf_session.specs.declared.command.Command.{Command}
 use Rattle.dmf_session.specs.declared.command.Refusal.{Refusal}
 use Rattle.dmf_session.specs.Step.{Answers}
-use Rattle.dmf_session.specs.Timeline.{Timeline}
+use Rattle.dmf_history.specs.Timeline.{Timeline}
 use Rattle.dmf_run.specs.declared.input.Next.TheVariants.{Line}
 use Rattle.dmf_run.specs.Streams.{Writer, Streams}
 use Rattle.dmf_run.specs.KeptLine.{Kept, Means}

@@ -7,7 +7,7 @@ use Rattle.dmf_session.specs.declared.command.Command.{Command}
 use Rattle.dmf_session.specs.declared.command.Command.TheVariants.{Solve}
 use Rattle.dmf_session.specs.declared.command.Reply.{Reply}
 use Rattle.dmf_session.specs.declared.command.Refusal.{Refusal}
-use Rattle.dmf_session.specs.Timeline.{Timeline, start, extended, appended}
+use Rattle.dmf_history.specs.Timeline.{Timeline, start, extended, appended}
 use Rattle.dmf_session.specs.Step.{Steps, Answers}
 use Rattle.dmf_session.specs.Optimal.{IsOptimal, HasOptimalPresent}
 use Rattle.dmf_run.specs.declared.fault.Status.{Status}

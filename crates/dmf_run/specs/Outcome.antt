@@ -2,7 +2,7 @@
 -- Public: a public contract says no more than this.
 use Rattle.std.specs.Prelude.{◌^◌, ℕ, ◌≡◌, ◌⊎◌, ◌+◌, ◌-◌, ◌<◌, ◌≤◌, List, [], ◌∷◌, ◌++◌, length, take, All, Bool, true, false, ◌||◌, if◌then◌else◌, Option, Result, Ok, Err}
 use Rattle.std.specs.Io.KnownBytes.{Consumes, Appends, IsAtEnd}
-use Rattle.dmf_session.specs.Timeline.{Timeline}
+use Rattle.dmf_history.specs.Timeline.{Timeline}
 use Rattle.dmf_run.specs.declared.fault.Status.{Status}
 use Rattle.dmf_run.specs.declared.fault.Status.TheVariants.{Well, SomeRefused}
 use Rattle.dmf_run.specs.declared.fault.EngineFault.{EngineFault}

@@ -9,7 +9,7 @@ use Rattle.dmf_session.specs.declared.command.Command.TheVariants.{Cap, Add, Clo
 use Rattle.dmf_session.specs.declared.command.Reply.{Reply}
 use Rattle.dmf_session.specs.declared.command.Reply.TheVariants.{Value, Added, Solution, Problem, Flow, Cut}
 use Rattle.dmf_session.specs.declared.command.Refusal.{Refusal}
-use Rattle.dmf_session.specs.Timeline.{Timeline, IsPresent}
+use Rattle.dmf_history.specs.Timeline.{Timeline, IsPresent}
 use Rattle.dmf_run.specs.RefusalText.{refusal_text}
 use Rattle.dmf_run.specs.Line.{line_meaning}
 

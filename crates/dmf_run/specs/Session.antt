@@ -5,7 +5,7 @@ use Rattle.std.specs.Io.KnownBytes.{Consumes, IsAtEnd}
 use Rattle.dmf_net.specs.NetworkState.{NetworkState}
 use Rattle.dmf_text.specs.declared.fault.ProblemFault.{ProblemFault}
 use Rattle.dmf_text.specs.Problem.{problem_of}
-use Rattle.dmf_session.specs.Timeline.{start}
+use Rattle.dmf_history.specs.Timeline.{start}
 use Rattle.dmf_run.specs.declared.fault.Status.{Status}
 use Rattle.dmf_run.specs.declared.fault.EngineFault.{EngineFault}
 use Rattle.dmf_run.specs.declared.fault.EngineFault.TheVariants as fault

@@ -5,7 +5,7 @@ use Rattle.dmf_text.specs.declared.writer.WriteFault.{WriteFault}
 use Rattle.dmf_text.specs.Writing.{Writes}
 use Rattle.dmf_session.specs.declared.command.Command.{Command}
 use Rattle.dmf_session.specs.declared.command.Refusal.{Refusal}
-use Rattle.dmf_session.specs.Timeline.{Timeline}
+use Rattle.dmf_history.specs.Timeline.{Timeline}
 use Rattle.dmf_session.specs.Step.{Answers}
 use Rattle.dmf_run.specs.declared.reply.Answer.{Answer}
 use Rattle.dmf_run.specs.declared.reply.Answer.TheVariants.{Accepted, Refused}

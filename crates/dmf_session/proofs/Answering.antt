@@ -20,10 +20,11 @@ use Rattle.dmf_session.specs.declared.command.Reply.{Reply}
 use Rattle.dmf_session.specs.declared.command.Reply.TheVariants.{Value, Added, Solution, Problem, Flow, Cut}
 use Rattle.dmf_session.specs.declared.command.Refusal.{Refusal}
 use Rattle.dmf_session.specs.declared.command.Refusal.TheVariants.{NothingToUndo, NothingToRedo, NotGreatest, NoMemory}
-use Rattle.dmf_session.specs.Timeline.{Timeline, IsPresent, future_of, extended, forgotten, appended, back, forward}
+use Rattle.dmf_history.specs.Timeline.{Timeline, IsPresent, future_of, extended, forgotten, appended, back, forward}
 use Rattle.dmf_session.specs.Step.{Steps, Changes, IsChanged, IsRefused, IsMoved, IsSolved, IsSideWanted, refusal_of, value_of}
 use Rattle.dmf_session.specs.Laws.{HasStates, Answered, HasAnswer}
-use Rattle.dmf_session.proofs.Appending.{some-present, within_bound-keeps}
+use Rattle.dmf_history.proofs.Appending.{within_bound-keeps}
+use Rattle.dmf_session.proofs.Changed.{some-present}
 
 -- what is so of networks
 pub record NetworkLaws : Type 0 where

@@ -4,9 +4,9 @@ use Rattle.dmf_path.specs.Search.{Searched}
 use Rattle.dmf_net.specs.declared.edit.Edit.{Edit}
 use Rattle.dmf_net.specs.NetworkState.{NetworkState}
 use Rattle.dmf_solver.specs.ResidualNetwork.{IsResidualOf}
-use Rattle.dmf_session.specs.Timeline.{Timeline, IsPresent, Appends}
+use Rattle.dmf_history.specs.Timeline.{Timeline, IsPresent, Appends}
 use Rattle.dmf_session.specs.Kept.{KeepsPresent, KeepsApplied}
-use Rattle.dmf_session.proofs.Appending.{one-present, now-present}
+use Rattle.dmf_history.proofs.Appending.{one-present, now-present}
 
 -- A network of what an edit makes of the present state is that of the present state once this was appended.
 pub KeepsPresent-appended : (t u : Timeline) (edit : Edit) (kept : Option Searched) → KeepsApplied edit t kept → Appends edit t u → KeepsPresent u kept

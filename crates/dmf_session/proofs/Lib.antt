@@ -1,7 +1,6 @@
-pub mod Appending
+pub mod Changed
 pub mod Optimal
 pub mod Answering
 pub mod OneAnswer
-pub mod Edits
 pub mod Undoing
 pub mod Keeping

@@ -14,11 +14,12 @@ use Rattle.dmf_session.specs.declared.command.Reply.{Reply}
 use Rattle.dmf_session.specs.declared.command.Reply.TheVariants.{Value, Added, Solution, Cut}
 use Rattle.dmf_session.specs.declared.command.Refusal.{Refusal}
 use Rattle.dmf_session.specs.declared.command.Refusal.TheVariants.{NothingToUndo, NothingToRedo, NotGreatest}
-use Rattle.dmf_session.specs.Timeline.{Timeline, IsPresent, future_of, appended, back, forward}
+use Rattle.dmf_history.specs.Timeline.{Timeline, IsPresent, future_of, appended, back, forward}
 use Rattle.dmf_session.specs.Step.{Changes, IsChanged, IsRefused, IsMoved, IsSolved, IsSideWanted, TellsCut, refusal_of, value_of}
 use Rattle.dmf_session.specs.Laws.{HasStates, HasOneAnswer}
 use Rattle.dmf_session.proofs.Optimal.{not-surpassed}
-use Rattle.dmf_session.proofs.Appending.{one-present, is-state}
+use Rattle.dmf_history.proofs.Appending.{one-present}
+use Rattle.dmf_session.proofs.Changed.{is-state}
 use Rattle.dmf_solver.specs.Laws.{HasOneSmallestSide, HasOneOutcome}
 
 -- what is so of networks

@@ -11,10 +11,11 @@ use Rattle.dmf_net.specs.Edit.{applied, Fits}
 use Rattle.dmf_solver.specs.Greatest.{IsGreatest, IsSurpassed}
 use Rattle.dmf_net.specs.Cut.{IsMinimumCut, cut_capacity}
 use Rattle.dmf_solver.specs.Laws.{SolvedIsGreatest, MaxFlowMinCut}
-use Rattle.dmf_session.specs.Timeline.{Timeline, IsPresent, appended, Appends}
+use Rattle.dmf_history.specs.Timeline.{Timeline, IsPresent, appended, Appends}
 use Rattle.dmf_session.specs.Optimal.{IsOptimal, HasOptimalPresent}
 use Rattle.dmf_session.specs.Laws.{SolvedIsOptimal, GreatestIsOptimal}
-use Rattle.dmf_session.proofs.Appending.{appended-present, appends-applied, is-state}
+use Rattle.dmf_history.proofs.Appending.{appended-present, appends-applied}
+use Rattle.dmf_session.proofs.Changed.{is-state}
 
 -- All minimum cuts have one capacity.
 one-capacity : (n : Network) (has other : ℕ → Bool) → IsMinimumCut n has → IsMinimumCut n other → cut_capacity n.arcs has ≡ cut_capacity n.arcs other

@@ -13,10 +13,10 @@ use Rattle.dmf_session.specs.declared.command.Reply.{Reply}
 use Rattle.dmf_session.specs.declared.command.Reply.TheVariants.{Value, Added}
 use Rattle.dmf_session.specs.declared.command.Refusal.{Refusal}
 use Rattle.dmf_session.specs.declared.command.Refusal.TheVariants.{NothingToUndo}
-use Rattle.dmf_session.specs.Timeline.{Timeline, IsTimeline, IsPresent, extended, appended, back}
+use Rattle.dmf_history.specs.Timeline.{Timeline, IsTimeline, IsPresent, extended, appended, back}
 use Rattle.dmf_session.specs.Step.{Answers, IsChange, IsChanged, IsRefused, IsMoved, refusal_of, value_of}
 use Rattle.dmf_session.specs.Laws.{UndoesChange, ChangeIsUndone}
-use Rattle.dmf_session.proofs.Appending.{one-present, before-extended, within_bound-keeps, within_bound-past, forgotten-present}
+use Rattle.dmf_history.proofs.Appending.{one-present, before-extended, within_bound-keeps, within_bound-past, forgotten-present}
 
 -- ---- what a change appended
 

@@ -6,7 +6,7 @@ use Rattle.dmf_net.specs.declared.edit.Edit.{Edit}
 use Rattle.dmf_net.specs.Edit.{applied}
 use Rattle.dmf_net.specs.NetworkState.{NetworkState}
 use Rattle.dmf_solver.specs.ResidualNetwork.{IsResidualOf}
-use Rattle.dmf_session.specs.Timeline.{Timeline, IsPresent}
+use Rattle.dmf_history.specs.Timeline.{Timeline, IsPresent}
 
 -- Where a network is kept, it is that of the present state.
 abbrev pub KeepsPresent : Timeline → Option Searched → Type 0

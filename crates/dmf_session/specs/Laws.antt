@@ -11,7 +11,7 @@ use Rattle.dmf_session.specs.declared.command.Reply.{Reply}
 use Rattle.dmf_session.specs.declared.command.Reply.TheVariants.{Value}
 use Rattle.dmf_session.specs.declared.command.Refusal.{Refusal}
 use Rattle.dmf_session.specs.declared.command.Refusal.TheVariants.{NothingToUndo, NoMemory}
-use Rattle.dmf_session.specs.Timeline.{Timeline, IsTimeline, IsPresent}
+use Rattle.dmf_history.specs.Timeline.{Timeline, IsTimeline, IsPresent}
 use Rattle.dmf_session.specs.Step.{Steps, Answers, IsChange, value_of}
 use Rattle.dmf_session.specs.Optimal.{IsOptimal, HasOptimalPresent}
 

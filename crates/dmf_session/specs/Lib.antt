@@ -1,9 +1,8 @@
-pub mod Timeline
 pub mod Kept
-pub mod Delta
 pub mod Optimal
 pub mod Step
 pub mod Laws
 pub use Rattle.dmf_net.specs.NetworkState
 pub use Rattle.dmf_solver.specs.Change
 pub use Rattle.dmf_net.specs.Edit
+pub use Rattle.dmf_history.specs.Timeline

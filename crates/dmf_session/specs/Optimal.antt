@@ -6,7 +6,7 @@ use Rattle.dmf_net.specs.NetworkState.{NetworkState}
 use Rattle.dmf_solver.specs.Greatest.{IsGreatest}
 use Rattle.dmf_net.specs.Cut.{HasMinimumCutOf}
 use Rattle.dmf_net.specs.Side.{CutSide, IsSmallestSide}
-use Rattle.dmf_session.specs.Timeline.{Timeline, IsPresent}
+use Rattle.dmf_history.specs.Timeline.{Timeline, IsPresent}
 
 -- No flow of the network has a larger value than that of the state, and this value is the capacity of a minimum cut, and
 -- so that of the smallest side.

@@ -18,7 +18,7 @@ use Rattle.dmf_session.specs.declared.command.Reply.{Reply}
 use Rattle.dmf_session.specs.declared.command.Reply.TheVariants.{Value, Added, Solution, Problem, Flow, Cut}
 use Rattle.dmf_session.specs.declared.command.Refusal.{Refusal}
 use Rattle.dmf_session.specs.declared.command.Refusal.TheVariants.{NoSuchArc, Closed, NoSuchNode, TooManyArcs, SumTooLarge, NothingToUndo, NothingToRedo, NotGreatest, NoMemory}
-use Rattle.dmf_session.specs.Timeline.{Timeline, IsPresent, future_of, appended, back, forward, AddsArcs}
+use Rattle.dmf_history.specs.Timeline.{Timeline, IsPresent, future_of, appended, back, forward, AddsArcs}
 
 -- the value of a state's flow, which is not below 0
 abbrev pub value_of : NetworkState → ℕ

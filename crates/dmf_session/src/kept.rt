@@ -1,7 +1,7 @@
-ghost use Rattle.dmf_session.specs.Timeline.{back, forward};
+ghost use Rattle.dmf_history.specs.Timeline.{back, forward};
 ghost use Rattle.dmf_session.specs.Kept.{KeepsPresent};
 
-use crate::history::History;
+use dmf_history::History;
 use dmf_solver::ResidualNetwork;
 
 /// The network that is kept, as it is one state back: none where the history does not tell the edit, or where that added an

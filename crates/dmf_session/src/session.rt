@@ -1,7 +1,7 @@
 ghost use Rattle.std.specs.Prelude.{◌≡◌, ◌≤◌, ◌↔◌, Bool, Some, Err, IfOk, IsOkUnless, OnOk, OnErr};
 ghost use Rattle.dmf_session.specs.declared.command.Command.TheVariants.{Cap, Add, Close, Shut, Solve, Undo, Redo, PrintCut};
-ghost use Rattle.dmf_session.specs.declared.history.RedoFault.TheVariants as redo;
-ghost use Rattle.dmf_session.specs.Timeline.{IsTimeline, IsPresent, future_of, back, forward, FitsPresent, Appends, AddsArcs};
+ghost use Rattle.dmf_history.specs.declared.history.RedoFault.TheVariants as redo;
+ghost use Rattle.dmf_history.specs.Timeline.{IsTimeline, IsPresent, future_of, back, forward, FitsPresent, Appends, AddsArcs};
 ghost use Rattle.dmf_session.specs.Step.{Answers, IsSideWanted};
 ghost use Rattle.dmf_session.specs.Kept.{KeepsPresent, KeepsApplied};
 ghost use Rattle.dmf_solver.specs.ResidualNetwork.{IsResidualOf};
@@ -10,9 +10,9 @@ ghost use Rattle.dmf_solver.specs.Planning.{PlansSolve};
 ghost use Rattle.dmf_session.specs.Optimal.{HasOptimalPresent};
 
 use crate::command::{Command, Refusal, Reply};
-use crate::history::{History, RedoFault};
 use crate::kept::{kept_after, kept_before};
 use crate::laws::greatest_is_optimal;
+use dmf_history::{History, RedoFault};
 use dmf_net::{Edit, NoMemory, Side, State};
 use dmf_solver::{
     PlanFault, ResidualNetwork, Unwatched, Watch, plan_add, plan_cap, plan_close, plan_shut,

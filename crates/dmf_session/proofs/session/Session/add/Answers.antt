@@ -3,7 +3,7 @@ use Rattle.dmf_net.specs.NetworkState.{NetworkState}
 use Rattle.dmf_solver.specs.Change as change
 use Rattle.dmf_session.specs.declared.command.Reply.TheVariants.{Added}
 use Rattle.dmf_session.specs.Step.{IsChanged, IsRefused, refusal_of, value_of}
-use Rattle.dmf_session.proofs.Appending.{IsChanged-added}
+use Rattle.dmf_session.proofs.Changed.{IsChanged-added}
 use Rattle.dmf_session.proofs.session.Session.add.Goals as goal
 
 pub returns : goal.returns

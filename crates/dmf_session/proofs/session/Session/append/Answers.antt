@@ -1,6 +1,6 @@
 use Rattle.std.proofs.Common.{sym, subst}
 use Rattle.dmf_session.specs.Kept.{KeepsApplied}
-use Rattle.dmf_session.specs.Timeline.{FitsPresent, Appends}
+use Rattle.dmf_history.specs.Timeline.{FitsPresent, Appends}
 use Rattle.dmf_session.proofs.Keeping.{KeepsPresent-appended}
 use Rattle.dmf_session.proofs.session.Session.append.Goals as goal
 

@@ -1,5 +1,5 @@
 use Rattle.dmf_solver.specs.Change as change
-use Rattle.dmf_session.proofs.Appending.{Changes-valued}
+use Rattle.dmf_session.proofs.Changed.{Changes-valued}
 use Rattle.dmf_session.proofs.session.Session.close.Goals as goal
 
 pub returns : goal.returns

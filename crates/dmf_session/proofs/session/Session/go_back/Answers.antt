@@ -1,7 +1,7 @@
 use Rattle.std.proofs.Common.{◌≡◌, ℕ, ◌+◌, ◌-◌, ◌<◌, ◌≤◌, Result, Ok, Err, arith, sym, ap, ◌∙◌, subst}
 use Rattle.std.proofs.lemmas.Bool.{false≢true}
 use Rattle.std.specs.Prelude.{◌↔◌, OnOk, IsOk}
-use Rattle.dmf_session.specs.Timeline.{Timeline, IsPresent, back}
+use Rattle.dmf_history.specs.Timeline.{Timeline, IsPresent, back}
 use Rattle.dmf_session.proofs.session.Session.go_back.Goals as goal
 
 -- the step is not refused where a state is before this one

@@ -1,5 +1,5 @@
 use Rattle.std.proofs.Common.{◌≡◌}
-use Rattle.dmf_session.specs.Timeline.{back}
+use Rattle.dmf_history.specs.Timeline.{back}
 use Rattle.dmf_session.specs.Kept.{KeepsPresent}
 use Rattle.dmf_session.proofs.session.Session.go_back.Given as goal
 

@@ -1,8 +1,8 @@
 use Rattle.std.proofs.Common.{◌≡◌, ℕ, ◌+◌, ◌-◌, ◌<◌, ◌≤◌, Result, Err, arith, refl, ap, ◌∙◌, subst}
 use Rattle.std.specs.Prelude.{◌↔◌}
-use Rattle.dmf_session.specs.declared.history.RedoFault.{RedoFault}
-use Rattle.dmf_session.specs.declared.history.RedoFault.TheVariants as redo
-use Rattle.dmf_session.specs.Timeline.{Timeline, future_of, back, forward, AddsArcs}
+use Rattle.dmf_history.specs.declared.history.RedoFault.{RedoFault}
+use Rattle.dmf_history.specs.declared.history.RedoFault.TheVariants as redo
+use Rattle.dmf_history.specs.Timeline.{Timeline, future_of, back, forward, AddsArcs}
 use Rattle.dmf_session.proofs.session.Session.redo.Goals as goal
 
 -- a step forward that is refused where some state is past the present one leads to added arcs

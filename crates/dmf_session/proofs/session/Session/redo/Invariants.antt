@@ -1,5 +1,5 @@
 use Rattle.std.proofs.Common.{◌≡◌}
-use Rattle.dmf_session.specs.Timeline.{forward}
+use Rattle.dmf_history.specs.Timeline.{forward}
 use Rattle.dmf_session.proofs.session.Session.redo.Given as goal
 
 abbrev pub invariant-loop-taken : goal.invariant-loop-taken

@@ -1,0 +1,334 @@
+-- Histories of edits: the timeline that they stand for, and steps on it.
+use Rattle.std.proofs.Common.{ℕ, ◌↔◌, Bor, Option, None, MatchOption, IfSome, ◌≡◌, ◌+◌, ◌-◌, ◌<◌, ◌≤◌, List, [], ◌∷◌, ◌++◌, length, take, drop, get_or, suc, zero, Some, refl, ap, ◌∙◌, sym, subst, arith, ⊎_elim}
+use Rattle.std.specs.List.{slice_get, HoldsAt}
+use Rattle.std.proofs.lemmas.List.{length_push, length-drop, length-take-le, take-append-le, take_all, take-take, get_or_append_left, get_or_push, get_or-take, take_more}
+use Rattle.std.proofs.lemmas.Bool.{cases_lt}
+use Rattle.std.proofs.lemmas.Option.{get_or_from_slice_get, slice_get-get_or, slice_get_within, slice_get_cases}
+use Rattle.dmf_net.specs.declared.edit.Edit.{Edit}
+use Rattle.dmf_net.specs.declared.edit.Edit.TheVariants.{Cap, Add, Close, Shut, Solve}
+use Rattle.dmf_net.specs.Arc.{open_arc}
+use Rattle.dmf_net.specs.NetworkState.{NetworkState, IsState}
+use Rattle.dmf_net.specs.Edit.{applied, Fits, AddsArc}
+use Rattle.dmf_net.specs.Revert.{reverted, Stands}
+use Rattle.dmf_history.specs.Timeline.{IsTimeline, IsPresent, future_of, extended, forgotten, back, forward, FitsPresent, Appends, AddsArcs, LeadsBack, LeadsOn}
+use Rattle.dmf_history.proofs.Appending.{one-present, within_bound-past, appends-all}
+use Rattle.dmf_history.specs.Delta.{before, after, states_from, timeline_of, AreEdits, AreWithinBound}
+use Rattle.dmf_net.specs.Laws.{GivesBack}
+
+pub length-states_from : (edits : List Edit) (s : NetworkState) → length (states_from s edits) ≡ length edits + 1
+length-states_from [] s = refl
+length-states_from (edit ∷ edits) s = omega (arith, length-states_from edits (applied edit s))
+
+-- the state at a place
+states_from-at : (edits : List Edit) (s : NetworkState) (k : ℕ) → k ≤ length edits → slice_get (states_from s edits) k ≡ Some (after (take k edits) s)
+states_from-at [] s zero h = refl
+states_from-at [] s (suc k) h = absurd (omega (arith, h))
+states_from-at (edit ∷ edits) s zero h = refl
+states_from-at (edit ∷ edits) s (suc k) h = states_from-at edits (applied edit s) k (omega (arith, h))
+
+-- the states where an edit is put in the place of those past a place
+states_from-put : (edits : List Edit) (s : NetworkState) (k : ℕ) (edit : Edit) → k ≤ length edits → states_from s (take k edits ++ edit ∷ []) ≡ take (suc k) (states_from s edits) ++ applied edit (after (take k edits) s) ∷ []
+states_from-put [] s zero edit h = refl
+states_from-put [] s (suc k) edit h = absurd (omega (arith, h))
+states_from-put (first ∷ edits) s zero edit h = refl
+states_from-put (first ∷ edits) s (suc k) edit h = ap (λ states. s ∷ states) (states_from-put edits (applied first s) k edit (omega (arith, h)))
+
+before-push : (edits : List Edit) (edit : Edit) (s : NetworkState) → before (edits ++ edit ∷ []) s ≡ before edits (reverted edit s)
+before-push [] edit s = refl
+before-push (first ∷ edits) edit s = ap (reverted first) (before-push edits edit s)
+
+after-push : (edits : List Edit) (edit : Edit) (s : NetworkState) → after (edits ++ edit ∷ []) s ≡ applied edit (after edits s)
+after-push [] edit s = refl
+after-push (first ∷ edits) edit s = after-push edits edit (applied first s)
+
+-- the edits up to the next one
+next : (edits : List Edit) (k : ℕ) (edit : Edit) → slice_get edits k ≡ Some edit → take (k + 1) edits ≡ take k edits ++ edit ∷ []
+next edits k edit is =
+    take_more edits k edit (slice_get_within edits k edit is)
+    ∙ ap (λ e. take k edits ++ e ∷ []) (get_or_from_slice_get edits k edit edit is)
+
+after-next : (edits : List Edit) (s : NetworkState) (k : ℕ) (edit : Edit) → slice_get edits k ≡ Some edit → after (take (k + 1) edits) s ≡ applied edit (after (take k edits) s)
+after-next edits s k edit is = ap (λ es. after es s) (next edits k edit is) ∙ after-push (take k edits) edit s
+
+before-next : (edits : List Edit) (s : NetworkState) (k : ℕ) (edit : Edit) → slice_get edits k ≡ Some edit → before (take (k + 1) edits) s ≡ before (take k edits) (reverted edit s)
+before-next edits s k edit is = ap (λ es. before es s) (next edits k edit is) ∙ before-push (take k edits) edit s
+
+-- the first edits, and one put behind them
+length-put : (edits : List Edit) (k : ℕ) (edit : Edit) → k ≤ length edits → length (take k edits ++ edit ∷ []) ≡ k + 1
+length-put edits k edit h = omega (arith, length_push (take k edits) edit, length-take-le k edits h)
+
+take-put : (edits : List Edit) (k j : ℕ) (edit : Edit) → k ≤ length edits → j ≤ k → take j (take k edits ++ edit ∷ []) ≡ take j edits
+take-put edits k j edit h le =
+    take-append-le j (take k edits) (edit ∷ []) (omega (arith, length-take-le k edits h, le)) ∙ take-take j k edits le
+
+-- each of them fits
+put-fit : (edits : List Edit) (k : ℕ) (new : Edit) (s : NetworkState) → k ≤ length edits → ((j : ℕ) (edit : Edit) → slice_get edits j ≡ Some edit → Fits edit (after (take j edits) s)) → Fits new (after (take k edits) s) → (j : ℕ) (edit : Edit) → slice_get (take k edits ++ new ∷ []) j ≡ Some edit → Fits edit (after (take j (take k edits ++ new ∷ [])) s)
+put-fit edits k new s h fit fits j edit is =
+    let put : List Edit = take k edits ++ new ∷ [] in
+    let long = length-take-le k edits h in
+    let below : j < length put = slice_get_within put j edit is in
+    let read : get_or put j edit ≡ edit = get_or_from_slice_get put j edit edit is in
+    let up_to : j ≤ k = omega (arith, below, length-put edits k new h) in
+    let same : take j put ≡ take j edits = take-put edits k j new h up_to in
+    let earlier : j < k → Fits edit (after (take j put) s) = λ lt.
+    let here : get_or edits j edit ≡ edit =
+    sym (get_or-take k edits j edit lt) ∙ sym (get_or_append_left (take k edits) (new ∷ []) edit j (omega (arith, long, lt))) ∙ read in
+    rw same (fit j edit (slice_get-get_or edits j edit (omega (arith, lt, h)) ∙ ap (λ e. Some e) here)) in
+    let last : j ≡ k → Fits edit (after (take j put) s) = λ e.
+    let here : new ≡ edit = sym (get_or_push (take k edits) new edit j (omega (arith, long, e))) ∙ read in
+    rw same (subst (λ n. Fits edit (after (take n edits) s)) (sym e) (subst (λ f. Fits f (after (take k edits) s)) here fits)) in
+    ⊎_elim earlier (λ ge. last (omega (arith, ge, up_to))) (cases_lt j k)
+
+-- What a queue of edits tells at a place is the edit that stands there.
+pub found : (edits : List Edit) (k : ℕ) (told : Option (Bor Edit)) → MatchOption told (length edits ≤ k) (λ x. (k < length edits) × HoldsAt (λ edit. x.now ≡ edit) edits k) → IfSome told (λ x. slice_get edits k ≡ Some x.now)
+found edits k None m = tt
+found edits k (Some x) m = slice_get-get_or edits k x.now m.0 ∙ ap (λ e. Some e) (sym (m.1 x.now))
+
+-- It tells none just past the last one.
+pub none-past : (edits : List Edit) (k : ℕ) (told : Option (Bor Edit)) → MatchOption told (length edits ≤ k) (λ x. (k < length edits) × HoldsAt (λ edit. x.now ≡ edit) edits k) → (told ≡ None) ↔ (length edits ≤ k)
+none-past edits k None m = (λ e. m, λ past. refl)
+none-past edits k (Some x) m = (λ e. absurd (cc), λ past. absurd (omega (arith, m.0, past)))
+
+-- An addition makes a state with more arcs.
+more-arcs : (edit : Edit) (s : NetworkState) → AddsArc edit → length s.network.arcs < length (applied edit s).network.arcs
+more-arcs (Cap j old new moves) s adds = absurd adds
+more-arcs (Close j old moves) s adds = absurd adds
+more-arcs (Add tail head cap) s adds = omega (arith, length_push s.network.arcs (open_arc tail head cap))
+more-arcs (Shut arcs moves) s adds = absurd adds
+more-arcs (Solve moves) s adds = absurd adds
+
+-- ---- the oldest edit is dropped
+
+-- Edits that fit are taken back to where they began.
+before-after : GivesBack → (edits : List Edit) (s : NetworkState) (k : ℕ) → ((j : ℕ) (edit : Edit) → slice_get edits j ≡ Some edit → Fits edit (after (take j edits) s)) → before (take k edits) (after (take k edits) s) ≡ s
+before-after law [] s zero fit = refl
+before-after law [] s (suc k) fit = refl
+before-after law (edit ∷ edits) s zero fit = refl
+before-after law (edit ∷ edits) s (suc k) fit =
+    ap (reverted edit) (before-after law edits (applied edit s) k (λ j e is. fit (suc j) e is)) ∙ law edit s (fit zero edit refl)
+
+-- The edits behind the oldest one are taken back to what it makes of the first state.
+forgotten-first : GivesBack → (present : NetworkState) (place : ℕ) (edit : Edit) (edits : List Edit) (are : AreEdits present (edit ∷ edits) (suc place)) → before (take place edits) present ≡ applied edit are.first
+forgotten-first law present place edit edits are =
+    ap (before (take place edits)) (sym are.present_is) ∙ before-after law edits (applied edit are.first) place (λ j e is. are.fit (suc j) e is)
+
+forgotten-next : GivesBack → (present : NetworkState) (place : ℕ) (edits : List Edit) → AreEdits present edits (suc place) → AreEdits present (drop 1 edits) place
+forgotten-next law present place [] are = absurd (omega (arith, are.within))
+forgotten-next law present place (edit ∷ edits) are =
+    record {
+      within = omega (arith, are.within);
+      first = applied edit are.first;
+      state = (are.fit zero edit refl).applied;
+      first_is = forgotten-first law present place edit edits are;
+      fit = λ j e is. are.fit (suc j) e is;
+      present_is = are.present_is;
+    }
+
+-- What the edits behind the oldest one are.
+forgotten-edits : GivesBack → (present : NetworkState) (place : ℕ) (edits : List Edit) (next : ℕ) → next ≡ suc place → AreEdits present edits next → AreEdits present (drop 1 edits) place
+forgotten-edits law present place edits next is are = forgotten-next law present place edits (subst (AreEdits present edits) is are)
+
+forgotten-rest : GivesBack → (present : NetworkState) (place bound : ℕ) (edits : List Edit) → AreEdits present edits (suc place) → timeline_of present (drop 1 edits) place bound ≡ forgotten (timeline_of present edits (suc place) bound)
+forgotten-rest law present place bound [] are = absurd (omega (arith, are.within))
+forgotten-rest law present place bound (edit ∷ edits) are =
+    let first : before (take place edits) present ≡ applied edit (reverted edit (before (take place edits) present)) =
+    forgotten-first law present place edit edits are ∙ ap (applied edit) (sym are.first_is) in
+    let fewer : place ≡ suc place - 1 = omega arith in
+    λ i. record { states = states_from (first i) edits; place = fewer i; bound = bound }
+
+forgotten-timeline : GivesBack → (present : NetworkState) (place bound : ℕ) (edits : List Edit) (next : ℕ) → next ≡ suc place → AreEdits present edits next → timeline_of present (drop 1 edits) place bound ≡ forgotten (timeline_of present edits next bound)
+forgotten-timeline law present place bound edits next is are =
+    forgotten-rest law present place bound edits (subst (AreEdits present edits) is are)
+    ∙ ap (λ n. forgotten (timeline_of present edits n bound)) (sym is)
+
+module _ (present : NetworkState) (edits : List Edit) (place bound : ℕ) (are : AreEdits present edits place) where
+  -- the timeline from the first state on
+  from-first : timeline_of present edits place bound ≡ record { states = states_from are.first edits; place = place; bound = bound }
+  from-first = ap (λ s. record { states = states_from s edits; place = place; bound = bound }) are.first_is
+
+  pub is-timeline : length edits ≤ bound → bound ≤ 1000000 → IsTimeline (timeline_of present edits place bound)
+  is-timeline at_most limit =
+      let long = length-states_from edits (before (take place edits) present) in
+      record { place = omega (arith, long, are.within); at_most = omega (arith, long, at_most); bound = limit }
+
+  pub future-is : future_of (timeline_of present edits place bound) ≡ length edits - place
+  future-is = omega (arith, length-states_from edits (before (take place edits) present))
+
+  pub is-present : IsPresent (timeline_of present edits place bound) present
+  is-present =
+      subst (λ t. IsPresent t present) (sym from-first)
+      (states_from-at edits are.first place are.within ∙ ap (λ s. Some s) are.present_is)
+
+  -- The edits before a place make a state.
+  IsState-after : (k : ℕ) → k ≤ length edits → IsState (after (take k edits) are.first)
+  IsState-after zero h = are.state
+  IsState-after (suc k) h = ⊎_elim
+      (λ found.
+      let one_more : k + 1 ≡ suc k = omega arith in
+      subst (λ n. IsState (after (take n edits) are.first)) one_more
+      (subst IsState (sym (after-next edits are.first k found.0 found.2)) (are.fit k found.0 found.2).applied))
+      (λ past. absurd (omega (arith, past.0, h)))
+      (slice_get_cases edits k).1
+
+  -- ---- one step back
+
+  module _ (k : ℕ) (edit : Edit) (last : place ≡ k + 1) (is : slice_get edits k ≡ Some edit) where
+    -- what the edit made is the present state
+    made : applied edit (after (take k edits) are.first) ≡ present
+    made = sym (after-next edits are.first k edit is) ∙ ap (λ n. after (take n edits) are.first) (sym last) ∙ are.present_is
+
+    pub stands : Stands edit present
+    stands = record {
+      before = after (take k edits) are.first;
+      state = IsState-after k (omega (arith, last, are.within));
+      fits = are.fit k edit is;
+      gives = made;
+    }
+
+    same-first : before (take place edits) present ≡ before (take k edits) (reverted edit present)
+    same-first = ap (λ n. before (take n edits) present) last ∙ before-next edits present k edit is
+
+    -- what it was made of
+    unmade : GivesBack → after (take k edits) are.first ≡ reverted edit present
+    unmade law = sym (law edit (after (take k edits) are.first) (are.fit k edit is)) ∙ ap (reverted edit) made
+
+    pub undone : GivesBack → AreEdits (reverted edit present) edits k
+    undone law = record {
+      within = omega (arith, last, are.within);
+      first = are.first;
+      state = are.state;
+      first_is = sym same-first ∙ are.first_is;
+      fit = are.fit;
+      present_is = unmade law;
+    }
+
+    pub undone-back : timeline_of (reverted edit present) edits k bound ≡ back (timeline_of present edits place bound) 1
+    undone-back =
+        let fewer : k ≡ place - 1 = omega (arith, last) in
+        λ i. record { states = states_from (sym same-first i) edits; place = fewer i; bound = bound }
+
+    pub leads-back : GivesBack → LeadsBack edit (timeline_of present edits place bound)
+    leads-back law = record {
+      state = present;
+      present = is-present;
+      steps = omega (arith, last);
+      stands = stands;
+      before =
+          let fewer : k ≡ place - 1 = omega (arith, last) in
+          subst (λ t. slice_get t.states (place - 1) ≡ Some (reverted edit present)) (sym from-first)
+          (subst (λ n. slice_get (states_from are.first edits) n ≡ Some (reverted edit present)) fewer
+          (states_from-at edits are.first k (omega (arith, last, are.within)) ∙ ap (λ s. Some s) (unmade law)));
+    }
+
+  -- ---- one step forward
+
+  module _ (edit : Edit) (is : slice_get edits place ≡ Some edit) where
+    pub fits : Fits edit present
+    fits = subst (Fits edit) are.present_is (are.fit place edit is)
+
+    same-first-forward : GivesBack → before (take (place + 1) edits) (applied edit present) ≡ before (take place edits) present
+    same-first-forward law =
+        before-next edits (applied edit present) place edit is ∙ ap (before (take place edits)) (law edit present fits)
+
+    pub redone : GivesBack → AreEdits (applied edit present) edits (place + 1)
+    redone law = record {
+      within = omega (arith, slice_get_within edits place edit is);
+      first = are.first;
+      state = are.state;
+      first_is = same-first-forward law ∙ are.first_is;
+      fit = are.fit;
+      present_is = after-next edits are.first place edit is ∙ ap (applied edit) are.present_is;
+    }
+
+    pub redone-forward : GivesBack → timeline_of (applied edit present) edits (place + 1) bound ≡ forward (timeline_of present edits place bound) 1
+    redone-forward law = λ i. record { states = states_from (same-first-forward law i) edits; place = place + 1; bound = bound }
+
+    next-is : IsPresent (forward (timeline_of present edits place bound) 1) (applied edit present)
+    next-is =
+        subst (λ t. slice_get t.states (place + 1) ≡ Some (applied edit present)) (sym from-first)
+        (states_from-at edits are.first (place + 1) (omega (arith, slice_get_within edits place edit is))
+        ∙ ap (λ s. Some s) (after-next edits are.first place edit is ∙ ap (applied edit) are.present_is))
+
+    pub leads-on : LeadsOn edit (timeline_of present edits place bound)
+    leads-on = record { state = present; present = is-present; fits = fits; after = next-is }
+
+    pub adds-arcs : AddsArc edit → AddsArcs (timeline_of present edits place bound) place
+    adds-arcs adds =
+        record {
+          before = present;
+          after = applied edit present;
+          before_is = is-present;
+          after_is = next-is;
+          more = more-arcs edit present adds;
+        }
+
+  -- ---- an edit in the place of those past the present state
+
+  module _ (edit : Edit) (accepted : FitsPresent edit (timeline_of present edits place bound)) where
+    pub fits-present : Fits edit present
+    fits-present = subst (Fits edit) (one-present (timeline_of present edits place bound) accepted.state present accepted.present is-present) accepted.fits
+
+    abbrev pub put : List Edit
+    put = take place edits ++ edit ∷ []
+
+    same-first-put : GivesBack → before (take (place + 1) put) (applied edit present) ≡ before (take place edits) present
+    same-first-put law =
+        ap (λ es. before es (applied edit present)) (take_all (place + 1) put (omega (arith, length-put edits place edit are.within)))
+        ∙ before-push (take place edits) edit (applied edit present)
+        ∙ ap (before (take place edits)) (law edit present fits-present)
+
+    put-edits : GivesBack → AreEdits (applied edit present) put (place + 1)
+    put-edits law = record {
+      within = omega (arith, length-put edits place edit are.within);
+      first = are.first;
+      state = are.state;
+      first_is = same-first-put law ∙ are.first_is;
+      fit = put-fit edits place edit are.first are.within are.fit (subst (Fits edit) (sym are.present_is) fits-present);
+      present_is =
+          ap (λ es. after es are.first) (take_all (place + 1) put (omega (arith, length-put edits place edit are.within)))
+          ∙ after-push (take place edits) edit are.first ∙ ap (applied edit) are.present_is;
+    }
+
+    pub put-within_bound : GivesBack → place < bound → bound ≤ 1000000 → AreWithinBound (applied edit present) put (place + 1) bound
+    put-within_bound law fewer limit = record {
+      are = put-edits law;
+      at_most = omega (arith, length-put edits place edit are.within, fewer);
+      limit = limit;
+    }
+
+    pub put-forgets-within_bound : GivesBack → length edits ≤ bound → bound ≤ 1000000 → AreWithinBound (applied edit present) (drop 1 put) place bound
+    put-forgets-within_bound law at_most limit = record {
+      are = forgotten-edits law (applied edit present) place put (place + 1) (omega arith) (put-edits law);
+      at_most = omega (arith, length-put edits place edit are.within, length-drop 1 put, are.within, at_most);
+      limit = limit;
+    }
+
+    put-extends : GivesBack → timeline_of (applied edit present) put (place + 1) bound ≡ extended (timeline_of present edits place bound) (applied edit present)
+    put-extends law =
+        let next_place : suc place ≡ place + 1 = omega arith in
+        let states : states_from are.first put ≡ take (place + 1) (states_from are.first edits) ++ applied edit present ∷ [] =
+        states_from-put edits are.first place edit are.within
+        ∙ ap (λ n. take n (states_from are.first edits) ++ applied edit (after (take place edits) are.first) ∷ []) next_place
+        ∙ ap (λ s. take (place + 1) (states_from are.first edits) ++ applied edit s ∷ []) are.present_is in
+        let first : before (take (place + 1) put) (applied edit present) ≡ are.first = same-first-put law ∙ are.first_is in
+        let gives : states_from (before (take (place + 1) put) (applied edit present)) put ≡ take (place + 1) (states_from (before (take place edits) present) edits) ++ applied edit present ∷ [] =
+        ap (λ s. states_from s put) first ∙ states
+        ∙ ap (λ s. take (place + 1) (states_from s edits) ++ applied edit present ∷ []) (sym are.first_is) in
+        λ i. record { states = gives i; place = place + 1; bound = bound }
+
+    -- It is appended where the bound allows one state more before the present one.
+    pub put-appends : GivesBack → place < bound → Appends edit (timeline_of present edits place bound) (timeline_of (applied edit present) put (place + 1) bound)
+    put-appends law fewer =
+        subst (Appends edit (timeline_of present edits place bound)) (sym (put-extends law))
+        (appends-all edit (timeline_of present edits place bound) present is-present fewer)
+
+    -- And where it leaves none, the oldest edit is dropped.
+    pub put-forgets : GivesBack → bound ≤ place → Appends edit (timeline_of present edits place bound) (timeline_of (applied edit present) (drop 1 put) place bound)
+    put-forgets law full = record {
+      state = present;
+      present = is-present;
+      gives =
+          forgotten-timeline law (applied edit present) place bound put (place + 1) (omega arith) (put-edits law)
+          ∙ ap forgotten (put-extends law)
+          ∙ sym (within_bound-past (extended (timeline_of present edits place bound) (applied edit present)) (omega (arith, full)));
+    }

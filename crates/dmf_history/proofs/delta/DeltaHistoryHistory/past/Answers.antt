@@ -1,0 +1,7 @@
+use Rattle.std.proofs.Common.{subst}
+use Rattle.dmf_history.specs.Timeline.{IsTimeline}
+use Rattle.dmf_history.proofs.Edits.{is-timeline}
+use Rattle.dmf_history.proofs.delta.DeltaHistoryHistory.past.Goals as goal
+
+pub returns-clause-timeline : goal.returns-clause-timeline
+returns-clause-timeline c = subst IsTimeline c.self.view_is (is-timeline _ _ _ c.self.inside.bound c.self.invariant.are c.self.invariant.at_most c.self.invariant.limit)

@@ -1,0 +1,54 @@
+use Rattle.std.proofs.Common.{◌≡◌, ◌≢◌, Result, Ok, Err, ◌∙◌, refl, ap, sym, arith}
+use Rattle.std.proofs.lemmas.Option.{slice_get_read}
+use Rattle.std.specs.Result.{IsErrAnd}
+use Rattle.dmf_history.specs.declared.history.RedoFault.{RedoFault}
+use Rattle.dmf_history.specs.declared.history.RedoFault.TheVariants as redo
+use Rattle.dmf_history.specs.Timeline.{future_of}
+use Rattle.dmf_history.proofs.Edits.{future-is, fits, redone, redone-forward, adds-arcs}
+use Rattle.dmf_history.proofs.delta.DeltaHistoryHistory.redo.Goals as goal
+
+-- Want of memory is not the end of the undone changes.
+differs : (result : Result (Unit {0}) RedoFault) → IsErrAnd result (λ fault. fault ≡ redo.NoMemory) → result ≢ Err redo.NothingToRedo
+differs (Ok done) told e = absurd told
+differs (Err fault) told e = cc
+
+pub returns-then-self-len-clause-last : goal.returns-then-self-len-clause-last
+returns-then-self-len-clause-last c =
+    let future = ap future_of (sym c.self.view_is) ∙ future-is _ _ _ c.self.inside.bound c.self.invariant.are in
+    (λ _. omega (arith, future, c.if-self-len.true, c.len.ensures, c.self.inside.edits.ok.0), λ _. refl)
+
+pub apply-requires : goal.apply-requires
+apply-requires c =
+    let a = c.self.inside in
+    let is = slice_get_read a.edits.items _ a.place c.index.result.now a.edits.ok.0 (omega (arith, c.if-self-len.false, c.len.ensures, c.self.invariant.are.within, a.edits.ok.0)) c.index.ensures in
+    fits a.present a.edits.items a.place a.bound c.self.invariant.are c.index.result.now is
+
+pub returns-in_err-apply-clause-last : goal.returns-in_err-apply-clause-last
+returns-in_err-apply-clause-last c =
+    let future = ap future_of (sym c.self.view_is) ∙ future-is _ _ _ c.self.inside.bound c.self.invariant.are in
+    (λ e. absurd (differs c.from_residual.result c.from_residual.ensures.1 e), λ none. absurd (omega (arith, future, none, c.if-self-len.false, c.len.ensures, c.self.invariant.are.within, c.self.inside.edits.ok.0)))
+
+pub returns-in_err-apply-clause-memory : goal.returns-in_err-apply-clause-memory
+returns-in_err-apply-clause-memory c = λ e.
+    let a = c.self.inside in
+    let is = slice_get_read a.edits.items _ a.place c.index.result.now a.edits.ok.0 (omega (arith, c.if-self-len.false, c.len.ensures, c.self.invariant.are.within, a.edits.ok.0)) c.index.ensures in
+    rw (← c.self.view_is) (adds-arcs a.present a.edits.items a.place a.bound c.self.invariant.are c.index.result.now is c.in_err-apply.ensures.refused)
+
+pub invariant_of-self-2 : goal.invariant_of-self-2
+invariant_of-self-2 c =
+    let a = c.self.inside in
+    let is = slice_get_read a.edits.items _ a.place c.index.result.now a.edits.ok.0 (omega (arith, c.if-self-len.false, c.len.ensures, c.self.invariant.are.within, a.edits.ok.0)) c.index.ensures in
+    let are = redone a.present a.edits.items a.place a.bound c.self.invariant.are c.index.result.now is c.reverting_gives_back.ensures in
+    rw c.in_ok-apply.ensures.ok (record { are = are; at_most = c.self.invariant.at_most; limit = c.self.invariant.limit })
+
+pub returns-clause-last : goal.returns-clause-last
+returns-clause-last c =
+    let future = ap future_of (sym c.self.view_is) ∙ future-is _ _ _ c.self.inside.bound c.self.invariant.are in
+    (λ e. absurd (cc), λ none. absurd (omega (arith, future, none, c.if-self-len.false, c.len.ensures, c.self.invariant.are.within, c.self.inside.edits.ok.0)))
+
+pub returns-clause-ok : goal.returns-clause-ok
+returns-clause-ok c =
+    let a = c.self.inside in
+    let is = slice_get_read a.edits.items _ a.place c.index.result.now a.edits.ok.0 (omega (arith, c.if-self-len.false, c.len.ensures, c.self.invariant.are.within, a.edits.ok.0)) c.index.ensures in
+    rw (← c.self.view_is, c.in_ok-apply.ensures.ok)
+    (redone-forward a.present a.edits.items a.place a.bound c.self.invariant.are c.index.result.now is c.reverting_gives_back.ensures)

@@ -1,0 +1,136 @@
+ghost use Rattle.std.specs.Prelude.{◌≡◌, ◌≤◌, ◌↔◌, IfSome, None};
+ghost use Rattle.dmf_history.specs.Timeline.{start, future_of, LeadsBack, LeadsOn};
+
+use crate::history::{History, MAX_BOUND, NothingToUndo, RedoFault, forget_oldest};
+use dmf_net::{Edit, NoMemory, State, reverting_gives_back};
+use std::alloc::Global;
+use std::collections::VecDeque;
+use std::marker::Model;
+
+/// A history that keeps the present state alone, and the edits that lead from each state to the next.
+///
+/// A step back or forward looks at the arcs that its edit names, and at no others. Forgetting drops one edit, in constant
+/// time.
+#[derive(Drop)]
+pub struct DeltaHistory {
+    present: State,
+    edits: VecDeque<Edit>,
+    place: usize,
+    bound: u32,
+}
+
+impl Model for DeltaHistory {
+    ghost use Rattle.dmf_history.specs.Timeline.{Timeline};
+    ghost use Rattle.dmf_history.specs.Delta.{timeline_of, AreWithinBound};
+
+    ghost Value = { Timeline };
+
+    ghost view = { λ a. timeline_of a.present a.edits.items a.place a.bound };
+
+    ghost invariant = { λ a. AreWithinBound a.present a.edits.items a.place a.bound };
+}
+
+impl DeltaHistory {
+    /// A history of one state, which is the present one, with the largest bound, [`MAX_BOUND`]. Takes no memory.
+    pub fn new(alloc: Global, state: State) -> Self
+        ensures { result ≡ start 1000000 state }
+    {
+        DeltaHistory::with_bound(alloc, state, MAX_BOUND)
+    }
+
+    /// A history of one state, which is the present one, with this bound, which is at most [`MAX_BOUND`]. Takes no memory.
+    pub fn with_bound(alloc: Global, state: State, bound: u32) -> Self
+        requires { bound ≤ 1000000 }
+        ensures { result ≡ start bound state }
+    {
+        let _nodes = state.nodes();
+        DeltaHistory {
+            present: state,
+            edits: VecDeque::new(alloc),
+            place: 0,
+            bound,
+        }
+    }
+}
+
+impl History for DeltaHistory {
+    ghost timeline = { λ history. history };
+
+    fn present(&self) -> &State {
+        &self.present
+    }
+
+    fn past(&self) -> u32 {
+        self.place as u32
+    }
+
+    fn future(&self) -> u32 {
+        (self.edits.len() - self.place) as u32
+    }
+
+    fn bound(&self) -> u32 {
+        self.bound
+    }
+
+    // Both growths, that of the edits and that of an addition, come before an edit is dropped or forgotten.
+    fn append(&mut self, edit: Edit) -> Result<(), NoMemory> {
+        reverting_gives_back();
+        self.edits.reserve(1)?;
+        self.present.apply(&edit)?;
+        self.edits.truncate(self.place);
+        self.edits.push_back_reserved(edit);
+        if self.place < self.bound as usize {
+            self.place += 1;
+        } else {
+            forget_oldest(&mut self.edits);
+        }
+        Ok(())
+    }
+
+    fn undo(&mut self) -> Result<(), NothingToUndo> {
+        reverting_gives_back();
+        if self.place == 0 {
+            return Err(NothingToUndo);
+        }
+        self.place -= 1;
+        self.present.revert(&self.edits[self.place]);
+        Ok(())
+    }
+
+    fn redo(&mut self) -> Result<(), RedoFault> {
+        reverting_gives_back();
+        if self.place == self.edits.len() {
+            return Err(RedoFault::NothingToRedo);
+        }
+        self.present.apply(&self.edits[self.place])?;
+        self.place += 1;
+        Ok(())
+    }
+
+    fn last_edit(&self) -> Option<&Edit>
+        ensures edit { IfSome result (λ edit. LeadsBack edit.now self.now) }
+        ensures none { (result ≡ None) ↔ (self.now.place ≡ 0) }
+    {
+        reverting_gives_back();
+        let last = self.place.checked_sub(1)?;
+        self.edits.get(last)
+    }
+
+    fn next_edit(&self) -> Option<&Edit>
+        ensures edit { IfSome result (λ edit. LeadsOn edit.now self.now) }
+        ensures none { (result ≡ None) ↔ (future_of self.now ≡ 0) }
+    {
+        self.edits.get(self.place)
+    }
+}
+
+impl From<NoMemory> for RedoFault {
+    ghost use Rattle.std.specs.Prelude.{◌≡◌};
+    ghost use Rattle.dmf_history.specs.declared.history.RedoFault.TheVariants as redo;
+
+    ghost from_gives = { λ _ fault. fault ≡ redo.NoMemory };
+
+    fn from(_error: NoMemory) -> RedoFault {
+        RedoFault::NoMemory
+    }
+}

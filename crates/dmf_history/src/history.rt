@@ -1,0 +1,97 @@
+ghost use Rattle.std.specs.Prelude.{◌≡◌, drop};
+
+use dmf_net::{Edit, NoMemory, State};
+use std::alloc::Allocator;
+use std::collections::VecDeque;
+use thiserror::Error;
+
+/// The largest bound of a history: the largest number of states before the present one that any history keeps.
+pub const MAX_BOUND: u32 = 1_000_000;
+
+/// There is no change before the present state.
+#[derive(Clone, Copy, Debug, PartialEq, Eq, Error)]
+#[error("nothing to undo")]
+pub struct NothingToUndo;
+
+/// Why a step forward is refused.
+#[derive(Clone, Copy, Debug, PartialEq, Eq, Error)]
+pub enum RedoFault {
+    /// There is no undone change.
+    #[error("nothing to redo")]
+    NothingToRedo,
+    /// A request for memory was refused.
+    #[error("no memory")]
+    NoMemory,
+}
+
+/// A list of states and the place of the present one, however they are kept. A history has a bound, which nothing alters: no
+/// more states than that are kept before the present one.
+pub trait History {
+    ghost use Rattle.std.specs.Prelude.{◌≡◌, ◌<◌, ◌↔◌, Ok, Err, IfSome, OnOk, OnErr, IsOk};
+    ghost use Rattle.dmf_history.specs.declared.history.RedoFault.TheVariants as redo;
+    ghost use Rattle.dmf_history.specs.Timeline.{Timeline, IsTimeline, IsPresent, future_of, back, forward, FitsPresent, Appends, AddsArcs, LeadsBack, LeadsOn};
+
+    /// The states and the place that the history stands for.
+    ghost timeline: { Self → Timeline };
+
+    /// The present state. Takes no memory.
+    fn present(&self) -> &State
+        ensures state { IsPresent (timeline self.now) result.now }
+        ensures timeline { IsTimeline (timeline self.now) };
+
+    /// The number of states before the present one. Takes no memory.
+    fn past(&self) -> u32
+        ensures count { result ≡ (timeline self.now).place }
+        ensures timeline { IsTimeline (timeline self.now) };
+
+    /// The number of states past the present one. Takes no memory.
+    fn future(&self) -> u32
+        ensures count { result ≡ future_of (timeline self.now) }
+        ensures timeline { IsTimeline (timeline self.now) };
+
+    /// The largest number of states that are kept before the present one. Takes no memory.
+    fn bound(&self) -> u32
+        ensures count { result ≡ (timeline self.now).bound }
+        ensures timeline { IsTimeline (timeline self.now) };
+
+    /// Drops the states past the present one, and appends what the edit makes of it as the present one. Where more states
+    /// than the bound would then stand before it, the oldest is forgotten. The edit fits the present state, as one that was
+    /// planned on it does.
+    ///
+    /// Fails only where memory is refused; then nothing has changed. Forgetting takes no memory.
+    fn append(&mut self, edit: Edit) -> Result<(), NoMemory>
+        requires fits { FitsPresent edit (timeline self.old) }
+        ensures ok { OnOk result (Appends edit (timeline self.old) (timeline self.new)) }
+        ensures err { OnErr result (timeline self.new ≡ timeline self.old) };
+
+    /// Goes one state back. Takes no memory; refused only where there is none, and then nothing has changed.
+    fn undo(&mut self) -> Result<(), NothingToUndo>
+        ensures variant { IsOk result ↔ (0 < (timeline self.old).place) }
+        ensures ok { OnOk result (timeline self.new ≡ back (timeline self.old) 1) }
+        ensures err { OnErr result (timeline self.new ≡ timeline self.old) };
+
+    /// Goes one state forward. Takes memory only where that state has more arcs than the present one; where it is
+    /// refused, nothing has changed.
+    fn redo(&mut self) -> Result<(), RedoFault>
+        ensures last { (result ≡ Err redo.NothingToRedo) ↔ (future_of (timeline self.old) ≡ 0) }
+        ensures memory { result ≡ Err redo.NoMemory → AddsArcs (timeline self.old) (timeline self.old).place }
+        ensures ok { OnOk result (timeline self.new ≡ forward (timeline self.old) 1) }
+        ensures err { OnErr result (timeline self.new ≡ timeline self.old) };
+
+    /// The edit that made the present state of the one before it: none where no state stands before it, or where the history
+    /// keeps whole states. Takes no memory.
+    fn last_edit(&self) -> Option<&Edit>
+        ensures { IfSome result (λ edit. LeadsBack edit.now (timeline self.now)) };
+
+    /// The edit that makes the next state of the present one: none where no state stands past it, or where the history keeps
+    /// whole states. Takes no memory.
+    fn next_edit(&self) -> Option<&Edit>
+        ensures { IfSome result (λ edit. LeadsOn edit.now (timeline self.now)) };
+}
+
+/// Drops what was put in first. Takes no memory, and constant time.
+pub(crate) fn forget_oldest<T: Drop, A: Allocator>(kept: &mut VecDeque<T, A>)
+    ensures { kept.new.items ≡ drop 1 kept.old.items }
+{
+    let _oldest = kept.pop_front();
+}

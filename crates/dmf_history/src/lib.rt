@@ -1,0 +1,10 @@
+//! Histories of networks' states: what a what-if session steps back and forth in.
+#![tactic(auto)]
+
+pub use delta::DeltaHistory;
+pub use history::{History, MAX_BOUND, NothingToUndo, RedoFault};
+pub use whole::WholeHistory;
+
+mod delta;
+mod history;
+mod whole;

@@ -1,0 +1,62 @@
+-- The present state of a timeline that has states, and that it is what a change appended.
+use Rattle.std.proofs.Common.{ℕ, ◌≡◌, length, Option, Some, None, Result, Ok, Err, MatchOption, IsOkUnless, pos, nat_abs, arith, ap, ◌∙◌, subst, ⊎_elim}
+use Rattle.std.proofs.lemmas.List.Elements.{All-get_or}
+use Rattle.std.proofs.lemmas.Option.{slice_get_cases}
+use Rattle.dmf_net.specs.declared.edit.Edit.{Edit}
+use Rattle.dmf_solver.specs.declared.fault.PlanFault.{PlanFault}
+use Rattle.dmf_solver.specs.declared.fault.PlanFault.TheVariants.{NoMemory}
+use Rattle.dmf_net.specs.Flow.{flow_value}
+use Rattle.dmf_net.specs.NetworkState.{NetworkState, IsState}
+use Rattle.dmf_solver.specs.Change.{Change, change_fault, Becomes}
+use Rattle.dmf_net.specs.Edit.{applied}
+use Rattle.dmf_session.specs.declared.command.Reply.{Reply}
+use Rattle.dmf_session.specs.declared.command.Reply.TheVariants.{Value, Added}
+use Rattle.dmf_session.specs.declared.command.Refusal.{Refusal}
+use Rattle.dmf_history.specs.Timeline.{Timeline, IsPresent, appended, Appends}
+use Rattle.dmf_session.specs.Step.{Changes, IsChanged, IsRefused, refusal_of, value_of}
+use Rattle.dmf_session.specs.Laws.{HasStates}
+use Rattle.dmf_history.proofs.Appending.{one-present, now-present, appends-applied}
+
+-- the state at the place
+pub record SomePresent (t : Timeline) : Type 0 where
+  pub state : NetworkState
+  pub present : IsPresent t state
+  pub is : IsState state
+
+-- Where the place is in the list there is a present state.
+pub some-present : (t : Timeline) → HasStates t → SomePresent t
+some-present t has = ⊎_elim
+    (λ found. record { state = found.0; present = found.2; is = subst IsState found.3 (All-get_or IsState t.states t.place found.0 found.1 has.states) })
+    (λ past. absurd (omega (arith, past.0, has.place)))
+    (slice_get_cases t.states t.place).1
+
+-- The present state of a timeline that has states is a state.
+pub is-state : (t : Timeline) (s : NetworkState) → HasStates t → IsPresent t s → IsState s
+is-state t s has present = let some = some-present t has in subst IsState (one-present t some.state s some.present present) some.is
+
+-- A change that was planned on the present state and appended; the reply tells of the state that is present then.
+IsChanged-told : (t u : Timeline) (s p : NetworkState) (edit : Edit) (change : Change) (reply : NetworkState → Reply) (told : Reply) → IsPresent t s → Becomes s change (applied edit s) → Appends edit t u → IsPresent u p → told ≡ reply p → IsChanged t s change reply (Ok told) u
+IsChanged-told t u s p edit change reply told present becomes appends shown tells =
+    record {
+      new = applied edit s;
+      becomes = becomes;
+      told = ap (λ r. Ok r) (tells ∙ ap reply (now-present t u s p edit present appends shown));
+      appends = appends-applied t u s edit present appends;
+    }
+
+-- an addition that was planned on the present state and appended
+pub IsChanged-added : (t u : Timeline) (s p : NetworkState) (edit : Edit) (change : Change) (count value : ℕ) → IsPresent t s → Becomes s change (applied edit s) → Appends edit t u → IsPresent u p → count ≡ length p.network.arcs → pos value ≡ flow_value p.network p.flows → IsChanged t s change (λ new. Added (length new.network.arcs) (value_of new)) (Ok (Added count value)) u
+IsChanged-added t u s p edit change count value present becomes appends shown counts valued =
+    IsChanged-told t u s p edit change (λ new. Added (length new.network.arcs) (value_of new)) (Added count value) present becomes appends shown
+    (ap (λ n. Added n value) counts ∙ ap (λ n. Added (length p.network.arcs) n) (ap nat_abs valued))
+
+-- where a plan was made, nothing refuses the change
+planned-changes : (t u : Timeline) (s : NetworkState) (edit : Edit) (change : Change) (reply : NetworkState → Reply) (result : Result Reply Refusal) (fault : Option PlanFault) → MatchOption fault (IsOkUnless (Ok edit) NoMemory) (λ f. Ok edit ≡ Err f) → IsChanged t s change reply result u → MatchOption fault (IsChanged t s change reply result u) (λ f. IsRefused t (refusal_of f) result u)
+planned-changes t u s edit change reply result None planned changed = changed
+planned-changes t u s edit change reply result (Some f) planned changed = absurd (cc)
+
+-- a change that was planned on the present state, unless memory was refused, and appended; the reply tells the value
+pub Changes-valued : (t u : Timeline) (s p : NetworkState) (edit : Edit) (change : Change) (value : ℕ) → IsPresent t s → MatchOption (change_fault s change) (IsOkUnless (Ok edit) NoMemory) (λ f. Ok edit ≡ Err f) → Becomes s change (applied edit s) → Appends edit t u → IsPresent u p → pos value ≡ flow_value p.network p.flows → Changes t s change (λ new. Value (value_of new)) (Ok (Value value)) u
+Changes-valued t u s p edit change value present planned becomes appends shown valued =
+    planned-changes t u s edit change (λ new. Value (value_of new)) (Ok (Value value)) (change_fault s change) planned
+    (IsChanged-told t u s p edit change (λ new. Value (value_of new)) (Value value) present becomes appends shown (ap (λ n. Value n) (ap nat_abs valued)))

@@ -1,4 +1,0 @@
-use Rattle.dmf_session.proofs.delta.DeltaHistory.with_bound.Goals as goal
-
-pub returns : goal.returns
-returns c = rw c.new.ensures.items

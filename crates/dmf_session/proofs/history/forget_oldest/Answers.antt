@@ -1,4 +1,0 @@
-use Rattle.dmf_session.proofs.history.forget_oldest.Goals as goal
-
-pub returns : goal.returns
-returns g c = c.pop_front-oldest.ensures.rest
