@@ -61,6 +61,7 @@ help_words "the word help before a command" help session
 run "the version" 0 $'dmf 0.1.0\n' "" --version </dev/null
 run "a cut behind the problem" 0 "$solution_a$cut_a" "" session examples/a.max --cut <<<solve
 run "words that are not UTF-8" 2 "" $'dmf: a word is not UTF-8\n' session $'\xff' </dev/null
+count_script tests/words.py
 
 # Solving.
 run "no words" 0 "$solution_a" "" <examples/a.max

@@ -33,31 +33,3 @@ pub fn expect(alloc: Global, line: &str, wanted: &Result<Mode, WordsFault>) -> R
         Err(differs(line, &read))
     }
 }
-
-/// Which text is told in place of a run.
-#[derive(Clone, Copy, PartialEq, Eq)]
-pub enum Told {
-    Help,
-    Usage,
-}
-
-/// Each row's words are to be answered by such a text, with the part beside them.
-#[inline(never)]
-pub fn expect_told(alloc: Global, told: Told, rows: &[(&str, &str)]) -> Result<(), Fail> {
-    for (line, part) in rows {
-        let read = read(alloc, line);
-        if !is_told(&read, told, part) {
-            return Err(differs(line, &read));
-        }
-    }
-    Ok(())
-}
-
-/// Whether such a text was told, with this part.
-fn is_told(read: &Result<Mode, WordsFault>, told: Told, part: &str) -> bool {
-    match read {
-        Err(WordsFault::Help(text)) => told == Told::Help && text.as_str().contains(part),
-        Err(WordsFault::Usage(text)) => told == Told::Usage && text.as_str().contains(part),
-        _ => false,
-    }
-}

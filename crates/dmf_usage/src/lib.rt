@@ -1,4 +1,4 @@
-//! Tests of the program's arguments: which run they ask for, and what is told where they ask for none.
+//! Tests of the program's arguments: which run they ask for. What is told where they ask for none is tested on the built program.
 #![tactic(auto)]
 
 #[cfg(test)]
@@ -7,5 +7,3 @@ mod example;
 mod expected;
 #[cfg(test)]
 mod runs;
-#[cfg(test)]
-mod texts;
