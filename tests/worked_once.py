@@ -23,6 +23,64 @@ NO_ARCS = "p max 2 0 / n 1 s / n 2 t"
 LARGEST_FLOW = "s 18446744073709551615 / f 1 2 18446744073709551615"
 # Parallel arcs that can carry the largest number together, beside one of capacity 0.
 FULL = "p max 2 3 / n 1 s / n 2 t / a 1 2 18446744073709551614 / a 1 2 0 / a 1 2 1"
+# Nine arcs that can carry nothing, so that each of them may be given the largest capacity.
+NINE = "p max 2 9 / n 1 s / n 2 t" + " / a 1 2 0" * 9
+NINTH_LARGEST = NINE.removesuffix("0") + "18446744073709551615"
+# The crossed ways with two arcs from the source to the sink.
+ADDED = CROSSED.replace("4 5 /", "4 7 /", 1) + " / a 1 4 7" * 2
+# What is left of them without the arcs at node 3, and its greatest flow.
+OPEN = "p max 4 4 / n 1 s / n 4 t / a 1 2 3 / a 2 4 2 / a 1 4 7 / a 1 4 7"
+OPEN_FLOW = "s 16 / f 1 2 2 / f 2 4 2 / f 1 4 7 / f 1 4 7"
+OPEN_CUT = "c cut 16 / c side 1 / c side 2"
+# Command lines that are refused for their words, their fields or their numbers, each with the text that tells it. Of two carriage
+# returns the first is a byte of a field.
+REFUSED_LINES = {
+    b"cNote": "unknown command",
+    b"ca 1 2": "unknown command",
+    b"capx 1": "unknown command",
+    b"Cap 1 2": "unknown command",
+    b"closed 1": "unknown command",
+    b"Undo": "unknown command",
+    b"undo\r\r": "unknown command",
+    b"undo\0": "unknown command",
+    b"solved 1 2 3": "unknown command",
+    b"shuts 1": "unknown command",
+    b"Shut 1": "unknown command",
+    b"cap": "wrong number of fields",
+    b"cap x": "wrong number of fields",
+    b"cap 1 2 3": "wrong number of fields",
+    b"close": "wrong number of fields",
+    b"close x 1": "wrong number of fields",
+    b"shut": "wrong number of fields",
+    b"shut 1 2": "wrong number of fields",
+    b"shut x 1": "wrong number of fields",
+    b"add 1 1": "wrong number of fields",
+    b"add 1 1 1 x": "wrong number of fields",
+    b"solve 1": "wrong number of fields",
+    b"solve solve": "wrong number of fields",
+    b"undo 1 1": "wrong number of fields",
+    b"redo x 1": "wrong number of fields",
+    b"print": "wrong number of fields",
+    b"print side x": "wrong number of fields",
+    b"print flow x": "wrong number of fields",
+    b"print cut 1": "wrong number of fields",
+    b"print side": "unknown command",
+    b"print Problem": "unknown command",
+    b"print flows": "unknown command",
+    b"print cu": "unknown command",
+    b"cap 1 -1": "not a number",
+    b"cap x 18446744073709551616": "not a number",
+    b"cap 18446744073709551616 x": "number too large",
+    b"close 1.0": "not a number",
+    b"close 18446744073709551616": "number too large",
+    b"shut -1": "not a number",
+    b"shut 18446744073709551616": "number too large",
+    b"undo -1": "not a number",
+    b"undo 1\r\r": "not a number",
+    b"redo 18446744073709551616": "number too large",
+    b"add x 18446744073709551616 1": "not a number",
+    b"add 18446744073709551616 x 1": "number too large",
+}
 
 SOLVES = [
     solved("no arcs", NO_ARCS, "s 0"),
@@ -162,6 +220,36 @@ SESSIONS = [
         "solve / add 1 2 7 / print cut / solve",
         "s 0 / c cut 0 / c side 1 / c add 1 value 0 / c refused 3 flow is not greatest / s 7 / f 1 2 7 / c cut 7 / c side 1",
         CUT,
+    ),
+    held(
+        "command lines that are refused for what stands in them, and change nothing",
+        CROSSED,
+        b"\n".join([*REFUSED_LINES, b"print problem", b"undo"]),
+        " / ".join(f"c refused {line} {told}" for line, told in enumerate(REFUSED_LINES.values(), 1))
+        + f" / {CROSSED} / c refused 47 nothing to undo",
+    ),
+    held(
+        "the largest capacity, with and without leading zeros, spaces and tabs",
+        NINE,
+        "cap 9 18446744073709551615 / print problem / undo /  cap\t09 18446744073709551615 / print problem",
+        f"c cap value 0 / {NINTH_LARGEST} / c undo value 0 / c cap value 0 / {NINTH_LARGEST}",
+    ),
+    held(
+        "each other command, with and without leading zeros, spaces and tabs",
+        CROSSED,
+        "add 1 4 7 / \tadd  01 4   7  / print problem / close 3 / close  0\t / shut 3 /  shut\t00  / shut 18446744073709551615 / "
+        "print problem / solve /  solve\t / print flow /  print\tcut  / print cut / undo 0 / undo / undo 3 / print problem / "
+        "redo / redo 18446744073709551615 / print problem",
+        f"c add 6 value 0 / c add 7 value 0 / {ADDED} / c close value 0 / c refused 5 no such arc / c shut value 0 / "
+        f"c refused 7 no such node / c refused 8 no such node / {OPEN} / {OPEN_FLOW} / {OPEN_FLOW} / {OPEN_FLOW} / "
+        f"{OPEN_CUT} / {OPEN_CUT} / c undo value 16 / c undo value 16 / c undo value 0 / {ADDED} / c redo value 0 / "
+        "c refused 20 nothing to redo / p max 4 6 / n 1 s / n 4 t / a 1 2 3 / a 1 3 2 / a 2 4 2 / a 3 4 3 / a 1 4 7 / a 1 4 7",
+    ),
+    held(
+        "blank lines and comments have no reply, and count",
+        CROSSED,
+        b"add 1 4 7\n\n \t \nc\nc undo\n\tc undo\nundo\nundo",
+        "c add 6 value 0 / c undo value 0 / c refused 8 nothing to undo",
     ),
 ]
 CHECKS = [
