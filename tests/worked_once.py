@@ -256,6 +256,27 @@ CHECKS = [
     checked("no flow", CROSSED, b"s 0", "c flow 0"),
     checked("no arcs", NO_ARCS, "s 0", "c greatest 0"),
     checked("the largest value, in one line for parallel arcs", FULL, LARGEST_FLOW, "c greatest 18446744073709551615"),
+    checked(
+        "the largest value, in two lines around it",
+        FULL,
+        b"f 1 2 18446744073709551614\ns 18446744073709551615\nf 1 2 1",
+        "c greatest 18446744073709551615",
+    ),
+    checked("an arc without a line", CROSSED, b"s 3\nf 1 2 3\nf 2 3 1\nf 2 4 2\nf 3 4 1", "c flow 3"),
+    checked("lines that put no flow on arcs", CROSSED, b"s 0\nf 1 2 0\nf 3 4 0", "c flow 0"),
+    checked("lines with the same ends add up", CROSSED, "s 2 / f 1 2 1 / f 2 4 1 / f 1 2 1 / f 2 4 0 / f 2 4 1", "c flow 2"),
+    checked(
+        "a loose solution",
+        CROSSED,
+        b"comment\r\n\r\n \t\r\n  f 1\t3 002 \r\nf  3 4 0000000000000000000000002\r\n\ts 2\r\ncx\r\n",
+        "c flow 2",
+    ),
+    checked("a blank line at the end", CROSSED, b"s 2\nf 2 4 2\nf 1 2 2\n\n", "c flow 2"),
+    checked("two lines for parallel arcs", LOOSE, b"s 9\nf 1 2 5\nf 2 3 9\nf 1 2 4", "c greatest 9"),
+    checked("just the first of parallel arcs", LOOSE, b"s 4\nf 1 2 4\nf 2 3 4", "c flow 4"),
+    checked("less than the first of parallel arcs takes", LOOSE, b"s 3\nf 1 2 3\nf 2 3 3", "c flow 3"),
+    checked("parallel arcs that are full, and flow back into the source", LOOSE, b"s 5\nf 1 2 11\nf 2 1 6\nf 2 3 5", "c flow 5"),
+    checked("flow on an arc that comes back to its tail", LOOSE, b"s 0\nf 2 2 9", "c flow 0"),
 ]
 # Problems with their faults, which a solve and a session tell alike.
 PROBLEMS = {
