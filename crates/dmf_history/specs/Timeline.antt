@@ -1,4 +1,4 @@
--- What a session keeps: a list of whole states, the place of the present one, and how many are kept before it.
+-- What a history stands for: a list of whole states, the place of the present one, and how many are kept before it.
 -- Public: a public contract says no more than this.
 use Rattle.std.specs.Prelude.{ℕ, ◌≡◌, ◌+◌, ◌-◌, ◌<◌, ◌≤◌, List, [], ◌∷◌, ◌++◌, length, take, drop, slice_get, Some, nat_lt, if◌then◌else◌}
 use Rattle.dmf_net.specs.declared.edit.Edit.{Edit}

@@ -1,4 +1,5 @@
 //! The examples of the libraries' README files, each word for word.
+mod history;
 mod net;
 mod run;
 mod session;
