@@ -176,18 +176,7 @@ fn edit(rt: &HostRuntime, state: State) -> io::Result<()> {
 }
 
 fn tell_command(rt: &HostRuntime, command: Command) -> io::Result<()> {
-    match command {
-        Command::Cap { arc, cap } => println!(rt; "command cap {arc} {cap}"),
-        Command::Add { tail, head, cap } => println!(rt; "command add {tail} {head} {cap}"),
-        Command::Close { arc } => println!(rt; "command close {arc}"),
-        Command::Shut { node } => println!(rt; "command shut {node}"),
-        Command::Solve => println!(rt; "command solve"),
-        Command::Undo(steps) => println!(rt; "command undo {steps}"),
-        Command::Redo(steps) => println!(rt; "command redo {steps}"),
-        Command::PrintProblem => println!(rt; "command print problem"),
-        Command::PrintFlow => println!(rt; "command print flow"),
-        Command::PrintCut => println!(rt; "command print cut"),
-    }
+    println!(rt; "command {command:?}")
 }
 
 /// The number of states before and past the present one, and that state.
