@@ -1,5 +1,5 @@
-"""Refuses the program of crates/dmf_calls each request for memory in turn, and each two in a row, by the preloaded library that the
-first argument names: a vector that is refused room to grow asks again, for just the room that it needs.
+"""Refuses the program of crates/dmf_calls each request for memory in turn, and each two in a row, by the preloaded library that
+the first argument names: a vector that is refused room to grow asks again, for just the room that it needs.
 
 After each call the program tells all that then stands. A call that is refused memory has changed nothing, and each other call
 does what the second implementation does. Changes that alter nothing take so little memory that 200 of them make fewer than 100
@@ -28,8 +28,8 @@ STDOUT = os.path.join(CRATE, "stdout")
 ARCS = (Arc(1, 2, 3), Arc(1, 3, 2), Arc(2, 3, 5), Arc(2, 4, 2), Arc(3, 4, 3))
 START = State(4, 1, 4, ARCS, (0, 0, 0, 0, 0))
 COMMANDS = (
-    "add 1 4 1 / solve / add 1 4 2 / add 1 4 3 / undo 2 / redo 2 / cap 5 1 / add 1 4 4 / undo 3 / add 1 4 5 / add 1 4 6 / close 1 / "
-    "print cut / undo 4 / redo 3 / solve / print cut / shut 3 / undo 1 / redo 1 / add 1 4 7"
+    "add 1 4 1 / solve / add 1 4 2 / add 1 4 3 / undo 2 / redo 2 / cap 5 1 / add 1 4 4 / undo 3 / add 1 4 5 / add 1 4 6 / "
+    "close 1 / print cut / undo 4 / redo 3 / solve / print cut / shut 3 / undo 1 / redo 1 / add 1 4 7"
 ).split(" / ")
 ADDITIONS = [f"add 1 4 {cap}" for cap in range(1, 8)]
 REFUSED = "refused no memory"
