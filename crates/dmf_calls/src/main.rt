@@ -130,8 +130,7 @@ fn example(alloc: Global) -> Result<State, NetFault> {
     Ok(state)
 }
 
-/// Tells of the session over the history of this name, if it was made, and gives it all commands; with `want_cut` each solve
-/// is to tell a cut.
+/// Gives the session over the history of this name all commands, if it was made.
 fn hold<H: History + Drop>(
     rt: &HostRuntime,
     name: &str,
@@ -139,21 +138,20 @@ fn hold<H: History + Drop>(
     want_cut: bool,
 ) -> io::Result<()> {
     match session {
-        Ok(mut session) => {
-            tell_history(rt, name, session.bound())?;
-            tell_session(rt, &session)?;
-            step_all(rt, &mut session, want_cut)
-        }
+        Ok(mut session) => step_all(rt, name, &mut session, want_cut),
         Err(_) => println!(rt; "no history"),
     }
 }
 
-/// Gives the session all commands, one after the other.
+/// Gives the session all commands, one after the other; with `want_cut` each solve is to tell a cut.
 fn step_all<H: History>(
     rt: &HostRuntime,
+    name: &str,
     session: &mut Session<H>,
     want_cut: bool,
 ) -> io::Result<()> {
+    tell_history(rt, name, session.bound())?;
+    tell_session(rt, session)?;
     for &command in &COMMANDS {
         tell_command(rt, command)?;
         tell_answer(rt, session.step(rt.alloc(), command, want_cut))?;
