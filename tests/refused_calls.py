@@ -1,5 +1,5 @@
-"""Refuses the program of crates/dmf_calls each request for memory in turn, and each two in a row, by the preloaded library that the
-first argument names: a vector that is refused room to grow asks again, for just the room that it needs.
+"""Refuses the program of crates/dmf_calls each request for memory in turn, and each two in a row, by the preloaded library that
+the first argument names: a vector that is refused room to grow asks again, for just the room that it needs.
 
 After each call the program tells all that then stands. A call that is refused memory has changed nothing, and each other call
 does what the second implementation does. Changes that alter nothing take so little memory that 200 of them make fewer than 100
@@ -28,11 +28,22 @@ STDOUT = os.path.join(CRATE, "stdout")
 ARCS = (Arc(1, 2, 3), Arc(1, 3, 2), Arc(2, 3, 5), Arc(2, 4, 2), Arc(3, 4, 3))
 START = State(4, 1, 4, ARCS, (0, 0, 0, 0, 0))
 COMMANDS = (
-    "add 1 4 1 / solve / add 1 4 2 / add 1 4 3 / undo 2 / redo 2 / cap 5 1 / add 1 4 4 / undo 3 / add 1 4 5 / add 1 4 6 / close 1 / "
-    "print cut / undo 4 / redo 3 / solve / print cut / shut 3 / undo 1 / redo 1 / add 1 4 7"
+    "add 1 4 1 / solve / add 1 4 2 / add 1 4 3 / undo 2 / redo 2 / cap 5 1 / add 1 4 4 / undo 3 / add 1 4 5 / add 1 4 6 / "
+    "close 1 / print cut / undo 4 / redo 3 / solve / print cut / shut 3 / undo 1 / redo 1 / add 1 4 7"
 ).split(" / ")
 ADDITIONS = [f"add 1 4 {cap}" for cap in range(1, 8)]
 REFUSED = "refused no memory"
+# How the program tells each command, by its first word.
+TOLD = {
+    "add": "Add {{ tail: {}, head: {}, cap: {} }}",
+    "cap": "Cap {{ arc: {}, cap: {} }}",
+    "close": "Close {{ arc: {} }}",
+    "shut": "Shut {{ node: {} }}",
+    "solve": "Solve",
+    "undo": "Undo({})",
+    "redo": "Redo({})",
+    "print": "Print{}",
+}
 # Whether each solve tells a cut, by the bound of the history.
 WANTS_CUT = {MOST_KEPT: True, 1: False, 0: True}
 SESSIONS = [(name, bound) for bound in WANTS_CUT for name in ("whole", "delta")]
@@ -46,6 +57,11 @@ GROWING = {(*session, word) for session in SESSIONS for word in ("add", "cap", "
 def command_of(text):
     word, *rest = text.split()
     return word, *(rest if word == "print" else map(int, rest))
+
+
+def told_command(text):
+    word, *fields = text.split()
+    return f"command {TOLD[word].format(*map(str.capitalize, fields))}"
 
 
 def told_state(state):
@@ -76,7 +92,7 @@ def told_session(name, bound, refused):
     session = Session(START, WANTS_CUT[bound], bound)
     lines = [f"history {name} {bound}", *told_place(session)]
     for number, text in enumerate(COMMANDS):
-        lines += [f"command {text}", answer(session, command_of(text), number in refused), *told_place(session)]
+        lines += [told_command(text), answer(session, command_of(text), number in refused), *told_place(session)]
     return lines
 
 
@@ -88,7 +104,7 @@ def told_edits(refused, not_copied):
         if number not in refused:
             _, *arc = command_of(text)
             state = changes.add(state, *arc)
-        lines += [f"command {text}", REFUSED if number in refused else "accepted", *told_state(state)]
+        lines += [told_command(text), REFUSED if number in refused else "accepted", *told_state(state)]
         lines += ["no copy no memory"] if number in not_copied else ["copy", *told_state(state)]
     return lines
 

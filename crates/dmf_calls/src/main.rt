@@ -1,52 +1,46 @@
 //! Calls of the libraries, and after each of them all that then stands, on standard output: a test refuses the program memory,
-//! request by request, and compares. With a word behind its name the program appends changes that alter nothing, and tells how many
-//! are kept: a test counts the requests.
+//! request by request, and compares. With a word behind its name the program appends changes that alter nothing, and tells how
+//! many are kept: a test counts the requests.
 #![tactic(auto)]
 
 ghost use Rattle.std.specs.Prelude.{◌≤◌};
 
 use dmf_history::{DeltaHistory, History, MAX_BOUND, WholeHistory};
-use dmf_net::{NetFault, State};
-use dmf_session::{Command, Reply, Session};
+use dmf_net::{Arc, NetFault, NoMemory, State};
+use dmf_session::{Command, Refusal, Reply, Session};
 use dmf_solver::{plan_add, plan_cap};
+use std::alloc::Global;
 use std::process::ExitCode;
 use std::{env, io};
 
-/// Changes that add arcs and others, steps back, steps forward over additions, and cuts, of which one is told and one is not.
-fn commands() -> [Command; 21] {
-    [
-        add(1),
-        Command::Solve,
-        add(2),
-        add(3),
-        Command::Undo(2),
-        Command::Redo(2),
-        Command::Cap { arc: 5, cap: 1 },
-        add(4),
-        Command::Undo(3),
-        add(5),
-        add(6),
-        Command::Close { arc: 1 },
-        Command::PrintCut,
-        Command::Undo(4),
-        Command::Redo(3),
-        Command::Solve,
-        Command::PrintCut,
-        Command::Shut { node: 3 },
-        Command::Undo(1),
-        Command::Redo(1),
-        add(7),
-    ]
-}
+/// The arcs of the network that the documentation uses, each by its tail, its head and its capacity.
+const ARCS: [(u64, u64, u64); 5] = [(1, 2, 3), (1, 3, 2), (2, 3, 5), (2, 4, 2), (3, 4, 3)];
 
-/// An arc from the source to the sink of the network is added.
-fn add(cap: u64) -> Command {
-    Command::Add {
-        tail: 1,
-        head: 4,
-        cap,
-    }
-}
+/// Changes that add arcs and others, steps back, steps forward over additions, and cuts, of which one is told and one is not.
+#[rattlefmt::skip]
+const COMMANDS: [Command; 21] = [
+    Command::Add { tail: 1, head: 4, cap: 1 },
+    Command::Solve,
+    Command::Add { tail: 1, head: 4, cap: 2 },
+    Command::Add { tail: 1, head: 4, cap: 3 },
+    Command::Undo(2),
+    Command::Redo(2),
+    Command::Cap { arc: 5, cap: 1 },
+    Command::Add { tail: 1, head: 4, cap: 4 },
+    Command::Undo(3),
+    Command::Add { tail: 1, head: 4, cap: 5 },
+    Command::Add { tail: 1, head: 4, cap: 6 },
+    Command::Close { arc: 1 },
+    Command::PrintCut,
+    Command::Undo(4),
+    Command::Redo(3),
+    Command::Solve,
+    Command::PrintCut,
+    Command::Shut { node: 3 },
+    Command::Undo(1),
+    Command::Redo(1),
+    Command::Add { tail: 1, head: 4, cap: 7 },
+];
 
 fn main(rt: HostRuntime) -> ExitCode {
     let outcome = if has_word(&rt) {
@@ -64,144 +58,190 @@ fn has_word(rt: &HostRuntime) -> bool {
     env::args(rt).is_ok_and(|words| words.count() > 1)
 }
 
-/// Appends 200 changes of an arc's capacity to what it is, and tells how many states stand before the present one.
+/// Tells how many states stand before the present one after changes that alter nothing, or what could not be done.
 fn alter_nothing(rt: &HostRuntime) -> io::Result<()> {
-    let Ok(state) = example(rt) else {
-        return println!(rt; "no state");
-    };
-    let mut history = DeltaHistory::new(rt.alloc(), state);
-    for _ in 0..200 {
-        let Ok(edit) = plan_cap(rt.alloc(), history.present(), 1, 3) else {
-            return println!(rt; "no plan");
-        };
-        if history.append(edit).is_err() {
-            return println!(rt; "not appended");
-        }
+    match past_of_same(rt.alloc()) {
+        Ok(past) => println!(rt; "past {past}"),
+        Err(missing) => println!(rt; "{missing}"),
     }
-    println!(rt; "past {}", history.past())
+}
+
+/// Appends 200 changes of an arc's capacity to what it is. Gives the number of states before the present one, or else what
+/// could not be done.
+fn past_of_same(alloc: Global) -> Result<u32, &'static str> {
+    let Ok(state) = example(alloc) else {
+        return Err("no state");
+    };
+    let mut history = DeltaHistory::new(alloc, state);
+    for _ in 0..200 {
+        append_same(alloc, &mut history)?;
+    }
+    Ok(history.past())
+}
+
+/// Appends the change of an arc's capacity to what it is.
+fn append_same(alloc: Global, history: &mut DeltaHistory) -> Result<(), &'static str> {
+    match plan_cap(alloc, history.present(), 1, 3) {
+        Ok(edit) => history.append(edit).or(Err("not appended")),
+        Err(_) => Err("no plan"),
+    }
 }
 
 fn run(rt: &HostRuntime) -> io::Result<()> {
-    for (bound, want_cut) in [(MAX_BOUND, true), (1, false), (0, true)] {
-        hold_whole(rt, bound, want_cut)?;
-        hold_delta(rt, bound, want_cut)?;
-    }
-    match example(rt) {
-        Ok(state) => edit(rt, state),
+    hold_both(rt, MAX_BOUND, true)?;
+    hold_both(rt, 1, false)?;
+    hold_both(rt, 0, true)?;
+    match example(rt.alloc()) {
+        Ok(mut state) => edit(rt, &mut state),
         Err(_) => println!(rt; "no state"),
     }
 }
 
-/// Holds a session over a history of whole states.
-fn hold_whole(rt: &HostRuntime, bound: u32, want_cut: bool) -> io::Result<()>
+/// Holds a session over a history of each kind.
+fn hold_both(rt: &HostRuntime, bound: u32, want_cut: bool) -> io::Result<()>
     requires { bound ≤ 1000000 }
 {
-    match example(rt).map(|state| WholeHistory::with_bound(rt.alloc(), state, bound)) {
-        Ok(Ok(history)) => hold(rt, "whole", Session::new(history), want_cut),
-        _ => println!(rt; "no history"),
-    }
+    hold(rt, "whole", whole_session(rt.alloc(), bound), want_cut)?;
+    hold(rt, "delta", delta_session(rt.alloc(), bound), want_cut)
 }
 
-/// Holds a session over a history of edits.
-fn hold_delta(rt: &HostRuntime, bound: u32, want_cut: bool) -> io::Result<()>
+/// A session over a history of whole states.
+fn whole_session(alloc: Global, bound: u32) -> Result<Session<WholeHistory>, NetFault>
     requires { bound ≤ 1000000 }
 {
-    match example(rt) {
-        Ok(state) => {
-            let history = DeltaHistory::with_bound(rt.alloc(), state, bound);
-            hold(rt, "delta", Session::new(history), want_cut)
-        }
-        Err(_) => println!(rt; "no history"),
-    }
+    let history = WholeHistory::with_bound(alloc, example(alloc)?, bound)?;
+    Ok(Session::new(history))
+}
+
+/// A session over a history of edits.
+fn delta_session(alloc: Global, bound: u32) -> Result<Session<DeltaHistory>, NetFault>
+    requires { bound ≤ 1000000 }
+{
+    let history = DeltaHistory::with_bound(alloc, example(alloc)?, bound);
+    Ok(Session::new(history))
 }
 
 /// The network of four nodes and five arcs that the documentation uses.
-fn example(rt: &HostRuntime) -> Result<State, NetFault> {
-    let mut state = State::new(rt.alloc(), 4, 1, 4);
-    for (tail, head, cap) in [(1, 2, 3), (1, 3, 2), (2, 3, 5), (2, 4, 2), (3, 4, 3)] {
+fn example(alloc: Global) -> Result<State, NetFault> {
+    let mut state = State::new(alloc, 4, 1, 4);
+    for &(tail, head, cap) in &ARCS {
         state.push_arc(tail, head, cap)?;
     }
     Ok(state)
 }
 
-/// Gives the session all commands, one after the other; with `want_cut` each solve is to tell a cut.
+/// Gives the session over the history of this name all commands, if it was made.
 fn hold<H: History + Drop>(
     rt: &HostRuntime,
     name: &str,
-    session: Session<H>,
+    session: Result<Session<H>, NetFault>,
     want_cut: bool,
 ) -> io::Result<()> {
-    let mut session = session;
-    println!(rt; "history {name} {}", session.bound())?;
-    tell_session(rt, &session)?;
-    for command in commands() {
-        let answer = session.step(rt.alloc(), command, want_cut);
+    match session {
+        Ok(mut session) => step_all(rt, name, &mut session, want_cut),
+        Err(_) => println!(rt; "no history"),
+    }
+}
+
+/// Gives the session all commands, one after the other; with `want_cut` each solve is to tell a cut.
+fn step_all<H: History>(
+    rt: &HostRuntime,
+    name: &str,
+    session: &mut Session<H>,
+    want_cut: bool,
+) -> io::Result<()> {
+    tell_history(rt, name, session.bound())?;
+    tell_session(rt, session)?;
+    for &command in &COMMANDS {
         tell_command(rt, command)?;
-        match answer {
-            Ok(Reply::Cut(side) | Reply::Solution(Some(side))) => {
-                println!(rt; "accepted cut {}", side.capacity())?;
-            }
-            Ok(_) => println!(rt; "accepted")?,
-            Err(refusal) => println!(rt; "refused {refusal}")?,
-        }
-        tell_session(rt, &session)?;
+        tell_answer(rt, session.step(rt.alloc(), command, want_cut))?;
+        tell_session(rt, session)?;
     }
     Ok(())
 }
 
 /// Adds arcs to the state, and copies it after each.
-fn edit(rt: &HostRuntime, state: State) -> io::Result<()> {
-    let mut state = state;
+fn edit(rt: &HostRuntime, state: &mut State) -> io::Result<()> {
     println!(rt; "state")?;
-    tell_state(rt, &state)?;
+    tell_state(rt, state)?;
     for cap in 1..8 {
-        let Ok(edit) = plan_add(&state, 1, 4, cap) else {
-            return Ok(());
+        let command = Command::Add {
+            tail: 1,
+            head: 4,
+            cap,
         };
-        tell_command(rt, add(cap))?;
-        match state.apply(&edit) {
-            Ok(()) => println!(rt; "accepted")?,
-            Err(fault) => println!(rt; "refused {fault}")?,
-        }
-        tell_state(rt, &state)?;
-        match state.copy(rt.alloc()) {
-            Ok(copy) => {
-                println!(rt; "copy")?;
-                tell_state(rt, &copy)?;
-            }
-            Err(fault) => println!(rt; "no copy {fault}")?,
-        }
+        tell_command(rt, command)?;
+        tell_answer(rt, add_arc(state, cap))?;
+        tell_state(rt, state)?;
+        tell_copy(rt, state.copy(rt.alloc()))?;
     }
     Ok(())
+}
+
+/// Adds an arc from the source to the sink.
+fn add_arc(state: &mut State, cap: u64) -> Result<Reply, Refusal> {
+    let edit = plan_add(state, 1, 4, cap)?;
+    state.apply(&edit)?;
+    Ok(Reply::Value(state.value()))
 }
 
 fn tell_command(rt: &HostRuntime, command: Command) -> io::Result<()> {
-    match command {
-        Command::Cap { arc, cap } => println!(rt; "command cap {arc} {cap}"),
-        Command::Add { tail, head, cap } => println!(rt; "command add {tail} {head} {cap}"),
-        Command::Close { arc } => println!(rt; "command close {arc}"),
-        Command::Shut { node } => println!(rt; "command shut {node}"),
-        Command::Solve => println!(rt; "command solve"),
-        Command::Undo(steps) => println!(rt; "command undo {steps}"),
-        Command::Redo(steps) => println!(rt; "command redo {steps}"),
-        Command::PrintProblem => println!(rt; "command print problem"),
-        Command::PrintFlow => println!(rt; "command print flow"),
-        Command::PrintCut => println!(rt; "command print cut"),
+    println!(rt; "command {command:?}")
+}
+
+fn tell_answer(rt: &HostRuntime, answer: Result<Reply, Refusal>) -> io::Result<()> {
+    match answer {
+        Ok(Reply::Cut(side) | Reply::Solution(Some(side))) => {
+            println!(rt; "accepted cut {}", side.capacity())
+        }
+        Ok(_) => println!(rt; "accepted"),
+        Err(refusal) => println!(rt; "refused {refusal}"),
     }
+}
+
+fn tell_copy(rt: &HostRuntime, copy: Result<State, NoMemory>) -> io::Result<()> {
+    match copy {
+        Ok(state) => {
+            println!(rt; "copy")?;
+            tell_state(rt, &state)
+        }
+        Err(fault) => println!(rt; "no copy {fault}"),
+    }
+}
+
+fn tell_history(rt: &HostRuntime, name: &str, bound: u32) -> io::Result<()> {
+    println!(rt; "history {name} {bound}")
+}
+
+fn tell_session<H: History>(rt: &HostRuntime, session: &Session<H>) -> io::Result<()> {
+    tell_place(rt, session.past(), session.future(), session.present())
 }
 
 /// The number of states before and past the present one, and that state.
-fn tell_session<H: History>(rt: &HostRuntime, session: &Session<H>) -> io::Result<()> {
-    println!(rt; "past {} future {}", session.past(), session.future())?;
-    tell_state(rt, session.present())
+fn tell_place(rt: &HostRuntime, past: u32, future: u32, state: &State) -> io::Result<()> {
+    println!(rt; "past {past} future {future}")?;
+    tell_state(rt, state)
 }
 
-/// Each arc with what flows on it.
+/// The value, and each arc with what flows on it.
 fn tell_state(rt: &HostRuntime, state: &State) -> io::Result<()> {
     println!(rt; "value {}", state.value())?;
-    for (arc, flow) in state.arcs().iter().zip(state.flows()) {
-        let kind = if arc.closed { "closed" } else { "open" };
-        println!(rt; "{kind} {} {} {} {flow}", arc.tail, arc.head, arc.cap)?;
+    for (arc, &flow) in state.arcs().iter().zip(state.flows()) {
+        tell_arc(rt, arc, flow)?;
     }
     Ok(())
+}
+
+fn tell_arc(rt: &HostRuntime, arc: &Arc, flow: u64) -> io::Result<()> {
+    println!(rt;
+        "{} {} {} {} {flow}",
+        kind(arc),
+        arc.tail,
+        arc.head,
+        arc.cap
+    )
+}
+
+fn kind(arc: &Arc) -> &'static str {
+    if arc.closed { "closed" } else { "open" }
 }
