@@ -87,7 +87,7 @@ def network(random, most_nodes=60):
 
 
 def problem_lines(state, random):
-    terminals = [line("n", state.source, "s"), line("n", state.sink, "t")]
+    terminals = [line("n", state.source, "s"), line("n", state.sink if random.random() < 0.99 else state.source, "t")]
     if random.random() < 0.2:
         terminals.reverse()
     arcs = [line("a", *arc[:3]) for arc, _ in state.open_arcs()]
@@ -207,7 +207,7 @@ def with_fault(lines, random):
 def other_field(field, lines, random):
     """A field in place of this one: a number near it, a field of another line, or an odd one."""
     kind = random.randrange(3)
-    if kind == 0 and field.isdigit():
+    if kind == 0 and field.isdigit() and len(field) < 100:
         return str(max(0, int(field) + random.choice([-1, 1]))).encode()
     if kind == 1:
         return random.choice(random.choice([fields for fields in lines if fields]))
