@@ -1,7 +1,8 @@
 #!/usr/bin/env bash
-# Compares the built program with the second implementation on some thousand random cases.
+# Compares the built program with the second implementation, on chosen networks and on some thousand random cases.
 . "$(dirname "$0")/cases.bash"
 
+count_script tests/named_networks.py
 if make_library; then
     run_script "random cases" tests/fuzz.py --library "$work/faults.so"
 else

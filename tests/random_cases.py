@@ -18,15 +18,19 @@ def line(*fields):
 
 def capacities(random):
     """A way in which capacities are chosen."""
-    kind = random.randrange(12)
+    kind = random.randrange(14)
     if kind < 3:
         return lambda: 1
     if kind == 3:
-        return lambda: random.randrange(3)
+        return lambda: random.randrange(4)
     if kind == 4:
         return lambda: random.choice([0, 1, 2**31, 2**32, 2**60, 2**62, 2**63, LARGEST // 7, LARGEST])
     if kind == 5:
         return lambda: random.randrange(LARGEST // 100)
+    if kind in (6, 7):
+        # Of any size: the first is below 2^63, and each other one below 2^55.
+        first = iter([63])
+        return lambda: random.randrange(2 ** next(first, random.randint(1, 55)))
     return lambda: random.randrange(1, 12)
 
 
@@ -72,6 +76,9 @@ def network(random, most_nodes=60):
         ends += [pair[::other] for pair in ends if random.random() < share]
     if random.random() < 0.7:
         random.shuffle(ends)
+    if random.random() < 0.2:
+        # Parallel arcs in a row.
+        ends = [pair for pair in ends for _ in range(random.choice([1, 1, 1, 2, 3]))]
     names = random.sample(range(1, nodes + 1), nodes)
     chosen = capacities(random)
     arcs = tuple(Arc(names[tail], names[head], chosen()) for tail, head in ends)
@@ -80,7 +87,7 @@ def network(random, most_nodes=60):
 
 
 def problem_lines(state, random):
-    terminals = [line("n", state.source, "s"), line("n", state.sink, "t")]
+    terminals = [line("n", state.source, "s"), line("n", state.sink if random.random() < 0.99 else state.source, "t")]
     if random.random() < 0.2:
         terminals.reverse()
     arcs = [line("a", *arc[:3]) for arc, _ in state.open_arcs()]
@@ -151,7 +158,8 @@ def command_lines(state, random):
             lines.append(random.choice(ODD_COMMANDS))
             continue
         arc = random.randint(0 if odd_share else 1, arc_count + 1)
-        amount = random.choice([0, 1, 1, 1, 2, 2, 3, 5, 9, 9, 20, 2**63])
+        halves = [known.cap // 2 for known in state.arcs[arc - 1 : arc]]
+        amount = random.choice([0, 1, 1, 1, 2, 2, 3, 5, 9, 9, 20, 2**63, *halves, *halves])
         ends = [random.randint(0 if odd_share else 1, state.nodes + bool(odd_share)) for _ in range(2)]
         steps = [random.choice([0, 1, 1, 2, 2, 3, 9])] * random.randrange(2)
         numbers = {
@@ -199,7 +207,7 @@ def with_fault(lines, random):
 def other_field(field, lines, random):
     """A field in place of this one: a number near it, a field of another line, or an odd one."""
     kind = random.randrange(3)
-    if kind == 0 and field.isdigit():
+    if kind == 0 and field.isdigit() and len(field) < 100:
         return str(max(0, int(field) + random.choice([-1, 1]))).encode()
     if kind == 1:
         return random.choice(random.choice([fields for fields in lines if fields]))

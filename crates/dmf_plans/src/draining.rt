@@ -1,8 +1,8 @@
 //! Tests of draining.
-use crate::networks::{coming_back, going_round, self_loop};
+use crate::moves::{listed, shuttings};
+use crate::networks::{coming_back, going_round, self_loop, tangle};
 use dmf_net::{Edit, State};
-use dmf_scanning::listed;
-use dmf_solver::plan_cap;
+use dmf_solver::{plan_cap, plan_shut};
 use std::alloc::Global;
 use std::process::Abort;
 use std::test::Fail;
@@ -40,6 +40,19 @@ fn give(
     Ok(())
 }
 
+/// Gives each of these arcs its capacity on a copy of its own.
+fn give_each(
+    rt: &impl Abort,
+    alloc: Global,
+    state: &State,
+    capacities: &[Capacity<'_>],
+) -> Result<(), Fail> {
+    for &wanted in capacities {
+        give(rt, alloc, &mut state.copy(alloc)?, wanted)?;
+    }
+    Ok(())
+}
+
 const LOWERED_SELF_LOOP: Capacity<'static> = Capacity {
     arc: 1,
     old: 5,
@@ -72,22 +85,155 @@ fn a_flow_that_goes_round_is_drained(rt: HostRuntime) -> Result<(), Fail> {
     give(&rt, alloc, &mut state, LOWERED_ROUND)
 }
 
-const LOWERED_BACK: Capacity<'static> = Capacity {
-    arc: 2,
-    old: 5,
-    new: 1,
-    moves: &[(1, 3, 1), (2, 3, 1), (3, 1, 0)],
-    value: 1,
-};
+const LOWERED_BACK: &[Capacity<'static>] = &[
+    Capacity {
+        arc: 2,
+        old: 5,
+        new: 1,
+        moves: &[(1, 3, 1), (2, 3, 1), (3, 1, 0)],
+        value: 1,
+    },
+    Capacity {
+        arc: 1,
+        old: 5,
+        new: 2,
+        moves: &[(1, 3, 2), (2, 3, 2), (3, 1, 0)],
+        value: 2,
+    },
+    Capacity {
+        arc: 3,
+        old: 5,
+        new: 0,
+        moves: &[(1, 3, 2), (2, 3, 2), (3, 1, 0)],
+        value: 2,
+    },
+];
 
 /// From node 2, the head of arc number 2, two paths of two steps lead back to its tail, node 3: over arc number 3
 /// or over the return link, and on along arc number 1. The arc ranks before the link, so its path is lowered first, by
 /// the 1 that flows on it; the path over the link is lowered by the 1 that is then left above the limit. Were the link
-/// the first, both would be taken off by it, and arc number 3 would keep its flow.
+/// the first, both would be taken off by it, and arc number 3 would keep its flow. So would it where 1 is taken off arc
+/// number 1, which goes on over arc number 2 and by the arc or the link.
 #[test]
 fn the_return_link_ranks_after_the_arcs(rt: HostRuntime) -> Result<(), Fail> {
     let alloc = rt.alloc();
-    let mut state = coming_back(alloc)?;
+    let state = coming_back(alloc)?;
     assert!(rt; state.value() == 2);
-    give(&rt, alloc, &mut state, LOWERED_BACK)
+    give_each(&rt, alloc, &state, LOWERED_BACK)
+}
+
+/// Arc number 4 has 5 above the limit. From its head, node 3, two steps lead to its tail over node 4, by arcs 5 and 6, which
+/// rank first: that takes 2 off. The other 3 go over the link, and along the first of the arcs side by side. What is taken
+/// off arc 3 goes over arc 4 and the link. From arcs 5 and 6 on one goes round, and so the value stays; an arc that comes back
+/// to its tail is lowered alone.
+const LOWERED_TANGLE: &[Capacity<'static>] = &[
+    Capacity {
+        arc: 4,
+        old: 9,
+        new: 3,
+        moves: &[(1, 4, 1), (4, 8, 3), (5, 2, 0), (6, 2, 0)],
+        value: 3,
+    },
+    Capacity {
+        arc: 3,
+        old: 7,
+        new: 1,
+        moves: &[(3, 2, 1), (4, 8, 7)],
+        value: 5,
+    },
+    Capacity {
+        arc: 5,
+        old: 5,
+        new: 0,
+        moves: &[(4, 8, 6), (5, 2, 0), (6, 2, 0)],
+        value: 6,
+    },
+    Capacity {
+        arc: 6,
+        old: 5,
+        new: 1,
+        moves: &[(4, 8, 7), (5, 2, 1), (6, 2, 1)],
+        value: 6,
+    },
+    Capacity {
+        arc: 2,
+        old: 9,
+        new: 2,
+        moves: &[(2, 5, 2)],
+        value: 6,
+    },
+];
+
+/// A node that is shut: its open arcs with their capacities, the moves, and the value that then flows.
+#[derive(Clone, Copy)]
+struct ShutNode<'a> {
+    node: u64,
+    arcs: &'a [(u32, u64)],
+    moves: &'a [(u32, u64, u64)],
+    value: u64,
+}
+
+/// Node 1 leaves what goes round. At node 2 the arcs from node 1 take 6 off arc 4, which then takes off what goes round. At
+/// node 3 arc 4 takes off what goes round first, and then both arcs from node 1, over the link. Node 4 leaves the value.
+const SHUT_TANGLE: &[ShutNode<'static>] = &[
+    ShutNode {
+        node: 1,
+        arcs: &[(1, 4), (3, 7)],
+        moves: &[(1, 4, 0), (3, 2, 0), (4, 8, 2)],
+        value: 0,
+    },
+    ShutNode {
+        node: 2,
+        arcs: &[(1, 4), (2, 9), (3, 7), (4, 9), (6, 5)],
+        moves: &[
+            (1, 4, 0),
+            (2, 5, 0),
+            (3, 2, 0),
+            (4, 8, 0),
+            (5, 2, 0),
+            (6, 2, 0),
+        ],
+        value: 0,
+    },
+    ShutNode {
+        node: 3,
+        arcs: &[(4, 9), (5, 5)],
+        moves: &[(1, 4, 0), (3, 2, 0), (4, 8, 0), (5, 2, 0), (6, 2, 0)],
+        value: 0,
+    },
+    ShutNode {
+        node: 4,
+        arcs: &[(5, 5), (6, 5), (7, 1)],
+        moves: &[(4, 8, 6), (5, 2, 0), (6, 2, 0), (7, 1, 0)],
+        value: 6,
+    },
+];
+
+/// Shuts the node, comparing the plan and what then flows.
+fn shut(
+    rt: &impl Abort,
+    alloc: Global,
+    state: &mut State,
+    wanted: ShutNode<'_>,
+) -> Result<(), Fail> {
+    let edit = plan_shut(alloc, state, wanted.node)?;
+    let arcs = shuttings(alloc, wanted.arcs)?;
+    let moves = listed(alloc, wanted.moves)?;
+    assert!(rt; edit == Edit::Shut { arcs, moves });
+    state.apply(&edit)?;
+    assert!(rt; state.value() == wanted.value);
+    Ok(())
+}
+
+/// Parallel arcs, arcs that come back to their tails, and a flow that goes round by the sink.
+#[test]
+fn a_tangle_is_drained(rt: HostRuntime) -> Result<(), Fail> {
+    let alloc = rt.alloc();
+    let state = tangle(alloc)?;
+    assert!(rt; state.value() == 6);
+    give_each(&rt, alloc, &state, LOWERED_TANGLE)?;
+    for &wanted in SHUT_TANGLE {
+        shut(&rt, alloc, &mut state.copy(alloc)?, wanted)?;
+    }
+    Ok(())
 }

@@ -6,6 +6,8 @@ mod draining;
 #[cfg(test)]
 mod keeping;
 #[cfg(test)]
+mod moves;
+#[cfg(test)]
 mod networks;
 #[cfg(test)]
 mod sides;

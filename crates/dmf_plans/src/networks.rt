@@ -1,8 +1,70 @@
-//! Networks with a flow that tests of plans begin with.
+//! Networks that tests of plans begin with, some with a flow.
+ghost use Rattle.std.specs.Prelude.{◌≢◌, ◌^◌, ◌≤◌};
+ghost use Rattle.dmf_node.specs.Node.{IsNode};
+
 use dmf_net::State;
-use dmf_scanning::{flowing, network};
+use dmf_solver::plan_solve;
 use std::alloc::Global;
 use std::test::Fail;
+
+/// A network of open arcs, each given by its tail, its head and its capacity.
+pub fn network(
+    alloc: Global,
+    nodes: u32,
+    source: u32,
+    sink: u32,
+    arcs: &[(u64, u64, u64)],
+) -> Result<State, Fail>
+    requires at_least_two_nodes { 2 ≤ nodes }
+    requires at_most_nodes { nodes ≤ 2 ^ 24 }
+    requires source { IsNode nodes source }
+    requires sink { IsNode nodes sink }
+    requires two_terminals { source ≢ sink }
+{
+    let mut state = State::new(alloc, nodes, source, sink);
+    for &(tail, head, cap) in arcs {
+        state.push_arc(tail, head, cap)?;
+    }
+    Ok(state)
+}
+
+/// The network of a state with these flows, one for each arc.
+pub fn flowing(alloc: Global, state: &State, flows: &[u64]) -> Result<State, Fail> {
+    if flows.len() != state.arcs().len() {
+        return Err(Fail::from("there is not one flow for each arc"));
+    }
+    Ok(state.with_flows(alloc, Vec::from_slice(alloc, flows)?)?)
+}
+
+/// The network of four nodes and five arcs, source 1 and sink 4, that the examples of the documentation use.
+pub fn example(alloc: Global) -> Result<State, Fail> {
+    let arcs = [(1, 2, 3), (1, 3, 2), (2, 3, 5), (2, 4, 2), (3, 4, 3)];
+    network(alloc, 4, 1, 4, &arcs)
+}
+
+/// The same network, solved.
+pub fn solved_example(alloc: Global) -> Result<State, Fail> {
+    let mut state = example(alloc)?;
+    let solve = plan_solve(alloc, &state)?;
+    state.apply(&solve)?;
+    Ok(state)
+}
+
+/// Seven arcs of capacity 1, and on the first three of them a flow of 1 from node 1 to node 5. It makes a detour: from node 3,
+/// which an arc joins to node 5, it goes by node 2.
+pub fn detour(alloc: Global) -> Result<State, Fail> {
+    let arcs = [
+        (3, 2, 1),
+        (1, 3, 1),
+        (2, 5, 1),
+        (1, 2, 1),
+        (3, 5, 1),
+        (2, 4, 1),
+        (4, 5, 1),
+    ];
+    let empty = network(alloc, 5, 1, 5, &arcs)?;
+    flowing(alloc, &empty, &[1, 1, 1, 0, 0, 0, 0])
+}
 
 /// Two nodes, source 1 and sink 2: on an arc of capacity 5 at the source, which comes back to it, flow 3.
 pub fn self_loop(alloc: Global) -> Result<State, Fail> {
@@ -20,4 +82,20 @@ pub fn going_round(alloc: Global) -> Result<State, Fail> {
 pub fn coming_back(alloc: Global) -> Result<State, Fail> {
     let empty = network(alloc, 3, 1, 2, &[(1, 3, 5), (3, 2, 5), (2, 1, 5)])?;
     flowing(alloc, &empty, &[3, 3, 1])
+}
+
+/// Four nodes, source 1 and sink 3: 4 and 2 flow side by side from 1 to 2, and on to 3; 2 more go round from 2 over 3 and 4, and
+/// on an arc at node 2 and one at node 4 flow 5 and 1 that come back to it at once.
+pub fn tangle(alloc: Global) -> Result<State, Fail> {
+    let arcs = [
+        (1, 2, 4),
+        (2, 2, 9),
+        (1, 2, 7),
+        (2, 3, 9),
+        (3, 4, 5),
+        (4, 2, 5),
+        (4, 4, 1),
+    ];
+    let empty = network(alloc, 4, 1, 3, &arcs)?;
+    flowing(alloc, &empty, &[4, 5, 2, 8, 2, 2, 1])
 }

@@ -1,8 +1,8 @@
 //! Tests of smallest sides.
 ghost use Rattle.dmf_net.specs.Edit.{Fits};
 
+use crate::networks::{example, solved_example};
 use dmf_net::{Edit, Side, State};
-use dmf_scanning::{example, solved_example};
 use dmf_solver::{
     is_greatest, plan_shut, plan_solve, plan_solve_with_side, side_after, smallest_side,
 };

@@ -1,6 +1,7 @@
 //! A test of solving.
+use crate::moves::listed;
+use crate::networks::detour;
 use dmf_net::Edit;
-use dmf_scanning::{detour, listed};
 use dmf_solver::plan_solve;
 use std::test::Fail;
 

@@ -1,11 +1,11 @@
 //! Sessions over a history of edits and over a history of whole states write the same.
 ghost use Rattle.std.specs.Prelude.{◌≤◌};
 
+use crate::draws::Draws;
 use crate::worked::WORKED;
 use dmf_fixtures::{FULL_ARC, LENIENT, NETWORK_A, NETWORK_B, PARALLEL, TWO_SHORTEST};
 use dmf_history::{DeltaHistory, WholeHistory};
 use dmf_run::{EngineFault, Status, run_commands};
-use dmf_scanning::Draws;
 use dmf_session::Session;
 use dmf_text::{StdSink, StdSource, read_problem};
 use std::alloc::{AllocError, Global};
