@@ -7,7 +7,7 @@ use std::alloc::AllocError;
 use thiserror::Error;
 
 /// A request for memory was refused.
-#[derive(Clone, Copy, Debug, PartialEq, Eq, Hash, Error)]
+#[derive(Clone, Copy, Debug, PartialEq, Eq, Error)]
 #[error("no memory")]
 pub struct NoMemory;
 
@@ -18,7 +18,7 @@ impl From<AllocError> for NoMemory {
 }
 
 /// Why a network cannot take an arc. The faults of building a network and of planning a change are made from it.
-#[derive(Clone, Copy, Debug, PartialEq, Eq, Hash, Error)]
+#[derive(Clone, Copy, Debug, PartialEq, Eq, Error)]
 pub enum ArcFault {
     /// An end is 0 or past the last node.
     #[error("no such node")]
@@ -32,7 +32,7 @@ pub enum ArcFault {
 }
 
 /// Why an arc was not added while a network was built.
-#[derive(Clone, Copy, Debug, PartialEq, Eq, Hash, Error)]
+#[derive(Clone, Copy, Debug, PartialEq, Eq, Error)]
 pub enum NetFault {
     /// An end is 0 or past the last node.
     #[error("no such node")]
@@ -69,7 +69,7 @@ impl From<NoMemory> for NetFault {
 }
 
 /// Why numbers on the arcs of a network are no flow of a value from 0 on.
-#[derive(Clone, Copy, Debug, PartialEq, Eq, Hash, Error)]
+#[derive(Clone, Copy, Debug, PartialEq, Eq, Error)]
 pub enum FlowFault {
     /// More flows on this arc than its capacity. The number is that of the first such arc, counted from 1.
     #[error("over capacity on arc {0}")]

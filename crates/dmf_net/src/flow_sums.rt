@@ -8,7 +8,7 @@ use crate::arc::Arc;
 use std::alloc::{AllocError, Global};
 
 /// What flows out of a node and into it.
-#[derive(Clone, Copy, Debug, PartialEq, Eq)]
+#[derive(Clone, Copy, Debug)]
 pub struct NodeFlow {
     pub leaving: u64,
     pub entering: u64,

@@ -14,7 +14,7 @@ pub const MAX_BYTES: u64 = 1_073_741_824;
 const PIECE: usize = 2048;
 
 /// What asking for a line gives.
-#[derive(Clone, Copy, Debug, PartialEq, Eq)]
+#[derive(Clone, Copy)]
 pub enum Next {
     /// A line that a line feed ended.
     Line,

@@ -14,7 +14,7 @@ use dmf_text::{
 };
 
 /// How a line was answered.
-#[derive(Clone, Copy, Debug, PartialEq, Eq)]
+#[derive(Clone, Copy)]
 pub enum Answer {
     /// It was carried out.
     Accepted,

@@ -8,7 +8,7 @@ use std::alloc::AllocError;
 use thiserror::Error;
 
 /// Why a change cannot be planned.
-#[derive(Clone, Copy, Debug, PartialEq, Eq, Hash, Error)]
+#[derive(Clone, Copy, Debug, PartialEq, Eq, Error)]
 pub enum PlanFault {
     /// The arc's number is 0 or past the last arc.
     #[error("no such arc")]
@@ -51,7 +51,7 @@ impl From<AllocError> for PlanFault {
 }
 
 /// Why the smallest side of a network is not told.
-#[derive(Clone, Copy, Debug, PartialEq, Eq, Hash, Error)]
+#[derive(Clone, Copy, Debug, PartialEq, Eq, Error)]
 pub enum CutFault {
     /// Some flow of the network has a larger value.
     #[error("flow is not greatest")]

@@ -10,7 +10,7 @@ use dmf_path::{Indices, Search};
 use std::alloc::{AllocError, Global};
 
 /// Which link of an arc's pair has the flow on the arc as its room.
-#[derive(Clone, Copy, Debug, PartialEq, Eq)]
+#[derive(Clone, Copy)]
 pub enum FlowLink {
     Along,
     Against,
