@@ -1,4 +1,4 @@
-"""Tests the client in Python on the built program: clients/python/dmf.py.
+"""Tests the client in Python on the built program: clients/python/dmf.
 
     python3 tests/client    prints what failed, and then 'N passed, M failed'
 """

@@ -129,8 +129,8 @@ class Programs(unittest.TestCase):
                 ran = subprocess.run(words, env=environment, capture_output=True, text=True, timeout=SECONDS)
                 self.assertEqual((ran.stdout.strip(), ran.stderr), (program, ""))
             # The client lies alone, and there is no program.
-            shutil.copy(f"{CLIENT}/dmf.py", folder)
             os.remove(f"{folder}/dmf")
+            shutil.copytree(f"{CLIENT}/dmf", f"{folder}/dmf", ignore=shutil.ignore_patterns("__pycache__"))
             ran = subprocess.run(
                 [sys.executable, "-c", script], env={"PYTHONPATH": folder, "PATH": folder}, capture_output=True, text=True
             )

@@ -9,7 +9,7 @@ mod words;
 
 use dmf_arguments::{MAX_HISTORY, Mode, WordsFault, read_words};
 use dmf_history::MAX_BOUND;
-use dmf_run::{
+use dmf_runs::{
     EngineFault, MAX_BYTES, Status, run_check, run_session_watched, run_solve_watched, status_of,
 };
 use dmf_text::{StdSink, StdSource};

@@ -6,9 +6,9 @@
 ghost use Rattle.std.specs.Prelude.{◌≤◌};
 
 use dmf_history::{DeltaHistory, History, MAX_BOUND, WholeHistory};
-use dmf_net::{Arc, NetFault, NoMemory, State};
 use dmf_session::{Command, Refusal, Reply, Session};
 use dmf_solver::{plan_add, plan_cap};
+use dmf_state::{Arc, NetFault, NoMemory, State};
 use std::alloc::Global;
 use std::process::ExitCode;
 use std::{env, io};

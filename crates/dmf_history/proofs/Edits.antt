@@ -4,16 +4,16 @@ use Rattle.std.specs.List.{slice_get, HoldsAt}
 use Rattle.std.proofs.lemmas.List.{length_push, length-drop, length-take-le, take-append-le, take_all, take-take, get_or_append_left, get_or_push, get_or-take, take_more}
 use Rattle.std.proofs.lemmas.Bool.{cases_lt}
 use Rattle.std.proofs.lemmas.Option.{get_or_from_slice_get, slice_get-get_or, slice_get_within, slice_get_cases}
-use Rattle.dmf_net.specs.declared.edit.Edit.{Edit}
-use Rattle.dmf_net.specs.declared.edit.Edit.TheVariants.{Cap, Add, Close, Shut, Solve}
-use Rattle.dmf_net.specs.Arc.{open_arc}
-use Rattle.dmf_net.specs.NetworkState.{NetworkState, IsState}
-use Rattle.dmf_net.specs.Edit.{applied, Fits, AddsArc}
-use Rattle.dmf_net.specs.Revert.{reverted, Stands}
+use Rattle.dmf_state.specs.declared.edit.Edit.{Edit}
+use Rattle.dmf_state.specs.declared.edit.Edit.TheVariants.{Cap, Add, Close, Shut, Solve}
+use Rattle.dmf_state.specs.Arc.{open_arc}
+use Rattle.dmf_state.specs.NetworkState.{NetworkState, IsState}
+use Rattle.dmf_state.specs.Edit.{applied, Fits, AddsArc}
+use Rattle.dmf_state.specs.Revert.{reverted, Stands}
 use Rattle.dmf_history.specs.Timeline.{IsTimeline, IsPresent, future_of, extended, forgotten, back, forward, FitsPresent, Appends, AddsArcs, LeadsBack, LeadsOn}
 use Rattle.dmf_history.proofs.Appending.{one-present, within_bound-past, appends-all}
 use Rattle.dmf_history.specs.Delta.{before, after, states_from, timeline_of, AreEdits, AreWithinBound}
-use Rattle.dmf_net.specs.Laws.{GivesBack}
+use Rattle.dmf_state.specs.Laws.{GivesBack}
 
 pub length-states_from : (edits : List Edit) (s : NetworkState) → length (states_from s edits) ≡ length edits + 1
 length-states_from [] s = refl

@@ -1,10 +1,10 @@
 -- What a history of edits stands for.
 -- Private: only contracts inside the crate and proofs use this.
 use Rattle.std.specs.Prelude.{ℕ, ◌≡◌, ◌≤◌, List, [], ◌∷◌, length, take, slice_get, Some}
-use Rattle.dmf_net.specs.declared.edit.Edit.{Edit}
-use Rattle.dmf_net.specs.NetworkState.{NetworkState, IsState}
-use Rattle.dmf_net.specs.Edit.{applied, Fits}
-use Rattle.dmf_net.specs.Revert.{reverted}
+use Rattle.dmf_state.specs.declared.edit.Edit.{Edit}
+use Rattle.dmf_state.specs.NetworkState.{NetworkState, IsState}
+use Rattle.dmf_state.specs.Edit.{applied, Fits}
+use Rattle.dmf_state.specs.Revert.{reverted}
 use Rattle.dmf_history.specs.Timeline.{Timeline}
 
 -- the state before these edits, by taking them back from `s`, the last one first

@@ -1,4 +1,4 @@
 pub mod Timeline
 pub mod Delta
-pub use Rattle.dmf_net.specs.NetworkState
-pub use Rattle.dmf_net.specs.Edit
+pub use Rattle.dmf_state.specs.NetworkState
+pub use Rattle.dmf_state.specs.Edit

@@ -1,10 +1,10 @@
 -- What a history stands for: a list of whole states, the place of the present one, and how many are kept before it.
 -- Public: a public contract says no more than this.
 use Rattle.std.specs.Prelude.{ℕ, ◌≡◌, ◌+◌, ◌-◌, ◌<◌, ◌≤◌, List, [], ◌∷◌, ◌++◌, length, take, drop, slice_get, Some, nat_lt, if◌then◌else◌}
-use Rattle.dmf_net.specs.declared.edit.Edit.{Edit}
-use Rattle.dmf_net.specs.NetworkState.{NetworkState}
-use Rattle.dmf_net.specs.Edit.{applied, Fits}
-use Rattle.dmf_net.specs.Revert.{reverted, Stands}
+use Rattle.dmf_state.specs.declared.edit.Edit.{Edit}
+use Rattle.dmf_state.specs.NetworkState.{NetworkState}
+use Rattle.dmf_state.specs.Edit.{applied, Fits}
+use Rattle.dmf_state.specs.Revert.{reverted, Stands}
 
 -- the states, the oldest first; the place of the present one, counted from 0; and the bound, which is the largest number of
 -- states that are kept before the present one

@@ -2,7 +2,7 @@ ghost use Rattle.std.specs.Prelude.{◌≡◌, ◌≤◌, ◌↔◌, IfSome, Non
 ghost use Rattle.dmf_history.specs.Timeline.{start, future_of, LeadsBack, LeadsOn};
 
 use crate::history::{History, MAX_BOUND, NothingToUndo, RedoFault, forget_oldest};
-use dmf_net::{Edit, NoMemory, State, reverting_gives_back};
+use dmf_state::{Edit, NoMemory, State, reverting_gives_back};
 use std::alloc::Global;
 use std::collections::VecDeque;
 use std::marker::Model;

@@ -1,6 +1,6 @@
 ghost use Rattle.std.specs.Prelude.{◌≡◌, drop};
 
-use dmf_net::{Edit, NoMemory, State};
+use dmf_state::{Edit, NoMemory, State};
 use std::alloc::Allocator;
 use std::collections::VecDeque;
 use thiserror::Error;

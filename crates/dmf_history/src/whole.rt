@@ -2,7 +2,7 @@ ghost use Rattle.std.specs.Prelude.{◌≡◌, ◌≤◌, IfOk};
 ghost use Rattle.dmf_history.specs.Timeline.{start};
 
 use crate::history::{History, MAX_BOUND, NothingToUndo, RedoFault, forget_oldest};
-use dmf_net::{Edit, NoMemory, State};
+use dmf_state::{Edit, NoMemory, State};
 use std::alloc::Global;
 use std::collections::VecDeque;
 use std::marker::Model;

@@ -1,8 +1,8 @@
 //! Tests of draining.
 use crate::moves::{listed, shuttings};
 use crate::networks::{coming_back, going_round, self_loop, tangle};
-use dmf_net::{Edit, State};
 use dmf_solver::{plan_cap, plan_shut};
+use dmf_state::{Edit, State};
 use std::alloc::Global;
 use std::process::Abort;
 use std::test::Fail;

@@ -1,5 +1,5 @@
 //! What tests of plans expect of edits.
-use dmf_net::{Move, Shutting};
+use dmf_state::{Move, Shutting};
 use std::alloc::{AllocError, Global};
 
 /// Moves, each given by the number of its arc and the flow before and after.

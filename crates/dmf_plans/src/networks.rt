@@ -2,8 +2,8 @@
 ghost use Rattle.std.specs.Prelude.{◌≢◌, ◌^◌, ◌≤◌};
 ghost use Rattle.dmf_node.specs.Node.{IsNode};
 
-use dmf_net::State;
 use dmf_solver::plan_solve;
+use dmf_state::State;
 use std::alloc::Global;
 use std::test::Fail;
 

@@ -1,11 +1,11 @@
 //! Tests of smallest sides.
-ghost use Rattle.dmf_net.specs.Edit.{Fits};
+ghost use Rattle.dmf_state.specs.Edit.{Fits};
 
 use crate::networks::{example, solved_example};
-use dmf_net::{Edit, Side, State};
 use dmf_solver::{
     is_greatest, plan_shut, plan_solve, plan_solve_with_side, side_after, smallest_side,
 };
+use dmf_state::{Edit, Side, State};
 use std::alloc::Global;
 use std::test::Fail;
 

@@ -1,8 +1,8 @@
 //! A test of solving.
 use crate::moves::listed;
 use crate::networks::detour;
-use dmf_net::Edit;
 use dmf_solver::plan_solve;
+use dmf_state::Edit;
 use std::test::Fail;
 
 /// The least path has the ranks 8, 3, 10: it comes before that of 8, 12, 14, and takes back what flows from node 3 to

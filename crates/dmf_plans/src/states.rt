@@ -1,6 +1,6 @@
 //! Tests of building states and of reading them.
 use crate::networks::{example, flowing, network};
-use dmf_net::{Arc, FlowFault, NetFault, State};
+use dmf_state::{Arc, FlowFault, NetFault, State};
 use std::alloc::Global;
 use std::test::Fail;
 

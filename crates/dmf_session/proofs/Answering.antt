@@ -3,16 +3,16 @@ use Rattle.std.proofs.Common.{ℕ, ◌≡◌, ◌≢◌, ◌+◌, ◌<◌, ◌�
 use Rattle.std.proofs.lemmas.Bool.{leb-true}
 use Rattle.std.proofs.lemmas.List.{length_push, length-take-le, length-drop}
 use Rattle.std.proofs.lemmas.List.Elements.{All-take, All-push, All-drop}
-use Rattle.dmf_net.specs.declared.fault.ArcFault.{ArcFault}
-use Rattle.dmf_net.specs.declared.fault.ArcFault.TheVariants as arc
+use Rattle.dmf_state.specs.declared.fault.ArcFault.{ArcFault}
+use Rattle.dmf_state.specs.declared.fault.ArcFault.TheVariants as arc
 use Rattle.dmf_solver.specs.declared.fault.PlanFault.{PlanFault}
 use Rattle.dmf_solver.specs.declared.fault.PlanFault.TheVariants as plan
-use Rattle.dmf_net.specs.Network.{Network}
-use Rattle.dmf_net.specs.NetworkState.{NetworkState, IsState}
+use Rattle.dmf_state.specs.Network.{Network}
+use Rattle.dmf_state.specs.NetworkState.{NetworkState, IsState}
 use Rattle.dmf_solver.specs.Change.{Change, change_fault, plan_fault}
 use Rattle.dmf_solver.specs.Change as change
 use Rattle.dmf_solver.specs.Greatest.{IsGreatest, IsSurpassed}
-use Rattle.dmf_net.specs.Side.{CutSide}
+use Rattle.dmf_state.specs.Side.{CutSide}
 use Rattle.dmf_solver.specs.Laws.{HasSmallestSide, IsGreatestOrSurpassed, HasOutcome}
 use Rattle.dmf_session.specs.declared.command.Command.{Command}
 use Rattle.dmf_session.specs.declared.command.Command.TheVariants.{Cap, Add, Close, Shut, Solve, Undo, Redo, PrintProblem, PrintFlow, PrintCut}

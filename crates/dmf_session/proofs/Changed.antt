@@ -2,13 +2,13 @@
 use Rattle.std.proofs.Common.{ℕ, ◌≡◌, length, Option, Some, None, Result, Ok, Err, MatchOption, IsOkUnless, pos, nat_abs, arith, ap, ◌∙◌, subst, ⊎_elim}
 use Rattle.std.proofs.lemmas.List.Elements.{All-get_or}
 use Rattle.std.proofs.lemmas.Option.{slice_get_cases}
-use Rattle.dmf_net.specs.declared.edit.Edit.{Edit}
+use Rattle.dmf_state.specs.declared.edit.Edit.{Edit}
 use Rattle.dmf_solver.specs.declared.fault.PlanFault.{PlanFault}
 use Rattle.dmf_solver.specs.declared.fault.PlanFault.TheVariants.{NoMemory}
-use Rattle.dmf_net.specs.Flow.{flow_value}
-use Rattle.dmf_net.specs.NetworkState.{NetworkState, IsState}
+use Rattle.dmf_state.specs.Flow.{flow_value}
+use Rattle.dmf_state.specs.NetworkState.{NetworkState, IsState}
 use Rattle.dmf_solver.specs.Change.{Change, change_fault, Becomes}
-use Rattle.dmf_net.specs.Edit.{applied}
+use Rattle.dmf_state.specs.Edit.{applied}
 use Rattle.dmf_session.specs.declared.command.Reply.{Reply}
 use Rattle.dmf_session.specs.declared.command.Reply.TheVariants.{Value, Added}
 use Rattle.dmf_session.specs.declared.command.Refusal.{Refusal}

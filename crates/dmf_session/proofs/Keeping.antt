@@ -1,8 +1,8 @@
 -- A network that is kept is that of the present state, also after what is appended.
 use Rattle.std.proofs.Common.{Option, Some, IfSome, sym, subst}
 use Rattle.dmf_path.specs.Search.{Searched}
-use Rattle.dmf_net.specs.declared.edit.Edit.{Edit}
-use Rattle.dmf_net.specs.NetworkState.{NetworkState}
+use Rattle.dmf_state.specs.declared.edit.Edit.{Edit}
+use Rattle.dmf_state.specs.NetworkState.{NetworkState}
 use Rattle.dmf_solver.specs.ResidualNetwork.{IsResidualOf}
 use Rattle.dmf_history.specs.Timeline.{Timeline, IsPresent, Appends}
 use Rattle.dmf_session.specs.Kept.{KeepsPresent, KeepsApplied}

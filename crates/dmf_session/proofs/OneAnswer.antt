@@ -3,10 +3,10 @@ use Rattle.std.proofs.Common.{◌≡◌, length, Bool, true, false, Option, Some
 use Rattle.std.specs.Bool.{MatchBool}
 use Rattle.std.specs.Option.{MatchOption}
 use Rattle.dmf_solver.specs.declared.fault.PlanFault.{PlanFault}
-use Rattle.dmf_net.specs.Network.{Network}
-use Rattle.dmf_net.specs.NetworkState.{NetworkState, IsState}
+use Rattle.dmf_state.specs.Network.{Network}
+use Rattle.dmf_state.specs.NetworkState.{NetworkState, IsState}
 use Rattle.dmf_solver.specs.Greatest.{IsGreatest, IsSurpassed}
-use Rattle.dmf_net.specs.Side.{CutSide, IsSmallestSide}
+use Rattle.dmf_state.specs.Side.{CutSide, IsSmallestSide}
 use Rattle.dmf_solver.specs.Change.{Change, change_fault}
 use Rattle.dmf_solver.specs.Change as change
 use Rattle.dmf_session.specs.declared.command.Command.TheVariants.{Cap, Add, Close, Shut, Solve, Undo, Redo, PrintProblem, PrintFlow, PrintCut}

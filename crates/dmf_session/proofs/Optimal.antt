@@ -2,14 +2,14 @@
 use Rattle.std.proofs.Common.{ℕ, List, ◌≡◌, Bool, pos, arith, sym, ap, ◌∙◌, subst}
 use Rattle.std.proofs.lemmas.Int.{ints}
 use Rattle.std.proofs.lemmas.Option.{slice_get_within}
-use Rattle.dmf_net.specs.Network.{Network, IsNetwork}
-use Rattle.dmf_net.specs.NetworkState.{NetworkState}
-use Rattle.dmf_net.specs.declared.edit.Edit.{Edit}
+use Rattle.dmf_state.specs.Network.{Network, IsNetwork}
+use Rattle.dmf_state.specs.NetworkState.{NetworkState}
+use Rattle.dmf_state.specs.declared.edit.Edit.{Edit}
 use Rattle.dmf_solver.specs.Change.{Becomes}
 use Rattle.dmf_solver.specs.Change as change
-use Rattle.dmf_net.specs.Edit.{applied, Fits}
+use Rattle.dmf_state.specs.Edit.{applied, Fits}
 use Rattle.dmf_solver.specs.Greatest.{IsGreatest, IsSurpassed}
-use Rattle.dmf_net.specs.Cut.{IsMinimumCut, cut_capacity}
+use Rattle.dmf_state.specs.Cut.{IsMinimumCut, cut_capacity}
 use Rattle.dmf_solver.specs.Laws.{SolvedIsGreatest, MaxFlowMinCut}
 use Rattle.dmf_history.specs.Timeline.{Timeline, IsPresent, appended, Appends}
 use Rattle.dmf_session.specs.Optimal.{IsOptimal, HasOptimalPresent}

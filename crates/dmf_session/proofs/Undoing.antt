@@ -4,7 +4,7 @@ use Rattle.std.specs.Bool.{MatchBool}
 use Rattle.std.proofs.lemmas.Bool.{le-leb, lt-leb}
 use Rattle.std.proofs.lemmas.Bool.Decides.{when_true, when_false}
 use Rattle.dmf_solver.specs.declared.fault.PlanFault.{PlanFault}
-use Rattle.dmf_net.specs.NetworkState.{NetworkState}
+use Rattle.dmf_state.specs.NetworkState.{NetworkState}
 use Rattle.dmf_solver.specs.Change.{Change, change_fault}
 use Rattle.dmf_solver.specs.Change as change
 use Rattle.dmf_session.specs.declared.command.Command.{Command}

@@ -1,11 +1,11 @@
 -- What is so of a state after solving (the max-flow min-cut theorem of Ford and Fulkerson).
 -- Public: a public contract says no more than this.
 use Rattle.std.specs.Prelude.{◌≡◌, pos}
-use Rattle.dmf_net.specs.Flow.{flow_value}
-use Rattle.dmf_net.specs.NetworkState.{NetworkState}
+use Rattle.dmf_state.specs.Flow.{flow_value}
+use Rattle.dmf_state.specs.NetworkState.{NetworkState}
 use Rattle.dmf_solver.specs.Greatest.{IsGreatest}
-use Rattle.dmf_net.specs.Cut.{HasMinimumCutOf}
-use Rattle.dmf_net.specs.Side.{CutSide, IsSmallestSide}
+use Rattle.dmf_state.specs.Cut.{HasMinimumCutOf}
+use Rattle.dmf_state.specs.Side.{CutSide, IsSmallestSide}
 use Rattle.dmf_history.specs.Timeline.{Timeline, IsPresent}
 
 -- No flow of the network has a larger value than that of the state, and this value is the capacity of a minimum cut, and

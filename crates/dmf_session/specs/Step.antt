@@ -5,11 +5,11 @@ use Rattle.dmf_solver.specs.declared.fault.PlanFault.{PlanFault}
 use Rattle.dmf_solver.specs.declared.fault.PlanFault.TheVariants as plan
 use Rattle.dmf_solver.specs.declared.fault.CutFault.{CutFault}
 use Rattle.dmf_solver.specs.declared.fault.CutFault.TheVariants as cut
-use Rattle.dmf_net.specs.Flow.{flow_value}
-use Rattle.dmf_net.specs.Network.{Network}
-use Rattle.dmf_net.specs.NetworkState.{NetworkState}
+use Rattle.dmf_state.specs.Flow.{flow_value}
+use Rattle.dmf_state.specs.Network.{Network}
+use Rattle.dmf_state.specs.NetworkState.{NetworkState}
 use Rattle.dmf_solver.specs.Greatest.{IsGreatest, IsSurpassed}
-use Rattle.dmf_net.specs.Side.{CutSide, IsSmallestSide}
+use Rattle.dmf_state.specs.Side.{CutSide, IsSmallestSide}
 use Rattle.dmf_solver.specs.Change.{Change, change_fault, Becomes}
 use Rattle.dmf_solver.specs.Change as change
 use Rattle.dmf_session.specs.declared.command.Command.{Command}

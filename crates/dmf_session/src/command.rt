@@ -1,5 +1,5 @@
-use dmf_net::{NoMemory, Side};
 use dmf_solver::{CutFault, PlanFault};
+use dmf_state::{NoMemory, Side};
 use thiserror::Error;
 
 /// What a session is asked to do.

@@ -5,7 +5,7 @@ ghost use Rattle.dmf_history.specs.Timeline.{IsTimeline, IsPresent, future_of, b
 ghost use Rattle.dmf_session.specs.Step.{Answers, IsSideWanted};
 ghost use Rattle.dmf_session.specs.Kept.{KeepsPresent, KeepsApplied};
 ghost use Rattle.dmf_solver.specs.ResidualNetwork.{IsResidualOf};
-ghost use Rattle.dmf_net.specs.Edit.{applied};
+ghost use Rattle.dmf_state.specs.Edit.{applied};
 ghost use Rattle.dmf_solver.specs.Planning.{PlansSolve};
 ghost use Rattle.dmf_session.specs.Optimal.{HasOptimalPresent};
 
@@ -13,11 +13,11 @@ use crate::command::{Command, Refusal, Reply};
 use crate::kept::{kept_after, kept_before};
 use crate::laws::greatest_is_optimal;
 use dmf_history::{History, RedoFault};
-use dmf_net::{Edit, NoMemory, Side, State};
 use dmf_solver::{
     PlanFault, ResidualNetwork, Unwatched, Watch, plan_add, plan_cap, plan_close, plan_shut,
     smallest_side,
 };
+use dmf_state::{Edit, NoMemory, Side, State};
 use std::alloc::Global;
 use std::marker::Model;
 

@@ -5,7 +5,7 @@ use crate::draws::Draws;
 use crate::worked::WORKED;
 use dmf_fixtures::{FULL_ARC, LENIENT, NETWORK_A, NETWORK_B, PARALLEL, TWO_SHORTEST};
 use dmf_history::{DeltaHistory, WholeHistory};
-use dmf_run::{EngineFault, Status, run_commands};
+use dmf_runs::{EngineFault, Status, run_commands};
 use dmf_session::Session;
 use dmf_text::{StdSink, StdSource, read_problem};
 use std::alloc::{AllocError, Global};

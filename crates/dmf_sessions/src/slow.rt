@@ -1,6 +1,6 @@
 //! Runs whose bytes come and go one by one, and a run whose writer fails.
 use dmf_fixtures::{ByteReader, LENIENT, SlowWriter, is_front};
-use dmf_run::{EngineFault, Status, run_check, run_session, run_solve};
+use dmf_runs::{EngineFault, Status, run_check, run_session, run_solve};
 use dmf_text::{StdSink, StdSource};
 use std::test::Fail;
 

@@ -1,7 +1,7 @@
 //! What a watch is told of the solves of a session.
 use dmf_fixtures::NETWORK_A;
 use dmf_history::MAX_BOUND;
-use dmf_run::{Status, run_session_watched};
+use dmf_runs::{Status, run_session_watched};
 use dmf_solver::Watch;
 use dmf_text::{StdSink, StdSource};
 use std::test::Fail;

@@ -2,7 +2,7 @@
 use Rattle.std.proofs.Common.{ℕ, ◌≡◌, ◌≢◌, ◌+◌, ◌-◌, ◌*◌, ◌<◌, ◌==◌, List, [], ◌∷◌, length, get_or, zero, suc, true, false, cond, refl, ap, ◌∙◌, sym, subst, arith, ⊎_elim, get_or-set_other, add-zero, eq-eqb}
 use Rattle.std.proofs.lemmas.Bool.{ne_eqb, cases_eq}
 use Rattle.std.proofs.lemmas.Grind.{get_or-set_at, same_number_lists}
-use Rattle.dmf_net.specs.declared.arc.Arc.{Arc}
+use Rattle.dmf_state.specs.declared.arc.Arc.{Arc}
 use Rattle.dmf_path.specs.Step.{Step}
 use Rattle.dmf_path.specs.Path.{has_rank}
 use Rattle.dmf_solver.specs.Residual.{augmented_from}

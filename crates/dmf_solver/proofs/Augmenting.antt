@@ -3,18 +3,18 @@ use Rattle.std.proofs.Common.{ℕ, ◌≡◌, ◌≢◌, ◌+◌, ◌<◌, ◌�
 use Rattle.std.proofs.lemmas.Bool.{ne_eqb}
 use Rattle.std.proofs.lemmas.Int.{ints}
 use Rattle.std.proofs.lemmas.Slice.Zip.{AllZip-long}
-use Rattle.dmf_net.specs.declared.arc.Arc.{Arc}
+use Rattle.dmf_state.specs.declared.arc.Arc.{Arc}
 use Rattle.dmf_path.specs.Step.{Step}
-use Rattle.dmf_net.specs.Arc.{capacity_sum}
-use Rattle.dmf_net.specs.Network.{Network, IsNetwork}
-use Rattle.dmf_net.specs.Flow.{outflow, inflow, AreWithinCapacities, IsFlow, flow_value}
+use Rattle.dmf_state.specs.Arc.{capacity_sum}
+use Rattle.dmf_state.specs.Network.{Network, IsNetwork}
+use Rattle.dmf_state.specs.Flow.{outflow, inflow, AreWithinCapacities, IsFlow, flow_value}
 use Rattle.dmf_path.specs.Path.{IsPath, IsLeastPath, bottleneck_up_to, bottleneck}
 use Rattle.dmf_solver.specs.Residual.{residual_steps, augmented}
 use Rattle.dmf_solver.proofs.ResidualSteps.{IsResidual, along as residual_along, against as residual_against, residual-contained}
 use Rattle.dmf_path.proofs.ShortestPaths.{IsShortestPath-least}
 use Rattle.dmf_solver.proofs.Pushing.{pushed, CanPush, along, against, CanPushEach, CanPushInTurn, CanPushInTurn-shortest, at_end, balance-pushed, within-pushed}
 use Rattle.dmf_solver.proofs.AugmentedPushed.{pushed-augmented}
-use Rattle.dmf_net.proofs.Changing.{flow_at-le}
+use Rattle.dmf_state.proofs.Changing.{flow_at-le}
 
 -- each residual step has room
 has_room : (arcs : List Arc) (flows : List ℕ) (s : Step) → IsResidual 1 arcs flows s → 0 < s.room

@@ -6,12 +6,12 @@ use Rattle.std.proofs.lemmas.Bool.{cases_lt, cases_Bool, true_from_ne_false, bot
 use Rattle.std.proofs.lemmas.Int.{ints, by_lt_z}
 use Rattle.std.proofs.lemmas.List.Sums.{sum_by-cons, get_or-le-sum_by}
 use Rattle.std.proofs.lemmas.Slice.Zip.{AllZip-long, get_or-zip, length-zip}
-use Rattle.dmf_net.specs.declared.arc.Arc.{Arc}
+use Rattle.dmf_state.specs.declared.arc.Arc.{Arc}
 use Rattle.dmf_path.specs.Step.{Step}
-use Rattle.dmf_net.specs.Network.{Network, IsNetwork}
-use Rattle.dmf_net.specs.Flow.{IsFlow, flow_value}
+use Rattle.dmf_state.specs.Network.{Network, IsNetwork}
+use Rattle.dmf_state.specs.Flow.{IsFlow, flow_value}
 use Rattle.dmf_path.specs.Path.{HasNoPath}
-use Rattle.dmf_net.specs.Arc.{no_arc}
+use Rattle.dmf_state.specs.Arc.{no_arc}
 use Rattle.dmf_solver.proofs.Crossing.{leaving, entering, value-across, value-across_back, none-across, none-across_both}
 use Rattle.dmf_solver.proofs.Reached.{IsClosed, ArriveAtNodes, path-not_none}
 

@@ -11,14 +11,14 @@ use Rattle.dmf_path.specs.declared.pair.Pair.{Pair}
 use Rattle.dmf_path.specs.Step.{Step}
 use Rattle.dmf_path.specs.Pair.{IsPair, ArePairs, pair_steps, steps_from, steps_of}
 use Rattle.dmf_path.proofs.Loops.{AreWithoutLoops}
-use Rattle.dmf_net.specs.declared.arc.Arc.{Arc}
-use Rattle.dmf_net.specs.Arc.{IsArc, no_arc, capacity_sum}
-use Rattle.dmf_net.specs.Network.{Network, IsNetwork}
-use Rattle.dmf_net.specs.Flow.{AreWithinCapacities}
+use Rattle.dmf_state.specs.declared.arc.Arc.{Arc}
+use Rattle.dmf_state.specs.Arc.{IsArc, no_arc, capacity_sum}
+use Rattle.dmf_state.specs.Network.{Network, IsNetwork}
+use Rattle.dmf_state.specs.Flow.{AreWithinCapacities}
 use Rattle.dmf_solver.specs.Drain.{carried, carried_from, value_or_zero, return_link, carrying_steps}
-use Rattle.dmf_net.specs.NetworkState.{NetworkState, IsState}
+use Rattle.dmf_state.specs.NetworkState.{NetworkState, IsState}
 use Rattle.dmf_solver.specs.Pairs.{AreNoMore, carrying_pair, carrying_from, return_pair, carrying_pairs}
-use Rattle.dmf_net.proofs.Changing.{flow_at-le}
+use Rattle.dmf_state.proofs.Changing.{flow_at-le}
 use Rattle.dmf_solver.proofs.Draining.{IsNoMore}
 use Rattle.dmf_solver.proofs.ResidualSteps.{in-optional}
 

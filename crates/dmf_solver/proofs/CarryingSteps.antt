@@ -4,15 +4,15 @@ use Rattle.std.specs.List.{Contains, All, AllPairs}
 use Rattle.std.proofs.lemmas.Bool.{ltb-true, lt-ltb}
 use Rattle.std.proofs.lemmas.Int.{ints}
 use Rattle.std.proofs.lemmas.List.Elements.{All-contains, Contains-get_or, Contains-append_cases, Contains-append_left, Contains-append_right}
-use Rattle.dmf_net.specs.declared.arc.Arc.{Arc}
+use Rattle.dmf_state.specs.declared.arc.Arc.{Arc}
 use Rattle.dmf_path.specs.Step.{Step}
 use Rattle.dmf_node.specs.Node.{IsNode}
-use Rattle.dmf_net.specs.Arc.{no_arc}
-use Rattle.dmf_net.specs.Network.{Network, IsNetwork, arc_number, has_arc}
-use Rattle.dmf_net.specs.Flow.{flow_on, IsFlow, flow_value}
+use Rattle.dmf_state.specs.Arc.{no_arc}
+use Rattle.dmf_state.specs.Network.{Network, IsNetwork, arc_number, has_arc}
+use Rattle.dmf_state.specs.Flow.{flow_on, IsFlow, flow_value}
 use Rattle.dmf_path.specs.Steps.{IsStep, AreSteps}
 use Rattle.dmf_solver.specs.Drain.{carried, carried_from, value_or_zero, return_link, carrying_steps}
-use Rattle.dmf_net.proofs.ChangedArc.{has_arc-within}
+use Rattle.dmf_state.proofs.ChangedArc.{has_arc-within}
 use Rattle.dmf_solver.proofs.ResidualSteps.{LeadsAlong, in-optional, IsBefore, ascending-optional}
 use Rattle.dmf_solver.proofs.Carrying.{CarryFlow, path_back-not_none}
 use Rattle.dmf_path.proofs.SomeLeast.{SomePath, SomeLeast, path-or-none, least-path}

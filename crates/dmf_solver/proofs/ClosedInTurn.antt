@@ -2,16 +2,16 @@
 use Rattle.std.proofs.Common.{ℕ, ◌≡◌, ◌+◌, ◌-◌, List, [], ◌∷◌, ◌++◌, get_or, set, zero, suc, refl, ap, ◌∙◌, arith}
 use Rattle.std.proofs.lemmas.List.{length-set}
 use Rattle.dmf_path.specs.Step.{Step}
-use Rattle.dmf_net.specs.declared.arc.Arc.{Arc}
-use Rattle.dmf_net.specs.declared.edit.Shutting.{Shutting}
-use Rattle.dmf_net.specs.Arc.{no_arc, closed_arc}
+use Rattle.dmf_state.specs.declared.arc.Arc.{Arc}
+use Rattle.dmf_state.specs.declared.edit.Shutting.{Shutting}
+use Rattle.dmf_state.specs.Arc.{no_arc, closed_arc}
 use Rattle.dmf_solver.specs.Change.{Closes}
 use Rattle.dmf_solver.specs.Drain.{carried, carried_from, value_or_zero, return_link, carrying_steps, lowered, Lowers, Drains}
-use Rattle.dmf_net.specs.Edit.{numbers, with_closed}
+use Rattle.dmf_state.specs.Edit.{numbers, with_closed}
 use Rattle.dmf_solver.specs.Moves.{DrainsInTurn}
-use Rattle.dmf_net.specs.Network.{Network, arc_number}
-use Rattle.dmf_net.proofs.ChangedArc.{flow_at-replaced}
-use Rattle.dmf_net.proofs.ClosedArcs.{closed_at}
+use Rattle.dmf_state.specs.Network.{Network, arc_number}
+use Rattle.dmf_state.proofs.ChangedArc.{flow_at-replaced}
+use Rattle.dmf_state.proofs.ClosedArcs.{closed_at}
 
 -- ---- its ends
 

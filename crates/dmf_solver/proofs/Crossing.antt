@@ -6,12 +6,12 @@ use Rattle.std.proofs.lemmas.Bool.Decides.{eqb_tells}
 use Rattle.std.proofs.lemmas.Int.{ints}
 use Rattle.std.proofs.lemmas.List.Sums.{sum_by-cons}
 use Rattle.std.proofs.lemmas.List.Elements.{All-head, All-tail}
-use Rattle.dmf_net.specs.declared.arc.Arc.{Arc}
+use Rattle.dmf_state.specs.declared.arc.Arc.{Arc}
 use Rattle.dmf_node.specs.Node.{IsNode}
-use Rattle.dmf_net.specs.Arc.{IsArc}
-use Rattle.dmf_net.specs.Network.{Network, IsNetwork}
-use Rattle.dmf_net.specs.Flow.{flow_at, outflow, inflow, IsInnerNode, IsConservedAt, flow_value}
-use Rattle.dmf_net.proofs.Summing.{at_node}
+use Rattle.dmf_state.specs.Arc.{IsArc}
+use Rattle.dmf_state.specs.Network.{Network, IsNetwork}
+use Rattle.dmf_state.specs.Flow.{flow_at, outflow, inflow, IsInnerNode, IsConservedAt, flow_value}
+use Rattle.dmf_state.proofs.Summing.{at_node}
 
 -- the sum of these numbers at the nodes of the set, among the nodes 1 to `last`
 abbrev pub sum_in : (ℕ → Bool) → (ℕ → ℕ) → ℕ → ℕ

@@ -5,18 +5,18 @@ use Rattle.std.proofs.lemmas.Int.{ints}
 use Rattle.std.proofs.lemmas.List.Sums.{sum_by-cons}
 use Rattle.std.proofs.lemmas.Slice.Zip.{AllZip-long}
 use Rattle.dmf_path.specs.Search.{Searched}
-use Rattle.dmf_net.specs.declared.edit.Move.{Move}
+use Rattle.dmf_state.specs.declared.edit.Move.{Move}
 use Rattle.dmf_solver.specs.declared.moves.FlowLink.TheVariants.{Along}
 use Rattle.dmf_solver.specs.Pairs.{IsCarryingSearch, flows_read}
 use Rattle.dmf_solver.specs.Drain.{Drains, TakesOff}
-use Rattle.dmf_net.specs.Edit.{differences}
-use Rattle.dmf_net.specs.Flow.{flow_on, flow_on_all, IsFlow, flow_value}
+use Rattle.dmf_state.specs.Edit.{differences}
+use Rattle.dmf_state.specs.Flow.{flow_on, flow_on_all, IsFlow, flow_value}
 use Rattle.dmf_solver.specs.Moves.{DrainsInTurn, AreShuttingMoves}
-use Rattle.dmf_net.specs.Network.{Network, IsNetwork}
-use Rattle.dmf_net.specs.NetworkState.{NetworkState, IsState}
+use Rattle.dmf_state.specs.Network.{Network, IsNetwork}
+use Rattle.dmf_state.specs.NetworkState.{NetworkState, IsState}
 use Rattle.dmf_solver.proofs.Draining.{IsNoMore, no_more-in_turn, TakesOff-none, drains-state}
-use Rattle.dmf_net.proofs.ClosedArcs.{HasArcs, AreWithoutFlow}
-use Rattle.dmf_net.proofs.Moving.{moves-between}
+use Rattle.dmf_state.proofs.ClosedArcs.{HasArcs, AreWithoutFlow}
+use Rattle.dmf_state.proofs.Moving.{moves-between}
 
 -- No flow is more than before, at each place,
 no_more-at : (xs ys : List ℕ) (k : ℕ) → IsNoMore xs ys → get_or ys k 0 ≤ get_or xs k 0

@@ -3,10 +3,10 @@ use Rattle.std.proofs.Common.{ℕ, ◌≡◌, ◌-◌, ◌<◌, List, [], ◌∷
 use Rattle.std.proofs.lemmas.Slice.Zip.{AllZip-long}
 use Rattle.dmf_path.specs.Step.{Step}
 use Rattle.dmf_path.specs.Path.{ComesBefore, ranks, IsLeastPath}
-use Rattle.dmf_net.specs.Network.{Network, arc_number, has_arc}
-use Rattle.dmf_net.specs.Flow.{flow_on, IsFlow}
+use Rattle.dmf_state.specs.Network.{Network, arc_number, has_arc}
+use Rattle.dmf_state.specs.Flow.{flow_on, IsFlow}
 use Rattle.dmf_solver.specs.Drain.{carrying_steps, Drains}
-use Rattle.dmf_net.proofs.ChangedArc.{has_arc-within}
+use Rattle.dmf_state.proofs.ChangedArc.{has_arc-within}
 use Rattle.dmf_solver.proofs.Lowering.{lowered-none}
 
 -- nothing comes before the path without steps

@@ -4,8 +4,8 @@ use Rattle.std.specs.List.{AllZip}
 use Rattle.std.proofs.lemmas.Bool.{cases_lt}
 use Rattle.std.proofs.lemmas.Int.{ints}
 use Rattle.dmf_path.specs.Step.{Step}
-use Rattle.dmf_net.specs.Network.{Network, IsNetwork, arc_number, has_arc}
-use Rattle.dmf_net.specs.Flow.{flow_on, IsFlow, flow_value}
+use Rattle.dmf_state.specs.Network.{Network, IsNetwork, arc_number, has_arc}
+use Rattle.dmf_state.specs.Flow.{flow_on, IsFlow, flow_value}
 use Rattle.dmf_solver.specs.Drain.{carrying_steps, lowered, Lowers, Drains, TakesOff}
 use Rattle.dmf_path.proofs.OneLeast.{one-least}
 use Rattle.dmf_path.proofs.SomeLeast.{SomeLeast}

@@ -14,17 +14,17 @@ use Rattle.dmf_path.specs.declared.search.AugmentingPath.{AugmentingPath}
 use Rattle.dmf_path.specs.Search.{Searched, aimed, along_at, with_pairs, Augments, HasAlong, lowered_along}
 use Rattle.dmf_path.proofs.Loops.{least-without_loops, no_path-without_loops}
 use Rattle.dmf_path.proofs.ShortestPaths.{IsShortestPath, IsShortestPath-least, IsShortestPath-tail}
-use Rattle.dmf_net.specs.declared.arc.Arc.{Arc}
-use Rattle.dmf_net.specs.Arc.{no_arc}
-use Rattle.dmf_net.specs.Network.{Network, arc_number, has_arc}
-use Rattle.dmf_net.specs.Flow.{flow_on, IsFlow}
+use Rattle.dmf_state.specs.declared.arc.Arc.{Arc}
+use Rattle.dmf_state.specs.Arc.{no_arc}
+use Rattle.dmf_state.specs.Network.{Network, arc_number, has_arc}
+use Rattle.dmf_state.specs.Flow.{flow_on, IsFlow}
 use Rattle.dmf_solver.specs.Drain.{carrying_steps, lowered, Drains}
-use Rattle.dmf_net.specs.NetworkState.{NetworkState, IsState, with_flows}
+use Rattle.dmf_state.specs.NetworkState.{NetworkState, IsState, with_flows}
 use Rattle.dmf_solver.specs.Pairs.{AreNoMore, KeepLoops, Carries, IsCarryingSearch, carrying_pair, carrying_from, return_pair, carrying_pairs, flows_read}
 use Rattle.dmf_solver.specs.declared.moves.FlowLink.TheVariants.{Along}
 use Rattle.dmf_solver.proofs.CarryingPairs.{is_idle, idle-why, length-carrying_pairs, carrying-without_loops, pair-of_arc}
 use Rattle.dmf_solver.proofs.CarryingSteps.{IsCarrying, along, returns, carrying-contained, carrying-path}
-use Rattle.dmf_net.proofs.ChangedArc.{has_arc-within}
+use Rattle.dmf_state.proofs.ChangedArc.{has_arc-within}
 use Rattle.dmf_solver.proofs.Draining.{IsNoMore, no_more-same}
 use Rattle.dmf_solver.proofs.DrainingWalk.{AreDrainedSoFar, drained-none, drained-more, drained-all}
 use Rattle.dmf_solver.proofs.LoweredPairs.{other-rank, carrying_pairs-lowered, no_more-lowered}

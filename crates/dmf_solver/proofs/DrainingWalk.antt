@@ -2,19 +2,19 @@
 use Rattle.std.proofs.Common.{ℕ, ◌≡◌, ◌≢◌, ◌<◌, ◌≤◌, true, ◌+◌, ◌-◌, zero, suc, List, [], ◌∷◌, length, get_or, set, refl, ap, sym, ◌∙◌, arith, eq-eqb}
 use Rattle.std.proofs.lemmas.Bool.{ne_eqb}
 use Rattle.std.proofs.lemmas.Slice.Zip.{AllZip-long}
-use Rattle.dmf_net.specs.declared.edit.Move.{Move}
+use Rattle.dmf_state.specs.declared.edit.Move.{Move}
 use Rattle.dmf_path.specs.Step.{Step}
-use Rattle.dmf_net.specs.Network.{arc_number, has_arc}
-use Rattle.dmf_net.specs.Flow.{flow_on}
-use Rattle.dmf_net.specs.NetworkState.{NetworkState, IsState, with_flows}
+use Rattle.dmf_state.specs.Network.{arc_number, has_arc}
+use Rattle.dmf_state.specs.Flow.{flow_on}
+use Rattle.dmf_state.specs.NetworkState.{NetworkState, IsState, with_flows}
 use Rattle.dmf_path.specs.Path.{IsLeastPath}
 use Rattle.dmf_solver.specs.Drain.{carrying_steps, lowered, Drains}
-use Rattle.dmf_net.specs.Edit.{moved, differences}
+use Rattle.dmf_state.specs.Edit.{moved, differences}
 use Rattle.dmf_solver.specs.Moves.{AreDrainingMoves}
-use Rattle.dmf_net.proofs.ChangedArc.{has_arc-within}
+use Rattle.dmf_state.proofs.ChangedArc.{has_arc-within}
 use Rattle.dmf_solver.proofs.DrainedLoop.{drained-loop}
 use Rattle.dmf_solver.proofs.Draining.{drains-state}
-use Rattle.dmf_net.proofs.Moving.{differences-fit, moved-differences}
+use Rattle.dmf_state.proofs.Moving.{differences-fit, moved-differences}
 use Rattle.dmf_solver.proofs.Lowering.{lowered-flow, lowered-value}
 
 -- The flows are those of a state, and what draining makes of them it makes of the flows of `s`.

@@ -8,21 +8,21 @@ use Rattle.std.proofs.lemmas.List.Sums.{sum_by-cons}
 use Rattle.std.proofs.lemmas.Option.{slice_get_within}
 use Rattle.std.proofs.Math.ListN.{drop_of_length-le}
 use Rattle.std.proofs.Math.Seq.{drop-cons, get_or-append_seam}
-use Rattle.dmf_net.specs.declared.arc.Arc.{Arc}
-use Rattle.dmf_net.specs.declared.edit.Edit.{Edit}
-use Rattle.dmf_net.specs.declared.edit.Edit.TheVariants.{Cap, Add, Close, Shut, Solve}
-use Rattle.dmf_net.specs.declared.edit.Move.{Move}
-use Rattle.dmf_net.specs.Arc.{no_arc, capacity_sum, with_cap, closed_arc, open_arc}
-use Rattle.dmf_net.specs.Edit.{moved, applied, numbers, MovesFit, ArcFits}
+use Rattle.dmf_state.specs.declared.arc.Arc.{Arc}
+use Rattle.dmf_state.specs.declared.edit.Edit.{Edit}
+use Rattle.dmf_state.specs.declared.edit.Edit.TheVariants.{Cap, Add, Close, Shut, Solve}
+use Rattle.dmf_state.specs.declared.edit.Move.{Move}
+use Rattle.dmf_state.specs.Arc.{no_arc, capacity_sum, with_cap, closed_arc, open_arc}
+use Rattle.dmf_state.specs.Edit.{moved, applied, numbers, MovesFit, ArcFits}
 use Rattle.dmf_solver.specs.Edited.{arc_after, added_arc, shuttings_of}
-use Rattle.dmf_net.specs.Flow.{AreWithinCapacities, flow_value}
-use Rattle.dmf_net.specs.Network.{Network, arc_number}
-use Rattle.dmf_net.specs.NetworkState.{NetworkState}
-use Rattle.dmf_net.proofs.ChangedArc.{flow_value-with_arc}
-use Rattle.dmf_net.proofs.ClosedTogether.{arc-closed, increasing-open, length-closed, nodes-closed, source-closed, sink-closed, value-with_closed}
-use Rattle.dmf_net.proofs.IdleArc.{flow_value-idle}
-use Rattle.dmf_net.proofs.Moving.{no_move, MovesFit-made}
-use Rattle.dmf_net.proofs.Summing.{flows-le-capacities}
+use Rattle.dmf_state.specs.Flow.{AreWithinCapacities, flow_value}
+use Rattle.dmf_state.specs.Network.{Network, arc_number}
+use Rattle.dmf_state.specs.NetworkState.{NetworkState}
+use Rattle.dmf_state.proofs.ChangedArc.{flow_value-with_arc}
+use Rattle.dmf_state.proofs.ClosedTogether.{arc-closed, increasing-open, length-closed, nodes-closed, source-closed, sink-closed, value-with_closed}
+use Rattle.dmf_state.proofs.IdleArc.{flow_value-idle}
+use Rattle.dmf_state.proofs.Moving.{no_move, MovesFit-made}
+use Rattle.dmf_state.proofs.Summing.{flows-le-capacities}
 
 -- ---- flows
 

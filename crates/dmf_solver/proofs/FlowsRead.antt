@@ -6,9 +6,9 @@ use Rattle.dmf_path.specs.declared.pair.Pair.{Pair}
 use Rattle.dmf_path.specs.Search.{pair_number, along_at}
 use Rattle.dmf_solver.specs.declared.moves.FlowLink.{FlowLink}
 use Rattle.dmf_solver.specs.declared.moves.FlowLink.TheVariants.{Against}
-use Rattle.dmf_net.specs.declared.arc.Arc.{Arc}
-use Rattle.dmf_net.specs.Arc.{no_arc}
-use Rattle.dmf_net.specs.Flow.{AreWithinCapacities}
+use Rattle.dmf_state.specs.declared.arc.Arc.{Arc}
+use Rattle.dmf_state.specs.Arc.{no_arc}
+use Rattle.dmf_state.specs.Flow.{AreWithinCapacities}
 use Rattle.dmf_solver.specs.ResidualNetwork.{residual_pair, residual_pairs}
 use Rattle.dmf_solver.specs.Moves.{Stays}
 use Rattle.dmf_solver.specs.Pairs.{flow_read, flows_read, flow_left}

@@ -3,28 +3,28 @@ use Rattle.std.proofs.Common.{ℕ, ◌≡◌, ◌+◌, ◌-◌, ◌<◌, ◌≤�
 use Rattle.std.specs.Option.{option_map}
 use Rattle.dmf_path.specs.declared.pair.Pair.{Pair}
 use Rattle.dmf_path.specs.Search.{Searched, pair_number, pair_with, with_pairs, with_rooms, against_at}
-use Rattle.dmf_net.specs.declared.arc.Arc.{Arc}
-use Rattle.dmf_net.specs.declared.edit.Edit.{Edit}
-use Rattle.dmf_net.specs.declared.edit.Edit.TheVariants.{Cap, Add, Close, Shut, Solve}
-use Rattle.dmf_net.specs.declared.edit.Move.{Move}
-use Rattle.dmf_net.specs.declared.edit.Shutting.{Shutting}
-use Rattle.dmf_net.specs.declared.moves.Direction.{Direction}
-use Rattle.dmf_net.specs.declared.moves.Direction.TheVariants.{Forward, Back}
-use Rattle.dmf_net.specs.Arc.{no_arc, closed_arc, open_arc, with_cap}
-use Rattle.dmf_net.specs.Direction.{along, cap_along, edited_along, FitsAlong}
-use Rattle.dmf_net.specs.Edit.{moved, moves_of, numbers, with_closed, AddsArc, ArcFits, MovesFit}
-use Rattle.dmf_net.specs.Network.{Network, arc_number, with_arc}
-use Rattle.dmf_net.specs.NetworkState.{NetworkState}
+use Rattle.dmf_state.specs.declared.arc.Arc.{Arc}
+use Rattle.dmf_state.specs.declared.edit.Edit.{Edit}
+use Rattle.dmf_state.specs.declared.edit.Edit.TheVariants.{Cap, Add, Close, Shut, Solve}
+use Rattle.dmf_state.specs.declared.edit.Move.{Move}
+use Rattle.dmf_state.specs.declared.edit.Shutting.{Shutting}
+use Rattle.dmf_state.specs.declared.moves.Direction.{Direction}
+use Rattle.dmf_state.specs.declared.moves.Direction.TheVariants.{Forward, Back}
+use Rattle.dmf_state.specs.Arc.{no_arc, closed_arc, open_arc, with_cap}
+use Rattle.dmf_state.specs.Direction.{along, cap_along, edited_along, FitsAlong}
+use Rattle.dmf_state.specs.Edit.{moved, moves_of, numbers, with_closed, AddsArc, ArcFits, MovesFit}
+use Rattle.dmf_state.specs.Network.{Network, arc_number, with_arc}
+use Rattle.dmf_state.specs.NetworkState.{NetworkState}
 use Rattle.dmf_solver.specs.Pairs.{recapped, with_capacity}
 use Rattle.dmf_solver.specs.ResidualNetwork.{residual_pair, residual_pairs, residual_search}
-use Rattle.dmf_net.specs.Revert.{with_opened}
-use Rattle.dmf_net.proofs.ChangedArc.{has_arc-within}
-use Rattle.dmf_net.proofs.ClosedArcs.{HasArcs-open, HasArcs}
-use Rattle.dmf_net.proofs.ClosedTogether.{HasArcs-long}
+use Rattle.dmf_state.specs.Revert.{with_opened}
+use Rattle.dmf_state.proofs.ChangedArc.{has_arc-within}
+use Rattle.dmf_state.proofs.ClosedArcs.{HasArcs-open, HasArcs}
+use Rattle.dmf_state.proofs.ClosedTogether.{HasArcs-long}
 use Rattle.dmf_solver.proofs.EditedState.{AddsNone, ArePut, arcs-long, index-put, put-more, put-all}
-use Rattle.dmf_net.proofs.Moving.{no_move}
+use Rattle.dmf_state.proofs.Moving.{no_move}
 use Rattle.dmf_solver.proofs.ResidualSearch.{length-pairs_each}
-use Rattle.dmf_net.proofs.Reverting.{fit-back}
+use Rattle.dmf_state.proofs.Reverting.{fit-back}
 
 -- ---- one flow
 

@@ -10,9 +10,9 @@ use Rattle.std.proofs.lemmas.List.{get_or-map, length-map}
 use Rattle.std.proofs.lemmas.List.Folds.{list_any_at, list_any_none}
 use Rattle.std.proofs.lemmas.List.Kept.{AllPairs-from_increasing}
 use Rattle.std.proofs.lemmas.List.Sorted.{IsNonDecreasingBy-from_default}
-use Rattle.dmf_net.specs.declared.edit.Shutting.{Shutting}
-use Rattle.dmf_net.specs.Edit.{numbers}
-use Rattle.dmf_net.specs.Edit.{shuts}
+use Rattle.dmf_state.specs.declared.edit.Shutting.{Shutting}
+use Rattle.dmf_state.specs.Edit.{numbers}
+use Rattle.dmf_state.specs.Edit.{shuts}
 
 abbrev none : Shutting
 none = record { arc = 0; old = 0 }

@@ -3,16 +3,16 @@ use Rattle.std.proofs.Common.{ℕ, ◌≡◌, ◌==◌, List, [], ◌∷◌, Boo
 use Rattle.std.specs.List.{zip}
 use Rattle.std.proofs.lemmas.Int.{ints}
 use Rattle.std.proofs.lemmas.List.Sums.{sum_by-cons}
-use Rattle.dmf_net.specs.declared.arc.Arc.{Arc}
-use Rattle.dmf_net.specs.Network.{Network, IsNetwork}
-use Rattle.dmf_net.specs.Flow.{flow_at, AreWithinCapacities, IsFlow, flow_value}
-use Rattle.dmf_net.specs.NetworkState.{NetworkState, IsState}
+use Rattle.dmf_state.specs.declared.arc.Arc.{Arc}
+use Rattle.dmf_state.specs.Network.{Network, IsNetwork}
+use Rattle.dmf_state.specs.Flow.{flow_at, AreWithinCapacities, IsFlow, flow_value}
+use Rattle.dmf_state.specs.NetworkState.{NetworkState, IsState}
 use Rattle.dmf_solver.specs.Greatest.{IsGreatest}
-use Rattle.dmf_net.specs.Cut.{HasCutOf}
+use Rattle.dmf_state.specs.Cut.{HasCutOf}
 use Rattle.dmf_path.specs.Path.{HasNoPath}
 use Rattle.dmf_solver.specs.Residual.{residual_steps}
 use Rattle.dmf_solver.specs.Change.{Solve}
-use Rattle.dmf_net.proofs.Summing.{at_node}
+use Rattle.dmf_state.proofs.Summing.{at_node}
 use Rattle.dmf_solver.proofs.Reached.{is_reached, AreReachedFrom-is_reached}
 use Rattle.dmf_solver.proofs.MaxFlowMinCut.{reached-cut, reached-capacity, reached-greatest, reached-minimum_cut}
 use Rattle.dmf_solver.proofs.LargerFlow.{no_path-from_greatest}

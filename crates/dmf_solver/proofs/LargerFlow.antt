@@ -2,8 +2,8 @@
 use Rattle.std.proofs.Common.{ℕ, List, arith, ⊎_elim}
 use Rattle.std.proofs.lemmas.Int.{ints}
 use Rattle.dmf_path.specs.Step.{Step}
-use Rattle.dmf_net.specs.Network.{Network, IsNetwork}
-use Rattle.dmf_net.specs.Flow.{IsFlow}
+use Rattle.dmf_state.specs.Network.{Network, IsNetwork}
+use Rattle.dmf_state.specs.Flow.{IsFlow}
 use Rattle.dmf_solver.specs.Greatest.{IsGreatest, IsSurpassed}
 use Rattle.dmf_path.specs.Path.{IsPath, HasNoPath, IsLeastPath}
 use Rattle.dmf_solver.specs.Residual.{residual_steps, augmented}

@@ -4,10 +4,10 @@ use Rattle.std.proofs.lemmas.Bool.{cases_lt}
 use Rattle.std.proofs.lemmas.List.{append-nil, get_or_past, take_all}
 use Rattle.dmf_path.specs.Search.{Covers}
 use Rattle.dmf_path.proofs.Covering.{index_behind, not-before, is-out}
-use Rattle.dmf_net.specs.declared.edit.Move.{Move}
-use Rattle.dmf_net.specs.Edit.{differences}
+use Rattle.dmf_state.specs.declared.edit.Move.{Move}
+use Rattle.dmf_state.specs.Edit.{differences}
 use Rattle.dmf_solver.specs.Moves.{Stays}
-use Rattle.dmf_net.proofs.Moving.{differences-more, move_of, move_of-same}
+use Rattle.dmf_state.proofs.Moving.{differences-more, move_of, move_of-same}
 
 -- the moves of the first `k` arcs
 abbrev pub moves_before : List ℕ → List ℕ → ℕ → List Move

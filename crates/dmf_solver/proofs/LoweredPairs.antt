@@ -9,13 +9,13 @@ use Rattle.dmf_path.specs.Step.{Step}
 use Rattle.dmf_path.specs.Path.{IsLeastPath, has_rank, bottleneck_up_to}
 use Rattle.dmf_path.specs.Pair.{pushed_pair, pushed_from, pushed_pairs}
 use Rattle.dmf_path.specs.Search.{lowered_pair, lowered_along}
-use Rattle.dmf_net.specs.declared.arc.Arc.{Arc}
-use Rattle.dmf_net.specs.Network.{Network, IsNetwork, arc_number, has_arc}
-use Rattle.dmf_net.specs.Flow.{flow_on, IsFlow}
+use Rattle.dmf_state.specs.declared.arc.Arc.{Arc}
+use Rattle.dmf_state.specs.Network.{Network, IsNetwork, arc_number, has_arc}
+use Rattle.dmf_state.specs.Flow.{flow_on, IsFlow}
 use Rattle.dmf_solver.specs.Drain.{value_or_zero, carrying_steps, lowered_from, lowered}
 use Rattle.dmf_solver.specs.Pairs.{AreNoMore, carrying_pair, carrying_from, return_pair, carrying_pairs}
 use Rattle.dmf_solver.proofs.CarryingPairs.{is_idle}
-use Rattle.dmf_net.proofs.ChangedArc.{has_arc-within}
+use Rattle.dmf_state.proofs.ChangedArc.{has_arc-within}
 use Rattle.dmf_solver.proofs.Draining.{no_more-in_turn}
 use Rattle.dmf_solver.proofs.LoweredValue.{value_or_zero-lowered}
 use Rattle.dmf_solver.proofs.Lowering.{HaveOwnRanks, HaveOwnRanks-least, lowered-no_more}

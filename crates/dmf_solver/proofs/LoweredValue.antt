@@ -4,8 +4,8 @@ use Rattle.std.proofs.Common.{ℕ, ◌≡◌, ◌≢◌, ◌+◌, ◌-◌, ◌*�
 use Rattle.std.proofs.lemmas.Bool.Decides.{eqb_tells}
 use Rattle.dmf_path.specs.Step.{Step}
 use Rattle.dmf_path.specs.Path.{IsLeastPath, has_rank, bottleneck_up_to}
-use Rattle.dmf_net.specs.Network.{Network, IsNetwork, arc_number, has_arc}
-use Rattle.dmf_net.specs.Flow.{flow_on, IsFlow}
+use Rattle.dmf_state.specs.Network.{Network, IsNetwork, arc_number, has_arc}
+use Rattle.dmf_state.specs.Flow.{flow_on, IsFlow}
 use Rattle.dmf_solver.specs.Drain.{value_or_zero, carrying_steps, lowered}
 use Rattle.dmf_solver.proofs.Augmenting.{at_end-other}
 use Rattle.dmf_solver.proofs.Lowering.{HaveOwnRanks, HaveOwnRanks-least, returned, returned-none, returned-least, balance}

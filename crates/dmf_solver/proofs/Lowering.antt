@@ -6,15 +6,15 @@ use Rattle.std.proofs.lemmas.Bool.Decides.{eqb_tells}
 use Rattle.std.proofs.lemmas.Grind.{get_or-set_at, same_number_lists}
 use Rattle.std.proofs.lemmas.Int.{ints}
 use Rattle.std.proofs.lemmas.Slice.Zip.{AllZip-long}
-use Rattle.dmf_net.specs.declared.arc.Arc.{Arc}
+use Rattle.dmf_state.specs.declared.arc.Arc.{Arc}
 use Rattle.dmf_path.specs.Step.{Step}
-use Rattle.dmf_net.specs.Arc.{no_arc}
-use Rattle.dmf_net.specs.Network.{Network, IsNetwork, arc_number, has_arc}
-use Rattle.dmf_net.specs.Flow.{flow_on, flow_at, outflow, inflow, AreWithinCapacities, IsFlow, flow_value}
+use Rattle.dmf_state.specs.Arc.{no_arc}
+use Rattle.dmf_state.specs.Network.{Network, IsNetwork, arc_number, has_arc}
+use Rattle.dmf_state.specs.Flow.{flow_on, flow_at, outflow, inflow, AreWithinCapacities, IsFlow, flow_value}
 use Rattle.dmf_path.specs.Path.{IsPath, IsLeastPath, has_rank, bottleneck_up_to}
 use Rattle.dmf_solver.specs.Drain.{value_or_zero, carrying_steps, lowered_from, lowered}
-use Rattle.dmf_net.proofs.ChangedArc.{has_arc-within}
-use Rattle.dmf_net.proofs.Changing.{flow_at-set}
+use Rattle.dmf_state.proofs.ChangedArc.{has_arc-within}
+use Rattle.dmf_state.proofs.Changing.{flow_at-set}
 use Rattle.dmf_path.proofs.ShortestPaths.{Avoids, IsShortestPath, IsShortestPath-least, IsShortestPath-tail, avoids-start}
 use Rattle.dmf_solver.proofs.Pushing.{at_end, more-at}
 use Rattle.dmf_solver.proofs.Augmenting.{at_end-other, bottleneck_up_to-le}

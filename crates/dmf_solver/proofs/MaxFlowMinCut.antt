@@ -5,14 +5,14 @@ use Rattle.std.proofs.lemmas.Bool.{lt-ltb, ltb-true, cases_lt, both_ways, true_f
 use Rattle.std.proofs.lemmas.Int.{ints}
 use Rattle.std.proofs.lemmas.List.Sums.{sum_by-cons}
 use Rattle.std.proofs.lemmas.List.Elements.{All-head, All-tail, Contains-append_left, Contains-append_right, Contains-append_cases}
-use Rattle.dmf_net.specs.declared.arc.Arc.{Arc}
+use Rattle.dmf_state.specs.declared.arc.Arc.{Arc}
 use Rattle.dmf_path.specs.Step.{Step}
 use Rattle.dmf_node.specs.Node.{IsNode}
-use Rattle.dmf_net.specs.Arc.{IsArc}
-use Rattle.dmf_net.specs.Network.{Network, IsNetwork}
-use Rattle.dmf_net.specs.Flow.{AreWithinCapacities, IsFlow, flow_value}
+use Rattle.dmf_state.specs.Arc.{IsArc}
+use Rattle.dmf_state.specs.Network.{Network, IsNetwork}
+use Rattle.dmf_state.specs.Flow.{AreWithinCapacities, IsFlow, flow_value}
 use Rattle.dmf_solver.specs.Greatest.{IsGreatest}
-use Rattle.dmf_net.specs.Cut.{IsCut, cut_capacity, IsMinimumCut}
+use Rattle.dmf_state.specs.Cut.{IsCut, cut_capacity, IsMinimumCut}
 use Rattle.dmf_path.specs.Path.{HasNoPath}
 use Rattle.dmf_solver.specs.Residual.{forward, backward, residual_from, residual_steps}
 use Rattle.dmf_solver.proofs.Crossing.{leaving, entering, value-across}

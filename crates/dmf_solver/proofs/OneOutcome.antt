@@ -2,9 +2,9 @@
 -- the paths that lower an arc, until no more than the limit flows on it.
 use Rattle.std.proofs.Common.{ℕ, ◌≡◌, List, [], ◌∷◌, All, sym, ◌∙◌, subst}
 use Rattle.dmf_path.specs.Step.{Step}
-use Rattle.dmf_net.specs.Arc.{IsArc, open_arcs_at}
-use Rattle.dmf_net.specs.Network.{Network, IsNetwork}
-use Rattle.dmf_net.specs.NetworkState.{NetworkState}
+use Rattle.dmf_state.specs.Arc.{IsArc, open_arcs_at}
+use Rattle.dmf_state.specs.Network.{Network, IsNetwork}
+use Rattle.dmf_state.specs.NetworkState.{NetworkState}
 use Rattle.dmf_path.specs.Path.{HasNoPath}
 use Rattle.dmf_solver.specs.Residual.{residual_steps, augmented}
 use Rattle.dmf_solver.specs.Solve.{Augments}
@@ -12,8 +12,8 @@ use Rattle.dmf_solver.specs.Change.{Cap, Add, Close, Shut, Solve, ClosesArc, Clo
 use Rattle.dmf_path.proofs.OneLeast.{one-least}
 use Rattle.dmf_solver.proofs.ResidualSteps.{AreSteps-residual}
 use Rattle.dmf_solver.proofs.Draining.{one-drained}
-use Rattle.dmf_net.proofs.ClosedArcs.{HasArcs}
-use Rattle.dmf_net.proofs.ClosedTogether.{IsNetwork-closed, HasArcs-closed, HasArcs-at}
+use Rattle.dmf_state.proofs.ClosedArcs.{HasArcs}
+use Rattle.dmf_state.proofs.ClosedTogether.{IsNetwork-closed, HasArcs-closed, HasArcs-at}
 use Rattle.dmf_solver.specs.Laws.{HasOneOutcome}
 
 -- Augmenting from the same flows ends at the same flows.

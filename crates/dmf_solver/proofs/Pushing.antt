@@ -1,11 +1,11 @@
 -- Pushing an amount along the steps of a path, one after the other.
 use Rattle.std.proofs.Common.{ℕ, ◌≡◌, ◌≢◌, ◌+◌, ◌-◌, ◌*◌, ◌/◌, ◌%◌, ◌≤◌, ◌==◌, List, [], ◌∷◌, length, get_or, set, Bool, true, false, cond, refl, ap, ◌∙◌, sym, subst, arith, length-set, get_or-set_other}
-use Rattle.dmf_net.specs.declared.arc.Arc.{Arc}
+use Rattle.dmf_state.specs.declared.arc.Arc.{Arc}
 use Rattle.dmf_path.specs.Step.{Step}
-use Rattle.dmf_net.specs.Flow.{outflow, inflow, AreWithinCapacities}
+use Rattle.dmf_state.specs.Flow.{outflow, inflow, AreWithinCapacities}
 use Rattle.dmf_path.specs.Path.{IsPath}
-use Rattle.dmf_net.specs.Arc.{no_arc}
-use Rattle.dmf_net.proofs.Changing.{flow_at-set, within-set, within-at}
+use Rattle.dmf_state.specs.Arc.{no_arc}
+use Rattle.dmf_state.proofs.Changing.{flow_at-set, within-set, within-at}
 use Rattle.dmf_solver.proofs.ResidualSteps.{LeadsAlong, LeadsAgainst}
 use Rattle.dmf_path.proofs.ShortestPaths.{Avoids, IsShortestPath, IsShortestPath-tail, avoids-start}
 

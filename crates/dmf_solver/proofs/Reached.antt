@@ -5,7 +5,7 @@ use Rattle.std.proofs.lemmas.Bool.{both_ways, and_parts, and_from, le-leb}
 use Rattle.dmf_path.specs.Step.{Step}
 use Rattle.dmf_node.specs.Node.{IsNode, is_node}
 use Rattle.dmf_path.specs.Path.{IsPath, HasNoPath}
-use Rattle.dmf_net.proofs.IdleArc.{IsNode-is_node}
+use Rattle.dmf_state.proofs.IdleArc.{IsNode-is_node}
 use Rattle.dmf_path.proofs.SomeLeast.{SomePath, path-or-none}
 
 -- No step leaves the set.

@@ -11,11 +11,11 @@ use Rattle.dmf_path.specs.Step.{Step}
 use Rattle.dmf_path.specs.Path.{has_rank, IsPath, bottleneck, bottleneck_up_to}
 use Rattle.dmf_path.specs.Pair.{pair_steps, steps_from, steps_of, pushed_pair, pushed_from, pushed_pairs}
 use Rattle.dmf_path.proofs.Loops.{AreWithoutLoops}
-use Rattle.dmf_net.specs.declared.arc.Arc.{Arc}
-use Rattle.dmf_net.specs.Flow.{AreWithinCapacities}
+use Rattle.dmf_state.specs.declared.arc.Arc.{Arc}
+use Rattle.dmf_state.specs.Flow.{AreWithinCapacities}
 use Rattle.dmf_solver.specs.Residual.{forward, backward, residual_from, residual_steps, augmented_from, augmented}
 use Rattle.dmf_solver.specs.ResidualNetwork.{residual_pair, residual_pairs}
-use Rattle.dmf_net.specs.Arc.{no_arc}
+use Rattle.dmf_state.specs.Arc.{no_arc}
 use Rattle.dmf_solver.proofs.Augmenting.{bottleneck_up_to-le}
 use Rattle.dmf_solver.proofs.ResidualSteps.{along, against, in-optional, residual-contained}
 

@@ -9,14 +9,14 @@ use Rattle.dmf_path.specs.Path.{IsReachable}
 use Rattle.dmf_path.specs.Pair.{IsPair, ArePairs, steps_of}
 use Rattle.dmf_path.specs.Search.{Searched}
 use Rattle.dmf_path.proofs.Loops.{reachable-without_loops, reachable-within}
-use Rattle.dmf_net.specs.declared.arc.Arc.{Arc}
-use Rattle.dmf_net.specs.Arc.{IsArc, no_arc}
-use Rattle.dmf_net.specs.Flow.{AreWithinCapacities}
-use Rattle.dmf_net.specs.Network.{Network}
-use Rattle.dmf_net.specs.NetworkState.{NetworkState, IsState}
+use Rattle.dmf_state.specs.declared.arc.Arc.{Arc}
+use Rattle.dmf_state.specs.Arc.{IsArc, no_arc}
+use Rattle.dmf_state.specs.Flow.{AreWithinCapacities}
+use Rattle.dmf_state.specs.Network.{Network}
+use Rattle.dmf_state.specs.NetworkState.{NetworkState, IsState}
 use Rattle.dmf_solver.specs.Residual.{residual_steps}
 use Rattle.dmf_solver.specs.ResidualNetwork.{residual_pair, residual_pairs, residual_search}
-use Rattle.dmf_net.proofs.Changing.{within-at}
+use Rattle.dmf_state.proofs.Changing.{within-at}
 use Rattle.dmf_solver.proofs.ResidualPairs.{residual-without_loops}
 
 -- there are as many as arcs

@@ -5,13 +5,13 @@ use Rattle.std.specs.List.{Contains, All, AllPairs}
 use Rattle.std.proofs.lemmas.Bool.{ltb-true}
 use Rattle.std.proofs.lemmas.List.Elements.{All-cons, Contains-get_or, Contains-append_cases}
 use Rattle.std.proofs.lemmas.List.Kept.{AllPairs-cons}
-use Rattle.dmf_net.specs.declared.arc.Arc.{Arc}
+use Rattle.dmf_state.specs.declared.arc.Arc.{Arc}
 use Rattle.dmf_path.specs.Step.{Step}
 use Rattle.dmf_node.specs.Node.{IsNode}
-use Rattle.dmf_net.specs.Arc.{IsArc}
+use Rattle.dmf_state.specs.Arc.{IsArc}
 use Rattle.dmf_path.specs.Steps.{IsStep, AreSteps}
 use Rattle.dmf_solver.specs.Residual.{forward, backward, residual_from, residual_steps}
-use Rattle.dmf_net.specs.Arc.{no_arc}
+use Rattle.dmf_state.specs.Arc.{no_arc}
 
 -- The step leads along the arc at index `k`, where the first arc is number `j`.
 pub record LeadsAlong (j : ℕ) (arcs : List Arc) (k : ℕ) (s : Step) : Type 0 where

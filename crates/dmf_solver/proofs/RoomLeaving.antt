@@ -7,9 +7,9 @@ use Rattle.std.proofs.lemmas.List.Sums.{sum_by-cons}
 use Rattle.dmf_path.specs.declared.pair.Pair.{Pair}
 use Rattle.dmf_path.specs.Step.{Step}
 use Rattle.dmf_path.specs.Path.{IsLeastPath}
-use Rattle.dmf_net.specs.declared.arc.Arc.{Arc}
-use Rattle.dmf_net.specs.Flow.{AreWithinCapacities, outflow, inflow}
-use Rattle.dmf_net.specs.NetworkState.{NetworkState, IsState, with_flows}
+use Rattle.dmf_state.specs.declared.arc.Arc.{Arc}
+use Rattle.dmf_state.specs.Flow.{AreWithinCapacities, outflow, inflow}
+use Rattle.dmf_state.specs.NetworkState.{NetworkState, IsState, with_flows}
 use Rattle.dmf_solver.specs.Residual.{residual_steps, augmented}
 use Rattle.dmf_solver.specs.ResidualNetwork.{residual_pair, residual_pairs}
 use Rattle.dmf_solver.proofs.Augmenting.{room-positive, augmented-value}

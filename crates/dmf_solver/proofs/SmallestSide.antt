@@ -5,10 +5,10 @@ use Rattle.std.proofs.lemmas.Bool.{both_ways}
 use Rattle.std.proofs.lemmas.Int.{ints}
 use Rattle.std.proofs.lemmas.List.Kept.{AllPairs-from_increasing}
 use Rattle.dmf_node.specs.Node.{IsNode}
-use Rattle.dmf_net.specs.Network.{Network, IsNetwork}
-use Rattle.dmf_net.specs.Flow.{IsFlow, flow_value}
-use Rattle.dmf_net.specs.Cut.{cut_capacity, IsMinimumCut, IsInEveryMinimumCut}
-use Rattle.dmf_net.specs.Side.{CutSide, has_node, IsSmallestSide}
+use Rattle.dmf_state.specs.Network.{Network, IsNetwork}
+use Rattle.dmf_state.specs.Flow.{IsFlow, flow_value}
+use Rattle.dmf_state.specs.Cut.{cut_capacity, IsMinimumCut, IsInEveryMinimumCut}
+use Rattle.dmf_state.specs.Side.{CutSide, has_node, IsSmallestSide}
 use Rattle.dmf_path.specs.Search.{Searched}
 use Rattle.dmf_solver.specs.ResidualNetwork.{residual_search}
 use Rattle.dmf_solver.specs.Pairs.{IsReachedSide}
@@ -17,7 +17,7 @@ use Rattle.dmf_path.specs.Path.{HasNoPath}
 use Rattle.dmf_solver.specs.Residual.{residual_steps}
 use Rattle.dmf_solver.proofs.MaxFlowMinCut.{AreTight, tight-from_capacity, closed-from_tight, AreReached, reached-cut, reached-capacity, reached-minimum_cut}
 use Rattle.dmf_solver.proofs.Reached.{path-stays}
-use Rattle.dmf_net.proofs.Ascending.{same-nodes}
+use Rattle.dmf_state.proofs.Ascending.{same-nodes}
 use Rattle.dmf_solver.specs.Laws.{HasOneSmallestSide}
 
 -- A minimum cut is tight, where the value of the flow is the capacity of some cut, as of the nodes that are reached.

@@ -1,19 +1,19 @@
 -- The edit of a solve: its moves list where the flow that the search has reached differs.
 use Rattle.std.proofs.Common.{ℕ, ◌≡◌, ◌∙◌, List, Vec, Global, ap, refl, subst, sym}
 use Rattle.dmf_path.specs.Search.{Searched}
-use Rattle.dmf_net.specs.declared.edit.Move.{Move}
-use Rattle.dmf_net.specs.declared.edit.Edit.TheVariants as edit
-use Rattle.dmf_net.specs.Cut.{HasCutOf}
-use Rattle.dmf_net.specs.Edit.{applied, differences}
-use Rattle.dmf_net.specs.Flow.{flow_value}
+use Rattle.dmf_state.specs.declared.edit.Move.{Move}
+use Rattle.dmf_state.specs.declared.edit.Edit.TheVariants as edit
+use Rattle.dmf_state.specs.Cut.{HasCutOf}
+use Rattle.dmf_state.specs.Edit.{applied, differences}
+use Rattle.dmf_state.specs.Flow.{flow_value}
 use Rattle.dmf_solver.specs.Greatest.{IsGreatest}
-use Rattle.dmf_net.specs.NetworkState.{NetworkState, IsState, with_flows}
+use Rattle.dmf_state.specs.NetworkState.{NetworkState, IsState, with_flows}
 use Rattle.dmf_solver.specs.Pairs.{IsSolved, reached_flows}
 use Rattle.dmf_solver.specs.Planning.{PlansSolve}
 use Rattle.dmf_solver.specs.ResidualNetwork.{IsResidualOf, residual_search}
 use Rattle.dmf_solver.specs.Solve.{Solves}
 use Rattle.dmf_solver.proofs.GreatestFlow.{greatest-from_no_path, cut-from_no_path}
-use Rattle.dmf_net.proofs.Moving.{AreMovesBetween, moves-between, flows-long}
+use Rattle.dmf_state.proofs.Moving.{AreMovesBetween, moves-between, flows-long}
 
 -- The moves lead from the flow of the state to that which the search has reached.
 between : (s : NetworkState) (search : Searched) (value : ℕ) (moves : List Move) → IsState s → IsSolved s search value → moves ≡ differences 1 s.flows (reached_flows s search) → AreMovesBetween moves s.flows (reached_flows s search)

@@ -2,8 +2,8 @@
 use Rattle.std.proofs.Common.{ℕ, List, [], ◌∷◌, ◌++◌, ap, subst, sym, arith}
 use Rattle.std.proofs.lemmas.Int.{ints}
 use Rattle.dmf_path.specs.Step.{Step}
-use Rattle.dmf_net.specs.Network.{Network}
-use Rattle.dmf_net.specs.NetworkState.{NetworkState, IsState, with_flows}
+use Rattle.dmf_state.specs.Network.{Network}
+use Rattle.dmf_state.specs.NetworkState.{NetworkState, IsState, with_flows}
 use Rattle.dmf_path.specs.Path.{IsLeastPath}
 use Rattle.dmf_solver.specs.Residual.{residual_steps, augmented}
 use Rattle.dmf_solver.specs.Solve.{Augments}

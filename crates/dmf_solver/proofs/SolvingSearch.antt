@@ -14,11 +14,11 @@ use Rattle.dmf_path.specs.Pair.{pair_steps, steps_from, steps_of, pushed_pairs}
 use Rattle.dmf_path.specs.declared.search.AugmentingPath.{AugmentingPath}
 use Rattle.dmf_path.specs.Search.{Searched, Augments}
 use Rattle.dmf_path.proofs.Loops.{least-without_loops, no_path-without_loops}
-use Rattle.dmf_net.specs.declared.arc.Arc.{Arc}
-use Rattle.dmf_net.specs.Arc.{no_arc}
-use Rattle.dmf_net.specs.Network.{Network, IsNetwork}
-use Rattle.dmf_net.specs.Flow.{AreWithinCapacities, IsFlow, flow_value}
-use Rattle.dmf_net.specs.NetworkState.{NetworkState, IsState, with_flows}
+use Rattle.dmf_state.specs.declared.arc.Arc.{Arc}
+use Rattle.dmf_state.specs.Arc.{no_arc}
+use Rattle.dmf_state.specs.Network.{Network, IsNetwork}
+use Rattle.dmf_state.specs.Flow.{AreWithinCapacities, IsFlow, flow_value}
+use Rattle.dmf_state.specs.NetworkState.{NetworkState, IsState, with_flows}
 use Rattle.dmf_solver.specs.Residual.{residual_steps, augmented}
 use Rattle.dmf_solver.specs.Solve.{Solves}
 use Rattle.dmf_solver.specs.ResidualNetwork.{residual_pair, residual_pairs, residual_search}
@@ -28,7 +28,7 @@ use Rattle.dmf_solver.proofs.Augmenting.{augmented-value, value-le-capacities}
 use Rattle.dmf_solver.proofs.AugmentedPushed.{get_or-augmented_from}
 use Rattle.dmf_solver.proofs.FlowsRead.{length-flows_read}
 use Rattle.dmf_solver.proofs.ResidualPairs.{is_loop, residual-without_loops, step-of_least, residual_pairs-augmented}
-use Rattle.dmf_net.proofs.Changing.{within-at}
+use Rattle.dmf_state.proofs.Changing.{within-at}
 use Rattle.dmf_solver.proofs.ResidualSearch.{length-residual_pairs}
 use Rattle.dmf_solver.proofs.ResidualSteps.{IsResidual, along, against, in-optional, residual-contained}
 use Rattle.dmf_solver.proofs.RoomLeaving.{room_leaving, room_leaving-falls}

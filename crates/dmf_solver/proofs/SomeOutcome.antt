@@ -3,27 +3,27 @@ use Rattle.std.proofs.Common.{ℕ, ◌≡◌, ◌+◌, ◌^◌, ◌&&◌, zero, 
 use Rattle.std.proofs.lemmas.Bool.{both_ways}
 use Rattle.std.proofs.lemmas.Int.{ints}
 use Rattle.std.proofs.lemmas.Slice.Zip.{AllZip-long}
-use Rattle.dmf_net.specs.declared.arc.Arc.{Arc}
-use Rattle.dmf_net.specs.declared.fault.ArcFault.TheVariants.{NoSuchNode, TooManyArcs, SumTooLarge}
+use Rattle.dmf_state.specs.declared.arc.Arc.{Arc}
+use Rattle.dmf_state.specs.declared.fault.ArcFault.TheVariants.{NoSuchNode, TooManyArcs, SumTooLarge}
 use Rattle.dmf_solver.specs.declared.fault.PlanFault.TheVariants as plan
 use Rattle.dmf_solver.specs.declared.fault.PlanFault.TheVariants.{Closed, NoSuchArc}
 use Rattle.dmf_node.specs.Node.{is_node}
-use Rattle.dmf_net.specs.Arc.{IsArc, open_arc, with_cap, closed_arc, capacity_sum, open_arcs_at}
-use Rattle.dmf_net.specs.Network.{Network, IsNetwork, arc_number, has_arc, with_arc}
-use Rattle.dmf_net.specs.Flow.{IsFlow, flow_value}
-use Rattle.dmf_net.specs.NetworkState.{NetworkState, IsState, with_idle_arc, with_flows}
+use Rattle.dmf_state.specs.Arc.{IsArc, open_arc, with_cap, closed_arc, capacity_sum, open_arcs_at}
+use Rattle.dmf_state.specs.Network.{Network, IsNetwork, arc_number, has_arc, with_arc}
+use Rattle.dmf_state.specs.Flow.{IsFlow, flow_value}
+use Rattle.dmf_state.specs.NetworkState.{NetworkState, IsState, with_idle_arc, with_flows}
 use Rattle.dmf_solver.specs.Residual.{residual_steps, augmented}
 use Rattle.dmf_solver.specs.Solve.{Solves}
 use Rattle.dmf_solver.specs.Drain.{Drains}
 use Rattle.dmf_solver.specs.Change.{Cap, Add, Close, Shut, Solve, Closes, plan_fault}
-use Rattle.dmf_net.specs.Network.{sum_with}
-use Rattle.dmf_net.proofs.IdleArc.{IsState-idle, IsNode-is_node}
+use Rattle.dmf_state.specs.Network.{sum_with}
+use Rattle.dmf_state.proofs.IdleArc.{IsState-idle, IsNode-is_node}
 use Rattle.dmf_path.proofs.SomeLeast.{SomeLeast, least-or-none}
 use Rattle.dmf_solver.proofs.ResidualSteps.{AreSteps-residual}
-use Rattle.dmf_net.proofs.ChangedArc.{IsNetwork-with_arc, IsFlow-with_arc, flow_value-with_arc}
+use Rattle.dmf_state.proofs.ChangedArc.{IsNetwork-with_arc, IsFlow-with_arc, flow_value-with_arc}
 use Rattle.dmf_solver.proofs.Draining.{drains-state, SomeDrained, some-drained}
-use Rattle.dmf_net.proofs.ClosedArcs.{HasArcs}
-use Rattle.dmf_net.proofs.ClosedTogether.{IsNetwork-closed, HasArcs-closed, HasArcs-at}
+use Rattle.dmf_state.proofs.ClosedArcs.{HasArcs}
+use Rattle.dmf_state.proofs.ClosedTogether.{IsNetwork-closed, HasArcs-closed, HasArcs-at}
 use Rattle.dmf_solver.proofs.Augmenting.{room-positive, augmented-flow, augmented-value, value-le-capacities}
 use Rattle.dmf_solver.specs.Laws.{HasOutcome, Outcome}
 

@@ -3,16 +3,16 @@ use Rattle.std.proofs.Common.{ℕ, zero, suc, ◌≡◌, ◌+◌, ◌-◌, List,
 use Rattle.std.proofs.lemmas.Bool.{both_ways, cases_eq}
 use Rattle.std.proofs.lemmas.List.{get_or_append_left, get_or_push, length_push}
 use Rattle.dmf_node.specs.Node.{IsNode}
-use Rattle.dmf_net.specs.Network.{Network, IsNetwork}
-use Rattle.dmf_net.specs.Flow.{IsFlow}
-use Rattle.dmf_net.specs.NetworkState.{IsState}
-use Rattle.dmf_net.specs.Cut.{cut_capacity}
-use Rattle.dmf_net.specs.Side.{CutSide, IsSmallestSide, has_node}
+use Rattle.dmf_state.specs.Network.{Network, IsNetwork}
+use Rattle.dmf_state.specs.Flow.{IsFlow}
+use Rattle.dmf_state.specs.NetworkState.{IsState}
+use Rattle.dmf_state.specs.Cut.{cut_capacity}
+use Rattle.dmf_state.specs.Side.{CutSide, IsSmallestSide, has_node}
 use Rattle.dmf_path.specs.Path.{HasNoPath}
 use Rattle.dmf_solver.specs.Residual.{residual_steps}
 use Rattle.dmf_solver.specs.Change.{Solve}
 use Rattle.dmf_solver.specs.Laws.{HasSmallestSide, IsGreatestOrSurpassed, SolvedIsGreatest}
-use Rattle.dmf_net.proofs.Ascending.{AreMarkedUpTo, marked-skip, marked-push}
+use Rattle.dmf_state.proofs.Ascending.{AreMarkedUpTo, marked-skip, marked-push}
 use Rattle.dmf_solver.proofs.Reached.{is_reached, AreReachedFrom-is_reached}
 use Rattle.dmf_solver.proofs.MaxFlowMinCut.{AreReached, reached-capacity}
 use Rattle.dmf_solver.proofs.SmallestSide.{IsSmallestSide-reached}

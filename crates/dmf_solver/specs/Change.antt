@@ -1,17 +1,17 @@
 -- The changes that a user may ask for: which are refused, and what the others make of a state.
 -- Public: a public contract says no more than this.
 use Rattle.std.specs.Prelude.{ℕ, ◌≡◌, ◌^◌, if◌then◌else◌, List, [], ◌∷◌, nat_lt, Option, Some, None, is_none, option_map, ⊤}
-use Rattle.dmf_net.specs.declared.edit.Edit.{Edit}
-use Rattle.dmf_net.specs.declared.edit.Edit.TheVariants as edit
-use Rattle.dmf_net.specs.declared.fault.ArcFault.{ArcFault}
-use Rattle.dmf_net.specs.declared.fault.ArcFault.TheVariants.{NoSuchNode, TooManyArcs, SumTooLarge}
+use Rattle.dmf_state.specs.declared.edit.Edit.{Edit}
+use Rattle.dmf_state.specs.declared.edit.Edit.TheVariants as edit
+use Rattle.dmf_state.specs.declared.fault.ArcFault.{ArcFault}
+use Rattle.dmf_state.specs.declared.fault.ArcFault.TheVariants.{NoSuchNode, TooManyArcs, SumTooLarge}
 use Rattle.dmf_solver.specs.declared.fault.PlanFault.{PlanFault}
 use Rattle.dmf_solver.specs.declared.fault.PlanFault.TheVariants as plan
 use Rattle.dmf_node.specs.Node.{is_node}
-use Rattle.dmf_net.specs.Arc.{open_arc, with_cap, closed_arc, open_arcs_at}
-use Rattle.dmf_net.specs.ArcFault.{arc_fault}
-use Rattle.dmf_net.specs.Network.{Network, arc_number, has_arc, with_arc, sum_with}
-use Rattle.dmf_net.specs.NetworkState.{NetworkState, with_idle_arc}
+use Rattle.dmf_state.specs.Arc.{open_arc, with_cap, closed_arc, open_arcs_at}
+use Rattle.dmf_state.specs.ArcFault.{arc_fault}
+use Rattle.dmf_state.specs.Network.{Network, arc_number, has_arc, with_arc, sum_with}
+use Rattle.dmf_state.specs.NetworkState.{NetworkState, with_idle_arc}
 use Rattle.dmf_solver.specs.Solve.{Solves}
 use Rattle.dmf_solver.specs.Drain.{Drains}
 

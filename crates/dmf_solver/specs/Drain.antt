@@ -4,10 +4,10 @@
 -- Public: a public contract says no more than this.
 use Rattle.std.specs.Prelude.{ℕ, ◌≡◌, ◌+◌, ◌-◌, ◌*◌, ◌<◌, ◌≤◌, ◌==◌, ◌||◌, if◌then◌else◌, List, [], ◌∷◌, ◌++◌, length, nat_lt, pos, ◌-ℤ◌, ◌≤ℤ◌}
 use Rattle.std.specs.List.{AllZip}
-use Rattle.dmf_net.specs.declared.arc.Arc.{Arc}
+use Rattle.dmf_state.specs.declared.arc.Arc.{Arc}
 use Rattle.dmf_path.specs.Step.{Step}
-use Rattle.dmf_net.specs.Network.{Network, arc_number}
-use Rattle.dmf_net.specs.Flow.{flow_on, outflow, inflow, IsFlow, flow_value}
+use Rattle.dmf_state.specs.Network.{Network, arc_number}
+use Rattle.dmf_state.specs.Flow.{flow_on, outflow, inflow, IsFlow, flow_value}
 use Rattle.dmf_path.specs.Path.{IsLeastPath, has_rank, bottleneck_up_to}
 
 -- the step along arc number `j`, where some flow is on it

@@ -1,12 +1,12 @@
 -- The arcs of a network as an edit leaves them, each read through the edit.
 -- Private: only contracts inside the crate and proofs use this.
 use Rattle.std.specs.Prelude.{ℕ, ◌+◌, ◌-◌, ◌==◌, if◌then◌else◌, List, []}
-use Rattle.dmf_net.specs.declared.arc.Arc.{Arc}
-use Rattle.dmf_net.specs.declared.edit.Shutting.{Shutting}
-use Rattle.dmf_net.specs.declared.edit.Edit.{Edit}
-use Rattle.dmf_net.specs.declared.edit.Edit.TheVariants.{Cap, Add, Close, Shut, Solve}
-use Rattle.dmf_net.specs.Arc.{open_arc, with_cap, closed_arc, no_arc}
-use Rattle.dmf_net.specs.Edit.{shuts}
+use Rattle.dmf_state.specs.declared.arc.Arc.{Arc}
+use Rattle.dmf_state.specs.declared.edit.Shutting.{Shutting}
+use Rattle.dmf_state.specs.declared.edit.Edit.{Edit}
+use Rattle.dmf_state.specs.declared.edit.Edit.TheVariants.{Cap, Add, Close, Shut, Solve}
+use Rattle.dmf_state.specs.Arc.{open_arc, with_cap, closed_arc, no_arc}
+use Rattle.dmf_state.specs.Edit.{shuts}
 
 -- the arcs that the edit shuts
 abbrev pub shuttings_of : Edit → List Shutting

@@ -1,8 +1,8 @@
 -- Greatest flows, as the textbooks have them (Ahuja, Magnanti and Orlin, Network Flows, section 1.2).
 -- Public: a public contract says no more than this.
 use Rattle.std.specs.Prelude.{ℕ, List, ◌≤ℤ◌, ◌<ℤ◌}
-use Rattle.dmf_net.specs.Network.{Network}
-use Rattle.dmf_net.specs.Flow.{IsFlow, flow_value}
+use Rattle.dmf_state.specs.Network.{Network}
+use Rattle.dmf_state.specs.Flow.{IsFlow, flow_value}
 
 -- No flow of the network has a larger value, those of a value below 0 included.
 pub record IsGreatest (n : Network) (flows : List ℕ) : Type 0 where

@@ -1,12 +1,12 @@
 -- What is so of every network and of every change.
 -- Public: a public contract says no more than this.
 use Rattle.std.specs.Prelude.{ℕ, ◌≡◌, ◌⊎◌, List, None}
-use Rattle.dmf_net.specs.Network.{Network, IsNetwork}
-use Rattle.dmf_net.specs.Flow.{IsFlow, flow_value}
+use Rattle.dmf_state.specs.Network.{Network, IsNetwork}
+use Rattle.dmf_state.specs.Flow.{IsFlow, flow_value}
 use Rattle.dmf_solver.specs.Greatest.{IsGreatest, IsSurpassed}
-use Rattle.dmf_net.specs.Cut.{HasMinimumCutOf}
-use Rattle.dmf_net.specs.Side.{CutSide, IsSmallestSide}
-use Rattle.dmf_net.specs.NetworkState.{NetworkState, IsState}
+use Rattle.dmf_state.specs.Cut.{HasMinimumCutOf}
+use Rattle.dmf_state.specs.Side.{CutSide, IsSmallestSide}
+use Rattle.dmf_state.specs.NetworkState.{NetworkState, IsState}
 use Rattle.dmf_solver.specs.Change.{Change, Solve, change_fault, Becomes}
 
 -- ---- networks

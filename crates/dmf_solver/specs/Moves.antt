@@ -1,12 +1,12 @@
 -- The moves that drain an arc.
 -- Private: only contracts inside the crate and proofs use this.
 use Rattle.std.specs.Prelude.{ℕ, ◌≡◌, ◌≢◌, ◌+◌, ◌-◌, List, [], ◌∷◌, slice_index}
-use Rattle.dmf_net.specs.declared.edit.Move.{Move}
+use Rattle.dmf_state.specs.declared.edit.Move.{Move}
 use Rattle.dmf_solver.specs.Drain.{Drains, TakesOff}
-use Rattle.dmf_net.specs.Flow.{flow_on, flow_on_all}
-use Rattle.dmf_net.specs.Edit.{moved, MovesFit, differences}
-use Rattle.dmf_net.specs.Network.{Network}
-use Rattle.dmf_net.specs.NetworkState.{NetworkState, IsState, with_flows}
+use Rattle.dmf_state.specs.Flow.{flow_on, flow_on_all}
+use Rattle.dmf_state.specs.Edit.{moved, MovesFit, differences}
+use Rattle.dmf_state.specs.Network.{Network}
+use Rattle.dmf_state.specs.NetworkState.{NetworkState, IsState, with_flows}
 
 -- Draining the arcs of these numbers to 0 in turn makes `flows` into `last`.
 abbrev pub DrainsInTurn : Network → List ℕ → List ℕ → List ℕ → Type 0

@@ -9,16 +9,16 @@ use Rattle.dmf_node.specs.Node.{IsNode}
 use Rattle.dmf_path.specs.Pair.{steps_of}
 use Rattle.dmf_path.specs.Path.{IsReachable}
 use Rattle.dmf_path.specs.Search.{Searched, pair_number, pair_with}
-use Rattle.dmf_net.specs.declared.arc.Arc.{Arc}
-use Rattle.dmf_net.specs.Arc.{no_arc}
+use Rattle.dmf_state.specs.declared.arc.Arc.{Arc}
+use Rattle.dmf_state.specs.Arc.{no_arc}
 use Rattle.dmf_solver.specs.declared.moves.FlowLink.{FlowLink}
 use Rattle.dmf_solver.specs.declared.moves.FlowLink.TheVariants.{Along, Against}
-use Rattle.dmf_net.specs.Network.{Network}
-use Rattle.dmf_net.specs.Flow.{flow_value}
-use Rattle.dmf_net.specs.NetworkState.{NetworkState, IsState, with_flows}
+use Rattle.dmf_state.specs.Network.{Network}
+use Rattle.dmf_state.specs.Flow.{flow_value}
+use Rattle.dmf_state.specs.NetworkState.{NetworkState, IsState, with_flows}
 use Rattle.dmf_solver.specs.ResidualNetwork.{residual_search}
 use Rattle.dmf_solver.specs.Solve.{Solves}
-use Rattle.dmf_net.specs.Side.{CutSide, has_node}
+use Rattle.dmf_state.specs.Side.{CutSide, has_node}
 use Rattle.dmf_solver.specs.Drain.{value_or_zero}
 
 -- The pair of an arc for its carrying step: along it what flows. An arc that comes back to its tail has none, nor has one

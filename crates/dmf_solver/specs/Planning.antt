@@ -1,12 +1,12 @@
 -- What is said of a plan that solves.
 -- Public: a public contract says no more than this.
-use Rattle.dmf_net.specs.declared.edit.Edit.{Edit}
+use Rattle.dmf_state.specs.declared.edit.Edit.{Edit}
 use Rattle.dmf_solver.specs.Change.{Solve, Becomes, IsEditOf}
-use Rattle.dmf_net.specs.Cut.{HasCutOf}
-use Rattle.dmf_net.specs.Edit.{applied, Fits, ListsDifferences}
-use Rattle.dmf_net.specs.Flow.{flow_value}
+use Rattle.dmf_state.specs.Cut.{HasCutOf}
+use Rattle.dmf_state.specs.Edit.{applied, Fits, ListsDifferences}
+use Rattle.dmf_state.specs.Flow.{flow_value}
 use Rattle.dmf_solver.specs.Greatest.{IsGreatest}
-use Rattle.dmf_net.specs.NetworkState.{NetworkState}
+use Rattle.dmf_state.specs.NetworkState.{NetworkState}
 
 -- The edit makes the state that solving makes: its flow is greatest, and its value is the capacity of a cut.
 pub record PlansSolve (s : NetworkState) (edit : Edit) : Type 0 where

@@ -3,7 +3,7 @@
 -- Public: a public contract says no more than this.
 use Rattle.std.specs.Prelude.{ℕ, ◌≡◌, List, [], ◌∷◌}
 use Rattle.dmf_path.specs.Step.{Step}
-use Rattle.dmf_net.specs.Network.{Network}
+use Rattle.dmf_state.specs.Network.{Network}
 use Rattle.dmf_path.specs.Path.{IsLeastPath, HasNoPath}
 use Rattle.dmf_solver.specs.Residual.{residual_steps, augmented}
 

@@ -1,7 +1,7 @@
 ghost use Rattle.std.specs.Prelude.{◌≡◌, ◌==◌, ◌||◌, if◌then◌else◌, Some, None};
 
-use dmf_net::State;
 use dmf_path::{Pair, Pairs};
+use dmf_state::State;
 
 /// The pairs of links that stand for the carrying steps of a state's flow: one for each arc on which something flows to
 /// another node, and after all arcs one for the return link.

@@ -1,15 +1,15 @@
 ghost use Rattle.std.specs.Prelude.{◌≡◌, ◌≢◌, ◌≤◌, ℕ, true, List, [], ◌∷◌, length, IfOk, IsOk};
 ghost use Rattle.dmf_solver.specs.declared.moves.FlowLink.TheVariants.{Along};
-ghost use Rattle.dmf_net.specs.Network.{arc_number, has_arc};
-ghost use Rattle.dmf_net.specs.Flow.{flow_on};
+ghost use Rattle.dmf_state.specs.Network.{arc_number, has_arc};
+ghost use Rattle.dmf_state.specs.Flow.{flow_on};
 ghost use Rattle.dmf_solver.specs.Drain.{Drains};
 ghost use Rattle.dmf_solver.specs.Moves.{AreDrainingMoves};
 ghost use Rattle.dmf_solver.specs.Pairs.{IsCarryingSearch, flows_read};
 
 use crate::carrying_pairs::CarryingPairs;
 use crate::moves::{FlowLink, list_moves};
-use dmf_net::{Move, State};
 use dmf_path::Search;
+use dmf_state::{Move, State};
 use std::alloc::{AllocError, Global};
 
 /// The moves that drain arc number `j` to the limit. Where no more than that flows on it, there are none, and nothing

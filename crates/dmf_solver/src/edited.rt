@@ -1,12 +1,12 @@
 //! A state as an edit leaves it, read through the edit: neither the state nor its arcs are copied.
 ghost use Rattle.std.specs.Prelude.{◌≡◌, IfOk, pos};
-ghost use Rattle.dmf_net.specs.Edit.{applied, moved, moves_of, Fits, MovesFit};
-ghost use Rattle.dmf_net.specs.Flow.{flow_value};
+ghost use Rattle.dmf_state.specs.Edit.{applied, moved, moves_of, Fits, MovesFit};
+ghost use Rattle.dmf_state.specs.Flow.{flow_value};
 ghost use Rattle.dmf_solver.specs.ResidualNetwork.{residual_search};
 
 use crate::edited_pairs::EditedPairs;
-use dmf_net::{Edit, Move, State, node_flow};
 use dmf_path::Search;
+use dmf_state::{Edit, Move, State, node_flow};
 use std::alloc::{AllocError, Global};
 
 /// A search for augmenting paths of the flow that an edit makes of the state's, and the value of that flow.

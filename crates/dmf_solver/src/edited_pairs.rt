@@ -1,12 +1,12 @@
 ghost use Rattle.std.specs.Prelude.{◌≡◌, ◌∷◌, ◌-◌, ◌<◌, ◌^◌, length};
 ghost use Rattle.std.specs.List.Sorted.{IsStrictlyIncreasing};
-ghost use Rattle.dmf_net.specs.Edit.{applied, numbers};
+ghost use Rattle.dmf_state.specs.Edit.{applied, numbers};
 ghost use Rattle.dmf_solver.specs.Edited.{arc_after, added_arc, shuttings_of};
-ghost use Rattle.dmf_net.specs.Edit.{shuts};
+ghost use Rattle.dmf_state.specs.Edit.{shuts};
 
 use crate::residual::residual_pair;
-use dmf_net::{Arc, Edit, Shutting, State};
 use dmf_path::{Pair, Pairs};
+use dmf_state::{Arc, Edit, Shutting, State};
 
 /// The pairs of links that stand for the residual steps of the flow that an edit makes of a state's: one for each arc, but
 /// for those that come back to their tails.

@@ -3,7 +3,7 @@ ghost use Rattle.dmf_solver.specs.declared.fault.PlanFault.TheVariants as plan;
 ghost use Rattle.dmf_solver.specs.declared.fault.CutFault.TheVariants as cut;
 ghost use Rattle.dmf_solver.specs.Change.{plan_fault};
 
-use dmf_net::{ArcFault, NoMemory};
+use dmf_state::{ArcFault, NoMemory};
 use std::alloc::AllocError;
 use thiserror::Error;
 

@@ -2,13 +2,13 @@
 //! other rooms.
 ghost use Rattle.std.specs.Prelude.{◌≡◌, ◌-◌, ◌<◌, ◌≤◌, ℕ, List, length};
 ghost use Rattle.dmf_path.specs.Search.{with_pairs};
-ghost use Rattle.dmf_net.specs.Direction.{along, edited_along, FitsAlong};
-ghost use Rattle.dmf_net.specs.Edit.{moved, AddsArc, MovesFit};
+ghost use Rattle.dmf_state.specs.Direction.{along, edited_along, FitsAlong};
+ghost use Rattle.dmf_state.specs.Edit.{moved, AddsArc, MovesFit};
 ghost use Rattle.dmf_solver.specs.Pairs.{with_capacity};
 ghost use Rattle.dmf_solver.specs.ResidualNetwork.{residual_search, IsResidualOf};
 
-use dmf_net::{Direction, Edit, Move, State};
 use dmf_path::Search;
+use dmf_state::{Direction, Edit, Move, State};
 
 /// Gives the links of each arc that the moves name the rooms that its flow leaves once they are made, or taken back.
 pub fn put_flows(search: &mut Search, state: &State, moves: &[Move], direction: Direction)

@@ -1,12 +1,12 @@
 ghost use Rattle.std.specs.Prelude.{◌≡◌, ◌^◌, ◌<◌, ◌≤◌, length, slice_index, IfOk, MatchOption};
 ghost use Rattle.std.specs.List.{AllZip};
-ghost use Rattle.dmf_net.specs.Edit.{differences};
+ghost use Rattle.dmf_state.specs.Edit.{differences};
 ghost use Rattle.dmf_solver.specs.Moves.{Stays, IsMoveAt};
 ghost use Rattle.dmf_solver.specs.Pairs.{flow_read, flows_read};
 ghost use Rattle.dmf_path.specs.Search.{Covers, indices_of, pair_number};
 
-use dmf_net::Move;
 use dmf_path::{Indices, Search};
+use dmf_state::Move;
 use std::alloc::{AllocError, Global};
 
 /// Which link of an arc's pair has the flow on the arc as its room.

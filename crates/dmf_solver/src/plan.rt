@@ -1,15 +1,15 @@
 ghost use Rattle.std.specs.Prelude.{◌≡◌, ◌≢◌, ◌-◌, ◌≤◌, Err, IfOk, IsOkUnless, MatchOption, pos};
 ghost use Rattle.std.specs.Result.{result_err};
 ghost use Rattle.dmf_solver.specs.Change.{Cap, Close, Add, Shut, Solve, arc_refusal, change_fault, Becomes, IsEditOf};
-ghost use Rattle.dmf_net.specs.Cut.{HasCutOf};
+ghost use Rattle.dmf_state.specs.Cut.{HasCutOf};
 ghost use Rattle.dmf_solver.specs.Drain.{TakesOff};
-ghost use Rattle.dmf_net.specs.Arc.{open_arcs_at};
-ghost use Rattle.dmf_net.specs.Edit.{applied, shut_arcs, Fits, IsOpenWith, ListsDifferences};
-ghost use Rattle.dmf_net.specs.Flow.{flow_on, flow_on_all, flow_value};
+ghost use Rattle.dmf_state.specs.Arc.{open_arcs_at};
+ghost use Rattle.dmf_state.specs.Edit.{applied, shut_arcs, Fits, IsOpenWith, ListsDifferences};
+ghost use Rattle.dmf_state.specs.Flow.{flow_on, flow_on_all, flow_value};
 ghost use Rattle.dmf_solver.specs.Greatest.{IsGreatest};
 ghost use Rattle.dmf_solver.specs.Pairs.{IsSolved, reached_flows};
 ghost use Rattle.dmf_solver.specs.Planning.{PlansSolve};
-ghost use Rattle.dmf_net.specs.Side.{IsSmallestSide};
+ghost use Rattle.dmf_state.specs.Side.{IsSmallestSide};
 
 use crate::drain::drain;
 use crate::fault::PlanFault;
@@ -19,7 +19,7 @@ use crate::side::solved_side;
 use crate::solve::{Solved, solve};
 use crate::solved_moves::{into_flows, list_differences};
 use crate::watch::{Unwatched, Watch};
-use dmf_net::{Edit, Side, State};
+use dmf_state::{Edit, Side, State};
 use std::alloc::Global;
 
 /// Plans capacity `cap` for arc number `j`, without changing the state. Where more flows on the arc than that, it is

@@ -1,9 +1,9 @@
 ghost use Rattle.std.specs.Prelude.{◌≡◌, IfOk};
-ghost use Rattle.dmf_net.specs.NetworkState.{IsState};
+ghost use Rattle.dmf_state.specs.NetworkState.{IsState};
 ghost use Rattle.dmf_solver.specs.ResidualNetwork.{residual_pair, IsResidualOf};
 
-use dmf_net::{Arc, State};
 use dmf_path::{Pair, Pairs, Search};
+use dmf_state::{Arc, State};
 use std::alloc::{AllocError, Global};
 
 /// A search for augmenting paths of the state's flow, from the source to the sink. Takes memory for two links an arc and

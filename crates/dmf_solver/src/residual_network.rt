@@ -1,12 +1,12 @@
 ghost use Rattle.std.specs.Prelude.{◌≡◌, ◌↔◌, None, pos, IfErr, IfOk, IfSome, IsOkUnless, OnOk};
-ghost use Rattle.dmf_net.specs.Direction.{edited_along, FitsAlong};
-ghost use Rattle.dmf_net.specs.Edit.{applied, AddsArc, Fits};
-ghost use Rattle.dmf_net.specs.Flow.{flow_value};
+ghost use Rattle.dmf_state.specs.Direction.{edited_along, FitsAlong};
+ghost use Rattle.dmf_state.specs.Edit.{applied, AddsArc, Fits};
+ghost use Rattle.dmf_state.specs.Flow.{flow_value};
 ghost use Rattle.dmf_solver.specs.Greatest.{IsGreatest, IsSurpassed};
 ghost use Rattle.dmf_solver.specs.Planning.{PlansSolve};
 ghost use Rattle.dmf_solver.specs.ResidualNetwork.{IsResidualOf};
-ghost use Rattle.dmf_net.specs.Revert.{reverted, Stands};
-ghost use Rattle.dmf_net.specs.Side.{IsSmallestSide};
+ghost use Rattle.dmf_state.specs.Revert.{reverted, Stands};
+ghost use Rattle.dmf_state.specs.Side.{IsSmallestSide};
 
 use crate::edited::moves_of;
 use crate::fault::{CutFault, PlanFault};
@@ -16,8 +16,8 @@ use crate::side::{side_along, solved_side};
 use crate::solve::{Solved, solve};
 use crate::solved_moves::list_reached;
 use crate::watch::Watch;
-use dmf_net::{Direction, Edit, NoMemory, Side, State};
 use dmf_path::Search;
+use dmf_state::{Direction, Edit, NoMemory, Side, State};
 use std::alloc::Global;
 use std::marker::Model;
 

@@ -1,18 +1,18 @@
 //! Every open arc at a node is closed.
 ghost use Rattle.std.specs.Prelude.{◌≡◌, ◌≤◌, ℕ, true, false, length, map, IfOk};
 ghost use Rattle.dmf_solver.specs.declared.moves.FlowLink.TheVariants.{Along};
-ghost use Rattle.dmf_net.specs.Arc.{open_arcs_at};
+ghost use Rattle.dmf_state.specs.Arc.{open_arcs_at};
 ghost use Rattle.dmf_solver.specs.Drain.{Drains};
-ghost use Rattle.dmf_net.specs.Edit.{AreOpenWith, numbers};
-ghost use Rattle.dmf_net.specs.Flow.{flow_on_all};
+ghost use Rattle.dmf_state.specs.Edit.{AreOpenWith, numbers};
+ghost use Rattle.dmf_state.specs.Flow.{flow_on_all};
 ghost use Rattle.dmf_solver.specs.Moves.{AreShuttingMoves};
-ghost use Rattle.dmf_net.specs.Network.{has_arc};
+ghost use Rattle.dmf_state.specs.Network.{has_arc};
 ghost use Rattle.dmf_solver.specs.Pairs.{IsCarryingSearch, flows_read};
 
 use crate::drain::{carrying_search, drain_along};
 use crate::moves::{FlowLink, list_moves};
-use dmf_net::{Move, Shutting, State};
 use dmf_path::{Indices, Search};
+use dmf_state::{Move, Shutting, State};
 use std::alloc::{AllocError, Global};
 
 /// The open arcs at node `v`, in the order of their numbers.

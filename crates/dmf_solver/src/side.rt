@@ -2,19 +2,19 @@ ghost use Rattle.std.specs.Prelude.{◌≡◌, ◌-◌, ◌≤◌, ◌↔◌, �
 ghost use Rattle.std.specs.List.{slice_index_or};
 ghost use Rattle.std.specs.List.Sorted.{IsStrictlyIncreasing};
 ghost use Rattle.dmf_node.specs.Node.{IsNode};
-ghost use Rattle.dmf_net.specs.Flow.{flow_value};
+ghost use Rattle.dmf_state.specs.Flow.{flow_value};
 ghost use Rattle.dmf_solver.specs.Greatest.{IsGreatest, IsSurpassed};
-ghost use Rattle.dmf_net.specs.Side.{has_node, IsSmallestSide};
+ghost use Rattle.dmf_state.specs.Side.{has_node, IsSmallestSide};
 ghost use Rattle.dmf_solver.specs.Pairs.{IsReachedSide, IsSolved};
-ghost use Rattle.dmf_net.specs.Edit.{applied, Fits};
+ghost use Rattle.dmf_state.specs.Edit.{applied, Fits};
 ghost use Rattle.dmf_solver.specs.ResidualNetwork.{IsResidualOf};
 
 use crate::edited::edited_search;
 use crate::fault::CutFault;
 use crate::residual::residual_search;
 use crate::solve::Solved;
-use dmf_net::{Edit, Side, State};
 use dmf_path::Search;
+use dmf_state::{Edit, Side, State};
 use std::alloc::{AllocError, Global};
 
 /// The smallest side of the state's network: the nodes that every minimum cut has. The state's flow must be greatest.

@@ -1,14 +1,14 @@
 ghost use Rattle.std.specs.Prelude.{◌≡◌, ◌↔◌, false, IfOk, IsTrue};
 ghost use Rattle.dmf_path.specs.Passed.{KeepsUnpassed};
-ghost use Rattle.dmf_net.specs.NetworkState.{IsState};
+ghost use Rattle.dmf_state.specs.NetworkState.{IsState};
 ghost use Rattle.dmf_solver.specs.Greatest.{IsGreatest, IsSurpassed};
 ghost use Rattle.dmf_solver.specs.Pairs.{IsSolved};
 ghost use Rattle.dmf_solver.specs.ResidualNetwork.{residual_pairs, IsResidualOf};
 
 use crate::residual::residual_search;
 use crate::watch::Watch;
-use dmf_net::{NoMemory, State};
 use dmf_path::Search;
+use dmf_state::{NoMemory, State};
 use std::alloc::Global;
 
 /// A search for augmenting paths that has none left, and the value of the flow that it has reached.

@@ -1,13 +1,13 @@
 //! The flows that a search for augmenting paths has reached, and the moves that lead to them.
 ghost use Rattle.std.specs.Prelude.{◌≡◌, ◌^◌, ◌≤◌, ◌<◌, length, slice_index, IfOk};
 ghost use Rattle.dmf_path.specs.Passed.{KeepsUnpassed};
-ghost use Rattle.dmf_net.specs.Edit.{differences};
-ghost use Rattle.dmf_net.specs.Flow.{AreWithinCapacities};
+ghost use Rattle.dmf_state.specs.Edit.{differences};
+ghost use Rattle.dmf_state.specs.Flow.{AreWithinCapacities};
 ghost use Rattle.dmf_solver.specs.ResidualNetwork.{residual_pairs, residual_search};
 ghost use Rattle.dmf_solver.specs.Pairs.{flow_left, reached_flows};
 
-use dmf_net::{Arc, Move, State};
 use dmf_path::{Search, is_passed};
+use dmf_state::{Arc, Move, State};
 use std::alloc::{AllocError, Global};
 
 /// The flows that a search for augmenting paths has reached from those of the state. The search is let go, and with it most

@@ -10,11 +10,11 @@ use Rattle.std.specs.Option.{option_map, option_or, option_to_list}
 use Rattle.std.specs.Result.{result_unwrap_or}
 use Rattle.std.specs.Str.{bytes_eq}
 use Rattle.std.specs.Str.Lines.{lines}
-use Rattle.dmf_net.specs.declared.arc.Arc.{Arc}
+use Rattle.dmf_state.specs.declared.arc.Arc.{Arc}
 use Rattle.dmf_node.specs.Node.{IsNode, is_node}
-use Rattle.dmf_net.specs.Arc.{IsArc, open_arc, capacity_sum}
-use Rattle.dmf_net.specs.Flow.{flow_at, AreWithinCapacities}
-use Rattle.dmf_net.specs.NetworkState.{NetworkState, IsState}
+use Rattle.dmf_state.specs.Arc.{IsArc, open_arc, capacity_sum}
+use Rattle.dmf_state.specs.Flow.{flow_at, AreWithinCapacities}
+use Rattle.dmf_state.specs.NetworkState.{NetworkState, IsState}
 use Rattle.dmf_text.specs.declared.digits.NumberFault.{NumberFault}
 use Rattle.dmf_text.specs.declared.fault.ProblemFaultKind.TheVariants.{ProblemLineExpected, SecondProblemLine, NotMax, FieldCount, NodeOutOfRange, NotSourceOrSink, SecondTerminal, SameTerminals, ArcBeforeTerminals, TooManyArcs, TooFewArcs, TerminalMissing, SumTooLarge}
 use Rattle.dmf_text.specs.Fields.{fields}

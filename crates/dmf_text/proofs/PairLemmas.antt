@@ -5,11 +5,11 @@ use Rattle.std.proofs.lemmas.List.{take_more, length-replicate}
 use Rattle.std.proofs.lemmas.List.Elements.{All-weaker}
 use Rattle.std.proofs.lemmas.List.Sorted.{list_any-IsPermutation}
 use Rattle.std.proofs.lemmas.List.Sums.{sum_by-append, sum_by-cons, sum_by_more_le_part}
-use Rattle.dmf_net.specs.declared.arc.Arc.{Arc}
+use Rattle.dmf_state.specs.declared.arc.Arc.{Arc}
 use Rattle.std.specs.List.{All, list_any, slice_get}
 use Rattle.std.specs.List.Sorted.{IsPermutation}
-use Rattle.dmf_net.specs.Arc.{IsArc, no_arc, capacity_sum}
-use Rattle.dmf_net.specs.Flow.{AreWithinCapacities}
+use Rattle.dmf_state.specs.Arc.{IsArc, no_arc, capacity_sum}
+use Rattle.dmf_state.specs.Flow.{AreWithinCapacities}
 use Rattle.dmf_text.specs.declared.fault.SolutionFaultKind.{SolutionFaultKind}
 use Rattle.dmf_text.specs.declared.pairs.PairFlow.{PairFlow}
 use Rattle.dmf_text.specs.declared.pairs.Pairs.{Pairs}

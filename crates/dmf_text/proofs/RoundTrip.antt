@@ -5,10 +5,10 @@ use Rattle.std.proofs.lemmas.List.Elements.{recursion_from_All}
 use Rattle.std.proofs.lemmas.List.Sums.{length-filter, count_by-le-length, sum_by-append, sum_by-cons}
 use Rattle.std.proofs.lemmas.List.Filters.{sum_by-filter_both}
 use Rattle.std.specs.List.{AllByRecursion, list_all}
-use Rattle.dmf_net.specs.declared.arc.Arc.{Arc}
+use Rattle.dmf_state.specs.declared.arc.Arc.{Arc}
 use Rattle.dmf_node.specs.Node.{IsNode, is_node}
-use Rattle.dmf_net.specs.Arc.{IsArc, capacity_sum, open_count}
-use Rattle.dmf_net.specs.Network.{Network, IsNetwork}
+use Rattle.dmf_state.specs.Arc.{IsArc, capacity_sum, open_count}
+use Rattle.dmf_state.specs.Network.{Network, IsNetwork}
 use Rattle.dmf_text.specs.Number.{number_of}
 use Rattle.dmf_text.specs.Judging.{Line}
 use Rattle.dmf_text.specs.Problem.{Facts, Counts, facts_of, counts_named, judged_problem, node_named, judged_node, judged_arc, judged, ended, state_of, problem_fault, problem_after, problem_of}

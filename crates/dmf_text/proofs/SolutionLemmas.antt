@@ -9,13 +9,13 @@ use Rattle.std.specs.Option.{option_map, option_or, option_to_list}
 use Rattle.std.specs.Ordering.{int_eq}
 use Rattle.std.specs.Result.{IsErrOf}
 use Rattle.std.specs.Prelude.{int_lt, if◌then◌else◌}
-use Rattle.dmf_net.specs.declared.arc.Arc.{Arc}
-use Rattle.dmf_net.specs.declared.fault.FlowFault.{FlowFault}
-use Rattle.dmf_net.specs.declared.fault.FlowFault.TheVariants as fault
-use Rattle.dmf_net.specs.Flow.{flow_value, IsFlow}
-use Rattle.dmf_net.specs.FlowFault.{first_unbalanced, flow_fault}
-use Rattle.dmf_net.proofs.FlowFaults.{below-told, none-over, none-unbalanced}
-use Rattle.dmf_net.specs.NetworkState.{NetworkState, with_flows}
+use Rattle.dmf_state.specs.declared.arc.Arc.{Arc}
+use Rattle.dmf_state.specs.declared.fault.FlowFault.{FlowFault}
+use Rattle.dmf_state.specs.declared.fault.FlowFault.TheVariants as fault
+use Rattle.dmf_state.specs.Flow.{flow_value, IsFlow}
+use Rattle.dmf_state.specs.FlowFault.{first_unbalanced, flow_fault}
+use Rattle.dmf_state.proofs.FlowFaults.{below-told, none-over, none-unbalanced}
+use Rattle.dmf_state.specs.NetworkState.{NetworkState, with_flows}
 use Rattle.dmf_text.specs.declared.fault.SolutionFaultKind.{SolutionFaultKind}
 use Rattle.dmf_text.specs.declared.fault.SolutionFaultKind.TheVariants.{NoMemory, NoSuchPair, ValueDiffers}
 use Rattle.dmf_text.specs.declared.solution_reading.SolutionReading.{SolutionReading}

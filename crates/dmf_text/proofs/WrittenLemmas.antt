@@ -7,12 +7,12 @@ use Rattle.std.proofs.lemmas.List.Elements.{filter-append}
 use Rattle.std.proofs.lemmas.Grind.{flat_map-append}
 use Rattle.std.proofs.lemmas.Option.{get_or_from_slice_get}
 use Rattle.std.proofs.lemmas.Slice.Zip.{get_or-zip, length-zip}
-use Rattle.dmf_net.specs.declared.arc.Arc.{Arc}
-use Rattle.dmf_net.specs.Arc.{open_count}
-use Rattle.dmf_net.specs.Flow.{flow_value}
-use Rattle.dmf_net.specs.Network.{Network}
-use Rattle.dmf_net.specs.NetworkState.{NetworkState}
-use Rattle.dmf_net.specs.Side.{CutSide}
+use Rattle.dmf_state.specs.declared.arc.Arc.{Arc}
+use Rattle.dmf_state.specs.Arc.{open_count}
+use Rattle.dmf_state.specs.Flow.{flow_value}
+use Rattle.dmf_state.specs.Network.{Network}
+use Rattle.dmf_state.specs.NetworkState.{NetworkState}
+use Rattle.dmf_state.specs.Side.{CutSide}
 use Rattle.std.specs.List.{zip, join_with_byte}
 use Rattle.dmf_text.specs.Judging.{Line}
 use Rattle.dmf_text.specs.Written.{written_line, written, flow_fields, arcs_text, flows_text, nodes_text, problem_text, solution_text, cut_text}

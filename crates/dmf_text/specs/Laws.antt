@@ -1,7 +1,7 @@
 -- What the contracts of the laws say of texts.
 -- Public: a public contract says no more than this.
 use Rattle.std.specs.Prelude.{ℕ, ◌≡◌, List, Ok}
-use Rattle.dmf_net.specs.NetworkState.{NetworkState, IsState}
+use Rattle.dmf_state.specs.NetworkState.{NetworkState, IsState}
 use Rattle.dmf_text.specs.Problem.{problem_of}
 
 -- Where a problem text stands for something, it is a state: a network with a flow on it.

@@ -2,8 +2,8 @@
 -- Private: only contracts inside the crate and proofs use this.
 use Rattle.std.specs.Prelude.{◌≡◌, ◌⊎◌, [], ◌++◌, Some, None, Result, Ok, Err, MatchResult, codes}
 use Rattle.std.specs.Option.{option_or, option_to_list}
-use Rattle.dmf_net.specs.declared.fault.NetFault.{NetFault}
-use Rattle.dmf_net.specs.declared.fault.NetFault.TheVariants as net
+use Rattle.dmf_state.specs.declared.fault.NetFault.{NetFault}
+use Rattle.dmf_state.specs.declared.fault.NetFault.TheVariants as net
 use Rattle.dmf_text.specs.declared.fault.ProblemFaultKind.{ProblemFaultKind}
 use Rattle.dmf_text.specs.declared.fault.ProblemFaultKind.TheVariants.{NodeOutOfRange, TooManyArcs, SumTooLarge, NoMemory}
 use Rattle.dmf_text.specs.declared.reading.Head.{Head}

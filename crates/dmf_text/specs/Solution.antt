@@ -6,10 +6,10 @@ use Rattle.std.specs.List.{filter_map, list_any, starts_with}
 use Rattle.std.specs.Ordering.{int_eq}
 use Rattle.std.specs.Str.{bytes_eq}
 use Rattle.std.specs.Str.Lines.{lines}
-use Rattle.dmf_net.specs.declared.arc.Arc.{Arc}
-use Rattle.dmf_net.specs.Flow.{flow_value}
-use Rattle.dmf_net.specs.FlowFault.{first_unbalanced}
-use Rattle.dmf_net.specs.NetworkState.{NetworkState, with_flows}
+use Rattle.dmf_state.specs.declared.arc.Arc.{Arc}
+use Rattle.dmf_state.specs.Flow.{flow_value}
+use Rattle.dmf_state.specs.FlowFault.{first_unbalanced}
+use Rattle.dmf_state.specs.NetworkState.{NetworkState, with_flows}
 use Rattle.dmf_text.specs.declared.digits.NumberFault.{NumberFault}
 use Rattle.dmf_text.specs.declared.digits.NumberFault.TheVariants as digits
 use Rattle.dmf_text.specs.declared.fault.SolutionFault.{SolutionFault}

@@ -2,9 +2,9 @@
 -- Private: only contracts inside the crate and proofs use this.
 use Rattle.std.specs.Prelude.{ℕ, ◌≡◌, ◌+◌, ◌^◌, ◌<◌, ◌≤◌, All, List, ◌++◌, false, Option, Some, None, is_some, slice_get, Result, Ok, Err, MatchResult}
 use Rattle.std.specs.Option.{option_or, option_to_list}
-use Rattle.dmf_net.specs.declared.arc.Arc.{Arc}
-use Rattle.dmf_net.specs.declared.fault.FlowFault.{FlowFault}
-use Rattle.dmf_net.specs.declared.fault.FlowFault.TheVariants as flow
+use Rattle.dmf_state.specs.declared.arc.Arc.{Arc}
+use Rattle.dmf_state.specs.declared.fault.FlowFault.{FlowFault}
+use Rattle.dmf_state.specs.declared.fault.FlowFault.TheVariants as flow
 use Rattle.dmf_text.specs.declared.fault.SolutionFaultKind.{SolutionFaultKind}
 use Rattle.dmf_text.specs.declared.fault.SolutionFaultKind.TheVariants.{NoSuchPair, OverCapacity, NotConserved, ValueDiffers, NoMemory}
 use Rattle.dmf_text.specs.declared.pairs.PairFlow.{PairFlow}

@@ -2,12 +2,12 @@
 -- Public: a public contract says no more than this.
 use Rattle.std.specs.Prelude.{ℕ, List, [], ◌∷◌, ◌++◌, not, codes, decimal, filter, length, map, nat_abs, replicate}
 use Rattle.std.specs.List.{join_with_byte, flat_map, zip}
-use Rattle.dmf_net.specs.declared.arc.Arc.{Arc}
-use Rattle.dmf_net.specs.Arc.{open_count}
-use Rattle.dmf_net.specs.Flow.{flow_value}
-use Rattle.dmf_net.specs.Network.{Network}
-use Rattle.dmf_net.specs.NetworkState.{NetworkState}
-use Rattle.dmf_net.specs.Side.{CutSide}
+use Rattle.dmf_state.specs.declared.arc.Arc.{Arc}
+use Rattle.dmf_state.specs.Arc.{open_count}
+use Rattle.dmf_state.specs.Flow.{flow_value}
+use Rattle.dmf_state.specs.Network.{Network}
+use Rattle.dmf_state.specs.NetworkState.{NetworkState}
+use Rattle.dmf_state.specs.Side.{CutSide}
 use Rattle.dmf_text.specs.Judging.{Line}
 
 -- a line: its fields with one space between each two, and a line feed

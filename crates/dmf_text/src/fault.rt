@@ -1,7 +1,7 @@
 //! Why a text is no problem text, or no solution text.
 use crate::digits::NumberFault;
 use crate::exact_fields::WrongFieldCount;
-use dmf_net::{FlowFault, NetFault};
+use dmf_state::{FlowFault, NetFault};
 use std::alloc::AllocError;
 use thiserror::Error;
 
@@ -29,7 +29,7 @@ pub enum ProblemFaultKind {
     /// A number is past 2^64 - 1.
     #[error("number too large")]
     TooLarge = 7,
-    /// A count of nodes is not from 2 to [`dmf_net::MAX_NODES`], or one of arcs is past [`dmf_net::MAX_ARCS`].
+    /// A count of nodes is not from 2 to [`dmf_state::MAX_NODES`], or one of arcs is past [`dmf_state::MAX_ARCS`].
     #[error("count out of range")]
     CountOutOfRange = 8,
     /// A node is 0 or past the number of nodes.

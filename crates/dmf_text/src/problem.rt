@@ -6,7 +6,7 @@ ghost use Rattle.dmf_text.specs.Problem.{out_of_memory};
 use crate::fault::{ProblemFault, ProblemFaultKind};
 use crate::line::Lines;
 use crate::reading::Reading;
-use dmf_net::State;
+use dmf_state::State;
 use std::alloc::Global;
 
 /// Reads a problem text, in the format of the First DIMACS Implementation Challenge (1990), maximum flow.

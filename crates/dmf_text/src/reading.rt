@@ -8,7 +8,7 @@ use crate::exact_fields::three_fields;
 use crate::fault::ProblemFaultKind;
 use crate::field::Fields;
 use crate::terminal::{Terminal, named};
-use dmf_net::{MAX_ARCS, MAX_NODES, State};
+use dmf_state::{MAX_ARCS, MAX_NODES, State};
 use std::alloc::Global;
 
 /// What the problem line says, and the terminals that are named, not yet both.

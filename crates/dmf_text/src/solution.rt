@@ -6,7 +6,7 @@ ghost use Rattle.dmf_text.specs.Solution.{solution_out_of_memory};
 use crate::fault::{SolutionFault, SolutionFaultKind};
 use crate::line::Lines;
 use crate::solution_reading::SolutionReading;
-use dmf_net::State;
+use dmf_state::State;
 use std::alloc::Global;
 
 /// Reads a solution text of a state's network, in the format of the First DIMACS Implementation Challenge (1990), maximum

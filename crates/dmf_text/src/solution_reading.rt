@@ -1,6 +1,6 @@
 //! The lines of a solution text, taken one after the other.
 ghost use Rattle.std.specs.Prelude.{◌≡◌, ◌⊎◌, ◌∷◌, List, codes, Err};
-ghost use Rattle.dmf_net.specs.declared.arc.Arc.{Arc};
+ghost use Rattle.dmf_state.specs.declared.arc.Arc.{Arc};
 ghost use Rattle.dmf_text.specs.declared.fault.SolutionFaultKind.TheVariants.{NoMemory};
 ghost use Rattle.dmf_text.specs.Fields.{fields};
 ghost use Rattle.dmf_text.specs.Solution.{Facts, judged, judged_value, judged_flow, ended};
@@ -11,7 +11,7 @@ use crate::exact_fields::{one_field, three_fields};
 use crate::fault::SolutionFaultKind;
 use crate::field::Fields;
 use crate::pairs::{Pairs, pair_of};
-use dmf_net::State;
+use dmf_state::State;
 use std::alloc::{AllocError, Global};
 
 /// What the lines of a solution text say that were taken so far.

@@ -1,7 +1,7 @@
 //! Problem, solution and cut texts, written.
 ghost use Rattle.std.specs.Prelude.{◌≡◌, ◌≤◌, ◌<◌, ◌∷◌, [], Ok, not, if◌then◌else◌, codes, decimal, length, map};
 ghost use Rattle.std.specs.List.{zip};
-ghost use Rattle.dmf_net.specs.NetworkState.{IsState};
+ghost use Rattle.dmf_state.specs.NetworkState.{IsState};
 ghost use Rattle.dmf_text.specs.LineField.{field_bytes, most_line_bytes};
 ghost use Rattle.dmf_text.specs.Problem.{problem_of};
 ghost use Rattle.dmf_text.specs.Writing.{Writes};
@@ -10,7 +10,7 @@ ghost use Rattle.dmf_text.specs.Written.{written_line, arcs_text, flows_text, no
 use crate::line_buffer::LineField::{Number, Text};
 use crate::line_buffer::{LineField, line_of};
 use crate::writer::{Sink, WriteFault, put_all};
-use dmf_net::{Arc, Side, SideIds, State};
+use dmf_state::{Arc, Side, SideIds, State};
 
 /// Writes the problem of a state's network: its open arcs in order, with the problem line and the node lines before
 /// them. Each line is put at once. It takes no memory and does not flush.

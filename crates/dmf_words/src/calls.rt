@@ -1,6 +1,6 @@
 //! A call of each function that a run's texts and statuses come from. All command lines, texts and statuses are tested on the
 //! built program, but for the text of one arc too many, which no network there is large enough for.
-use dmf_run::{EngineFault, Status, read_command, refusal_text, status_of};
+use dmf_runs::{EngineFault, Status, read_command, refusal_text, status_of};
 use dmf_session::{Command, Refusal};
 
 #[test]

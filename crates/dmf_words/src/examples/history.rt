@@ -1,7 +1,7 @@
 //! A history with the bound 1: one state before the present one is kept, and older ones are forgotten.
 use dmf_history::{DeltaHistory, History, NothingToUndo};
-use dmf_net::State;
 use dmf_solver::{plan_cap, plan_solve};
+use dmf_state::State;
 use std::test::Fail;
 
 #[test]

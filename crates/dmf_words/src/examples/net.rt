@@ -1,5 +1,5 @@
 //! A network is built, and a flow is put on it.
-use dmf_net::{NetFault, State};
+use dmf_state::{NetFault, State};
 use std::test::Fail;
 
 #[test]

@@ -1,7 +1,7 @@
 //! A change is tried out, and taken back.
 use dmf_history::DeltaHistory;
-use dmf_net::State;
 use dmf_session::{Command, Reply, Session};
+use dmf_state::State;
 use std::test::Fail;
 
 #[test]

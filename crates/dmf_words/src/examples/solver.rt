@@ -1,6 +1,6 @@
 //! How much can be sent once an arc is closed, and where the limit is then.
-use dmf_net::State;
 use dmf_solver::{plan_close, plan_solve, smallest_side};
+use dmf_state::State;
 use std::test::Fail;
 
 #[test]

@@ -3,11 +3,11 @@ use Rattle.std.proofs.lemmas.Result.{IfOk-weaker}
 use Rattle.std.proofs.lemmas.Slice.Zip.{AllZip-long}
 use Rattle.dmf_path.specs.Search.{indices_of, pair_number}
 use Rattle.dmf_path.proofs.Covering.{Covers-weaker}
-use Rattle.dmf_net.specs.declared.edit.Move.{Move}
+use Rattle.dmf_state.specs.declared.edit.Move.{Move}
 use Rattle.dmf_solver.specs.declared.moves.FlowLink.TheVariants.{Along}
-use Rattle.dmf_net.specs.Flow.{flow_on}
+use Rattle.dmf_state.specs.Flow.{flow_on}
 use Rattle.dmf_solver.specs.Pairs.{flows_read}
-use Rattle.dmf_net.proofs.ChangedArc.{has_arc-within}
+use Rattle.dmf_state.proofs.ChangedArc.{has_arc-within}
 use Rattle.dmf_solver.proofs.DrainingSearch.{length-carries}
 use Rattle.dmf_solver.proofs.FlowsRead.{stays-unpaired}
 use Rattle.dmf_solver.proofs.DrainingWalk.{draining-moves, draining-none, draining-loop}

@@ -1,7 +1,7 @@
 use Rattle.std.proofs.Common.{List, ℕ, true, ap, sym, ◌∙◌, length, subst}
 use Rattle.std.proofs.lemmas.Slice.Zip.{AllZip-long}
 use Rattle.dmf_path.specs.Pair.{ArePairs}
-use Rattle.dmf_net.specs.Edit.{applied}
+use Rattle.dmf_state.specs.Edit.{applied}
 use Rattle.dmf_solver.specs.ResidualNetwork.{residual_pairs}
 use Rattle.dmf_solver.proofs.EditedState.{nodes-after, source-after, sink-after, increasing-fits}
 use Rattle.dmf_solver.proofs.ResidualSearch.{ArePairs-residual}

@@ -1,4 +1,4 @@
-use Rattle.dmf_net.specs.Edit.{moved}
+use Rattle.dmf_state.specs.Edit.{moved}
 use Rattle.dmf_solver.proofs.EditedState.{ArePut}
 use Rattle.dmf_solver.proofs.edited.put_moves.Given as goal
 

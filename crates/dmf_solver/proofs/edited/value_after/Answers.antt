@@ -1,9 +1,9 @@
 use Rattle.std.proofs.Common.{List, ℕ, ◌≤◌, ap, sym, ◌∙◌, arith, length}
 use Rattle.std.proofs.lemmas.Int.{ints}
 use Rattle.std.proofs.lemmas.Slice.Zip.{AllZip-long}
-use Rattle.dmf_net.specs.declared.arc.Arc.{Arc}
-use Rattle.dmf_net.specs.Edit.{applied}
-use Rattle.dmf_net.proofs.Balance.{value-from_source}
+use Rattle.dmf_state.specs.declared.arc.Arc.{Arc}
+use Rattle.dmf_state.specs.Edit.{applied}
+use Rattle.dmf_state.proofs.Balance.{value-from_source}
 use Rattle.dmf_solver.proofs.EditedState.{arcs-long, sum-small, value-same, value-added}
 use Rattle.dmf_solver.proofs.edited.value_after.Goals as goal
 

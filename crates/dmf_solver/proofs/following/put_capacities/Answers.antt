@@ -1,8 +1,8 @@
 use Rattle.std.proofs.Common.{get_or, drop, refl, sym, subst, ◌≡◌, ◌+◌}
-use Rattle.dmf_net.specs.Direction.{edited_along}
+use Rattle.dmf_state.specs.Direction.{edited_along}
 use Rattle.dmf_solver.specs.ResidualNetwork.{residual_search}
-use Rattle.dmf_net.proofs.ChangedArc.{has_arc-within}
-use Rattle.dmf_net.proofs.ClosedArcs.{no_shutting, left-next, HasArcs}
+use Rattle.dmf_state.proofs.ChangedArc.{has_arc-within}
+use Rattle.dmf_state.proofs.ClosedArcs.{no_shutting, left-next, HasArcs}
 use Rattle.dmf_solver.proofs.Followed.{cap-along, close-along, has-along, recapped_arcs, shut-next}
 use Rattle.dmf_solver.proofs.following.put_capacities.Goals as goal
 

@@ -1,5 +1,5 @@
-use Rattle.dmf_net.specs.Direction.{along}
-use Rattle.dmf_net.specs.Edit.{moved}
+use Rattle.dmf_state.specs.Direction.{along}
+use Rattle.dmf_state.specs.Edit.{moved}
 use Rattle.dmf_solver.proofs.Followed.{AreFollowed}
 use Rattle.dmf_solver.proofs.following.put_flows.Given as goal
 

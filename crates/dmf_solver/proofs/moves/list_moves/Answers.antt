@@ -6,7 +6,7 @@ use Rattle.dmf_solver.specs.Moves.{Stays, IsMoveAt}
 use Rattle.dmf_solver.specs.Pairs.{flows_read}
 use Rattle.dmf_solver.proofs.FlowsRead.{length-flows_read}
 use Rattle.dmf_solver.proofs.ListedMoves.{moves-listed, moves-whole}
-use Rattle.dmf_net.proofs.Moving.{move_of-differ, move_of-same}
+use Rattle.dmf_state.proofs.Moving.{move_of-differ, move_of-same}
 use Rattle.dmf_solver.proofs.moves.list_moves.Goals.{in-Some+in_ok-push, in_default}
 use Rattle.dmf_solver.proofs.moves.list_moves.Goals as goal
 

@@ -1,5 +1,5 @@
 use Rattle.std.proofs.Common.{sym}
-use Rattle.dmf_net.proofs.IdleArc.{differences-push}
+use Rattle.dmf_state.proofs.IdleArc.{differences-push}
 use Rattle.dmf_solver.proofs.plan.plan_add.Goals as goal
 
 pub returns-clause-moves : goal.returns-clause-moves

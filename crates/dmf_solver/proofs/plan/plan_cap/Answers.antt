@@ -1,8 +1,8 @@
 use Rattle.std.proofs.Common.{◌<◌, ◌^◌, arith, subst, sym}
-use Rattle.dmf_net.specs.NetworkState.{with_flows}
-use Rattle.dmf_net.specs.Network.{sum_with}
-use Rattle.dmf_net.specs.Edit.{moved, IsOpenWith}
-use Rattle.dmf_net.proofs.ChangedState.{IsState-with_cap}
+use Rattle.dmf_state.specs.NetworkState.{with_flows}
+use Rattle.dmf_state.specs.Network.{sum_with}
+use Rattle.dmf_state.specs.Edit.{moved, IsOpenWith}
+use Rattle.dmf_state.proofs.ChangedState.{IsState-with_cap}
 use Rattle.dmf_solver.proofs.plan.plan_cap.Goals as goal
 
 pub returns-clause-fits : goal.returns-clause-fits

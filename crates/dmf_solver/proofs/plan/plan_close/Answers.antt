@@ -1,7 +1,7 @@
 use Rattle.std.proofs.Common.{subst, sym}
-use Rattle.dmf_net.specs.NetworkState.{with_flows}
-use Rattle.dmf_net.specs.Edit.{moved, IsOpenWith}
-use Rattle.dmf_net.proofs.ChangedState.{IsState-closed}
+use Rattle.dmf_state.specs.NetworkState.{with_flows}
+use Rattle.dmf_state.specs.Edit.{moved, IsOpenWith}
+use Rattle.dmf_state.proofs.ChangedState.{IsState-closed}
 use Rattle.dmf_solver.proofs.plan.plan_close.Goals as goal
 
 pub returns-clause-fits : goal.returns-clause-fits

@@ -1,11 +1,11 @@
 use Rattle.std.proofs.Common.{subst}
-use Rattle.dmf_net.specs.declared.edit.Edit.TheVariants as edit
+use Rattle.dmf_state.specs.declared.edit.Edit.TheVariants as edit
 use Rattle.dmf_solver.specs.Change.{Closes}
-use Rattle.dmf_net.specs.Edit.{applied, moved, numbers}
+use Rattle.dmf_state.specs.Edit.{applied, moved, numbers}
 use Rattle.dmf_solver.specs.Drain.{TakesOff}
-use Rattle.dmf_net.specs.Flow.{flow_on_all}
+use Rattle.dmf_state.specs.Flow.{flow_on_all}
 use Rattle.dmf_solver.proofs.DrainedInTurn.{left-in_turn}
-use Rattle.dmf_net.proofs.ClosedArcs.{HasArcs-open, IsState-all_closed}
+use Rattle.dmf_state.proofs.ClosedArcs.{HasArcs-open, IsState-all_closed}
 use Rattle.dmf_solver.proofs.ClosedInTurn.{closes-in_turn}
 use Rattle.dmf_solver.proofs.plan.plan_shut.Goals as goal
 

@@ -1,5 +1,5 @@
 use Rattle.std.proofs.lemmas.Result.{IfOk-weaker}
-use Rattle.dmf_net.specs.declared.edit.Edit.{Edit}
+use Rattle.dmf_state.specs.declared.edit.Edit.{Edit}
 use Rattle.dmf_solver.specs.Planning.{PlansSolve}
 use Rattle.dmf_solver.proofs.plan.plan_solve.Goals as goal
 

@@ -1,5 +1,5 @@
 use Rattle.std.proofs.Common.{ap, sym, ◌∙◌, pos}
-use Rattle.dmf_net.specs.Flow.{flow_value}
+use Rattle.dmf_state.specs.Flow.{flow_value}
 use Rattle.dmf_solver.proofs.plan.plan_solve_with_side_watched.Goals as goal
 
 pub returns-clause-value : goal.returns-clause-value

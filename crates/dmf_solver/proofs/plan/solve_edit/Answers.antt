@@ -1,6 +1,6 @@
 use Rattle.std.proofs.Common.{◌≡◌, ◌∙◌, arith}
 use Rattle.std.proofs.lemmas.Slice.Zip.{AllZip-long}
-use Rattle.dmf_net.specs.Edit.{differences}
+use Rattle.dmf_state.specs.Edit.{differences}
 use Rattle.dmf_solver.specs.Pairs.{reached_flows}
 use Rattle.dmf_solver.proofs.SolvedEdit.{PlansSolve-listed, flows-listed}
 use Rattle.dmf_solver.proofs.SolvingSearch.{reached-long}

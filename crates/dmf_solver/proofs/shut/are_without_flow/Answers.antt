@@ -1,10 +1,10 @@
 use Rattle.std.proofs.Common.{◌≡◌, ◌+◌, ◌-◌, arith, ap, sym, ◌∙◌, get_or, drop}
 use Rattle.std.proofs.lemmas.List.Sums.{sum_by-cons}
 use Rattle.std.proofs.lemmas.Option.{get_or_from_slice_get}
-use Rattle.dmf_net.specs.Edit.{numbers}
-use Rattle.dmf_net.specs.Flow.{flow_on, flow_on_all}
-use Rattle.dmf_net.proofs.ChangedArc.{has_arc-within}
-use Rattle.dmf_net.proofs.ClosedArcs.{no_shutting, open-at, numbers-next, numbers-end}
+use Rattle.dmf_state.specs.Edit.{numbers}
+use Rattle.dmf_state.specs.Flow.{flow_on, flow_on_all}
+use Rattle.dmf_state.proofs.ChangedArc.{has_arc-within}
+use Rattle.dmf_state.proofs.ClosedArcs.{no_shutting, open-at, numbers-next, numbers-end}
 use Rattle.dmf_solver.proofs.shut.are_without_flow.Goals as goal
 
 pub flow-requires-clause-from_one : goal.flow-requires-clause-from_one

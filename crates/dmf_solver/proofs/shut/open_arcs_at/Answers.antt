@@ -1,7 +1,7 @@
 use Rattle.std.proofs.Common.{◌≡◌, ◌∙◌, get_or, ap, take_all, append-nil, take, length, arith, ◌<◌}
 use Rattle.std.proofs.lemmas.Grind.{common_steps}
-use Rattle.dmf_net.specs.Arc.{no_arc}
-use Rattle.dmf_net.proofs.OpenArcs.{listed_from, listed-more, numbers-listed, open-listed}
+use Rattle.dmf_state.specs.Arc.{no_arc}
+use Rattle.dmf_state.proofs.OpenArcs.{listed_from, listed-more, numbers-listed, open-listed}
 use Rattle.dmf_solver.proofs.shut.open_arcs_at.Goals as goal
 use Rattle.dmf_solver.proofs.shut.open_arcs_at.Goals.{After-loop-i}
 

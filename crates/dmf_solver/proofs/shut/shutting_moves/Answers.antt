@@ -5,12 +5,12 @@ use Rattle.std.proofs.lemmas.Result.{IfOk-weaker}
 use Rattle.std.proofs.lemmas.Slice.Zip.{AllZip-long}
 use Rattle.dmf_path.specs.Search.{Covers, indices_of, pair_number}
 use Rattle.dmf_path.proofs.Covering.{covers-below, Covers-weaker}
-use Rattle.dmf_net.specs.declared.edit.Move.{Move}
+use Rattle.dmf_state.specs.declared.edit.Move.{Move}
 use Rattle.dmf_solver.specs.declared.moves.FlowLink.TheVariants.{Along}
-use Rattle.dmf_net.specs.Edit.{numbers}
+use Rattle.dmf_state.specs.Edit.{numbers}
 use Rattle.dmf_solver.specs.Moves.{Stays}
 use Rattle.dmf_solver.specs.Pairs.{flows_read}
-use Rattle.dmf_net.proofs.ClosedArcs.{no_shutting, open-at, numbers-next, numbers-end, HasArcs-open}
+use Rattle.dmf_state.proofs.ClosedArcs.{no_shutting, open-at, numbers-next, numbers-end, HasArcs-open}
 use Rattle.dmf_solver.proofs.DrainedInTurn.{drained-none_in_turn, drained-next_arc, drained-every_arc, shutting-moves}
 use Rattle.dmf_solver.proofs.DrainingSearch.{length-carried, length-carries}
 use Rattle.dmf_solver.proofs.FlowsRead.{stays-unpaired}

@@ -1,5 +1,5 @@
 use Rattle.std.proofs.Common.{◌≡◌, false, drop}
-use Rattle.dmf_net.specs.Edit.{numbers}
+use Rattle.dmf_state.specs.Edit.{numbers}
 use Rattle.dmf_solver.proofs.DrainedInTurn.{AreDrainedUpTo}
 use Rattle.dmf_solver.proofs.shut.shutting_moves.Given as goal
 

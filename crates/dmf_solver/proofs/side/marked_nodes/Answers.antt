@@ -1,4 +1,4 @@
-use Rattle.dmf_net.proofs.Ascending.{marked-skip, marked-push}
+use Rattle.dmf_state.proofs.Ascending.{marked-skip, marked-push}
 use Rattle.dmf_solver.proofs.side.marked_nodes.Goals.{then-mark+in_ok-push, else-mark}
 use Rattle.dmf_solver.proofs.side.marked_nodes.Goals as goal
 

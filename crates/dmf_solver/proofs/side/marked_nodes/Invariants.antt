@@ -1,4 +1,4 @@
-use Rattle.dmf_net.proofs.Ascending.{AreMarkedUpTo}
+use Rattle.dmf_state.proofs.Ascending.{AreMarkedUpTo}
 use Rattle.dmf_solver.proofs.side.marked_nodes.Given as goal
 
 abbrev pub invariant-loop-k : goal.invariant-loop-k

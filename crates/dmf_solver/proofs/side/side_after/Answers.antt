@@ -1,6 +1,6 @@
 use Rattle.std.proofs.Common.{ap, sym, ◌∙◌}
-use Rattle.dmf_net.specs.Edit.{applied}
-use Rattle.dmf_net.specs.Side.{has_node}
+use Rattle.dmf_state.specs.Edit.{applied}
+use Rattle.dmf_state.specs.Side.{has_node}
 use Rattle.dmf_solver.proofs.EditedState.{sink-after}
 use Rattle.dmf_solver.proofs.LargerFlow.{surpassed-from_path}
 use Rattle.dmf_solver.proofs.GreatestFlow.{greatest-from_no_path}

@@ -1,5 +1,5 @@
 use Rattle.std.proofs.Common.{ap, sym, ◌∙◌}
-use Rattle.dmf_net.specs.Side.{has_node}
+use Rattle.dmf_state.specs.Side.{has_node}
 use Rattle.dmf_solver.proofs.LargerFlow.{surpassed-from_path}
 use Rattle.dmf_solver.proofs.GreatestFlow.{greatest-from_no_path}
 use Rattle.dmf_solver.proofs.SmallestSide.{reached-by_search, no_path-by_search, IsSmallestSide-by_search}

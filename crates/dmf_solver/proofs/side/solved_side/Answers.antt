@@ -1,5 +1,5 @@
 use Rattle.std.proofs.lemmas.Result.{IfOk-weaker}
-use Rattle.dmf_net.specs.Side.{CutSide}
+use Rattle.dmf_state.specs.Side.{CutSide}
 use Rattle.dmf_solver.specs.Pairs.{reached_flows, IsReachedSide}
 use Rattle.dmf_solver.proofs.SmallestSide.{IsSmallestSide-by_search}
 use Rattle.dmf_solver.proofs.side.solved_side.Goals as goal

@@ -1,7 +1,7 @@
 use Rattle.std.proofs.Common.{◌≡◌, ◌∙◌, sym, ap, arith, get_or, false}
 use Rattle.std.proofs.lemmas.Slice.Zip.{AllZip-long}
 use Rattle.dmf_path.specs.Passed.{is_passed}
-use Rattle.dmf_net.specs.Arc.{no_arc}
+use Rattle.dmf_state.specs.Arc.{no_arc}
 use Rattle.dmf_solver.proofs.SolvingSearch.{pairs-long}
 use Rattle.dmf_solver.proofs.Unpassed.{flow-unpassed}
 use Rattle.dmf_solver.proofs.solved_moves.flow_passed.Goals as goal

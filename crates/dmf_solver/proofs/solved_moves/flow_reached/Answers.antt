@@ -2,7 +2,7 @@ use Rattle.std.proofs.Common.{ℕ, ◌≡◌, ◌∙◌, sym, ap, arith, get_or,
 use Rattle.std.proofs.lemmas.Slice.Zip.{AllZip-long}
 use Rattle.dmf_path.specs.Search.{Searched, along_at}
 use Rattle.dmf_solver.specs.declared.moves.FlowLink.TheVariants.{Against}
-use Rattle.dmf_net.specs.Arc.{no_arc}
+use Rattle.dmf_state.specs.Arc.{no_arc}
 use Rattle.dmf_solver.specs.Pairs.{flow_left, flows_read, reached_flows}
 use Rattle.dmf_solver.specs.ResidualNetwork.{residual_pairs}
 use Rattle.dmf_solver.proofs.FlowsRead.{left-along}

@@ -1,5 +1,5 @@
 use Rattle.std.proofs.Common.{◌≡◌, take}
-use Rattle.dmf_net.specs.Edit.{differences}
+use Rattle.dmf_state.specs.Edit.{differences}
 use Rattle.dmf_solver.proofs.solved_moves.list_differences.Given as goal
 
 abbrev pub invariant-loop-i : goal.invariant-loop-i

@@ -1,8 +1,8 @@
 use Rattle.std.proofs.Common.{ℕ, ◌≡◌, ◌+◌, List, ◌∷◌, [], ◌++◌, ◌∙◌, sym, ap, arith, length, take, take_all, append-nil, get_or}
 use Rattle.std.proofs.lemmas.Slice.Zip.{AllZip-long}
-use Rattle.dmf_net.specs.Edit.{differences}
+use Rattle.dmf_state.specs.Edit.{differences}
 use Rattle.dmf_solver.specs.Pairs.{reached_flows}
-use Rattle.dmf_net.proofs.Moving.{differences-more, move_of, move_of-differ, move_of-same}
+use Rattle.dmf_state.proofs.Moving.{differences-more, move_of, move_of-differ, move_of-same}
 use Rattle.dmf_solver.proofs.SolvingSearch.{reached-long}
 use Rattle.dmf_solver.proofs.solved_moves.list_reached.Goals.{then-from-to+in_ok-push, else-from-to}
 use Rattle.dmf_solver.proofs.solved_moves.list_reached.Goals as goal

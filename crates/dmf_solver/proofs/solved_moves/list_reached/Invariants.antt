@@ -1,5 +1,5 @@
 use Rattle.std.proofs.Common.{◌≡◌, take}
-use Rattle.dmf_net.specs.Edit.{differences}
+use Rattle.dmf_state.specs.Edit.{differences}
 use Rattle.dmf_solver.specs.Pairs.{reached_flows}
 use Rattle.dmf_solver.proofs.solved_moves.list_reached.Given as goal
 

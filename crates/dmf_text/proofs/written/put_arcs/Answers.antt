@@ -1,7 +1,7 @@
 use Rattle.std.proofs.Common.{refl, drop, suc, take, get_or, ◌∷◌, [], ◌∙◌, sym, subst}
 use Rattle.std.proofs.lemmas.Result.{err_from_is_err_and}
 use Rattle.std.proofs.KnownBytes.{Appends-nil, Appends-trans}
-use Rattle.dmf_net.specs.Arc.{open_arc}
+use Rattle.dmf_state.specs.Arc.{open_arc}
 use Rattle.dmf_text.specs.Written.{arcs_text, arc_fields}
 use Rattle.dmf_text.proofs.WrittenLemmas.{kept-nil, kept-one, kept-more, kept-split, is_open}
 use Rattle.dmf_text.proofs.WritingLemmas.{PutsFront, front-of, front-after}

@@ -5,7 +5,7 @@ use Rattle.std.proofs.lemmas.Slice.Zip.{AllZip-long}
 use Rattle.std.proofs.KnownBytes.{Appends-nil, Appends-trans}
 use Rattle.std.specs.Io.KnownBytes.{Appends}
 use Rattle.std.specs.List.{zip}
-use Rattle.dmf_net.specs.Arc.{open_arc}
+use Rattle.dmf_state.specs.Arc.{open_arc}
 use Rattle.dmf_text.specs.Written.{flow_fields, flows_text}
 use Rattle.dmf_text.proofs.WrittenLemmas.{kept-nil, kept-more, kept-split, is_open_flow, flow-line, zip-long}
 use Rattle.dmf_text.proofs.WritingLemmas.{PutsFront, front-of, front-after}

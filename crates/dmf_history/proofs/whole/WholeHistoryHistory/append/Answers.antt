@@ -1,6 +1,6 @@
 use Rattle.std.proofs.lemmas.Option.{slice_get_read}
 use Rattle.std.proofs.Common.{ap, ◌∙◌, arith}
-use Rattle.dmf_net.specs.Edit.{applied}
+use Rattle.dmf_state.specs.Edit.{applied}
 use Rattle.dmf_history.specs.Timeline.{Timeline}
 use Rattle.dmf_history.proofs.Appending.{appends-all, appends-past}
 use Rattle.dmf_history.proofs.whole.WholeHistoryHistory.append.Goals.{then-self, else-self}

@@ -1,5 +1,5 @@
 use Rattle.std.proofs.Common.{length, ap, subst, Ok, MatchOption}
-use Rattle.dmf_net.specs.NetworkState.{NetworkState}
+use Rattle.dmf_state.specs.NetworkState.{NetworkState}
 use Rattle.dmf_solver.specs.Change as change
 use Rattle.dmf_session.specs.declared.command.Reply.TheVariants.{Added}
 use Rattle.dmf_session.specs.Step.{IsChanged, IsRefused, refusal_of, value_of}

@@ -1,5 +1,5 @@
 use Rattle.std.proofs.Common.{sym, subst, refl}
-use Rattle.dmf_net.specs.Edit.{applied}
+use Rattle.dmf_state.specs.Edit.{applied}
 use Rattle.dmf_session.specs.Step.{IsSideWanted}
 use Rattle.dmf_history.proofs.Appending.{appends-applied}
 use Rattle.dmf_session.proofs.Optimal.{planned-optimal}

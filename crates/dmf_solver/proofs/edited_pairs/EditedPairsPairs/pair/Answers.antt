@@ -1,10 +1,10 @@
 use Rattle.std.proofs.Common.{◌≡◌, ap, sym, ◌∙◌, arith, get_or, Some}
-use Rattle.dmf_net.specs.Arc.{no_arc}
-use Rattle.dmf_net.specs.Edit.{applied}
+use Rattle.dmf_state.specs.Arc.{no_arc}
+use Rattle.dmf_state.specs.Edit.{applied}
 use Rattle.dmf_solver.specs.Edited.{arc_after}
 use Rattle.dmf_solver.specs.ResidualNetwork.{residual_pair}
 use Rattle.dmf_solver.proofs.EditedState.{arc-after, arc-added, arcs-most}
-use Rattle.dmf_net.proofs.ClosedTogether.{increasing-tail}
+use Rattle.dmf_state.proofs.ClosedTogether.{increasing-tail}
 use Rattle.dmf_solver.proofs.ResidualSearch.{slice_get-residual_pairs, index-within}
 use Rattle.dmf_solver.proofs.edited_pairs.EditedPairsPairs.pair.Goals.{then-k-arcs, else-k-arcs}
 use Rattle.dmf_solver.proofs.edited_pairs.EditedPairsPairs.pair.Goals as goal

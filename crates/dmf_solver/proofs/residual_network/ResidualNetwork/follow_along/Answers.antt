@@ -1,6 +1,6 @@
 use Rattle.std.proofs.Common.{ap, sym, ◌∙◌, subst, refl}
-use Rattle.dmf_net.specs.Direction.{along, edited_along}
-use Rattle.dmf_net.specs.Edit.{AddsArc, moved, moves_of}
+use Rattle.dmf_state.specs.Direction.{along, edited_along}
+use Rattle.dmf_state.specs.Edit.{AddsArc, moved, moves_of}
 use Rattle.dmf_solver.specs.ResidualNetwork.{residual_search}
 use Rattle.dmf_solver.proofs.Followed.{none-added, flows-along, moves-along}
 use Rattle.dmf_solver.proofs.residual_network.ResidualNetwork.follow_along.Goals as goal

@@ -1,5 +1,5 @@
 use Rattle.std.proofs.Common.{ap, sym, ◌∙◌, pos}
-use Rattle.dmf_net.specs.Flow.{flow_value}
+use Rattle.dmf_state.specs.Flow.{flow_value}
 use Rattle.dmf_solver.proofs.SolvedEdit.{PlansSolve-listed, flows-listed, residual-listed}
 use Rattle.dmf_solver.proofs.residual_network.ResidualNetwork.plan_solve_with_side.Goals as goal
 

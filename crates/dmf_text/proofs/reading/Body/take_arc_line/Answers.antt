@@ -2,12 +2,12 @@ use Rattle.std.proofs.Common.{◌≡◌, ◌<◌, ◌+◌, ◌^◌, ◌&&◌, �
 use Rattle.std.proofs.lemmas.Bool.{lt-ltb}
 use Rattle.std.proofs.lemmas.Result.{err_from_is_err_and}
 use Rattle.dmf_node.specs.Node.{is_node}
-use Rattle.dmf_net.specs.declared.fault.ArcFault.TheVariants as arc
-use Rattle.dmf_net.specs.declared.fault.NetFault.{NetFault}
-use Rattle.dmf_net.specs.declared.fault.NetFault.TheVariants as net
-use Rattle.dmf_net.specs.Arc.{open_arc, capacity_sum}
-use Rattle.dmf_net.specs.ArcFault.{arc_fault, net_fault}
-use Rattle.dmf_net.specs.NetworkState.{NetworkState}
+use Rattle.dmf_state.specs.declared.fault.ArcFault.TheVariants as arc
+use Rattle.dmf_state.specs.declared.fault.NetFault.{NetFault}
+use Rattle.dmf_state.specs.declared.fault.NetFault.TheVariants as net
+use Rattle.dmf_state.specs.Arc.{open_arc, capacity_sum}
+use Rattle.dmf_state.specs.ArcFault.{arc_fault, net_fault}
+use Rattle.dmf_state.specs.NetworkState.{NetworkState}
 use Rattle.dmf_text.specs.declared.fault.ProblemFaultKind.{ProblemFaultKind}
 use Rattle.dmf_text.specs.declared.fault.ProblemFaultKind.TheVariants.{NodeOutOfRange, SumTooLarge, NoMemory}
 use Rattle.dmf_text.specs.declared.reading.Body.{Body}

@@ -2,10 +2,10 @@ use Rattle.std.proofs.Common.{◌≡◌, ◌∙◌, ◌⊎◌, ℕ, List, Some, 
 use Rattle.std.proofs.lemmas.Int.{ints}
 use Rattle.std.specs.Result.{IsErrOf}
 use Rattle.std.proofs.lemmas.Result.{err_from_is_err_and}
-use Rattle.dmf_net.specs.Flow.{flow_value, IsFlow}
-use Rattle.dmf_net.specs.declared.fault.FlowFault.TheVariants.{NoMemory}
-use Rattle.dmf_net.specs.FlowFault.{flow_fault}
-use Rattle.dmf_net.specs.NetworkState.{NetworkState, with_flows}
+use Rattle.dmf_state.specs.Flow.{flow_value, IsFlow}
+use Rattle.dmf_state.specs.declared.fault.FlowFault.TheVariants.{NoMemory}
+use Rattle.dmf_state.specs.FlowFault.{flow_fault}
+use Rattle.dmf_state.specs.NetworkState.{NetworkState, with_flows}
 use Rattle.dmf_text.specs.Solution.{Pair, pair_flow, put_on, Facts}
 use Rattle.dmf_text.specs.SolutionReading.{KeepsPairs, Keeps}
 use Rattle.dmf_text.proofs.SolutionLemmas.{ended-refused, ended-differs, ended-good}

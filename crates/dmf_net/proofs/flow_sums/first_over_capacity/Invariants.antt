@@ -1,5 +1,0 @@
-use Rattle.dmf_net.proofs.OverCapacity.{AreWithinBelow}
-use Rattle.dmf_net.proofs.flow_sums.first_over_capacity.Given as goal
-
-abbrev pub invariant-loop-i : goal.invariant-loop-i
-invariant-loop-i l = AreWithinBelow l.i l.arcs l.flows

@@ -1,5 +1,0 @@
-use Rattle.dmf_net.proofs.Reverting.{one-before}
-use Rattle.dmf_net.proofs.laws.edit_has_one_state_before.Goals as goal
-
-pub returns : goal.returns
-returns c = one-before

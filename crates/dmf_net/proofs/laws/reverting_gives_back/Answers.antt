@@ -1,5 +1,0 @@
-use Rattle.dmf_net.proofs.Reverting.{gives-back}
-use Rattle.dmf_net.proofs.laws.reverting_gives_back.Goals as goal
-
-pub returns : goal.returns
-returns c = gives-back

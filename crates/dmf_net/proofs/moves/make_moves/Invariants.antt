@@ -1,9 +1,0 @@
-use Rattle.dmf_net.specs.Direction.{along}
-use Rattle.dmf_net.specs.Edit.{moved}
-use Rattle.dmf_net.proofs.Moving.{AreMoved}
-use Rattle.dmf_net.proofs.moves.make_moves.Given as goal
-
-abbrev pub invariant-loop-m : goal.invariant-loop-m
-invariant-loop-m l =
-    let moves = along l.direction l.moves in
-    AreMoved l.arcs moves (moved moves l.initial.flows) l.node l.m-index l.flows l.at_node

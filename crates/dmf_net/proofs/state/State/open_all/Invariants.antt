@@ -1,7 +1,0 @@
-use Rattle.std.proofs.Common.{drop}
-use Rattle.dmf_net.specs.Revert.{with_opened}
-use Rattle.dmf_net.proofs.ClosedStates.{AreOpenedUpTo}
-use Rattle.dmf_net.proofs.state.State.open_all.Given as goal
-
-abbrev pub invariant-loop-shutting : goal.invariant-loop-shutting
-invariant-loop-shutting l = AreOpenedUpTo (with_opened l.arcs l.fn.self.network) (drop l.shutting-index l.arcs) l.self l.fn.self.flows

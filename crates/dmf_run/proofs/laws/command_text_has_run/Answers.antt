@@ -1,5 +1,0 @@
-use Rattle.dmf_run.proofs.Running.{has-run}
-use Rattle.dmf_run.proofs.laws.command_text_has_run.Goals as goal
-
-pub returns : goal.returns
-returns c = has-run c.command_has_answer.ensures

@@ -1,5 +1,0 @@
-use Rattle.dmf_run.proofs.NeverForgotten.{never-forgotten}
-use Rattle.dmf_run.proofs.laws.million_is_never_forgotten.Goals as goal
-
-pub returns : goal.returns
-returns c = never-forgotten

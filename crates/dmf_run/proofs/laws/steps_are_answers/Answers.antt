@@ -1,5 +1,0 @@
-use Rattle.dmf_run.proofs.Running.{steps-are-answers}
-use Rattle.dmf_run.proofs.laws.steps_are_answers.Goals as goal
-
-pub returns : goal.returns
-returns c = steps-are-answers c.command_has_answer.ensures c.command_has_one_answer.ensures

@@ -1,9 +1,0 @@
-use Rattle.std.proofs.Common.{subst}
-use Rattle.std.specs.Io.KnownBytes.{Appends}
-use Rattle.dmf_run.proofs.ReplyLemmas.{Writes-flushed}
-use Rattle.dmf_run.proofs.reply.put_line.Goals as goal
-
-pub returns : goal.returns
-returns g c =
-    let put = subst (λ text. Appends (g.W.Sink.contents c.args.out.now) (g.W.Sink.contents c.put_all.new.out) text) c.as_bytes.ensures c.in_ok-put_all.ensures.0 in
-    Writes-flushed g.W.Sink.contents g.W.Sink.has_failed _ c.put_all.new.out _ _ _ put c.in_ok-put_all.ensures.1 c.flush.ensures

@@ -1,4 +1,0 @@
-use Rattle.dmf_run.proofs.session.run_session.Goals as goal
-
-pub returns : goal.returns
-returns g c = c.run_session_bounded.ensures

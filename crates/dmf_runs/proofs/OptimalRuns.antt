@@ -1,0 +1,36 @@
+-- In each run a solve that is not refused leaves an optimal present state.
+use Rattle.std.proofs.Common.{◌≡◌, Bool, Result, Ok, Err, sym, subst, ⊎_elim}
+use Rattle.std.specs.Result.{OnOk}
+use Rattle.dmf_session.specs.declared.command.Command.{Command}
+use Rattle.dmf_session.specs.declared.command.Command.TheVariants.{Solve}
+use Rattle.dmf_session.specs.declared.command.Reply.{Reply}
+use Rattle.dmf_session.specs.declared.command.Refusal.{Refusal}
+use Rattle.dmf_history.specs.Timeline.{Timeline, start}
+use Rattle.dmf_session.specs.Step.{Steps, Answers}
+use Rattle.dmf_session.specs.Optimal.{HasOptimalPresent}
+use Rattle.dmf_session.specs.Laws.{HasStates, HasAnswer, HasOneAnswer, SolvedIsOptimal}
+use Rattle.dmf_runs.specs.Laws.{AnswersOptimally, SolvesAreOptimal, RunsAreOptimal}
+use Rattle.dmf_runs.proofs.LineLemmas.{answers-cases}
+use Rattle.dmf_runs.proofs.Running.{Keeps, HasStates-start, Steps-keeps, Runs-keeps, RunsAll-tells}
+
+-- An answer leaves states, also where memory is refused.
+Answers-keeps : HasAnswer → HasOneAnswer → (want_cut : Bool) → Keeps (Answers want_cut)
+Answers-keeps some one want_cut t u command result has answers = ⊎_elim
+    (λ (unchanged : u ≡ t). subst HasStates (sym unchanged) has)
+    (λ (steps : Steps want_cut t command result u). Steps-keeps some one want_cut t u command result has steps)
+    (answers-cases want_cut t command result u answers)
+
+-- Wherever a run has come to there are states.
+pub solves-are-optimal : HasAnswer → HasOneAnswer → SolvedIsOptimal → SolvesAreOptimal
+solves-are-optimal some one solved want_cut bound s lines text refused t u reply state runs answers =
+    solved want_cut t u reply (Runs-keeps (Answers want_cut) (Answers-keeps some one want_cut) 1 (start bound s) lines text refused t (HasStates-start bound s state) runs) answers
+
+optimal-after : SolvedIsOptimal → (want_cut : Bool) (t u : Timeline) (command : Command) (result : Result Reply Refusal) → HasStates t → Answers want_cut t command result u → command ≡ Solve → OnOk result (HasOptimalPresent u)
+optimal-after solved want_cut t u command (Ok reply) has answers is = solved want_cut t u reply has (subst (λ c. Answers want_cut t c (Ok reply) u) is answers)
+optimal-after solved want_cut t u command (Err refusal) has answers is = tt
+
+pub runs-are-optimal : HasAnswer → HasOneAnswer → SolvedIsOptimal → RunsAreOptimal
+runs-are-optimal some one solved want_cut bound s given text refused state all =
+    RunsAll-tells (Answers want_cut) (Answers-keeps some one want_cut) (AnswersOptimally want_cut)
+    (λ t u command result has answers. record { answers = answers; optimal = optimal-after solved want_cut t u command result has answers })
+    (start bound s) given text refused (HasStates-start bound s state) all

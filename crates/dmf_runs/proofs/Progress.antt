@@ -1,0 +1,86 @@
+-- A run of command lines, up to some line, and how it ends.
+use Rattle.std.proofs.Common.{ℕ, ◌≡◌, ◌+◌, List, [], ◌∷◌, ◌++◌, length, Bool, true, false, ◌||◌, Option, Result, Ok, refl, sym, ap, ◌∙◌, subst, arith, append-nil}
+use Rattle.std.specs.List.{All}
+use Rattle.std.specs.Io.KnownBytes.{Appends}
+use Rattle.std.proofs.KnownBytes.{Consumes-nil, Appends-nil, Appends-trans}
+use Rattle.std.proofs.lemmas.Grind.{flat_map-append}
+use Rattle.std.proofs.lemmas.List.{length_push}
+use Rattle.std.proofs.lemmas.List.Elements.{All-push, All-nil}
+use Rattle.dmf_session.specs.declared.command.Command.{Command}
+use Rattle.dmf_session.specs.declared.command.Refusal.{Refusal}
+use Rattle.dmf_session.specs.Step.{Answers}
+use Rattle.dmf_history.specs.Timeline.{Timeline}
+use Rattle.dmf_runs.specs.declared.input.Next.TheVariants.{Line}
+use Rattle.dmf_runs.specs.Streams.{Writer, Streams}
+use Rattle.dmf_runs.specs.KeptLine.{Kept, Means}
+use Rattle.dmf_runs.specs.Line.{HasNoLineFeed, with_line_feeds, line_meaning}
+use Rattle.dmf_runs.specs.Run.{LineRuns, Runs}
+use Rattle.dmf_runs.specs.Input.{InputState, Takes, GivesLine, left}
+use Rattle.dmf_runs.proofs.TakingLemmas.{Takes-trans}
+use Rattle.dmf_runs.proofs.LineLemmas.{Runs-push}
+
+-- the reader of an input, and a writer
+abbrev pub streams : InputState → Writer → Streams
+streams input writer = record { reader = input.reader; writer = writer }
+
+-- an input from which nothing was taken yet
+pub record IsFresh (input : InputState) : Type 0 where
+  pub none_pending : input.pending.bytes ≡ []
+  pub none_taken : input.pending.count ≡ 0
+
+-- So many lines were carried out from the timeline `t`, and `u` is the timeline now.
+pub record Progress (want_cut : Bool) (t : Timeline) (before now : InputState) (held holds : Writer) (number : ℕ) (u : Timeline) (is_refused : Bool) : Type 0 where
+  pub fresh : IsFresh before
+  pub lines : List (List ℕ)
+  pub each : All HasNoLineFeed lines
+  pub counted : length lines + 1 ≡ number
+  pub takes : Takes before now (with_line_feeds lines)
+  pub reader : now.reader.has_failed ≡ before.reader.has_failed
+  pub written : List ℕ
+  pub appends : Appends held.contents holds.contents written
+  pub writer : holds.has_failed ≡ held.has_failed
+  pub runs : Runs (Answers want_cut) 1 t lines written is_refused u
+
+pub Progress-none : (want_cut : Bool) (t : Timeline) (input : InputState) (held : Writer) → IsFresh input → Progress want_cut t input input held held 1 t false
+Progress-none want_cut t input held fresh = record {
+  fresh = fresh;
+  lines = [];
+  each = All-nil HasNoLineFeed;
+  counted = omega arith;
+  takes = record { consumes = Consumes-nil (left input.pending input.reader.known); counts = omega arith };
+  reader = refl;
+  written = [];
+  appends = Appends-nil held.contents;
+  writer = refl;
+  runs = (refl, refl, refl);
+}
+
+pub with_line_feeds-push : (lines : List (List ℕ)) (line : List ℕ) → with_line_feeds (lines ++ line ∷ []) ≡ with_line_feeds lines ++ (line ++ 10 ∷ [])
+with_line_feeds-push lines line = flat_map-append (λ l. l ++ 10 ∷ []) lines (line ∷ []) ∙ ap (λ x. with_line_feeds lines ++ x) (append-nil (line ++ 10 ∷ []))
+
+-- A line that was carried out.
+pub record Carried (want_cut : Bool) (u : Timeline) (meaning : Result (Option Command) Refusal) (number : ℕ) (holds next : Writer) (refused : Bool) (v : Timeline) : Type 0 where
+  pub text : List ℕ
+  pub runs : LineRuns (Answers want_cut) number u meaning text refused v
+  pub appends : Appends holds.contents next.contents text
+  pub writer : next.has_failed ≡ holds.has_failed
+
+abbrev pub Progress-more : (want_cut : Bool) (t : Timeline) (before now then : InputState) (held holds next : Writer) (number : ℕ) (u : Timeline) (is_refused : Bool) (meaning : Result (Option Command) Refusal) (kept : Kept) (refused : Bool) (v : Timeline)
+    → Progress want_cut t before now held holds number u is_refused → GivesLine now then kept (Ok Line) → Means kept true meaning → Carried want_cut u meaning number holds next refused v
+    → Progress want_cut t before then held next (number + 1) v (is_refused || refused)
+Progress-more want_cut t before now then held holds next number u is_refused meaning kept refused v p gave means c =
+    let line : List ℕ = gave.0 in
+    let place : 1 + length p.lines ≡ number = omega (arith, p.counted) in
+    let runs = subst (λ m. LineRuns (Answers want_cut) number u m c.text refused v) (means gave.0 gave.3) c.runs in
+    record {
+      fresh = p.fresh;
+      lines = p.lines ++ line ∷ [];
+      each = All-push HasNoLineFeed p.lines line p.each gave.1;
+      counted = omega (arith, length_push p.lines line, p.counted);
+      takes = subst (λ bytes. Takes before then bytes) (sym (with_line_feeds-push p.lines line)) (Takes-trans before now then (with_line_feeds p.lines) (line ++ 10 ∷ []) p.takes gave.2);
+      reader = gave.4 ∙ p.reader;
+      written = p.written ++ c.text;
+      appends = Appends-trans _ _ _ p.written c.text p.appends c.appends;
+      writer = c.writer ∙ p.writer;
+      runs = Runs-push want_cut 1 t p.lines p.written is_refused u line c.text refused v p.runs (subst (λ n. LineRuns (Answers want_cut) n u (line_meaning true line) c.text refused v) (sym place) runs);
+    }

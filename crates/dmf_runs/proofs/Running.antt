@@ -1,0 +1,257 @@
+-- Each command text has a run, and what is so of each answer is so of each run.
+use Rattle.std.proofs.Common.{ℕ, ◌≢◌, ◌≡◌, ◌+◌, ◌<◌, ◌≤◌, List, [], ◌∷◌, ◌++◌, length, Bool, true, false, ◌||◌, Option, Some, None, Result, Ok, Err, refl, sym, subst, arith, ⊎_elim}
+use Rattle.std.proofs.lemmas.List.Elements.{All-cons, All-nil}
+use Rattle.std.proofs.lemmas.Option.{slice_get_cases}
+use Rattle.dmf_state.specs.NetworkState.{NetworkState, IsState}
+use Rattle.dmf_session.specs.declared.command.Command.{Command}
+use Rattle.dmf_session.specs.declared.command.Reply.{Reply}
+use Rattle.dmf_session.specs.declared.command.Refusal.{Refusal}
+use Rattle.dmf_session.specs.declared.command.Refusal.TheVariants.{NoMemory}
+use Rattle.dmf_history.specs.Timeline.{Timeline, IsPresent, start}
+use Rattle.dmf_session.specs.Step.{Steps, Answers}
+use Rattle.dmf_session.specs.Laws.{HasStates, HasAnswer, HasOneAnswer}
+use Rattle.dmf_runs.specs.Line.{line_meaning}
+use Rattle.dmf_runs.specs.Run.{Answering, reply_text, refused_text, Shows, LineRuns, Runs}
+use Rattle.dmf_runs.specs.Outcome.{RestRuns, RunsAll, line_count}
+use Rattle.dmf_runs.specs.Laws.{HasRun, StepsAreAnswers}
+use Rattle.dmf_runs.proofs.Splitting.{some-split}
+
+-- The start of a state has states.
+pub HasStates-start : (bound : ℕ) (s : NetworkState) → IsState s → HasStates (start bound s)
+HasStates-start bound s state = record { place = omega arith; states = All-cons IsState s [] state (All-nil IsState) }
+
+-- Where the place is in the list there is a present state.
+some-present : (t : Timeline) → t.place < length t.states → (s : NetworkState) × IsPresent t s
+some-present t within = ⊎_elim
+    (λ found. (found.0, found.2))
+    (λ past. absurd (omega (arith, past.0, within)))
+    (slice_get_cases t.states t.place).1
+
+-- ---- one line
+
+-- what is shown of a result
+record SomeShown (number : ℕ) (command : Command) (result : Result Reply Refusal) (u : Timeline) : Type 0 where
+  text : List ℕ
+  refused : Bool
+  shows : Shows number command result u text refused
+
+shown : (number : ℕ) (command : Command) (result : Result Reply Refusal) (u : Timeline) → HasStates u → SomeShown number command result u
+shown number command (Ok reply) u has =
+    let s = some-present u has.place in
+    record { text = reply_text command reply s.0; refused = false; shows = (s.0, s.1, refl, refl) }
+shown number command (Err refusal) u has = record { text = refused_text number refusal; refused = true; shows = (refl, refl) }
+
+-- A run of one line, after which there are states again.
+record SomeLine (want_cut : Bool) (number : ℕ) (t : Timeline) (meaning : Result (Option Command) Refusal) : Type 0 where
+  text : List ℕ
+  refused : Bool
+  after : Timeline
+  runs : LineRuns (Steps want_cut) number t meaning text refused after
+  has_states : HasStates after
+
+some-line : HasAnswer → (want_cut : Bool) (number : ℕ) (t : Timeline) (meaning : Result (Option Command) Refusal) → HasStates t → SomeLine want_cut number t meaning
+some-line answer want_cut number t (Ok None) has = record { text = []; refused = false; after = t; runs = (refl, refl, refl); has_states = has }
+some-line answer want_cut number t (Ok (Some command)) has =
+    let a = answer want_cut t command has in
+    let is = shown number command a.result a.after a.has_states in
+    record {
+      text = is.text;
+      refused = is.refused;
+      after = a.after;
+      runs = (a.result, a.steps, is.shows);
+      has_states = a.has_states;
+    }
+some-line answer want_cut number t (Err refusal) has =
+    record { text = refused_text number refusal; refused = true; after = t; runs = (refl, refl, refl); has_states = has }
+
+-- ---- all lines
+
+-- A run of lines, after which there are states again.
+record SomeLines (want_cut : Bool) (number : ℕ) (t : Timeline) (lines : List (List ℕ)) : Type 0 where
+  text : List ℕ
+  refused : Bool
+  after : Timeline
+  runs : Runs (Steps want_cut) number t lines text refused after
+  has_states : HasStates after
+
+some-lines : HasAnswer → (want_cut : Bool) (number : ℕ) (t : Timeline) (lines : List (List ℕ)) → HasStates t → SomeLines want_cut number t lines
+some-lines answer want_cut number t [] has = record { text = []; refused = false; after = t; runs = (refl, refl, refl); has_states = has }
+some-lines answer want_cut number t (line ∷ lines) has =
+    let first = some-line answer want_cut number t (line_meaning true line) has in
+    let rest = some-lines answer want_cut (number + 1) first.after lines first.has_states in
+    record {
+      text = first.text ++ rest.text;
+      refused = first.refused || rest.refused;
+      after = rest.after;
+      runs = record {
+        between = first.after;
+        first = first.text;
+        here = first.refused;
+        more = rest.text;
+        later = rest.refused;
+        runs = first.runs;
+        goes_on = rest.runs;
+        text_is = refl;
+        refused_is = refl;
+      };
+      has_states = rest.has_states;
+    }
+
+-- a run of the rest, if there is one
+record SomeRest (want_cut : Bool) (number : ℕ) (t : Timeline) (rest : List ℕ) : Type 0 where
+  text : List ℕ
+  refused : Bool
+  runs : RestRuns (Steps want_cut) number t rest text refused
+
+some-rest : HasAnswer → (want_cut : Bool) (number : ℕ) (t : Timeline) (rest : List ℕ) → HasStates t → SomeRest want_cut number t rest
+some-rest answer want_cut number t [] has = record { text = []; refused = false; runs = (refl, refl) }
+some-rest answer want_cut number t (byte ∷ rest) has =
+    let line = some-line answer want_cut number t (line_meaning false (byte ∷ rest)) has in
+    record { text = line.text; refused = line.refused; runs = (line.after, line.runs) }
+
+-- Each command text has a run from the start of each state.
+pub has-run : HasAnswer → HasRun
+has-run answer want_cut bound s given state =
+    let some = some-split given in
+    let first = some-lines answer want_cut 1 (start bound s) some.lines (HasStates-start bound s state) in
+    let last = some-rest answer want_cut (length some.lines + 1) first.after some.rest first.has_states in
+    record {
+      text = first.text ++ last.text;
+      refused = first.refused || last.refused;
+      runs = record {
+        lines = some.lines;
+        rest = some.rest;
+        split = some.split;
+        between = first.after;
+        first = first.text;
+        here = first.refused;
+        last = last.text;
+        later = last.refused;
+        runs = first.runs;
+        rest_runs = last.runs;
+        text_is = refl;
+        refused_is = refl;
+      };
+    }
+
+-- ---- from one way of answering to another
+
+at-most-lines : (last : ℕ) (lines : List (List ℕ)) (rest : List ℕ) → line_count lines rest ≤ last → length lines ≤ last
+at-most-lines last lines [] few = few
+at-most-lines last lines (byte ∷ rest) few = omega (arith, few)
+
+-- Holds is so of each timeline to which a line is given, by the line's number.
+module _ (Holds : ℕ → Timeline → Type 0) (Gives : Answering)
+    (idle : (number : ℕ) (t : Timeline) → Holds number t → Holds (number + 1) t)
+    (keeps : (number : ℕ) (t u : Timeline) (command : Command) (result : Result Reply Refusal) → Holds number t → Gives t command result u → Holds (number + 1) u) where
+  line-keeps : (number : ℕ) (t : Timeline) (meaning : Result (Option Command) Refusal) (text : List ℕ) (refused : Bool) (u : Timeline) → Holds number t
+      → LineRuns Gives number t meaning text refused u → Holds (number + 1) u
+  line-keeps number t (Ok None) text refused u holds l = subst (Holds (number + 1)) (sym l.2) (idle number t holds)
+  line-keeps number t (Ok (Some command)) text refused u holds l = keeps number t u command l.0 holds l.1
+  line-keeps number t (Err refusal) text refused u holds l = subst (Holds (number + 1)) (sym l.2) (idle number t holds)
+
+  lines-keep : (number : ℕ) (t : Timeline) (lines : List (List ℕ)) (text : List ℕ) (refused : Bool) (u : Timeline) → Holds number t
+      → Runs Gives number t lines text refused u → Holds (number + length lines) u
+  lines-keep number t [] text refused u holds runs =
+      let same : number ≡ number + 0 = omega arith in
+      subst (λ (n : ℕ). Holds n u) same (subst (Holds number) (sym runs.2) holds)
+  lines-keep number t (line ∷ lines) text refused u holds runs =
+      let next = line-keeps number t (line_meaning true line) runs.first runs.here runs.between holds runs.runs in
+      let place : number + 1 + length lines ≡ number + length (line ∷ lines) = omega arith in
+      subst (λ (n : ℕ). Holds n u) place (lines-keep (number + 1) runs.between lines runs.more runs.later u next runs.goes_on)
+
+  -- What Holds and an answer imply is so of each answer, up to the line that is the last.
+  module _ (Tells : Answering) (last : ℕ)
+      (implies : (number : ℕ) (t u : Timeline) (command : Command) (result : Result Reply Refusal) → number ≤ last → Holds number t → Gives t command result u → Tells t command result u) where
+    line-implied : (number : ℕ) (t : Timeline) (meaning : Result (Option Command) Refusal) (text : List ℕ) (refused : Bool) (u : Timeline) → number ≤ last → Holds number t
+        → LineRuns Gives number t meaning text refused u → LineRuns Tells number t meaning text refused u
+    line-implied number t (Ok None) text refused u few holds l = l
+    line-implied number t (Ok (Some command)) text refused u few holds l = (l.0, implies number t u command l.0 few holds l.1, l.2)
+    line-implied number t (Err refusal) text refused u few holds l = l
+
+    lines-implied : (number : ℕ) (t : Timeline) (lines : List (List ℕ)) (text : List ℕ) (refused : Bool) (u : Timeline) → number + length lines ≤ last + 1 → Holds number t
+        → Runs Gives number t lines text refused u → Runs Tells number t lines text refused u
+    lines-implied number t [] text refused u few holds runs = runs
+    lines-implied number t (line ∷ lines) text refused u few holds runs =
+        let next = line-keeps number t (line_meaning true line) runs.first runs.here runs.between holds runs.runs in
+        record {
+          between = runs.between;
+          first = runs.first;
+          here = runs.here;
+          more = runs.more;
+          later = runs.later;
+          runs = line-implied number t (line_meaning true line) runs.first runs.here runs.between (omega (arith, few)) holds runs.runs;
+          goes_on = lines-implied (number + 1) runs.between lines runs.more runs.later u (omega (arith, few)) next runs.goes_on;
+          text_is = runs.text_is;
+          refused_is = runs.refused_is;
+        }
+
+    rest-implied : (t : Timeline) (lines : List (List ℕ)) (rest text : List ℕ) (refused : Bool) → line_count lines rest ≤ last → Holds (1 + length lines) t
+        → RestRuns Gives (length lines + 1) t rest text refused → RestRuns Tells (length lines + 1) t rest text refused
+    rest-implied t lines [] text refused few holds runs = runs
+    rest-implied t lines (byte ∷ rest) text refused few holds runs =
+        let same : 1 + length lines ≡ length lines + 1 = omega arith in
+        (runs.0, line-implied (length lines + 1) t (line_meaning false (byte ∷ rest)) text refused runs.0 few (subst (λ (n : ℕ). Holds n t) same holds) runs.1)
+
+    -- A run whose commands are answered in one way is one whose commands are answered in another that is implied.
+    pub RunsAll-implied : (t : Timeline) (given text : List ℕ) (refused : Bool) → Holds 1 t → (all : RunsAll Gives t given text refused) → line_count all.lines all.rest ≤ last
+        → RunsAll Tells t given text refused
+    RunsAll-implied t given text refused holds all few =
+        record {
+          lines = all.lines;
+          rest = all.rest;
+          split = all.split;
+          between = all.between;
+          first = all.first;
+          here = all.here;
+          last = all.last;
+          later = all.later;
+          runs = lines-implied 1 t all.lines all.first all.here all.between (omega (arith, at-most-lines last all.lines all.rest few)) holds all.runs;
+          rest_runs = rest-implied all.between all.lines all.rest all.last all.later few (lines-keep 1 t all.lines all.first all.here all.between holds all.runs) all.rest_runs;
+          text_is = all.text_is;
+          refused_is = all.refused_is;
+        }
+
+-- An answer leaves states where there were states.
+abbrev pub Keeps : Answering → Type 0
+Keeps Gives = (t u : Timeline) (command : Command) (result : Result Reply Refusal) → HasStates t → Gives t command result u → HasStates u
+
+module _ (Gives : Answering) (keeps : Keeps Gives) where
+  pub LineRuns-keeps : (number : ℕ) (t : Timeline) (meaning : Result (Option Command) Refusal) (text : List ℕ) (refused : Bool) (u : Timeline) → HasStates t → LineRuns Gives number t meaning text refused u → HasStates u
+  LineRuns-keeps = line-keeps (λ _ t. HasStates t) Gives (λ number t has. has) (λ number. keeps)
+
+  pub Runs-keeps : (number : ℕ) (t : Timeline) (lines : List (List ℕ)) (text : List ℕ) (refused : Bool) (u : Timeline) → HasStates t → Runs Gives number t lines text refused u → HasStates u
+  Runs-keeps = lines-keep (λ _ t. HasStates t) Gives (λ number t has. has) (λ number. keeps)
+
+  -- What is so of each answer on a timeline that has states is so of each answer of a run.
+  pub RunsAll-tells : (Tells : Answering)
+      → ((t u : Timeline) (command : Command) (result : Result Reply Refusal) → HasStates t → Gives t command result u → Tells t command result u)
+      → (t : Timeline) (given text : List ℕ) (refused : Bool) → HasStates t → RunsAll Gives t given text refused → RunsAll Tells t given text refused
+  RunsAll-tells Tells implies t given text refused has all =
+      RunsAll-implied (λ _ t. HasStates t) Gives (λ number t has. has) (λ number. keeps) Tells (line_count all.lines all.rest)
+      (λ number t u command result few. implies t u command result) t given text refused has all (omega arith)
+
+-- ---- answers where memory is there
+
+-- A command's one answer leaves states.
+pub Steps-keeps : HasAnswer → HasOneAnswer → (want_cut : Bool) → Keeps (Steps want_cut)
+Steps-keeps some one want_cut t u command result has steps =
+    let a = some want_cut t command has in
+    subst HasStates (one want_cut t a.after u command a.result result has a.steps steps).1 a.has_states
+
+-- What steps give is an answer, where no memory is wanted.
+not-memory : (want_cut : Bool) (t u : Timeline) (command : Command) (result : Result Reply Refusal) → result ≢ Err NoMemory → Steps want_cut t command result u → Answers want_cut t command result u
+not-memory want_cut t u command (Err NoMemory) memory steps = absurd (memory refl)
+not-memory want_cut t u command result memory steps = steps
+
+-- and its one answer tells of no want of memory
+step-is-answer : HasAnswer → HasOneAnswer → (want_cut : Bool) (t u : Timeline) (command : Command) (result : Result Reply Refusal) → HasStates t → Steps want_cut t command result u
+    → Answers want_cut t command result u
+step-is-answer some one want_cut t u command result has steps =
+    let a = some want_cut t command has in
+    not-memory want_cut t u command result (subst (λ r. r ≢ Err NoMemory) (one want_cut t a.after u command a.result result has a.steps steps).0 a.memory) steps
+
+-- A run in which no command is refused memory is one in which a command may be refused it.
+pub steps-are-answers : HasAnswer → HasOneAnswer → StepsAreAnswers
+steps-are-answers some one want_cut bound s given text refused state all =
+    RunsAll-tells (Steps want_cut) (Steps-keeps some one want_cut) (Answers want_cut) (step-is-answer some one want_cut) (start bound s) given text refused (HasStates-start bound s state) all

@@ -1,0 +1,36 @@
+use Rattle.std.proofs.Common.{Result}
+use Rattle.std.proofs.lemmas.Result.{err_from_is_err_and}
+use Rattle.dmf_text.specs.Writing.{Writes}
+use Rattle.dmf_runs.specs.declared.fault.Status.{Status}
+use Rattle.dmf_runs.specs.declared.fault.EngineFault.{EngineFault}
+use Rattle.dmf_runs.specs.Run.{solved_text}
+use Rattle.dmf_runs.specs.Streams.{reader_of, writer_of}
+use Rattle.dmf_runs.specs.SolveRun.{WritesSolved}
+use Rattle.dmf_runs.proofs.solve.run_solve_watched.Given.{Over}
+use Rattle.dmf_runs.proofs.solve.run_solve_watched.Goals as goal
+use Rattle.dmf_runs.proofs.solve.run_solve_watched.Goals.{After-put_solved}
+
+-- the solution was written, or a front of it
+writes-solved : (g : Over) (c : After-put_solved g) (result : Result Status EngineFault) → Writes g.W.Sink.contents g.W.Sink.has_failed c.args.out.now c.put_solved.new.out result (solved_text c.in_ok-solved.solved.state c.in_ok-solved.solved.side)
+    → WritesSolved c.args.want_cut (reader_of g.P.Source.remaining g.P.Source.has_failed c.args.problem.now) (reader_of g.P.Source.remaining g.P.Source.has_failed c.read_state.new.source) (writer_of g.W.Sink.contents g.W.Sink.has_failed c.args.out.now) (writer_of g.W.Sink.contents g.W.Sink.has_failed c.put_solved.new.out) c.in_ok-state.ensures.0 result
+writes-solved g c result writes = record {
+  state = c.in_ok-state.state;
+  problem = c.in_ok-state.ensures.2;
+  solved = c.in_ok-solved.solved.state;
+  becomes = c.in_ok-solved.ensures.becomes;
+  side = c.in_ok-solved.solved.side;
+  side_is = c.in_ok-solved.ensures.side;
+  writes = writes;
+}
+
+-- the writer failed
+pub returns-in_err-put_solved-clause-run : goal.returns-in_err-put_solved-clause-run
+returns-in_err-put_solved-clause-run g c =
+    let failed = err_from_is_err_and c.from_residual-in_err-put_solved.result c.from_residual-in_err-put_solved.ensures.1 in
+    let read = c.in_ok-state.ensures in
+    rw (failed.1, failed.2) (read.0, read.1, writes-solved g (goal.at.returns-in_err-put_solved-clause-run g c).After-put_solved _ c.in_err-put_solved.ensures)
+
+pub returns-clause-run : goal.returns-clause-run
+returns-clause-run g c =
+    let read = c.in_ok-state.ensures in
+    (read.0, read.1, writes-solved g (goal.at.returns-clause-run g c).After-put_solved _ c.in_ok-put_solved.ensures)

@@ -1,0 +1,83 @@
+-- Each command text has a run, and where memory is there one alone; its solves are optimal; and with the largest bound it
+-- forgets no state.
+-- Public: a public contract says no more than this.
+use Rattle.std.specs.Prelude.{ℕ, ◌≡◌, ◌≤◌, List, Bool, Result, Ok, OnOk}
+use Rattle.dmf_state.specs.NetworkState.{NetworkState, IsState}
+use Rattle.dmf_session.specs.declared.command.Command.{Command}
+use Rattle.dmf_session.specs.declared.command.Command.TheVariants.{Solve}
+use Rattle.dmf_session.specs.declared.command.Reply.{Reply}
+use Rattle.dmf_session.specs.declared.command.Refusal.{Refusal}
+use Rattle.dmf_history.specs.Timeline.{Timeline, start, extended, appended}
+use Rattle.dmf_session.specs.Step.{Steps, Answers}
+use Rattle.dmf_session.specs.Optimal.{IsOptimal, HasOptimalPresent}
+use Rattle.dmf_runs.specs.declared.fault.Status.{Status}
+use Rattle.dmf_runs.specs.declared.fault.EngineFault.{EngineFault}
+use Rattle.dmf_runs.specs.Streams.{Reader, Writer}
+use Rattle.dmf_runs.specs.Run.{Answering, Runs}
+use Rattle.dmf_runs.specs.Outcome.{RunsAll, line_count}
+use Rattle.dmf_runs.specs.SolveRun.{WritesSolved}
+
+-- A run of the command text that was given, from the timeline `t`: what it writes, and whether a line is refused.
+pub record SomeRun (Gives : Answering) (t : Timeline) (given : List ℕ) : Type 0 where
+  pub text : List ℕ
+  pub refused : Bool
+  pub runs : RunsAll Gives t given text refused
+
+-- From the start of each state, with each bound, each command text has a run in which no command is refused memory.
+abbrev pub HasRun : Type 0
+HasRun = (want_cut : Bool) (bound : ℕ) (s : NetworkState) (given : List ℕ) → IsState s → SomeRun (Steps want_cut) (start bound s) given
+
+-- And one alone: any two write the same text, and are the same in whether a line is refused.
+abbrev pub HasOneRun : Type 0
+HasOneRun =
+    (want_cut : Bool) (bound : ℕ) (s : NetworkState) (given text other : List ℕ) (refused also : Bool) → IsState s
+    → RunsAll (Steps want_cut) (start bound s) given text refused → RunsAll (Steps want_cut) (start bound s) given other also
+    → (text ≡ other) × (refused ≡ also)
+
+-- A run in which no command is refused memory is one in which a command may be refused it.
+abbrev pub StepsAreAnswers : Type 0
+StepsAreAnswers =
+    (want_cut : Bool) (bound : ℕ) (s : NetworkState) (given text : List ℕ) (refused : Bool) → IsState s
+    → RunsAll (Steps want_cut) (start bound s) given text refused → RunsAll (Answers want_cut) (start bound s) given text refused
+
+-- Wherever a run of lines has come to, in which commands may have been refused memory: a solve that is not refused leaves an
+-- optimal present state.
+abbrev pub SolvesAreOptimal : Type 0
+SolvesAreOptimal =
+    (want_cut : Bool) (bound : ℕ) (s : NetworkState) (lines : List (List ℕ)) (text : List ℕ) (refused : Bool) (t u : Timeline) (reply : Reply)
+    → IsState s → Runs (Answers want_cut) 1 (start bound s) lines text refused t → Answers want_cut t Solve (Ok reply) u
+    → HasOptimalPresent u
+
+-- A command is answered so, and where it is a solve that is not refused, it leaves an optimal present state.
+pub record AnswersOptimally (want_cut : Bool) (t : Timeline) (command : Command) (result : Result Reply Refusal) (u : Timeline) : Type 0 where
+  pub answers : Answers want_cut t command result u
+  pub optimal : command ≡ Solve → OnOk result (HasOptimalPresent u)
+
+-- So each run of a command text is one in which each solve that is not refused leaves an optimal present state.
+abbrev pub RunsAreOptimal : Type 0
+RunsAreOptimal =
+    (want_cut : Bool) (bound : ℕ) (s : NetworkState) (given text : List ℕ) (refused : Bool) → IsState s
+    → RunsAll (Answers want_cut) (start bound s) given text refused → RunsAll (AnswersOptimally want_cut) (start bound s) given text refused
+
+-- What is appended to the timeline makes it forget no state: it is put behind the states up to the present one.
+abbrev pub ForgetsNothing : Timeline → Type 0
+ForgetsNothing t = (s : NetworkState) → appended t s ≡ extended t s
+
+-- A command is answered so, on a timeline to which all is appended without forgetting a state.
+pub record AnswersForgettingNothing (want_cut : Bool) (t : Timeline) (command : Command) (result : Result Reply Refusal) (u : Timeline) : Type 0 where
+  pub answers : Answers want_cut t command result u
+  pub forgets_nothing : ForgetsNothing t
+
+-- With the bound 1,000,000 each run of a command text of at most 1,000,000 lines is one in which no command forgets a state:
+-- wherever the bound could matter, the list goes on as one that has no bound.
+abbrev pub MillionIsNeverForgotten : Type 0
+MillionIsNeverForgotten =
+    (want_cut : Bool) (s : NetworkState) (given text : List ℕ) (refused : Bool)
+    → (all : RunsAll (Answers want_cut) (start 1000000 s) given text refused) → line_count all.lines all.rest ≤ 1000000
+    → RunsAll (AnswersForgettingNothing want_cut) (start 1000000 s) given text refused
+
+-- Where a run that solves a problem writes a solution, it is that of an optimal state.
+abbrev pub WrittenIsOptimal : Type 0
+WrittenIsOptimal =
+    (want_cut : Bool) (from to : Reader) (old new : Writer) (text : List ℕ) (result : Result Status EngineFault)
+    → (run : WritesSolved want_cut from to old new text result) → IsOptimal run.solved

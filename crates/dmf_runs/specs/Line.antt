@@ -1,0 +1,30 @@
+-- How a command text is split into lines, and what a line means.
+-- Public: a public contract says no more than this.
+use Rattle.std.specs.Prelude.{ℕ, ◌≡◌, ◌≢◌, List, [], ◌∷◌, ◌++◌, length, nat_lt, if◌then◌else◌, All, Bool, Option, Result, Err}
+use Rattle.std.specs.List.{flat_map}
+use Rattle.std.specs.Str.Lines.{strip_carriage_return}
+use Rattle.dmf_session.specs.declared.command.Command.{Command}
+use Rattle.dmf_session.specs.declared.command.Refusal.{Refusal}
+use Rattle.dmf_session.specs.declared.command.Refusal.TheVariants.{LineTooLong}
+use Rattle.dmf_runs.specs.CommandText.{command_of}
+
+-- No byte is a line feed.
+abbrev pub HasNoLineFeed : List ℕ → Type 0
+HasNoLineFeed bytes = All (λ b. b ≢ 10) bytes
+
+-- the bytes of lines of which each is ended by a line feed
+abbrev pub with_line_feeds : List (List ℕ) → List ℕ
+with_line_feeds lines = flat_map (λ line. line ++ 10 ∷ []) lines
+
+-- The text is these lines, each ended by a line feed, and a rest without one.
+pub record IsSplit (text : List ℕ) (lines : List (List ℕ)) (rest : List ℕ) : Type 0 where
+  pub whole : text ≡ with_line_feeds lines ++ rest
+  pub each : All HasNoLineFeed lines
+  pub last : HasNoLineFeed rest
+
+-- What a line means, of which these are the bytes before the line feed, if one ended it. A carriage return directly
+-- before the line feed is counted in its length, and is no part of its fields.
+abbrev pub line_meaning : Bool → List ℕ → Result (Option Command) Refusal
+line_meaning ended line =
+    if nat_lt 4096 (length line) then Err LineTooLong
+    else command_of (if ended then strip_carriage_return line else line)

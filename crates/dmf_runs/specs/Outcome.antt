@@ -1,0 +1,110 @@
+-- What a run of command lines gave, by the bytes that it was given and those that it wrote.
+-- Public: a public contract says no more than this.
+use Rattle.std.specs.Prelude.{◌^◌, ℕ, ◌≡◌, ◌⊎◌, ◌+◌, ◌-◌, ◌<◌, ◌≤◌, List, [], ◌∷◌, ◌++◌, length, take, All, Bool, true, false, ◌||◌, if◌then◌else◌, Option, Result, Ok, Err}
+use Rattle.std.specs.Io.KnownBytes.{Consumes, Appends, IsAtEnd}
+use Rattle.dmf_history.specs.Timeline.{Timeline}
+use Rattle.dmf_runs.specs.declared.fault.Status.{Status}
+use Rattle.dmf_runs.specs.declared.fault.Status.TheVariants.{Well, SomeRefused}
+use Rattle.dmf_runs.specs.declared.fault.EngineFault.{EngineFault}
+use Rattle.dmf_runs.specs.declared.fault.EngineFault.TheVariants as fault
+use Rattle.dmf_runs.specs.Streams.{Streams}
+use Rattle.dmf_runs.specs.Line.{HasNoLineFeed, with_line_feeds, IsSplit, line_meaning}
+use Rattle.dmf_session.specs.Step.{Answers}
+use Rattle.dmf_runs.specs.Run.{Answering, LineRuns, Runs}
+
+-- a last line, which no line feed ended, if there is one
+abbrev pub RestRuns : Answering → ℕ → Timeline → List ℕ → List ℕ → Bool → Type 0
+RestRuns Gives number t [] text refused = (text ≡ []) × (refused ≡ false)
+RestRuns Gives number t (byte ∷ rest) text refused =
+    (u : Timeline) × LineRuns Gives number t (line_meaning false (byte ∷ rest)) text refused u
+
+-- All lines of the text that was given were carried out, and this was written; `refused` says whether one was refused.
+pub record RunsAll (Gives : Answering) (t : Timeline) (given text : List ℕ) (refused : Bool) : Type 0 where
+  pub lines : List (List ℕ)
+  pub rest : List ℕ
+  pub split : IsSplit given lines rest
+  pub between : Timeline
+  pub first : List ℕ
+  pub here : Bool
+  pub last : List ℕ
+  pub later : Bool
+  pub runs : Runs Gives 1 t lines first here between
+  pub rest_runs : RestRuns Gives (length lines + 1) between rest last later
+  pub text_is : text ≡ first ++ last
+  pub refused_is : refused ≡ (here || later)
+
+-- Just the lines that a line feed ended were carried out, of the text that was given, and this was written.
+pub record RunsEndedLines (want_cut : Bool) (t : Timeline) (given text : List ℕ) : Type 0 where
+  pub lines : List (List ℕ)
+  pub rest : List ℕ
+  pub split : IsSplit given lines rest
+  pub refused : Bool
+  pub after : Timeline
+  pub runs : Runs (Answers want_cut) 1 t lines text refused after
+
+-- First lines of the text that was given were carried out, and this is a front of what they write. The last of them was
+-- ended by a line feed, or it is the last line of all, and the reader is at its end.
+pub record RunsFront (want_cut : Bool) (t : Timeline) (known : Option (List ℕ)) (given text : List ℕ) : Type 0 where
+  pub front : List ℕ
+  pub behind : List ℕ
+  pub given_is : given ≡ front ++ behind
+  pub whole : List ℕ
+  pub refused : Bool
+  pub runs : RunsAll (Answers want_cut) t front whole refused
+  pub ends : (runs.rest ≡ []) ⊎ ((behind ≡ []) × IsAtEnd known)
+  pub rest : List ℕ
+  pub text_is : whole ≡ text ++ rest
+
+-- Just the lines that end within the limits were carried out, of the text that was given, and this was written: there
+-- are as many as may be and one byte more, or the bytes up to the limit do not end the next line.
+pub record RunsWithin (want_cut : Bool) (t : Timeline) (given text : List ℕ) : Type 0 where
+  pub lines : List (List ℕ)
+  pub rest : List ℕ
+  pub given_is : given ≡ with_line_feeds lines ++ rest
+  pub each : All HasNoLineFeed lines
+  pub at_most_lines : length lines ≤ 1000000
+  pub at_most_bytes : length (with_line_feeds lines) ≤ 2 ^ 30
+  pub past : ((length lines ≡ 1000000) × (0 < length rest))
+      ⊎ ((2 ^ 30 < length given) × HasNoLineFeed (take (2 ^ 30 - length (with_line_feeds lines)) rest))
+  pub refused : Bool
+  pub after : Timeline
+  pub runs : Runs (Answers want_cut) 1 t lines text refused after
+
+-- The answer tells whether a line was refused.
+abbrev pub status_if : Bool → Status
+status_if refused = if refused then SomeRefused else Well
+
+-- Neither stream failed.
+pub record NoneFailed (old new : Streams) : Type 0 where
+  pub reader : new.reader.has_failed ≡ old.reader.has_failed
+  pub writer : new.writer.has_failed ≡ old.writer.has_failed
+
+-- how many lines these are, with a rest that no line feed ended
+abbrev pub line_count : List (List ℕ) → List ℕ → ℕ
+line_count lines [] = length lines
+line_count lines (byte ∷ rest) = length lines + 1
+
+-- All that was to be read was given, and it is within the limits.
+pub record IsWithin (new : Streams) (given : List ℕ) (count : ℕ) : Type 0 where
+  pub at_end : IsAtEnd new.reader.known
+  pub bytes : length given ≤ 2 ^ 30
+  pub lines : count ≤ 1000000
+
+-- what a run of command lines answers, where these bytes were given and written; no answer but these is given
+abbrev pub Gave : Bool → Timeline → Streams → Streams → List ℕ → List ℕ → Result Status EngineFault → Type 0
+Gave want_cut t old new given written (Ok status) =
+    (refused : Bool) × (all : RunsAll (Answers want_cut) t given written refused) × (status ≡ status_if refused)
+    × IsWithin new given (line_count all.lines all.rest) × NoneFailed old new
+Gave want_cut t old new given written (Err fault.Read) =
+    RunsEndedLines want_cut t given written × (new.reader.has_failed ≡ true) × (new.writer.has_failed ≡ old.writer.has_failed)
+Gave want_cut t old new given written (Err fault.Write) =
+    RunsFront want_cut t new.reader.known given written × (new.writer.has_failed ≡ true) × (new.reader.has_failed ≡ old.reader.has_failed)
+Gave want_cut t old new given written (Err fault.TooMuchInput) = RunsWithin want_cut t given written × NoneFailed old new
+Gave want_cut t old new given written (Err fault) = ⊥
+
+-- A run of command lines from the timeline `t`. `want_cut` says whether a cut is wanted after each solution that answers
+-- `solve`.
+abbrev pub RunsCommands : Bool → Timeline → Streams → Streams → Result Status EngineFault → Type 0
+RunsCommands want_cut t old new result =
+    (given : List ℕ) × (written : List ℕ) × Consumes old.reader.known new.reader.known given × Appends old.writer.contents new.writer.contents written
+    × Gave want_cut t old new given written result

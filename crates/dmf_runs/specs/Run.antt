@@ -1,0 +1,94 @@
+-- What a run of command lines writes.
+-- Public: a public contract says no more than this.
+use Rattle.std.specs.Prelude.{ℕ, ◌≡◌, ◌+◌, List, [], ◌∷◌, ◌++◌, codes, decimal, Bool, true, false, ◌||◌, Option, Some, None, Result, Ok, Err}
+use Rattle.dmf_state.specs.NetworkState.{NetworkState}
+use Rattle.dmf_state.specs.Side.{CutSide}
+use Rattle.dmf_text.specs.Written.{written_line, problem_text, solution_text, cut_text}
+use Rattle.dmf_session.specs.declared.command.Command.{Command}
+use Rattle.dmf_session.specs.declared.command.Command.TheVariants.{Cap, Add, Close, Shut, Solve, Undo, Redo, PrintProblem, PrintFlow, PrintCut}
+use Rattle.dmf_session.specs.declared.command.Reply.{Reply}
+use Rattle.dmf_session.specs.declared.command.Reply.TheVariants.{Value, Added, Solution, Problem, Flow, Cut}
+use Rattle.dmf_session.specs.declared.command.Refusal.{Refusal}
+use Rattle.dmf_history.specs.Timeline.{Timeline, IsPresent}
+use Rattle.dmf_runs.specs.RefusalText.{refusal_text}
+use Rattle.dmf_runs.specs.Line.{line_meaning}
+
+-- the word of a command
+abbrev pub word_of : Command → List ℕ
+word_of (Cap arc cap) = codes "cap"
+word_of (Add tail head cap) = codes "add"
+word_of (Close arc) = codes "close"
+word_of (Shut node) = codes "shut"
+word_of Solve = codes "solve"
+word_of (Undo steps) = codes "undo"
+word_of (Redo steps) = codes "redo"
+word_of PrintProblem = codes "print"
+word_of PrintFlow = codes "print"
+word_of PrintCut = codes "print"
+
+-- `c WORD value V`
+abbrev pub value_text : Command → ℕ → List ℕ
+value_text command value = written_line (codes "c" ∷ word_of command ∷ codes "value" ∷ decimal value ∷ [])
+
+-- `c WORD I value V`
+abbrev pub added_text : Command → ℕ → ℕ → List ℕ
+added_text command arc value =
+    written_line (codes "c" ∷ word_of command ∷ decimal arc ∷ codes "value" ∷ decimal value ∷ [])
+
+-- the solution of a state, and this cut after it, if there is one
+abbrev pub solved_text : NetworkState → Option CutSide → List ℕ
+solved_text s None = solution_text s
+solved_text s (Some side) = solution_text s ++ cut_text side
+
+-- what is written in reply to a command, where `s` is the state that is present after it
+abbrev pub reply_text : Command → Reply → NetworkState → List ℕ
+reply_text command (Value value) s = value_text command value
+reply_text command (Added arc value) s = added_text command arc value
+reply_text command (Solution side) s = solved_text s side
+reply_text command Problem s = problem_text s.network
+reply_text command Flow s = solution_text s
+reply_text command (Cut side) s = cut_text side
+
+-- what is written of a refused line
+abbrev pub refused_text : ℕ → Refusal → List ℕ
+refused_text number refusal = written_line (codes "c" ∷ codes "refused" ∷ decimal number ∷ refusal_text refusal ∷ [])
+
+-- The text is that of a command that was given to a session in line `number`, was answered so and left `u`; `refused`
+-- says whether it was refused.
+abbrev pub Shows : ℕ → Command → Result Reply Refusal → Timeline → List ℕ → Bool → Type 0
+Shows number command (Ok reply) u text refused =
+    (s : NetworkState) × IsPresent u s × (text ≡ reply_text command reply s) × (refused ≡ false)
+Shows number command (Err refusal) u text refused = (text ≡ refused_text number refusal) × (refused ≡ true)
+
+-- How a command that is given to a timeline may be answered, and which timeline the answer leaves.
+abbrev pub Answering : Type 1
+Answering = Timeline → Command → Result Reply Refusal → Timeline → Type 0
+
+-- A line that means this, in line `number`, turns the timeline `t` into `u` and writes the text; a command is answered as
+-- `Gives` says.
+abbrev pub LineRuns : Answering → ℕ → Timeline → Result (Option Command) Refusal → List ℕ → Bool → Timeline → Type 0
+LineRuns Gives number t (Ok None) text refused u = (text ≡ []) × (refused ≡ false) × (u ≡ t)
+LineRuns Gives number t (Ok (Some command)) text refused u =
+    (result : Result Reply Refusal) × Gives t command result u × Shows number command result u text refused
+LineRuns Gives number t (Err refusal) text refused u = (text ≡ refused_text number refusal) × (refused ≡ true) × (u ≡ t)
+
+-- A first line, and the lines after it.
+pub record FirstAndMore (First : List ℕ → Bool → Timeline → Type 0) (More : Timeline → List ℕ → Bool → Type 0)
+    (text : List ℕ) (refused : Bool) : Type 0 where
+  pub between : Timeline
+  pub first : List ℕ
+  pub here : Bool
+  pub more : List ℕ
+  pub later : Bool
+  pub runs : First first here between
+  pub goes_on : More between more later
+  pub text_is : text ≡ first ++ more
+  pub refused_is : refused ≡ (here || later)
+
+-- Lines, each ended by a line feed, of which the first has this number, turn the timeline `t` into `u` and write the
+-- text; `refused` says whether one was refused. Each command is answered as `Gives` says.
+abbrev pub Runs : Answering → ℕ → Timeline → List (List ℕ) → List ℕ → Bool → Timeline → Type 0
+Runs Gives number t [] text refused u = (text ≡ []) × (refused ≡ false) × (u ≡ t)
+Runs Gives number t (line ∷ lines) text refused u =
+    FirstAndMore (LineRuns Gives number t (line_meaning true line))
+    (λ between more later. Runs Gives (number + 1) between lines more later u) text refused

@@ -1,0 +1,76 @@
+-- What a session gave: the problem is read, and then the command lines are carried out on it.
+-- Public: a public contract says no more than this.
+use Rattle.std.specs.Prelude.{◌^◌, ℕ, ◌≡◌, ◌⊎◌, ◌<◌, ◌≤◌, List, length, Bool, true, Option, Some, None, Result, Ok, Err}
+use Rattle.std.specs.Io.KnownBytes.{Consumes, IsAtEnd}
+use Rattle.dmf_state.specs.NetworkState.{NetworkState}
+use Rattle.dmf_text.specs.declared.fault.ProblemFault.{ProblemFault}
+use Rattle.dmf_text.specs.Problem.{problem_of}
+use Rattle.dmf_history.specs.Timeline.{start}
+use Rattle.dmf_runs.specs.declared.fault.Status.{Status}
+use Rattle.dmf_runs.specs.declared.fault.EngineFault.{EngineFault}
+use Rattle.dmf_runs.specs.declared.fault.EngineFault.TheVariants as fault
+use Rattle.dmf_runs.specs.Streams.{Reader, Streams}
+use Rattle.dmf_runs.specs.Outcome.{RunsCommands}
+
+-- This text was given, it is the whole of what the reader had left, and it is within the limit.
+pub record GaveWhole (old new : Reader) (text : List ℕ) : Type 0 where
+  pub at_end : IsAtEnd new.known
+  pub within : length text ≤ 2 ^ 30
+  pub mark : new.has_failed ≡ old.has_failed
+
+-- More was given than may be.
+pub record GaveTooMuch (old new : Reader) (text : List ℕ) : Type 0 where
+  pub past : 2 ^ 30 < length text
+  pub mark : new.has_failed ≡ old.has_failed
+
+-- ---- a text that is read whole and judged
+
+-- The text was read whole, and the judge finds this fault, if there is one; nothing is so where there is none.
+abbrev pub FindsFault : {Fault : Type 0} → (List ℕ → Result NetworkState Fault) → Reader → Reader → List ℕ → Option Fault → Type 0
+FindsFault judge old new text None = ⊥
+FindsFault judge old new text (Some found) = GaveWhole old new text × (judge text ≡ Err found)
+
+-- What reading a text gives that a judge turns into a state, of which this much was given; no answer but these is given.
+-- `found_in` is the fault of the text that an answer tells.
+abbrev pub Reads : {Fault : Type 0} → (List ℕ → Result NetworkState Fault) → (EngineFault → Option Fault) → Reader → Reader → List ℕ → Result NetworkState EngineFault → Type 0
+Reads judge found_in old new text (Ok s) = GaveWhole old new text × (judge text ≡ Ok s)
+Reads judge found_in old new text (Err fault.Read) = new.has_failed ≡ true
+Reads judge found_in old new text (Err fault.TooMuchInput) = GaveTooMuch old new text
+Reads judge found_in old new text (Err fault.NoMemory) = new.has_failed ≡ old.has_failed
+Reads judge found_in old new text (Err told) = FindsFault judge old new text (found_in told)
+
+abbrev pub problem_fault_in : EngineFault → Option ProblemFault
+problem_fault_in (fault.Problem found) = Some found
+problem_fault_in other = None
+
+-- what reading a problem gives
+abbrev pub ReadsProblem : Reader → Reader → List ℕ → Result NetworkState EngineFault → Type 0
+ReadsProblem old new text result = Reads problem_of problem_fault_in old new text result
+
+-- ---- the run
+
+-- No command byte was taken, and nothing was written.
+abbrev pub Untouched : Streams → Streams → Type 0
+Untouched old new = new ≡ old
+
+-- The problem was read, and its command lines were run.
+pub record RunsOn (want_cut : Bool) (bound : ℕ) (from to : Reader) (old new : Streams) (text : List ℕ) (result : Result Status EngineFault) : Type 0 where
+  pub state : NetworkState
+  pub problem : ReadsProblem from to text (Ok state)
+  pub runs : RunsCommands want_cut (start bound state) old new result
+
+-- What a session answers that was given this much of the problem's text. What it answers without having run a line it
+-- answers with nothing written and no command byte taken.
+abbrev pub SessionAnswered : Bool → ℕ → Reader → Reader → Streams → Streams → List ℕ → Result Status EngineFault → Type 0
+SessionAnswered want_cut bound from to old new text (Ok status) = RunsOn want_cut bound from to old new text (Ok status)
+SessionAnswered want_cut bound from to old new text (Err fault.Write) = RunsOn want_cut bound from to old new text (Err fault.Write)
+SessionAnswered want_cut bound from to old new text (Err fault.NoMemory) = Untouched old new × (to.has_failed ≡ from.has_failed)
+SessionAnswered want_cut bound from to old new text (Err told) =
+    (ReadsProblem from to text (Err told) × Untouched old new) ⊎ RunsOn want_cut bound from to old new text (Err told)
+
+-- A session, from the bytes that its two readers gave to those that its writer took. `want_cut` says whether a cut is
+-- wanted after each solution that answers `solve`; the bound is the largest number of states that are kept before the present
+-- one.
+abbrev pub RunsSession : Bool → ℕ → Reader → Reader → Streams → Streams → Result Status EngineFault → Type 0
+RunsSession want_cut bound from to old new result =
+    (text : List ℕ) × Consumes from.known to.known text × SessionAnswered want_cut bound from to old new text result

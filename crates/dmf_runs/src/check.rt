@@ -1,0 +1,96 @@
+//! A solution is checked, from bytes to bytes.
+ghost use Rattle.std.specs.Prelude.{◌≡◌, ◌≤◌, ℕ, List, length, codes, if◌then◌else◌, IfOk};
+ghost use Rattle.std.specs.Io.KnownBytes.{Consumes};
+ghost use Rattle.dmf_text.specs.Writing.{Writes};
+ghost use Rattle.dmf_runs.specs.Streams.{reader_of, writer_of};
+ghost use Rattle.dmf_runs.specs.CheckRun.{IsVerdict, verdict_line, verdict_text, verdict_status, ReadsSolution, RunsCheck};
+
+use crate::fault::{EngineFault, Status};
+use crate::problem::read_state;
+use crate::reply::put_line;
+use crate::whole_text::read_all;
+use dmf_solver::is_greatest;
+use dmf_state::{NoMemory, State};
+use dmf_text::LineField::{Number, Text};
+use dmf_text::{LineBuffer, Sink, SolutionFaultKind, Source, WriteFault, line_of, read_solution};
+use std::alloc::Global;
+
+/// Reads a problem, then a solution of it, and then writes `c greatest V` where no flow has a larger value than that of
+/// the solution, and else `c flow V`, and flushes it. The status tells it too.
+///
+/// Stopped before anything is written by [`EngineFault::Problem`] and [`EngineFault::Solution`], where a text has a fault,
+/// by [`EngineFault::Read`] and [`EngineFault::TooMuchInput`] in reading them, and by [`EngineFault::NoMemory`]; and by
+/// [`EngineFault::Write`] where a call of the writer failed, its flush too. Where the problem is stopped at, no byte of the
+/// solution is read.
+pub fn run_check<P: Source, C: Source, W: Sink>(
+    alloc: Global,
+    problem: &mut P,
+    solution: &mut C,
+    out: &mut W,
+) -> Result<Status, EngineFault>
+    ensures { RunsCheck
+        (reader_of P.remaining P.has_failed problem.old) (reader_of P.remaining P.has_failed problem.new)
+        (reader_of C.remaining C.has_failed solution.old) (reader_of C.remaining C.has_failed solution.new)
+        (writer_of W.contents W.has_failed out.old) (writer_of W.contents W.has_failed out.new)
+        result }
+{
+    let state = read_state(alloc, problem)?;
+    let solved = read_solved(alloc, state, solution)?;
+    let greatest = verdict_of(alloc, &solved)?;
+    put_verdict(&solved, greatest, out)?;
+    Ok(status_of_verdict(greatest))
+}
+
+/// Reads a solution text of a state's network, and judges it. The state is let go then.
+fn read_solved<C: Source>(alloc: Global, state: State, source: &mut C) -> Result<State, EngineFault>
+    ensures { (text : List ℕ) × Consumes (C.remaining source.old) (C.remaining source.new) text
+        × ReadsSolution state
+        (reader_of C.remaining C.has_failed source.old) (reader_of C.remaining C.has_failed source.new)
+        text result }
+{
+    let text = read_all(alloc, source)?;
+    match read_solution(alloc, &text, &state) {
+        Ok(solved) => Ok(solved),
+        Err(fault) => match fault.kind {
+            SolutionFaultKind::NoMemory => Err(EngineFault::NoMemory),
+            _ => Err(EngineFault::Solution(fault)),
+        },
+    }
+}
+
+/// Whether no flow of the network has a larger value than that of the state.
+fn verdict_of(alloc: Global, state: &State) -> Result<bool, NoMemory>
+    ensures { IfOk result (IsVerdict state.now) }
+{
+    is_greatest(alloc, state)
+}
+
+/// Writes whether the state's flow is greatest, and flushes it.
+fn put_verdict<W: Sink>(state: &State, greatest: bool, out: &mut W) -> Result<(), WriteFault>
+    ensures { Writes W.contents W.has_failed out.old out.new result (verdict_text state.now greatest) }
+{
+    put_line(&verdict_line(greatest, state.value()), out)
+}
+
+fn verdict_line(greatest: bool, value: u64) -> LineBuffer
+    ensures { result ≡ verdict_line greatest value }
+{
+    line_of(&[Text(b"c"), Text(verdict_word(greatest)), Number(value)])
+}
+
+fn verdict_word(greatest: bool) -> &'static [u8]
+    ensures word { result.now ≡ (if greatest then codes "greatest" else codes "flow") }
+    ensures short { length result.now ≤ 8 }
+{
+    if greatest { b"greatest" } else { b"flow" }
+}
+
+fn status_of_verdict(greatest: bool) -> Status
+    ensures { result ≡ verdict_status greatest }
+{
+    if greatest {
+        Status::Well
+    } else {
+        Status::NotGreatest
+    }
+}

@@ -1,0 +1,174 @@
+//! What command lines mean.
+ghost use Rattle.std.specs.Prelude.{◌≡◌, ◌∷◌, codes, false};
+ghost use Rattle.std.specs.Str.{bytes_eq};
+ghost use Rattle.std.specs.Str.Lines.{strip_carriage_return};
+ghost use Rattle.dmf_text.specs.Number.{number_of};
+ghost use Rattle.dmf_runs.specs.CommandText.{command_of, meaning_of, command_by, capping, addition, one_number, solving, steps, printing, with_number};
+ghost use Rattle.dmf_runs.specs.KeptLine.{Means};
+
+use crate::kept_line::KeptLine;
+use dmf_session::{Command, Refusal};
+use dmf_text::{Fields, NumberFault, number};
+
+/// What a command line means: nothing, a command, or why it is refused.
+pub type Meaning = Result<Option<Command>, Refusal>;
+
+/// What a line means that was taken, which a line feed ended or the end of the input.
+pub fn meaning_of(line: &KeptLine, ended: bool) -> Meaning
+    ensures { Means line.now ended result }
+{
+    if line.is_long() {
+        return Err(Refusal::LineTooLong);
+    }
+    let text = line.bytes();
+    read_command(if ended {
+        without_carriage_return(text)
+    } else {
+        text
+    })
+}
+
+/// The line without the one carriage return at its end, if it has one.
+fn without_carriage_return(line: &[u8]) -> &[u8]
+    ensures { result.now ≡ strip_carriage_return line.now }
+{
+    if line.last() == Some(&b'\r') {
+        return &line[..line.len() - 1];
+    }
+    line
+}
+
+/// Reads a command line, given without its end. A blank line and a comment, whose first field is `c`, mean nothing.
+///
+/// Refused, in this order, by [`Refusal::UnknownCommand`] for the first field, [`Refusal::FieldCount`],
+/// [`Refusal::UnknownCommand`] for what is to be printed, and for each number from left to right
+/// [`Refusal::NotANumber`] and [`Refusal::TooLarge`]. Takes no memory.
+pub fn read_command(line: &[u8]) -> Result<Option<Command>, Refusal>
+    ensures { result ≡ command_of line.now }
+{
+    let mut fields = Fields::new(line);
+    let Some(word) = fields.next() else {
+        return Ok(None);
+    };
+    if word == b"c".as_slice() {
+        return Ok(None);
+    }
+    Ok(Some(read_named(word, fields)?))
+}
+
+/// The command whose first field is this word, which is not `c`.
+fn read_named(word: &[u8], fields: Fields<'_>) -> Result<Command, Refusal>
+    requires { bytes_eq word.now (codes "c") ≡ false }
+    ensures { command_by (λ command. command) result ≡ meaning_of (word.now ∷ fields.entry) }
+{
+    if word == b"cap".as_slice() {
+        read_capping(fields)
+    } else if word == b"add".as_slice() {
+        read_addition(fields)
+    } else if word == b"close".as_slice() {
+        Ok(Command::Close {
+            arc: read_one_number(fields)?,
+        })
+    } else if word == b"shut".as_slice() {
+        Ok(Command::Shut {
+            node: read_one_number(fields)?,
+        })
+    } else if word == b"solve".as_slice() {
+        read_solving(fields)
+    } else if word == b"undo".as_slice() {
+        Ok(Command::Undo(read_steps(fields)?))
+    } else if word == b"redo".as_slice() {
+        Ok(Command::Redo(read_steps(fields)?))
+    } else if word == b"print".as_slice() {
+        read_printing(fields)
+    } else {
+        Err(Refusal::UnknownCommand)
+    }
+}
+
+/// The fields behind `cap`.
+#[tactic(auto, unfolding(crate::specs::CommandText::capping))]
+fn read_capping(mut fields: Fields<'_>) -> Result<Command, Refusal>
+    ensures { result ≡ capping fields.entry }
+{
+    match (fields.next(), fields.next(), fields.next()) {
+        (Some(arc), Some(cap), None) => Ok(Command::Cap {
+            arc: read_number(arc)?,
+            cap: read_number(cap)?,
+        }),
+        _ => Err(Refusal::FieldCount),
+    }
+}
+
+/// The fields behind `add`.
+#[tactic(auto, unfolding(crate::specs::CommandText::addition))]
+fn read_addition(mut fields: Fields<'_>) -> Result<Command, Refusal>
+    ensures { result ≡ addition fields.entry }
+{
+    match (fields.next(), fields.next(), fields.next(), fields.next()) {
+        (Some(tail), Some(head), Some(cap), None) => Ok(Command::Add {
+            tail: read_number(tail)?,
+            head: read_number(head)?,
+            cap: read_number(cap)?,
+        }),
+        _ => Err(Refusal::FieldCount),
+    }
+}
+
+/// The field behind `close` or `shut`.
+#[tactic(auto, unfolding(crate::specs::CommandText::one_number))]
+fn read_one_number(mut fields: Fields<'_>) -> Result<u64, Refusal>
+    ensures { result ≡ one_number fields.entry }
+{
+    match (fields.next(), fields.next()) {
+        (Some(field), None) => read_number(field),
+        _ => Err(Refusal::FieldCount),
+    }
+}
+
+/// The fields behind `solve`: there are none.
+#[tactic(auto, unfolding(crate::specs::CommandText::solving))]
+fn read_solving(mut fields: Fields<'_>) -> Result<Command, Refusal>
+    ensures { result ≡ solving fields.entry }
+{
+    match fields.next() {
+        None => Ok(Command::Solve),
+        Some(_) => Err(Refusal::FieldCount),
+    }
+}
+
+/// The fields behind `undo` and `redo`.
+#[tactic(auto, unfolding(crate::specs::CommandText::steps))]
+fn read_steps(mut fields: Fields<'_>) -> Result<u64, Refusal>
+    ensures { result ≡ steps fields.entry }
+{
+    match (fields.next(), fields.next()) {
+        (None, _) => Ok(1),
+        (Some(count), None) => read_number(count),
+        _ => Err(Refusal::FieldCount),
+    }
+}
+
+/// The field behind `print`.
+#[tactic(auto, unfolding(crate::specs::CommandText::printing))]
+fn read_printing(mut fields: Fields<'_>) -> Result<Command, Refusal>
+    ensures { result ≡ printing fields.entry }
+{
+    match (fields.next(), fields.next()) {
+        (Some(what), None) if what == b"problem".as_slice() => Ok(Command::PrintProblem),
+        (Some(what), None) if what == b"flow".as_slice() => Ok(Command::PrintFlow),
+        (Some(what), None) if what == b"cut".as_slice() => Ok(Command::PrintCut),
+        (Some(_), None) => Err(Refusal::UnknownCommand),
+        _ => Err(Refusal::FieldCount),
+    }
+}
+
+fn read_number(field: &[u8]) -> Result<u64, Refusal>
+    ensures { result ≡ with_number (number_of field.now) Ok }
+{
+    match number(field) {
+        Ok(n) => Ok(n),
+        Err(NumberFault::NotANumber) => Err(Refusal::NotANumber),
+        Err(NumberFault::TooLarge) => Err(Refusal::TooLarge),
+    }
+}

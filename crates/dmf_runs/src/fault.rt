@@ -1,0 +1,92 @@
+ghost use Rattle.std.specs.Prelude.{◌≡◌};
+ghost use Rattle.dmf_runs.specs.Status.{status_of};
+
+use dmf_state::NoMemory;
+use dmf_text::{ProblemFault, SolutionFault, WriteFault};
+use std::alloc::AllocError;
+use thiserror::Error;
+
+/// How a run ended that was not stopped.
+#[derive(Clone, Copy, Debug, PartialEq, Eq)]
+pub enum Status {
+    /// Nothing was refused.
+    Well,
+    /// At least one command was refused.
+    SomeRefused,
+    /// The checked flow is not greatest.
+    NotGreatest,
+}
+
+/// What stopped a run.
+#[derive(Clone, Copy, Debug, PartialEq, Eq, Error)]
+pub enum EngineFault {
+    /// A call of a reader failed.
+    #[error("read failed")]
+    Read,
+    /// A call of the writer failed, its flush too, or it took none of the bytes that it was given.
+    #[error("write failed")]
+    Write,
+    /// The problem text has a fault.
+    #[error(transparent)]
+    Problem(ProblemFault),
+    /// The solution text has a fault.
+    #[error(transparent)]
+    Solution(SolutionFault),
+    /// A request for memory was refused.
+    #[error("no memory")]
+    NoMemory,
+    /// A text or a list of commands is larger than is read.
+    #[error("too much input")]
+    TooMuchInput,
+}
+
+impl From<WriteFault> for EngineFault {
+    ghost use Rattle.std.specs.Prelude.{◌≡◌};
+    ghost use Rattle.dmf_runs.specs.declared.fault.EngineFault.TheVariants as engine;
+
+    ghost from_gives = { λ _ fault. fault ≡ engine.Write };
+
+    fn from(_fault: WriteFault) -> EngineFault {
+        EngineFault::Write
+    }
+}
+
+impl From<NoMemory> for EngineFault {
+    ghost use Rattle.std.specs.Prelude.{◌≡◌};
+    ghost use Rattle.dmf_runs.specs.declared.fault.EngineFault.TheVariants as engine;
+
+    ghost from_gives = { λ _ fault. fault ≡ engine.NoMemory };
+
+    fn from(_fault: NoMemory) -> EngineFault {
+        EngineFault::NoMemory
+    }
+}
+
+impl From<AllocError> for EngineFault {
+    ghost use Rattle.std.specs.Prelude.{◌≡◌};
+    ghost use Rattle.dmf_runs.specs.declared.fault.EngineFault.TheVariants as engine;
+
+    ghost from_gives = { λ _ fault. fault ≡ engine.NoMemory };
+
+    fn from(_fault: AllocError) -> EngineFault {
+        EngineFault::NoMemory
+    }
+}
+
+/// The status with which the program ends after a run: 0 where all is well, 1 where a command was refused or a
+/// checked flow is not greatest, 3 for a fault in a text, 4 for a read, write or size fault, 5 for want of memory.
+pub fn status_of(outcome: &Result<Status, EngineFault>) -> u8
+    ensures { result ≡ status_of outcome.now }
+{
+    match outcome {
+        Ok(Status::Well) => 0,
+        Ok(Status::SomeRefused) => 1,
+        Ok(Status::NotGreatest) => 1,
+        Err(EngineFault::Problem(_)) => 3,
+        Err(EngineFault::Solution(_)) => 3,
+        Err(EngineFault::Read) => 4,
+        Err(EngineFault::Write) => 4,
+        Err(EngineFault::TooMuchInput) => 4,
+        Err(EngineFault::NoMemory) => 5,
+    }
+}

@@ -1,0 +1,136 @@
+//! Lines, taken from a reader that gives its bytes in any pieces.
+ghost use Rattle.std.specs.Prelude.{◌≡◌, []};
+ghost use Rattle.dmf_runs.specs.Streams.{reader_of};
+ghost use Rattle.dmf_runs.specs.Input.{input_over, Fills, GivesByte, GivesLine, GivesEnd};
+
+use crate::fault::EngineFault;
+use crate::kept_line::KeptLine;
+use dmf_text::Source;
+use std::marker::Model;
+
+/// The largest number of bytes of all command lines together.
+pub const MAX_BYTES: u64 = 1_073_741_824;
+
+const PIECE: usize = 2048;
+
+/// What asking for a line gives.
+#[derive(Clone, Copy)]
+pub enum Next {
+    /// A line that a line feed ended.
+    Line,
+    /// A line that the end of the input ended.
+    Last,
+    /// The end of the input.
+    End,
+}
+
+/// The bytes of a reader, one after the other, of which at most [`MAX_BYTES`] are taken.
+#[derive(Drop)]
+pub struct Input {
+    piece: [u8; PIECE],
+    start: usize,
+    end: usize,
+    count: u64,
+}
+
+impl Model for Input {
+    ghost use Rattle.std.specs.Prelude.{slice_range, ◌≤◌, ◌^◌};
+    ghost use Rattle.dmf_runs.specs.Streams.{reader_of};
+    ghost use Rattle.dmf_runs.specs.Pending.{Pending};
+
+    ghost Value = { Pending };
+
+    ghost view = { λ a. record { bytes = slice_range a.piece a.start a.end; count = a.count } };
+
+    ghost invariant = { λ a. (a.start ≤ a.end) × (a.end ≤ 2048) × (a.count ≤ 2 ^ 30) };
+}
+
+impl Input {
+    /// Nothing was read.
+    pub fn new() -> Self
+        ensures { result ≡ record { bytes = []; count = 0 } }
+    {
+        Input {
+            piece: [0; PIECE],
+            start: 0,
+            end: 0,
+            count: 0,
+        }
+    }
+
+    /// Reads the next piece, where no byte is pending. At the end of the input none is pending afterwards.
+    fn fill<C: Source>(&mut self, source: &mut C) -> Result<(), EngineFault>
+        ensures { Fills
+            (input_over self.old (reader_of C.remaining C.has_failed source.old))
+            (input_over self.new (reader_of C.remaining C.has_failed source.new))
+            result }
+    {
+        if self.start < self.end {
+            return Ok(());
+        }
+        self.start = 0;
+        self.end = 0;
+        let Ok(end) = source.read(&mut self.piece) else {
+            return Err(EngineFault::Read);
+        };
+        self.end = end;
+        Ok(())
+    }
+
+    /// Takes the next byte, if there is one.
+    fn next_byte<C: Source>(&mut self, source: &mut C) -> Result<Option<u8>, EngineFault>
+        ensures { GivesByte
+            (input_over self.old (reader_of C.remaining C.has_failed source.old))
+            (input_over self.new (reader_of C.remaining C.has_failed source.new))
+            result }
+    {
+        self.fill(source)?;
+        if self.start == self.end {
+            return Ok(None);
+        }
+        if self.count == MAX_BYTES {
+            return Err(EngineFault::TooMuchInput);
+        }
+        let byte = self.piece[self.start];
+        self.start += 1;
+        self.count += 1;
+        Ok(Some(byte))
+    }
+
+    /// Takes the next line, if there is one, in place of the one that is kept. No byte past its line feed is asked for.
+    pub fn next_line<C: Source>(
+        &mut self,
+        source: &mut C,
+        line: &mut KeptLine,
+    ) -> Result<Next, EngineFault>
+        ensures { GivesLine
+            (input_over self.old (reader_of C.remaining C.has_failed source.old))
+            (input_over self.new (reader_of C.remaining C.has_failed source.new))
+            line.new result }
+    {
+        line.clear();
+        while let Some(byte) = self.next_byte(source)? {
+            if byte == b'\n' {
+                return Ok(Next::Line);
+            }
+            line.push(byte);
+        }
+        if line.is_empty() {
+            return Ok(Next::End);
+        }
+        Ok(Next::Last)
+    }
+
+    /// Refuses any further byte.
+    pub fn expect_end<C: Source>(&mut self, source: &mut C) -> Result<(), EngineFault>
+        ensures { GivesEnd
+            (input_over self.old (reader_of C.remaining C.has_failed source.old))
+            (input_over self.new (reader_of C.remaining C.has_failed source.new))
+            result }
+    {
+        match self.next_byte(source)? {
+            None => Ok(()),
+            Some(_) => Err(EngineFault::TooMuchInput),
+        }
+    }
+}

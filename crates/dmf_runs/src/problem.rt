@@ -1,0 +1,27 @@
+//! The problem of a run.
+ghost use Rattle.std.specs.Prelude.{List, ℕ};
+ghost use Rattle.std.specs.Io.KnownBytes.{Consumes};
+ghost use Rattle.dmf_runs.specs.Session.{ReadsProblem};
+ghost use Rattle.dmf_runs.specs.Streams.{reader_of};
+
+use crate::fault::EngineFault;
+use crate::whole_text::read_all;
+use dmf_state::State;
+use dmf_text::{ProblemFaultKind, Source, read_problem};
+use std::alloc::Global;
+
+/// Reads a problem text, and judges it.
+pub fn read_state<P: Source>(alloc: Global, source: &mut P) -> Result<State, EngineFault>
+    ensures { (text : List ℕ) × Consumes (P.remaining source.old) (P.remaining source.new) text
+        × ReadsProblem (reader_of P.remaining P.has_failed source.old) (reader_of P.remaining P.has_failed source.new)
+        text result }
+{
+    let text = read_all(alloc, source)?;
+    match read_problem(alloc, &text) {
+        Ok(state) => Ok(state),
+        Err(fault) => match fault.kind {
+            ProblemFaultKind::NoMemory => Err(EngineFault::NoMemory),
+            _ => Err(EngineFault::Problem(fault)),
+        },
+    }
+}

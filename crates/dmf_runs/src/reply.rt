@@ -1,0 +1,175 @@
+//! Replies to command lines, each written and then flushed.
+ghost use Rattle.std.specs.Prelude.{◌≡◌, ◌≤◌, ◌++◌, [], length, true, IfOk};
+ghost use Rattle.dmf_text.specs.Writing.{Writes};
+ghost use Rattle.dmf_text.specs.Written.{problem_text, solution_text, cut_text};
+ghost use Rattle.dmf_runs.specs.Run as run;
+ghost use Rattle.dmf_runs.specs.WrittenLine.{is_refusal};
+
+use crate::refusal::refusal_text;
+use dmf_session::{Command, Refusal, Reply};
+use dmf_state::{Side, State};
+use dmf_text::LineField::{Number, Text};
+use dmf_text::{
+    LineBuffer, Sink, WriteFault, line_of, put_all, write_cut, write_problem, write_solution,
+};
+
+/// How a line was answered.
+#[derive(Clone, Copy)]
+pub enum Answer {
+    /// It was carried out.
+    Accepted,
+    /// It was refused.
+    Refused,
+}
+
+impl Answer {
+    /// Whether the line was refused.
+    pub fn is_refusal(self) -> bool
+        ensures { result ≡ is_refusal self }
+    {
+        match self {
+            Answer::Accepted => false,
+            Answer::Refused => true,
+        }
+    }
+}
+
+/// Tells that a line was refused.
+pub fn refuse<W: Sink>(number: u32, refusal: &Refusal, out: &mut W) -> Result<Answer, WriteFault>
+    ensures text { Writes W.contents W.has_failed out.old out.new result (run.refused_text number refusal.now) }
+    ensures refused { IfOk result (λ answer. is_refusal answer ≡ true) }
+{
+    put_line(&refused_line(number, refusal), out)?;
+    Ok(Answer::Refused)
+}
+
+/// Writes a line, and flushes it.
+pub fn put_line<W: Sink>(line: &LineBuffer, out: &mut W) -> Result<(), WriteFault>
+    ensures { Writes W.contents W.has_failed out.old out.new result line.now }
+{
+    put_all(out, line.as_bytes())?;
+    flush(out)
+}
+
+fn put_problem<W: Sink>(state: &State, out: &mut W) -> Result<(), WriteFault>
+    ensures { Writes W.contents W.has_failed out.old out.new result (problem_text state.now.network) }
+{
+    write_problem(state, out)?;
+    flush(out)
+}
+
+fn put_solution<W: Sink>(state: &State, out: &mut W) -> Result<(), WriteFault>
+    ensures { Writes W.contents W.has_failed out.old out.new result (solution_text state.now) }
+{
+    write_solution(state, out)?;
+    flush(out)
+}
+
+fn put_cut<W: Sink>(side: &Side, out: &mut W) -> Result<(), WriteFault>
+    ensures { Writes W.contents W.has_failed out.old out.new result (cut_text side.now) }
+{
+    write_cut(side, out)?;
+    flush(out)
+}
+
+fn put_solution_and_cut<W: Sink>(state: &State, side: &Side, out: &mut W) -> Result<(), WriteFault>
+    ensures { Writes W.contents W.has_failed out.old out.new result (solution_text state.now ++ cut_text side.now) }
+{
+    write_solution(state, out)?;
+    put_cut(side, out)
+}
+
+/// Writes the solution of a state, and this cut after it, if there is one, and flushes them.
+pub fn put_solved<W: Sink>(
+    state: &State,
+    side: &Option<Side>,
+    out: &mut W,
+) -> Result<(), WriteFault>
+    ensures { Writes W.contents W.has_failed out.old out.new result (run.solved_text state.now side.now) }
+{
+    match side {
+        None => put_solution(state, out),
+        Some(side) => put_solution_and_cut(state, side, out),
+    }
+}
+
+/// Passes on what was written.
+fn flush<W: Sink>(out: &mut W) -> Result<(), WriteFault>
+    ensures { Writes W.contents W.has_failed out.old out.new result [] }
+{
+    let Ok(()) = out.flush() else {
+        return Err(WriteFault);
+    };
+    Ok(())
+}
+
+fn refused_line(number: u32, refusal: &Refusal) -> LineBuffer
+    ensures { result ≡ run.refused_text number refusal.now }
+{
+    let number = u64::from(number);
+    line_of(&[
+        Text(b"c"),
+        Text(b"refused"),
+        Number(number),
+        Text(refusal_text(refusal)),
+    ])
+}
+
+/// Writes the reply to a command.
+pub fn show<W: Sink>(
+    command: Command,
+    reply: &Reply,
+    present: &State,
+    out: &mut W,
+) -> Result<(), WriteFault>
+    ensures { Writes W.contents W.has_failed out.old out.new result (run.reply_text command reply.now present.now) }
+{
+    match reply {
+        Reply::Value(value) => { put_line(&value_line(command, *value), out) }
+        Reply::Added(arc, value) => { put_line(&added_line(command, *arc, *value), out) }
+        Reply::Solution(side) => put_solved(present, side, out),
+        Reply::Problem => put_problem(present, out),
+        Reply::Flow => put_solution(present, out),
+        Reply::Cut(side) => put_cut(side, out),
+    }
+}
+
+fn value_line(command: Command, value: u64) -> LineBuffer
+    ensures { result ≡ run.value_text command value }
+{
+    line_of(&[
+        Text(b"c"),
+        Text(word_of(command)),
+        Text(b"value"),
+        Number(value),
+    ])
+}
+
+fn added_line(command: Command, arc: u32, value: u64) -> LineBuffer
+    ensures { result ≡ run.added_text command arc value }
+{
+    let word = word_of(command);
+    line_of(&[
+        Text(b"c"),
+        Text(word),
+        Number(u64::from(arc)),
+        Text(b"value"),
+        Number(value),
+    ])
+}
+
+fn word_of(command: Command) -> &'static [u8]
+    ensures word { result.now ≡ run.word_of command }
+    ensures short { length result.now ≤ 5 }
+{
+    match command {
+        Command::Cap { .. } => b"cap",
+        Command::Add { .. } => b"add",
+        Command::Close { .. } => b"close",
+        Command::Shut { .. } => b"shut",
+        Command::Solve => b"solve",
+        Command::Undo(_) => b"undo",
+        Command::Redo(_) => b"redo",
+        Command::PrintProblem | Command::PrintFlow | Command::PrintCut => b"print",
+    }
+}

@@ -1,0 +1,226 @@
+//! A session from bytes to bytes.
+ghost use Rattle.std.specs.Prelude.{◌≡◌, ◌≤◌, Ok, Some, length};
+ghost use Rattle.dmf_runs.specs.Streams.{reader_of, writer_of, streams_of};
+ghost use Rattle.dmf_runs.specs.Outcome.{RunsCommands, status_if};
+ghost use Rattle.dmf_runs.specs.Session.{RunsSession};
+ghost use Rattle.dmf_runs.specs.WrittenLine.{WritesLine};
+
+use crate::command_text::{Meaning, meaning_of};
+use crate::fault::{EngineFault, Status};
+use crate::input::{Input, Next};
+use crate::kept_line::KeptLine;
+use crate::problem::read_state;
+use crate::reply::{Answer, refuse, show};
+use dmf_history::{DeltaHistory, History, MAX_BOUND};
+use dmf_session::{Command, Session};
+use dmf_solver::{Unwatched, Watch};
+use dmf_text::{Sink, Source, WriteFault};
+use std::alloc::Global;
+
+/// The largest number of command lines of a session.
+pub const MAX_LINES: u32 = 1_000_000;
+
+/// Carries out command lines, one after the other, on a session that stands at its start.
+///
+/// A line's reply is written and flushed before the next line is asked for. A line without a reply flushes nothing.
+/// With `want_cut` each solution that answers `solve` is followed by the smallest minimum cut.
+/// Stopped by [`EngineFault::Read`] and [`EngineFault::Write`] where a call of the reader or the writer failed, and by
+/// [`EngineFault::TooMuchInput`] past [`MAX_LINES`] lines or [`crate::MAX_BYTES`] bytes. Takes no memory but that of
+/// changes: a command that is refused it is answered so, and the run goes on.
+pub fn run_commands<H: History + Drop, C: Source, W: Sink>(
+    alloc: Global,
+    session: Session<H>,
+    commands: &mut C,
+    out: &mut W,
+    want_cut: bool,
+) -> Result<Status, EngineFault>
+    requires at_first { (H.timeline session).place ≡ 0 }
+    requires one_state { length (H.timeline session).states ≡ 1 }
+    ensures { RunsCommands want_cut (H.timeline session)
+        (streams_of (reader_of C.remaining C.has_failed commands.old) (writer_of W.contents W.has_failed out.old))
+        (streams_of (reader_of C.remaining C.has_failed commands.new) (writer_of W.contents W.has_failed out.new))
+        result }
+{
+    run_commands_watched(alloc, session, commands, out, want_cut, &mut Unwatched)
+}
+
+/// Does the same, and tells the watch of each path along which a solve augments the flow.
+pub fn run_commands_watched<H: History + Drop, C: Source, W: Sink, V: Watch>(
+    alloc: Global,
+    session: Session<H>,
+    commands: &mut C,
+    out: &mut W,
+    want_cut: bool,
+    watch: &mut V,
+) -> Result<Status, EngineFault>
+    requires at_first { (H.timeline session).place ≡ 0 }
+    requires one_state { length (H.timeline session).states ≡ 1 }
+    ensures { RunsCommands want_cut (H.timeline session)
+        (streams_of (reader_of C.remaining C.has_failed commands.old) (writer_of W.contents W.has_failed out.old))
+        (streams_of (reader_of C.remaining C.has_failed commands.new) (writer_of W.contents W.has_failed out.new))
+        result }
+{
+    let mut session = session;
+    run_lines(alloc, &mut session, commands, out, want_cut, watch)
+}
+
+/// Carries out the command lines on a session that is the caller's.
+fn run_lines<H: History, C: Source, W: Sink, V: Watch>(
+    alloc: Global,
+    session: &mut Session<H>,
+    commands: &mut C,
+    out: &mut W,
+    want_cut: bool,
+    watch: &mut V,
+) -> Result<Status, EngineFault>
+    requires at_first { (H.timeline session.old).place ≡ 0 }
+    requires one_state { length (H.timeline session.old).states ≡ 1 }
+    ensures { RunsCommands want_cut (H.timeline session.old)
+        (streams_of (reader_of C.remaining C.has_failed commands.old) (writer_of W.contents W.has_failed out.old))
+        (streams_of (reader_of C.remaining C.has_failed commands.new) (writer_of W.contents W.has_failed out.new))
+        result }
+{
+    let mut input = Input::new();
+    let mut line = KeptLine::new();
+    let mut is_refused = false;
+    for number in 1..MAX_LINES + 1 {
+        match input.next_line(commands, &mut line)? {
+            Next::Line => {
+                let meaning = meaning_of(&line, true);
+                let answer = answer(alloc, session, number, meaning, out, want_cut, watch)?;
+                is_refused |= answer.is_refusal();
+            }
+            Next::Last => {
+                let meaning = meaning_of(&line, false);
+                let answer = answer(alloc, session, number, meaning, out, want_cut, watch)?;
+                is_refused |= answer.is_refusal();
+                return Ok(status(is_refused));
+            }
+            Next::End => return Ok(status(is_refused)),
+        }
+    }
+    input.expect_end(commands)?;
+    Ok(status(is_refused))
+}
+
+/// Runs a session as [`run_session_bounded`] does, with the largest bound, [`MAX_BOUND`]. A session has no more lines than
+/// that, so no state is ever forgotten.
+pub fn run_session<P: Source, C: Source, W: Sink>(
+    alloc: Global,
+    problem: &mut P,
+    commands: &mut C,
+    out: &mut W,
+    want_cut: bool,
+) -> Result<Status, EngineFault>
+    ensures { RunsSession want_cut 1000000
+        (reader_of P.remaining P.has_failed problem.old) (reader_of P.remaining P.has_failed problem.new)
+        (streams_of (reader_of C.remaining C.has_failed commands.old) (writer_of W.contents W.has_failed out.old))
+        (streams_of (reader_of C.remaining C.has_failed commands.new) (writer_of W.contents W.has_failed out.new))
+        result }
+{
+    run_session_bounded(alloc, problem, commands, out, want_cut, MAX_BOUND)
+}
+
+/// Reads the problem, and then carries out command lines on it, as [`run_commands`] does, over a history with this bound,
+/// which is at most [`MAX_BOUND`]: the largest number of states that are kept before the present one.
+///
+/// Stopped before the first command byte by [`EngineFault::Problem`], where the problem text has a fault, and by
+/// [`EngineFault::Read`], [`EngineFault::TooMuchInput`] and [`EngineFault::NoMemory`] in reading it; nothing is written then.
+pub fn run_session_bounded<P: Source, C: Source, W: Sink>(
+    alloc: Global,
+    problem: &mut P,
+    commands: &mut C,
+    out: &mut W,
+    want_cut: bool,
+    bound: u32,
+) -> Result<Status, EngineFault>
+    requires { bound ≤ 1000000 }
+    ensures { RunsSession want_cut bound
+        (reader_of P.remaining P.has_failed problem.old) (reader_of P.remaining P.has_failed problem.new)
+        (streams_of (reader_of C.remaining C.has_failed commands.old) (writer_of W.contents W.has_failed out.old))
+        (streams_of (reader_of C.remaining C.has_failed commands.new) (writer_of W.contents W.has_failed out.new))
+        result }
+{
+    run_session_watched(
+        alloc,
+        problem,
+        commands,
+        out,
+        want_cut,
+        bound,
+        &mut Unwatched,
+    )
+}
+
+/// Does the same, and tells the watch of each path along which a solve augments the flow.
+pub fn run_session_watched<P: Source, C: Source, W: Sink, V: Watch>(
+    alloc: Global,
+    problem: &mut P,
+    commands: &mut C,
+    out: &mut W,
+    want_cut: bool,
+    bound: u32,
+    watch: &mut V,
+) -> Result<Status, EngineFault>
+    requires { bound ≤ 1000000 }
+    ensures { RunsSession want_cut bound
+        (reader_of P.remaining P.has_failed problem.old) (reader_of P.remaining P.has_failed problem.new)
+        (streams_of (reader_of C.remaining C.has_failed commands.old) (writer_of W.contents W.has_failed out.old))
+        (streams_of (reader_of C.remaining C.has_failed commands.new) (writer_of W.contents W.has_failed out.new))
+        result }
+{
+    let state = read_state(alloc, problem)?;
+    let history = DeltaHistory::with_bound(alloc, state, bound);
+    run_commands_watched(alloc, Session::new(history), commands, out, want_cut, watch)
+}
+
+fn status(is_refused: bool) -> Status
+    ensures { result ≡ status_if is_refused }
+{
+    if is_refused {
+        Status::SomeRefused
+    } else {
+        Status::Well
+    }
+}
+
+/// Carries out a line, and writes and flushes its reply, if it has one.
+fn answer<H: History, W: Sink, V: Watch>(
+    alloc: Global,
+    session: &mut Session<H>,
+    number: u32,
+    meaning: Meaning,
+    out: &mut W,
+    want_cut: bool,
+    watch: &mut V,
+) -> Result<Answer, WriteFault>
+    ensures { WritesLine want_cut W.contents W.has_failed out.old out.new number
+        (H.timeline session.old) meaning (H.timeline session.new) result }
+{
+    match meaning {
+        Ok(None) => Ok(Answer::Accepted),
+        Ok(Some(command)) => answer_command(alloc, session, number, command, out, want_cut, watch),
+        Err(refusal) => refuse(number, &refusal, out),
+    }
+}
+
+fn answer_command<H: History, W: Sink, V: Watch>(
+    alloc: Global,
+    session: &mut Session<H>,
+    number: u32,
+    command: Command,
+    out: &mut W,
+    want_cut: bool,
+    watch: &mut V,
+) -> Result<Answer, WriteFault>
+    ensures { WritesLine want_cut W.contents W.has_failed out.old out.new number
+        (H.timeline session.old) (Ok (Some command)) (H.timeline session.new) result }
+{
+    match session.step_watched(alloc, command, want_cut, watch) {
+        Ok(reply) => {
+            show(command, &reply, session.present(), out)?;
+            Ok(Answer::Accepted)
+        }
+        Err(refusal) => refuse(number, &refusal, out),
+    }
+}

@@ -1,0 +1,44 @@
+//! A text, read whole before it is judged.
+ghost use Rattle.std.specs.Prelude.{◌<◌, List, ℕ, vec_len, Ok, Err, IfOk, MatchResult};
+ghost use Rattle.std.specs.Io.KnownBytes.{Consumes};
+ghost use Rattle.dmf_runs.specs.Streams.{reader_of};
+ghost use Rattle.dmf_runs.specs.WholeText.{ReadsText};
+
+use crate::fault::EngineFault;
+use crate::input::MAX_BYTES;
+use dmf_text::Source;
+use std::alloc::{AllocError, Global};
+
+const PIECE: usize = 65536;
+
+/// Reads a whole text, of at most [`MAX_BYTES`] bytes. The memory for a read is taken before the first.
+pub fn read_all<P: Source>(alloc: Global, source: &mut P) -> Result<Vec<u8>, EngineFault>
+    ensures { (text : List ℕ) × Consumes (P.remaining source.old) (P.remaining source.new) text
+        × (let from = reader_of P.remaining P.has_failed source.old in
+        let to = reader_of P.remaining P.has_failed source.new in
+        MatchResult result (λ whole. ReadsText from to text (Ok whole.items)) (λ fault. ReadsText from to text (Err fault))) }
+{
+    let mut buffer = buffer(alloc)?;
+    let piece = buffer.as_mut_slice();
+    let mut text = Vec::new(alloc);
+    for _ in 0..MAX_BYTES + 1 {
+        let Ok(given) = source.read(piece) else {
+            return Err(EngineFault::Read);
+        };
+        if given == 0 {
+            return Ok(text);
+        }
+        if text.len() + given > MAX_BYTES as usize {
+            return Err(EngineFault::TooMuchInput);
+        }
+        text.extend_from_slice(&piece[..given])?;
+    }
+    Err(EngineFault::TooMuchInput)
+}
+
+/// What one read is put into.
+fn buffer(alloc: Global) -> Result<Vec<u8>, AllocError>
+    ensures { IfOk result (λ buffer. 0 < vec_len buffer) }
+{
+    vec![in alloc; 0; PIECE]
+}

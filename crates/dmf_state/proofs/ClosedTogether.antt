@@ -1,0 +1,156 @@
+-- Arcs that are closed one after the other: what the network is then, and how opening them gives back the one before.
+use Rattle.std.proofs.Common.{ℕ, ◌≡◌, ◌≢◌, ◌+◌, ◌-◌, ◌<◌, ◌≤◌, ◌==◌, List, [], ◌∷◌, length, get_or, set, zero, suc, Bool, true, false, cond, refl, ap, sym, ◌∙◌, subst, arith, ⊎_elim}
+use Rattle.std.specs.List.Sorted.{IsStrictlyIncreasing}
+use Rattle.std.proofs.lemmas.Bool.Decides.{eqb_tells}
+use Rattle.std.proofs.lemmas.List.{get_or-set_same, get_or-set_other, length-set, set-set, set-get_or}
+use Rattle.dmf_state.specs.declared.arc.Arc.{Arc}
+use Rattle.dmf_state.specs.declared.edit.Shutting.{Shutting}
+use Rattle.dmf_state.specs.Arc.{no_arc, open_arc, closed_arc, open_arcs_at}
+use Rattle.dmf_state.specs.Edit.{AreOpenWith, IsOpenWith, numbers, with_closed}
+use Rattle.dmf_state.specs.Edit.{shuts}
+use Rattle.dmf_state.specs.Flow.{flow_value}
+use Rattle.dmf_state.specs.Network.{Network, IsNetwork, arc_number, has_arc, with_arc}
+use Rattle.dmf_state.specs.Revert.{with_open, with_opened}
+use Rattle.dmf_state.proofs.ChangedArc.{has_arc-within, IsNetwork-with_arc, flow_value-with_arc}
+use Rattle.dmf_state.proofs.ClosedArcs.{closed_at, HasArcs-open, HasArcs}
+use Rattle.dmf_state.proofs.OpenArcs.{listed_from, numbers-listed, open-listed}
+
+-- ---- one of them
+
+-- The network with an arc closed is one.
+pub IsNetwork-closed : (n : Network) (j : ℕ) → IsNetwork n → has_arc n j ≡ true → IsNetwork (closed_at n j)
+IsNetwork-closed n j network has = IsNetwork-with_arc n j (closed_arc (arc_number n j)) network has refl refl (λ closed. refl) (omega (arith, network.capacities))
+
+-- A network with as many arcs has arcs of the same numbers.
+pub HasArcs-long : (n m : Network) (js : List ℕ) → length m.arcs ≡ length n.arcs → HasArcs n js → HasArcs m js
+HasArcs-long n m [] long has = tt
+HasArcs-long n m (j ∷ js) long has = (rw long has.0, HasArcs-long n m js long has.1)
+
+pub HasArcs-closed : (n : Network) (j : ℕ) (js : List ℕ) → HasArcs n js → HasArcs (closed_at n j) js
+HasArcs-closed n j js has = HasArcs-long n (closed_at n j) js (length-set n.arcs (j - 1) (closed_arc (arc_number n j))) has
+
+-- The network has the arcs that are open at a node.
+pub HasArcs-at : (v : ℕ) (n : Network) → HasArcs n (open_arcs_at v 1 n.arcs)
+HasArcs-at v n = subst (HasArcs n) (numbers-listed v 1 n.arcs) (HasArcs-open 0 (listed_from v 1 n.arcs) n (open-listed v n))
+
+-- ---- what stays
+
+pub nodes-closed : (arcs : List Shutting) (n : Network) → (with_closed arcs n).nodes ≡ n.nodes
+nodes-closed [] n = refl
+nodes-closed (a ∷ arcs) n = nodes-closed arcs (closed_at n a.arc)
+
+pub source-closed : (arcs : List Shutting) (n : Network) → (with_closed arcs n).source ≡ n.source
+source-closed [] n = refl
+source-closed (a ∷ arcs) n = source-closed arcs (closed_at n a.arc)
+
+pub sink-closed : (arcs : List Shutting) (n : Network) → (with_closed arcs n).sink ≡ n.sink
+sink-closed [] n = refl
+sink-closed (a ∷ arcs) n = sink-closed arcs (closed_at n a.arc)
+
+pub length-closed : (arcs : List Shutting) (n : Network) → length (with_closed arcs n).arcs ≡ length n.arcs
+length-closed [] n = refl
+length-closed (a ∷ arcs) n = length-closed arcs (closed_at n a.arc) ∙ length-set n.arcs (a.arc - 1) (closed_arc (arc_number n a.arc))
+
+-- The value of a flow, too.
+pub value-with_closed : (arcs : List Shutting) (n : Network) (flows : List ℕ) → length flows ≡ length n.arcs → flow_value (with_closed arcs n) flows ≡ flow_value n flows
+value-with_closed [] n flows long = refl
+value-with_closed (a ∷ arcs) n flows long =
+    let closed : Arc = closed_arc (arc_number n a.arc) in
+    value-with_closed arcs (closed_at n a.arc) flows (long ∙ sym (length-set n.arcs (a.arc - 1) closed))
+    ∙ flow_value-with_arc n a.arc closed flows refl refl long
+
+-- ---- each arc
+
+-- The numbers of open arcs that are listed in order ascend.
+increasing-cons : (x y : ℕ) (ys : List ℕ) → x < y → IsStrictlyIncreasing (y ∷ ys) → IsStrictlyIncreasing (x ∷ y ∷ ys)
+increasing-cons x y ys lt increasing zero h = lt
+increasing-cons x y ys lt increasing (suc k) h =
+    let next : suc (k + 1) ≡ suc k + 1 = omega arith in
+    subst (λ i. get_or (y ∷ ys) k 0 < get_or (x ∷ y ∷ ys) i 0) next (increasing k (omega (arith, h)))
+
+pub increasing-tail : (x : ℕ) (xs : List ℕ) → IsStrictlyIncreasing (x ∷ xs) → IsStrictlyIncreasing xs
+increasing-tail x xs increasing k h =
+    let next : suc k + 1 ≡ suc (k + 1) = omega arith in
+    subst (λ i. get_or xs k 0 < get_or (x ∷ xs) i 0) next (increasing (suc k) (omega (arith, h)))
+
+pub increasing-open : (last : ℕ) (arcs : List Shutting) (n : Network) → AreOpenWith last arcs n → IsStrictlyIncreasing (last ∷ numbers arcs)
+increasing-open last [] n are = λ k h. absurd (omega (arith, h))
+increasing-open last (a ∷ arcs) n are = increasing-cons last a.arc (numbers arcs) are.0 (increasing-open a.arc arcs n are.2)
+
+same-cond : {A : Type 0} (b : Bool) (x : A) → cond b x x ≡ x
+same-cond true x = refl
+same-cond false x = refl
+
+-- An arc of the network with these arcs closed, whose numbers ascend from past 0.
+pub arc-closed : (last : ℕ) (arcs : List Shutting) (n : Network) (k : ℕ) → IsStrictlyIncreasing (last ∷ numbers arcs) → k < length n.arcs → get_or (with_closed arcs n).arcs k no_arc ≡ cond (shuts arcs (k + 1)) (closed_arc (get_or n.arcs k no_arc)) (get_or n.arcs k no_arc)
+arc-closed last [] n k increasing h = refl
+arc-closed last (a ∷ arcs) n k increasing h =
+    let past : last < a.arc = increasing 0 (omega arith) in
+    let closed : Arc = closed_arc (arc_number n a.arc) in
+    let within : k < length (closed_at n a.arc).arcs = rw length-set h in
+    let rest = arc-closed a.arc arcs (closed_at n a.arc) k (increasing-tail last (a.arc ∷ numbers arcs) increasing) within in
+    ⊎_elim
+    (λ (here : ((a.arc == k + 1) ≡ true) × (a.arc ≡ k + 1)).
+    let index : k ≡ a.arc - 1 = omega (arith, here.1) in
+    let put : get_or (closed_at n a.arc).arcs k no_arc ≡ closed_arc (get_or n.arcs k no_arc) =
+    ap (λ i. get_or (closed_at n a.arc).arcs i no_arc) index ∙ get_or-set_same n.arcs (a.arc - 1) closed no_arc (omega (arith, h, index)) ∙ ap (λ i. closed_arc (get_or n.arcs i no_arc)) (sym index) in
+    rw here.0 (rest ∙ ap (λ x. cond (shuts arcs (k + 1)) (closed_arc x) x) put ∙ same-cond (shuts arcs (k + 1)) (closed_arc (get_or n.arcs k no_arc))))
+    (λ (other : ((a.arc == k + 1) ≡ false) × (a.arc ≢ k + 1)).
+    let apart : k ≢ a.arc - 1 = λ e. other.1 (omega (arith, e, past)) in
+    rw other.0 (rest ∙ ap (λ x. cond (shuts arcs (k + 1)) (closed_arc x) x) (get_or-set_other n.arcs (a.arc - 1) k closed no_arc apart)))
+    (eqb_tells a.arc (k + 1))
+
+-- ---- opened again
+
+-- An open arc is the one with its ends and its capacity.
+open_arc-same : (a : Arc) (cap : ℕ) → a.closed ≡ false → a.cap ≡ cap → open_arc a.tail a.head cap ≡ a
+open_arc-same a cap is_open is_cap = λ i. record { tail = a.tail; head = a.head; cap = sym is_cap i; closed = sym is_open i }
+
+-- The open arc put back in the place of another with its ends.
+pub with_open-replaced : (n : Network) (j cap : ℕ) (arc : Arc) → IsOpenWith n j cap → arc.tail ≡ (arc_number n j).tail → arc.head ≡ (arc_number n j).head → with_open (with_arc n j arc) j cap ≡ n
+with_open-replaced n j cap arc is tail head =
+    let k : ℕ = j - 1 in
+    let put : arc_number (with_arc n j arc) j ≡ arc = get_or-set_same n.arcs k arc no_arc (has_arc-within n j is.is_there).1 in
+    let back : open_arc arc.tail arc.head cap ≡ arc_number n j =
+    ap (λ v. open_arc v arc.head cap) tail ∙ ap (λ v. open_arc (arc_number n j).tail v cap) head ∙ open_arc-same (arc_number n j) cap is.is_open is.has_cap in
+    let arcs : (with_open (with_arc n j arc) j cap).arcs ≡ n.arcs =
+    ap (λ a. set (set n.arcs k arc) k (open_arc a.tail a.head cap)) put ∙ ap (λ a. set (set n.arcs k arc) k a) back ∙ set-set n.arcs k arc (arc_number n j) ∙ set-get_or n.arcs k no_arc in
+    λ i. record { nodes = n.nodes; source = n.source; sink = n.sink; arcs = arcs i }
+
+-- Elements put at two places may be put in either order.
+set-apart : {A : Type 0} (xs : List A) (i k : ℕ) (x y : A) → i ≢ k → set (set xs i x) k y ≡ set (set xs k y) i x
+set-apart [] i k x y apart = refl
+set-apart (a ∷ xs) zero zero x y apart = absurd (apart refl)
+set-apart (a ∷ xs) zero (suc k) x y apart = refl
+set-apart (a ∷ xs) (suc i) zero x y apart = refl
+set-apart (a ∷ xs) (suc i) (suc k) x y apart = ap (λ ys. a ∷ ys) (set-apart xs i k x y (λ e. apart (ap suc e)))
+
+-- Opening one arc and closing another may be done in either order.
+open-apart : (n : Network) (b j cap : ℕ) → j - 1 ≢ b - 1 → with_open (closed_at n b) j cap ≡ closed_at (with_open n j cap) b
+open-apart n b j cap apart =
+    let closed : Arc = closed_arc (arc_number n b) in
+    let old : Arc = arc_number n j in
+    let opened : Arc = open_arc old.tail old.head cap in
+    let other : b - 1 ≢ j - 1 = λ e. apart (sym e) in
+    let arcs : (with_open (closed_at n b) j cap).arcs ≡ (closed_at (with_open n j cap) b).arcs =
+    ap (λ (a : Arc). set (set n.arcs (b - 1) closed) (j - 1) (open_arc a.tail a.head cap)) (get_or-set_other n.arcs (b - 1) (j - 1) closed no_arc apart)
+    ∙ set-apart n.arcs (b - 1) (j - 1) closed opened other
+    ∙ ap (λ a. set (set n.arcs (j - 1) opened) (b - 1) (closed_arc a)) (sym (get_or-set_other n.arcs (j - 1) (b - 1) opened no_arc other)) in
+    λ i. record { nodes = n.nodes; source = n.source; sink = n.sink; arcs = arcs i }
+
+-- And so with several that are closed past it.
+pub open-before : (last : ℕ) (arcs : List Shutting) (m n : Network) (j cap : ℕ) → 1 ≤ j → j ≤ last → AreOpenWith last arcs m → with_open (with_closed arcs n) j cap ≡ with_closed arcs (with_open n j cap)
+open-before last [] m n j cap first le are = refl
+open-before last (b ∷ arcs) m n j cap first le are =
+    let past : j < b.arc = omega (arith, le, are.0) in
+    open-before b.arc arcs m (closed_at n b.arc) j cap first (omega (arith, past)) are.2
+    ∙ ap (with_closed arcs) (open-apart n b.arc j cap (λ e. omega (arith, e, first, past)))
+
+-- Opening them gives back the network.
+pub with_opened-closed : (last : ℕ) (arcs : List Shutting) (n : Network) → AreOpenWith last arcs n → with_opened arcs (with_closed arcs n) ≡ n
+with_opened-closed last [] n are = refl
+with_opened-closed last (a ∷ arcs) n are =
+    ap (with_opened arcs)
+    (open-before a.arc arcs n (closed_at n a.arc) a.arc a.old (omega (arith, are.0)) (omega arith) are.2
+    ∙ ap (with_closed arcs) (with_open-replaced n a.arc a.old (closed_arc (arc_number n a.arc)) are.1 refl refl))
+    ∙ with_opened-closed a.arc arcs n are.2

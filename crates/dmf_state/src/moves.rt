@@ -1,0 +1,80 @@
+ghost use Rattle.std.specs.Prelude.{◌≡◌, ◌+◌, ◌-◌, ◌^◌, ◌<◌, ◌≤◌, true, if◌then◌else◌};
+ghost use Rattle.dmf_state.specs.Arc.{capacity_sum};
+ghost use Rattle.dmf_state.specs.Flow.{AreWithinCapacities};
+ghost use Rattle.dmf_state.specs.FlowSums.{IsNodeFlow};
+ghost use Rattle.dmf_state.specs.Edit.{MovesFit, moved};
+ghost use Rattle.dmf_state.specs.Direction.{step_along, along, cap_along};
+
+use crate::arc::Arc;
+use crate::edit::Move;
+use crate::flow_sums::NodeFlow;
+
+/// Whether an edit is made or taken back.
+#[derive(Clone, Copy)]
+pub enum Direction {
+    Forward,
+    Back,
+}
+
+impl Direction {
+    /// The move, or the one that takes it back.
+    pub fn step(self, m: &Move) -> Move
+        ensures { result ≡ step_along self m.now }
+    {
+        match self {
+            Direction::Forward => *m,
+            Direction::Back => Move {
+                arc: m.arc,
+                from: m.to,
+                to: m.from,
+            },
+        }
+    }
+
+    /// The capacity after a change, or the one before it.
+    pub fn cap(self, before: u64, after: u64) -> u64
+        ensures { result ≡ cap_along self before after }
+    {
+        match self {
+            Direction::Forward => after,
+            Direction::Back => before,
+        }
+    }
+}
+
+/// Gives each arc that the moves name the flow that they give it, or that it had before them, and the node the sums of the
+/// flows that it then has.
+pub fn make_moves(
+    arcs: &[Arc],
+    flows: &mut [u64],
+    moves: &[Move],
+    direction: Direction,
+    node: u32,
+    at_node: &mut NodeFlow,
+)
+    requires capacities { capacity_sum arcs.now < 2 ^ 64 }
+    requires within { AreWithinCapacities arcs.now flows.old }
+    requires fit { MovesFit 0 (along direction moves.now) flows.old }
+    requires within_after { AreWithinCapacities arcs.now (moved (along direction moves.now) flows.old) }
+    requires at_node { IsNodeFlow arcs.now flows.old node at_node.old }
+    ensures flows { flows.new ≡ moved (along direction moves.now) flows.old }
+    ensures at_node { IsNodeFlow arcs.now flows.new node at_node.new }
+{
+    for m in moves {
+        let step = direction.step(m);
+        let i = step.arc as usize - 1;
+        let arc = arcs[i];
+        at_node.leaving = sum_after(at_node.leaving, arc.tail == node, &step);
+        at_node.entering = sum_after(at_node.entering, arc.head == node, &step);
+        flows[i] = step.to;
+    }
+}
+
+/// The sum of some flows after a move, which is of one of them where `is_part`.
+fn sum_after(sum: u64, is_part: bool, m: &Move) -> u64
+    requires part { is_part ≡ true → m.now.from ≤ sum }
+    requires small { is_part ≡ true → sum - m.now.from + m.now.to < 2 ^ 64 }
+    ensures { result + (if is_part then m.now.from else 0) ≡ sum + (if is_part then m.now.to else 0) }
+{
+    if is_part { sum - m.from + m.to } else { sum }
+}
