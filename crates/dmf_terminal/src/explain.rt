@@ -69,7 +69,8 @@ pub fn explain_solution(rt: &HostRuntime, fault: SolutionFault) {
 }
 
 /// Explains why a problem's file cannot be opened.
-pub fn explain_open(rt: &HostRuntime, path: &str) {
+pub fn explain_open(rt: &HostRuntime, origin: Origin<'_>) {
+    let path = path_of(origin);
     let shown = Shown(path.as_bytes());
     if let Err(error) = File::open(rt, path) {
         let _ = eprintln!(rt; "{shown}: {error}");
