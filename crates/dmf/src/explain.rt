@@ -29,7 +29,7 @@ fn explain_run(rt: &HostRuntime, mode: &Mode, fault: &Fault) {
         Fault::Run(EngineFault::Problem(fault)) => {
             explain_problem(rt, before_problem(mode), origin, *fault)
         }
-        Fault::Run(EngineFault::Solution(fault)) => explain_solution(rt, *fault),
+        Fault::Run(EngineFault::Solution(fault)) => explain_solution(rt, origin, *fault),
         Fault::Run(EngineFault::Read) => explain_read(rt, origin),
         _ => {}
     }

@@ -14,7 +14,7 @@ use dmf_run::{
 use dmf_session::MAX_BOUND;
 use dmf_terminal::{
     Dialogue, HeardSink, KeptCommands, Progress, WatchedCommands, WatchedSink, WatchedSolve,
-    WatchedSource, invite,
+    WatchedSource, help_without_page, invite,
 };
 use dmf_text::{StdSink, StdSource};
 use fault::Fault;
@@ -81,7 +81,7 @@ fn hold_session(
 {
     let progress = Progress::new(rt, want_progress);
     let file = open_problem(rt, path)?;
-    let mut problem = WatchedSource::of_file(StdSource::new(file), &progress);
+    let mut problem = WatchedSource::of_file(StdSource::new(file), path, &progress);
     let dialogue = Dialogue::new(rt, path);
     let mut out = HeardSink::new(WatchedSink::new(output(rt)?, &progress), &dialogue);
     let commands = WatchedCommands::new(StdSource::new(rt.stdin()), &progress);
@@ -105,7 +105,7 @@ fn hold_session(
 fn check(rt: &HostRuntime, path: &str) -> Result<Status, Fault> {
     let progress = Progress::new(rt, false);
     let file = open_problem(rt, path)?;
-    let mut problem = WatchedSource::of_file(StdSource::new(file), &progress);
+    let mut problem = WatchedSource::of_file(StdSource::new(file), path, &progress);
     let mut out = WatchedSink::new(output(rt)?, &progress);
     let mut solution = WatchedSource::of_input(StdSource::new(rt.stdin()), &progress);
     let outcome = run_check(rt.alloc(), &mut problem, &mut solution, &mut out);
@@ -140,7 +140,11 @@ fn open_problem(rt: &HostRuntime, path: &str) -> Result<File, Fault> {
 
 /// Writes the text that was asked for.
 fn print(rt: &HostRuntime, text: &str) -> Result<Status, Fault> {
-    match print!(rt; "{text}") {
+    let written = match help_without_page(rt, text) {
+        Some(front) => println!(rt; "{front}"),
+        None => print!(rt; "{text}"),
+    };
+    match written {
         Ok(()) => Ok(Status::Well),
         Err(_) => Err(Fault::Run(EngineFault::Write)),
     }

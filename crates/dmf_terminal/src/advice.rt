@@ -30,7 +30,12 @@ impl<'a> Advice<'a> {
     }
 
     /// These words behind the field at a place of the line, and others where there is no such line.
-    pub fn at(line: Option<&'a [u8]>, place: usize, text: &'a str, else_text: &'a str) -> Advice<'a> {
+    pub fn at(
+        line: Option<&'a [u8]>,
+        place: usize,
+        text: &'a str,
+        else_text: &'a str,
+    ) -> Advice<'a> {
         match line.and_then(|line| field_at(line, place)) {
             Some(field) => Advice::about(Placed { place, field }, text),
             None => Advice::saying(else_text),
@@ -38,22 +43,35 @@ impl<'a> Advice<'a> {
     }
 }
 
-/// A field of a line that is no number.
-pub fn not_a_number<'a>(line: Option<&'a [u8]>) -> Advice<'a> {
+/// A field of a line that is no number. Behind a word in place of a node stand the words on names.
+pub fn not_a_number<'a>(line: Option<&'a [u8]>, on_names: &'a str) -> Advice<'a> {
     let Some(placed) = line.and_then(|line| faulty(line, NumberFault::NotANumber)) else {
         return Advice::saying(
             "a number has digits alone: whole, without sign, from 0 to 18446744073709551615",
         );
+    };
+    let way = if placed.place < 4 && is_word(placed.field) {
+        on_names
+    } else {
+        way_on(placed.field)
     };
     Advice {
         place: placed.place,
         parts: [
             Part::Quoted(placed.field),
             Part::Words(" is no whole number from 0 to 18446744073709551615"),
-            Part::Words(way_on(placed.field)),
+            Part::Words(way),
             Part::Words(""),
             Part::Words(""),
         ],
+    }
+}
+
+/// Whether the field begins with a letter or a quote.
+fn is_word(field: &[u8]) -> bool {
+    match field {
+        [first, ..] => first.is_ascii_alphabetic() || *first == b'"',
+        [] => false,
     }
 }
 
@@ -84,7 +102,7 @@ pub fn way_on<'a>(field: &[u8]) -> &'a str {
     } else if field.first().is_some_and(|byte| byte.is_ascii_digit()) {
         "; write digits alone"
     } else {
-        "; nodes and arcs go by number (tools/dmf-problem makes a problem of a table with names)"
+        ""
     }
 }
 

@@ -7,8 +7,10 @@ use crate::refusal::{Known, Reason, Refused, refusal_advice};
 use crate::typed::TypedLines;
 use dmf_text::{Failed, Sink, Source};
 use std::cell::{Cell, RefCell};
+use std::fs;
 use std::io::IsTerminal;
 use std::rt::HostRuntime;
+use std::time::SystemTime;
 
 /// A problem of so many bytes is read again to explain a refusal.
 const MOST_READ: u64 = 67_108_864;
@@ -18,8 +20,9 @@ const MOST_READ: u64 = 67_108_864;
 pub struct Dialogue<'a> {
     rt: &'a HostRuntime,
     is_told: bool,
-    /// The path of the problem.
+    /// The path of the problem, and its file's size and time as the session began.
     path: &'a str,
+    stamp: Option<(u64, SystemTime)>,
     typed: RefCell<TypedLines>,
     refused: Cell<Option<Refused>>,
     has_added: Cell<bool>,
@@ -27,10 +30,12 @@ pub struct Dialogue<'a> {
 
 impl<'a> Dialogue<'a> {
     pub fn new(rt: &'a HostRuntime, path: &'a str) -> Self {
+        let is_told = rt.stderr().is_terminal();
         Dialogue {
             rt,
-            is_told: rt.stderr().is_terminal(),
+            is_told,
             path,
+            stamp: if is_told { stamp_of(rt, path) } else { None },
             typed: RefCell::new(TypedLines::new(rt.alloc())),
             refused: Cell::new(None),
             has_added: Cell::new(false),
@@ -79,14 +84,22 @@ impl<'a> Dialogue<'a> {
         }
     }
 
-    /// The problem's text, if that helps.
+    /// The problem's text, if that helps, and the file is still as it was.
     fn problem_for(&self, refused: Refused) -> Option<Vec<u8>> {
-        if refused.is_about_problem() {
+        let stamp = self.stamp?;
+        if refused.is_about_problem() && stamp_of(self.rt, self.path) == Some(stamp) {
             text_of(self.rt, Origin::File(self.path), MOST_READ)
         } else {
             None
         }
     }
+}
+
+/// The size of a file, and when it was changed last.
+fn stamp_of(rt: &HostRuntime, path: &str) -> Option<(u64, SystemTime)> {
+    let told = fs::metadata(rt, path).ok()?;
+    let modified = told.modified().ok()?;
+    Some((told.len(), modified))
 }
 
 /// Tells why this command line was refused.

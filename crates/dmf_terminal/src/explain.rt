@@ -5,7 +5,7 @@ use crate::place::Place;
 use crate::problem::problem_advice;
 use crate::solution::solution_advice;
 use crate::usage::{Meant, meant_by};
-use dmf_text::{ProblemFault, SolutionFault, read_problem};
+use dmf_text::{ProblemFault, SolutionFault, read_problem, read_solution};
 use std::fs;
 use std::fs::File;
 use std::io::IsTerminal;
@@ -50,10 +50,13 @@ pub fn explain_problem(
     let _ = eprintln!(rt; "{place}{advice}");
 }
 
-/// Explains a fault of a solution on standard input.
-pub fn explain_solution(rt: &HostRuntime, fault: SolutionFault) {
+/// Explains a fault of a solution on standard input, of the problem that comes from there.
+pub fn explain_solution(rt: &HostRuntime, problem: Origin<'_>, fault: SolutionFault) {
     let read = text_of(rt, Origin::Input, MOST_READ);
-    let text = read.as_ref().map(|text| text.as_slice());
+    let text = match &read {
+        Some(text) if has_solution_fault(rt, problem, text, fault) => Some(text.as_slice()),
+        _ => None,
+    };
     let input = input_name(rt, Origin::Input, text.is_some());
     let place = Place {
         before: if input.is_some() {
@@ -85,7 +88,11 @@ pub fn explain_read(rt: &HostRuntime, origin: Origin<'_>) {
         return;
     }
     let input = input_name(rt, origin, true);
-    let shown = Shown(name_of(origin, &input).unwrap_or("standard input").as_bytes());
+    let shown = Shown(
+        name_of(origin, &input)
+            .unwrap_or("standard input")
+            .as_bytes(),
+    );
     let _ = eprintln!(rt; "{shown} is a folder");
 }
 
@@ -112,7 +119,9 @@ fn is_likely(rt: &HostRuntime, words: &[String], meant: Meant<'_>) -> bool {
 /// Says that a problem is read from the terminal, where it is.
 pub fn invite(rt: &HostRuntime) {
     if rt.stdin().is_terminal() && rt.stderr().is_terminal() {
-        let _ = eprintln!(rt; "dmf: reads a problem from the terminal; Ctrl-D ends it (dmf --help says more)");
+        let _ = eprintln!(rt;
+            "dmf: reads a problem from the terminal; Ctrl-D ends it (dmf --help says more)"
+        );
     }
 }
 
@@ -123,19 +132,43 @@ fn path_of<'a>(origin: Origin<'a>) -> &'a str {
     }
 }
 
+/// How many bytes a regular file has.
+pub fn file_size(rt: &HostRuntime, origin: Origin<'_>) -> Option<u64> {
+    match fs::metadata(rt, path_of(origin)) {
+        Ok(told) if told.is_file() => Some(told.len()),
+        _ => None,
+    }
+}
+
 /// The text of a regular file of at most so many bytes.
 pub fn text_of(rt: &HostRuntime, origin: Origin<'_>, most: u64) -> Option<Vec<u8>> {
-    let path = path_of(origin);
-    let told = fs::metadata(rt, path).ok()?;
-    if !told.is_file() || told.len() > most {
+    if file_size(rt, origin)? > most {
         return None;
     }
-    fs::read(rt, path).ok()
+    fs::read(rt, path_of(origin)).ok()
 }
 
 /// Whether the problem text has this fault as its first.
 fn has_fault(rt: &HostRuntime, text: &[u8], fault: ProblemFault) -> bool {
     matches!(read_problem(rt.alloc(), text), Err(found) if found == fault)
+}
+
+/// Whether the solution text has this fault as its first, as one of the problem that comes from there.
+fn has_solution_fault(
+    rt: &HostRuntime,
+    problem: Origin<'_>,
+    text: &[u8],
+    fault: SolutionFault,
+) -> bool {
+    let Some(problem) = text_of(rt, problem, MOST_READ) else {
+        return false;
+    };
+    match read_problem(rt.alloc(), &problem) {
+        Ok(state) => {
+            matches!(read_solution(rt.alloc(), text, &state), Err(found) if found == fault)
+        }
+        Err(_) => false,
+    }
 }
 
 /// The name of the file on standard input, if the text is that of a file.

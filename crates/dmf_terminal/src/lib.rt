@@ -8,6 +8,7 @@ mod fields;
 mod front;
 mod look;
 mod names;
+mod page;
 mod part;
 mod place;
 mod problem;
@@ -21,4 +22,5 @@ pub use dialogue::{Dialogue, HeardSink, KeptCommands};
 pub use explain::{
     Origin, explain_open, explain_problem, explain_read, explain_solution, explain_words, invite,
 };
+pub use page::help_without_page;
 pub use progress::{Progress, WatchedCommands, WatchedSink, WatchedSolve, WatchedSource};

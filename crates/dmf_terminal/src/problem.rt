@@ -10,6 +10,9 @@ use dmf_text::{ProblemFault, ProblemFaultKind};
 const PROBLEM_LINE: &str =
     "a problem begins with p max NODES ARCS (tools/dmf-problem makes a problem of a table)";
 
+const ON_NAMES: &str =
+    "; nodes go by number (tools/dmf-problem makes a problem of a table with names)";
+
 /// What explains a fault of a problem text. The text is given where it can be read again.
 pub fn problem_advice<'a>(fault: ProblemFault, text: Option<&'a [u8]>) -> Advice<'a> {
     let Some(text) = text else {
@@ -32,7 +35,7 @@ fn line_advice<'a>(kind: ProblemFaultKind, front: Front, line: Option<&'a [u8]>)
         ProblemFaultKind::UnknownLine => unknown_line(front, line),
         ProblemFaultKind::NotMax => not_max(line),
         ProblemFaultKind::FieldCount => field_count(line),
-        ProblemFaultKind::NotANumber => not_a_number(line),
+        ProblemFaultKind::NotANumber => not_a_number(line, ON_NAMES),
         ProblemFaultKind::TooLarge => too_large(line),
         ProblemFaultKind::CountOutOfRange => count_out_of_range(line),
         ProblemFaultKind::NodeOutOfRange => node_out_of_range(front, line),
@@ -187,7 +190,12 @@ fn not_a_terminal<'a>(line: Option<&'a [u8]>) -> Advice<'a> {
         Some(b"T") => ": lower case: t",
         _ => " is no letter of a node line: s names the source, t the sink",
     };
-    Advice::at(line, 3, text, "in a node line s names the source, t the sink")
+    Advice::at(
+        line,
+        3,
+        text,
+        "in a node line s names the source, t the sink",
+    )
 }
 
 fn second_terminal<'a>(front: Front, line: Option<&'a [u8]>) -> Advice<'a> {

@@ -84,7 +84,8 @@ pub struct Known<'a> {
     pub has_added: bool,
 }
 
-const COMMANDS: &str = "the commands are cap I U, add V W U, close I, shut V, solve, undo [K], redo [K] and \
+const COMMANDS: &str =
+    "the commands are cap I U, add V W U, close I, shut V, solve, undo [K], redo [K] and \
 print problem, print flow, print cut; Ctrl-D ends the session";
 
 /// What explains a refusal of this command line.
@@ -123,6 +124,12 @@ fn unknown_command<'a>(word: &'a [u8], line: &'a [u8]) -> Parts<'a> {
     }
     if is_asking(word) {
         return words(COMMANDS);
+    }
+    if word.iter().any(|byte| byte.is_ascii_uppercase()) {
+        return about(
+            word,
+            " is no command: all commands are in lower case (help lists them)",
+        );
     }
     [
         Part::Quoted(word),
@@ -184,7 +191,10 @@ fn not_a_number<'a>(word: &[u8], line: &'a [u8], known: Known<'_>) -> Parts<'a> 
             Part::Words(""),
         ];
     };
-    match known.text.and_then(|text| find_named(text, thing, placed.field)) {
+    match known
+        .text
+        .and_then(|text| find_named(text, thing, placed.field))
+    {
         Some(named) => by_name(thing, placed.field, named),
         None => by_number(thing, placed.field),
     }
@@ -208,7 +218,11 @@ fn by_name<'a>(thing: Thing, name: &'a [u8], named: Named) -> Parts<'a> {
         Part::Number(named.number),
         Part::Words(" is "),
         Part::Shown(name),
-        Part::Words(if named.is_only { "" } else { ", and so is another" }),
+        Part::Words(if named.is_only {
+            ""
+        } else {
+            ", and so is another"
+        }),
     ]
 }
 
@@ -216,7 +230,8 @@ fn by_number<'a>(thing: Thing, field: &'a [u8]) -> Parts<'a> {
     about(
         field,
         match thing {
-            Thing::Arc => " is no number: arcs go by number here, from 1 in the order of the problem",
+            Thing::Arc =>
+                " is no number: arcs go by number here, from 1 in the order of the problem",
             Thing::Node => " is no number: nodes go by number here",
         },
     )
@@ -225,7 +240,9 @@ fn by_number<'a>(thing: Thing, field: &'a [u8]) -> Parts<'a> {
 fn arcs<'a>(known: Known<'_>) -> Parts<'a> {
     let arcs = known.text.and_then(|text| Front::of(text, 0).0.arcs);
     match arcs {
-        None => words("arcs are numbered from 1 in the order of the problem, and added ones follow"),
+        None => words(
+            "arcs are numbered from 1 in the order of the problem, and added ones follow",
+        ),
         Some(0) if !known.has_added => words("the problem has no arcs"),
         Some(arcs) if known.has_added => numbered(
             "the problem has arcs 1 to ",

@@ -33,7 +33,7 @@ fn line_advice<'a>(kind: SolutionFaultKind, line: Option<&'a [u8]>) -> Advice<'a
     match kind {
         SolutionFaultKind::UnknownLine => unknown_line(line),
         SolutionFaultKind::FieldCount => field_count(line),
-        SolutionFaultKind::NotANumber => not_a_number(line),
+        SolutionFaultKind::NotANumber => not_a_number(line, "; nodes go by number"),
         SolutionFaultKind::TooLarge => too_large(line),
         SolutionFaultKind::NoSuchPair => between(line, "the problem has no arc from ", ""),
         SolutionFaultKind::OverCapacity => between(

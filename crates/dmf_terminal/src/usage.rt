@@ -32,10 +32,12 @@ pub fn meant_by<'a>(words: &'a [String], most: u32) -> Option<Meant<'a>> {
     }
     match words {
         [_, command, rest @ ..] if command.as_str() == "solve" => solve_of(rest),
-        [_, file] if is_plain(file.as_str()) && !file.as_str().starts_with("-") => Some(Meant::Solve {
-            with_cut: false,
-            file: file.as_str(),
-        }),
+        [_, file] if is_plain(file.as_str()) && !file.as_str().starts_with("-") => Some(
+            Meant::Solve {
+                with_cut: false,
+                file: file.as_str(),
+            },
+        ),
         _ => None,
     }
 }
@@ -49,7 +51,9 @@ fn solve_of(words: &[String]) -> Option<Meant<'_>> {
         match word {
             "--cut" => with_cut = true,
             "--progress" => {}
-            file if meant.is_none() && is_plain(file) && !file.starts_with("-") => meant = Some(file),
+            file if meant.is_none() && is_plain(file) && !file.starts_with("-") => meant = Some(
+                file,
+            ),
             _ => return None,
         }
     }
