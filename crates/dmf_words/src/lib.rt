@@ -1,11 +1,9 @@
-//! Tests of single calls: a command line, the text of a refusal, a status; numbers, lines, fields and solutions; streams that are
-//! slow or fail; and the examples of the pages of the libraries with networks.
+//! Tests of single calls: a command line, the text of a refusal, a status; numbers, lines, fields and solutions; and streams that
+//! are slow or fail.
 #![tactic(auto)]
 
 #[cfg(test)]
 mod calls;
-#[cfg(test)]
-mod examples;
 #[cfg(test)]
 mod fields;
 #[cfg(test)]
