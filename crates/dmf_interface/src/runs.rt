@@ -12,10 +12,16 @@ const PROBLEM: &[u8] = b"p max 2 1\nn 1 s\nn 2 t\na 1 2 7\n";
 
 #[test]
 fn a_command_line_is_read(rt: HostRuntime) {
-    let read: Result<Option<Command>, Refusal> = read_command(b"undo 2");
-    assert!(rt; read == Ok(Some(Command::Undo(2))));
-    let text: &'static [u8] = refusal_text(&Refusal::NotGreatest);
-    assert!(rt; text == b"flow is not greatest".as_slice());
+    let read: Result<Option<Command>, Refusal> = read_command(b" cap\t09 18446744073709551615");
+    let cap = Command::Cap {
+        arc: 9,
+        cap: u64::MAX,
+    };
+    assert!(rt; read == Ok(Some(cap)) && read_command(b"c undo") == Ok(None));
+    assert!(rt; read_command(b"cap x 18446744073709551616") == Err(Refusal::NotANumber));
+    // No network of a test is large enough for one arc too many, so the program never shows this text.
+    let text: &'static [u8] = refusal_text(&Refusal::TooManyArcs);
+    assert!(rt; text == b"too many arcs".as_slice());
 }
 
 /// The number that the documents give to a fault of a run.
@@ -37,6 +43,7 @@ fn a_problem_is_solved(rt: HostRuntime) {
     let mut out = StdSink::new(&mut written);
     let outcome: Result<Status, EngineFault> = run_solve(rt.alloc(), &mut problem, &mut out, true);
     assert!(rt; outcome == Ok(Status::Well) && status_of(&outcome) == 0);
+    assert!(rt; status_of(&Err(EngineFault::NoMemory)) == 5);
     assert!(rt; written.as_slice() == b"s 7\nf 1 2 7\nc cut 7\nc side 1\n".as_slice());
     let mut faulty = StdSource::new(b"x".as_slice());
     let mut out = StdSink::new(Vec::new(rt.alloc()));
