@@ -91,26 +91,26 @@ class Follower:
         self._solves_have_cuts: bool | None = None
         self._awaits_cut = self._is_in_doubt = False
 
-    def take(self, line: bytes) -> Iterator[Event]:
+    def take(self, line: bytes) -> list[Event]:
         """What a line tells, which has its line feed if it was read with one. Raises a `TranscriptFault`."""
         self.line += 1
-        content = ended(line)
-        yield from self._located(lambda: self._take(content, line))
+        try:
+            return list(self._take(ended(line), line))
+        except Fault as fault:
+            raise self._located(fault) from None
 
-    def end(self) -> Iterator[Event]:
+    def end(self) -> list[Event]:
         """What is told by the answer's end. Raises a `TranscriptFault` where something is missing."""
         self.line += 1
-        yield from self._located(self._end)
-
-    def _located(self, telling: Callable[[], Iterator[Event]]) -> Iterator[Event]:
         try:
-            yield from telling()
-        except TranscriptFault:
-            raise
-        except TextFault as fault:
-            raise TranscriptFault(ANSWER, fault.line, fault.reason, fault.field) from None
+            return list(self._end())
         except Fault as fault:
-            raise TranscriptFault(ANSWER, self.line, fault.reason, fault.field) from None
+            raise self._located(fault) from None
+
+    def _located(self, fault: Fault) -> TranscriptFault:
+        if isinstance(fault, TranscriptFault):
+            return fault
+        return TranscriptFault(ANSWER, fault.line if isinstance(fault, TextFault) else self.line, fault.reason, fault.field)
 
     def _take(self, content: bytes, line: bytes) -> Iterator[Event]:
         found = fields(content)
