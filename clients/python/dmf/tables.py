@@ -119,7 +119,7 @@ def shown(text: str) -> str:
     return repr(text if len(text) <= 60 else text[:57] + "...")
 
 
-def decoded(data: bytes, encoding: str = "") -> str:
+def decoded(data: bytes, encoding: Optional[str] = None) -> str:
     """The text that bytes write: by default in UTF-8, with a mark of the order of bytes or without. Raises a `TableFault`."""
     if not encoding:
         _refuse_wide(data)
@@ -144,6 +144,11 @@ def _refuse_wide(data: bytes) -> None:
             raise TableFault(f"every other byte is 0, as {name.upper()} has it: --encoding {name}")
 
 
+def is_blank(cell: str) -> bool:
+    """Whether a cell has nothing but white space, or delimiters, as it has where another one was guessed."""
+    return not cell or not cell.strip(DELIMITERS + " ") or cell.isspace()
+
+
 def rows_of(text: str, delimiter: str) -> Iterator[Row]:
     """The rows of a table that are not blank. Raises a `TableFault` where a quote is wrong."""
     csv.field_size_limit(max(csv.field_size_limit(), len(text) + 1))
@@ -151,7 +156,7 @@ def rows_of(text: str, delimiter: str) -> Iterator[Row]:
     line = 1
     try:
         for cells in reader:
-            if any(cell and not cell.isspace() for cell in cells):
+            if any(not is_blank(cell) for cell in cells):
                 yield Row(line, cells)
             line = reader.line_num + 1
     except csv.Error as fault:
