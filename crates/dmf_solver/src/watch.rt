@@ -1,8 +1,15 @@
+ghost use Rattle.std.specs.Prelude.{◌∷◌, List, [], Option, None, pos};
+ghost use Rattle.dmf_solver.specs.Told.{Told, AreTold};
+
 /// Is told how far a solve is. Whatever it does with that, the solve gives the same.
 pub trait Watch {
+    // What it was told, in order, where that is known.
+    ghost told: { Self → Option (List Told) } = { λ _. None };
+
     /// The flow was augmented along one path more, of so many links, and its value is this now. No path of a solve has fewer
     /// links than the one before: one that has more begins a phase.
-    fn augmented(&mut self, value: u64, links: u32);
+    fn augmented(&mut self, value: u64, links: u32)
+        ensures { AreTold (told self.old) (told self.new) (record { value = pos value; links = links } ∷ []) };
 }
 
 /// A watch that does nothing.
