@@ -54,9 +54,9 @@ told_of-push n flows (first ∷ paths) last path augments =
 
 -- What is told after these is told after all of them.
 pub AreTold-trans : (a b c : Option (List Told)) (these more : List Told) → AreTold a b these → AreTold b c more → AreTold a c (these ++ more)
-AreTold-trans None b c these more p q = tt
-AreTold-trans (Some x) None c these more p q = absurd p
-AreTold-trans (Some x) (Some y) None these more p q = absurd q
+AreTold-trans a b None these more p q = tt
+AreTold-trans a None (Some z) these more p q = absurd q
+AreTold-trans None (Some y) (Some z) these more p q = absurd p
 AreTold-trans (Some x) (Some y) (Some z) these more p q = q ∙ ap (λ told. told ++ more) p ∙ append_assoc x these more
 
 -- Where nothing is told, what was told stays as it was.

@@ -19,10 +19,11 @@ told_of n flows [] = []
 told_of n flows (path ∷ paths) =
     record { value = flow_value n (augmented path flows); links = length path } ∷ told_of n (augmented path flows) paths
 
--- Where it is known what was told before, these were told after it, in order, and nothing else.
+-- What is known afterwards is what was known before, with these behind it. Or nothing is known afterwards: the watch keeps no
+-- record, or had no memory to go on with it.
 abbrev pub AreTold : Option (List Told) → Option (List Told) → List Told → Type 0
-AreTold None after these = ⊤
-AreTold (Some before) None these = ⊥
+AreTold before None these = ⊤
+AreTold None (Some after) these = ⊥
 AreTold (Some before) (Some after) these = after ≡ before ++ these
 
 -- Solving makes the state's flows into `last`, and its paths were told.

@@ -1,9 +1,10 @@
 ghost use Rattle.std.specs.Prelude.{◌∷◌, List, [], Option, None, pos};
 ghost use Rattle.dmf_solver.specs.Told.{Told, AreTold};
 
-/// Is told how far a solve is. Whatever it does with that, the solve gives the same.
+/// Is told how far a solve is: of each path that augments the flow, in turn, and of nothing else. Whatever it does with that, the
+/// solve gives the same.
 pub trait Watch {
-    // What it was told, in order, where that is known.
+    // What it was told, in order, as far as that is known. A watch that keeps no record knows nothing of it.
     ghost told: { Self → Option (List Told) } = { λ _. None };
 
     /// The flow was augmented along one path more, of so many links, and its value is this now. No path of a solve has fewer
