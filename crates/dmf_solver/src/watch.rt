@@ -2,7 +2,7 @@ ghost use Rattle.std.specs.Prelude.{◌∷◌, List, [], Option, None, pos};
 ghost use Rattle.dmf_solver.specs.Told.{Told, AreTold};
 
 /// Is told how far a solve is: of each path that augments the flow, in turn, and of nothing else. Whatever it does with that, the
-/// solve gives the same.
+/// solve gives the same. The contracts of plans and of a session's step say what is told; of runs that is tested alone.
 pub trait Watch {
     // What it was told, in order, as far as that is known. A watch that keeps no record knows nothing of it.
     ghost told: { Self → Option (List Told) } = { λ _. None };
