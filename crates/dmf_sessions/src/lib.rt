@@ -5,6 +5,8 @@
 #[cfg(test)]
 mod draws;
 #[cfg(test)]
+mod flushes;
+#[cfg(test)]
 mod histories;
 #[cfg(test)]
 mod slow;
