@@ -95,7 +95,9 @@ def number(digits: bytes) -> int:
     """The number that a field writes, from 0 to 2^64 - 1. Raises a `Fault` that says `not a number` or `number too large`."""
     if not digits.isdigit():
         raise Fault("not a number", digits)
-    significant = digits.lstrip(b"0") if len(digits) > LONGEST else digits
+    if len(digits) < LONGEST:
+        return int(digits)
+    significant = digits.lstrip(b"0")
     if len(significant) > LONGEST or (value := int(significant or b"0")) > LARGEST:
         raise Fault("number too large", digits)
     return value
