@@ -179,7 +179,7 @@ def session_words(history: int | None) -> list[str | bytes]:
     return ["session", "--history", str(kept)]
 
 
-def start(path: str | bytes, program: Program, words: list[str | bytes]) -> Child:
+def start(path: str, program: Program, words: list[str | bytes]) -> Child:
     """A session that these words ask for, on the problem's file, once it has read the problem. Raises a `Refused` where the problem
     has a fault, `SessionEnded` where the program fails, and an OSError where it is not found."""
     child = Child([os.fspath(_program() if program is None else program), *words, "--", path])
