@@ -6,11 +6,13 @@ import pickle
 import threading
 import time
 import unittest
+import unittest.mock
 from collections.abc import Callable
 from typing import Any
 
 from shared import answering, dmf, pipes
 
+SECONDS = 20
 WANTED = "wanted is (tail, head, capacity) or (tail, head, capacity, key), of which all but the capacity can be hashed"
 
 
@@ -61,9 +63,10 @@ class AtOnce(unittest.TestCase):
         with answering(wait) as network:
             program = network._child.process.args[0]
             values: list[int] = []
-            thread = threading.Thread(target=lambda: values.append(network.undo(0)))
+            thread = threading.Thread(target=lambda: values.append(network.undo(0)), daemon=True)
             thread.start()
-            while not os.path.exists(f"{program}.got"):
+            deadline = time.monotonic() + SECONDS
+            while not os.path.exists(f"{program}.got") and time.monotonic() < deadline:
                 time.sleep(0.01)
             calls: list[Callable[[], object]] = [network.solve, network.flow, network.cut, network.undo, network.redo, network.end]
             calls += [network.problem, lambda: network.cap(("lake", "mill"), 1), lambda: network.close(("lake", "mill"))]
@@ -73,8 +76,15 @@ class AtOnce(unittest.TestCase):
             # What is kept can be read.
             self.assertEqual((network.value, len(network.arcs), network.capacity(("lake", "mill"))), (0, 5, 3))
             with open(f"{program}.go", "w"):
-                thread.join()
+                thread.join(SECONDS)
             self.assertEqual((values, network.undo(0)), ([9], 9))
+
+    def test_a_call_is_broken_off_before_it_is_noted(self) -> None:
+        """The program has made the change, and what is kept has not: nothing can be asked any more."""
+        with pipes() as network:
+            with unittest.mock.patch.object(network._kept, "note", side_effect=KeyboardInterrupt):
+                self.assertRaises(KeyboardInterrupt, network.cap, ("lake", "mill"), 1)
+            self.assertRaisesRegex(dmf.SessionEnded, "^the session was ended when a call was broken off$", network.solve)
 
     def test_four_threads(self) -> None:
         """Whatever is refused: the changes that are counted are those that were made."""

@@ -1,5 +1,7 @@
 """Odd names of nodes and keys: what goes into a problem's text comes back by `dmf.read`, and nothing in a name is a line of its own."""
 
+from __future__ import annotations
+
 import subprocess
 import sys
 import unittest

@@ -1,12 +1,14 @@
 """Problems' files that `dmf.read` takes: odd lines, paths of all kinds, and what is no regular file."""
 
 import os
+import subprocess
+import sys
 import tempfile
 import threading
 import unittest
 from pathlib import Path
 
-from shared import dmf, written
+from shared import CLIENT, dmf, written
 
 TEXT = b"c node 1 lake\nc node 2 sea\nc arc 1 the canal\np max 2 1\nn 1 s\nn 2 t\na 1 2 7\n"
 
@@ -81,6 +83,20 @@ class Paths(unittest.TestCase):
         os.close(write)
         self.hold(f"/dev/fd/{read}")
         os.close(read)
+
+    def test_standard_input(self) -> None:
+        """Also where it is a file: to the program, standard input is something else."""
+        script = "import dmf; network = dmf.read('/dev/stdin'); print(network.solve().value, network.nodes)"
+        environment = {**os.environ, "PYTHONPATH": CLIENT}
+        with written(TEXT) as path, open(path) as file:
+            for given in {"stdin": file}, {"input": TEXT.decode()}:
+                words = [sys.executable, "-c", script]
+                ran = subprocess.run(words, env=environment, capture_output=True, text=True, timeout=20, **given)  # type: ignore
+                self.assertEqual((ran.stdout, ran.stderr), ("7 ['lake', 'sea']\n", ""))
+
+    def test_an_open_file(self) -> None:
+        with written(TEXT) as path, open(path) as file:
+            self.hold(f"/dev/fd/{file.fileno()}")
 
     def test_faults_of_a_pipe_have_their_lines(self) -> None:
         read, write = os.pipe()

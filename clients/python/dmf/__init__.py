@@ -83,7 +83,7 @@ from .errors import (
     UsedByTwoThreads,
     WrongNumberOfFields,
 )
-from .network import Network
+from .network import Network, Row
 from .solution import Arc, Cut, Solution
 from .sources import from_networkx, read
 
@@ -114,6 +114,7 @@ __all__ = [
     "NumberTooLarge",
     "ProblemLineExpected",
     "Refused",
+    "Row",
     "SecondProblemLine",
     "SessionEnded",
     "Solution",

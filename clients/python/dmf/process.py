@@ -64,6 +64,11 @@ class Child:
             raise UsedByTwoThreads("used by two threads at once: each needs a network of its own, or a lock around its calls")
         try:
             yield
+        except BaseException as error:
+            if not isinstance(error, Exception):
+                # Between an answer and its note here, Ctrl-C would leave the two apart.
+                self._kill("the session was ended when a call was broken off")
+            raise
         finally:
             self._lock.release()
 
@@ -102,6 +107,9 @@ class Child:
                 self.end()
 
     def _kill(self, why: str) -> None:
+        """Ends the program at once, if it has not ended before."""
+        if not self.end.alive:
+            return
         self._why_ended = why
         self.process.kill()
         self.end()
@@ -171,7 +179,7 @@ def session_words(history: int | None) -> list[str | bytes]:
     return ["session", "--history", str(kept)]
 
 
-def start(path: str | bytes, program: Program, words: list[str | bytes]) -> Child:
+def start(path: str, program: Program, words: list[str | bytes]) -> Child:
     """A session that these words ask for, on the problem's file, once it has read the problem. Raises a `Refused` where the problem
     has a fault, `SessionEnded` where the program fails, and an OSError where it is not found."""
     child = Child([os.fspath(_program() if program is None else program), *words, "--", path])

@@ -3,7 +3,6 @@
 from __future__ import annotations
 
 import os
-import stat
 import tempfile
 from collections import Counter
 from typing import Any
@@ -25,30 +24,17 @@ def read(path: Path_, *, program: Program = None, history: int | None = None) ->
     `Network` raises.
     """
     words = session_words(history)
-    place = os.fspath(path)
-    with open(place, "rb") as file:
-        is_regular = stat.S_ISREG(os.fstat(file.fileno()).st_mode)
+    with open(os.fspath(path), "rb") as file:
         text = file.read()
     node_names, arc_names = read_names(text)
-    if is_regular and _is_word(place):
-        child = start(place, program, words)
-    else:
-        with tempfile.NamedTemporaryFile(prefix="dmf-", suffix=".max") as copy:
-            copy.write(text)
-            copy.flush()
-            child = start(copy.name, program, words)
+    # The program is given a copy: a pipe is empty now, a file may have changed, and /dev/stdin is another file to the program.
+    with tempfile.NamedTemporaryFile(prefix="dmf-", suffix=".max") as copy:
+        copy.write(text)
+        copy.flush()
+        child = start(copy.name, program, words)
     network: Network[int | str] = Network.__new__(Network)
     network._begin(child, _kept(child, node_names, arc_names))
     return network
-
-
-def _is_word(path: str | bytes) -> bool:
-    """Whether the program takes a path: it is UTF-8."""
-    try:
-        os.fsencode(path).decode()
-    except UnicodeDecodeError:
-        return False
-    return True
 
 
 def _kept(child: Child, node_names: dict[int, str], arc_names: dict[int, str]) -> Kept[int | str]:
