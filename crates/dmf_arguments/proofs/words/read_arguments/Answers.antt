@@ -6,7 +6,7 @@ use Rattle.dmf_arguments.specs.Matches.{asked_of, arguments}
 use Rattle.dmf_arguments.specs.Words.{Text}
 use Rattle.dmf_arguments.proofs.Table.{faults_in, asked_in, line_is_simple, line_is_free}
 use Rattle.dmf_arguments.proofs.Reading.{taken_reads, refused_reads}
-use Rattle.dmf_arguments.proofs.words.read_words.Goals as goal
+use Rattle.dmf_arguments.proofs.words.read_arguments.Goals as goal
 
 -- the words were taken
 pub returns-in-Ok-clause-words : goal.returns-in-Ok-clause-words
@@ -20,8 +20,8 @@ returns-in-Ok-clause-words c =
     let none : faults_in (drop 1 all) ≡ [] = sym (ap₂ fault_of line words_are) ∙ clean in
     let asked : asked_of (subcommand_rows_of c.in-Ok.matches) ≡ asked_in (drop 1 all) =
     ap asked_of (found ∙ ap₂ subcommand_of line words_are) in
-    taken_reads (drop 1 all) _ c.mode_of.result none asked
-    c.mode_of.ensures.nothing c.mode_of.ensures.solve c.mode_of.ensures.session c.mode_of.ensures.check
+    taken_reads (drop 1 all) _ c.arguments_of.result none asked
+    c.arguments_of.ensures.nothing c.arguments_of.ensures.solve c.arguments_of.ensures.session c.arguments_of.ensures.check
 
 -- they were not
 pub returns-clause-words : goal.returns-clause-words
