@@ -62,6 +62,15 @@ class Copies(unittest.TestCase):
             self.assertEqual(network.solve().value, 5)
 
 
+    def test_copies_of_what_a_network_gives(self) -> None:
+        """A copy of an arc is that arc, so that copies of flows and cuts are equal, and name arcs of the network."""
+        with pipes() as network:
+            plan = network.solve()
+            for again in copy.copy(plan), copy.deepcopy(plan):
+                self.assertEqual((again, again.value, network.capacity(next(iter(again)))), (plan, 5, 3))
+            self.assertEqual(copy.deepcopy(network.cut()), network.cut())
+
+
 class AtOnce(unittest.TestCase):
     def test_a_call_beside_another(self) -> None:
         """Each call is refused while another thread waits for its answer, which comes once the file `go` is there."""
