@@ -7,11 +7,11 @@ mod fault;
 mod progress;
 mod words;
 
-use dmf_arguments::{MAX_HISTORY, Mode, WordsFault, read_words};
-use dmf_history::MAX_BOUND;
-use dmf_runs::{
-    EngineFault, MAX_BYTES, Status, run_check, run_session_watched, run_solve_watched, status_of,
+use dmf_run::{
+    Arguments, EngineFault, MAX_BYTES, MAX_HISTORY, Mode, Status, WordsFault, read_arguments,
+    run_check, run_session_watched, run_solve_watched, status_of,
 };
+use dmf_session::MAX_BOUND;
 use dmf_text::{StdSink, StdSource};
 use fault::Fault;
 use progress::{Progress, WatchedCommands, WatchedSink, WatchedSolve, WatchedSource};
@@ -33,20 +33,20 @@ fn main(rt: HostRuntime) -> ExitCode {
 }
 
 fn run(rt: &HostRuntime) -> Result<Status, Fault> {
-    match read_words(rt.alloc(), words::words(rt)?) {
-        Ok(Mode::Solve { cut, progress }) => solve(rt, cut, progress),
-        Ok(
-            Mode::Session {
-                cut,
-                progress,
-                history,
-                problem,
-            },
-        ) => hold_session(rt, problem.as_str(), cut, progress, history),
-        Ok(Mode::Check { problem }) => check(rt, problem.as_str()),
-        Err(WordsFault::Help(text) | WordsFault::Version(text)) => print(rt, text.as_str()),
-        Err(WordsFault::Usage(text)) => Err(Fault::Usage(text)),
-        Err(WordsFault::NoMemory) => Err(Fault::NO_MEMORY),
+    let Arguments { mode, progress } = match read_arguments(rt.alloc(), words::words(rt)?) {
+        Ok(asked) => asked,
+        Err(WordsFault::Help(text)) => return print(rt, text.as_str()),
+        Err(WordsFault::Usage(text)) => return Err(Fault::Usage(text)),
+        Err(WordsFault::NoMemory) => return Err(Fault::NO_MEMORY),
+    };
+    match mode {
+        Mode::Solve { cut } => solve(rt, cut, progress),
+        Mode::Session {
+            cut,
+            history,
+            problem,
+        } => hold_session(rt, problem.as_str(), cut, progress, history),
+        Mode::Check { problem } => check(rt, problem.as_str()),
     }
 }
 

@@ -2,7 +2,7 @@
 //! answered or asked for. Nothing else depends on it, and where it cannot be told, the run goes on.
 ghost use Rattle.std.specs.Prelude.{◌≡◌};
 
-use dmf_solver::Watch;
+use dmf_net::Watch;
 use dmf_text::{Failed, Sink, Source};
 use std::cell::Cell;
 use std::io::IsTerminal;

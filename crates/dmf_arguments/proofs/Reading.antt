@@ -4,12 +4,12 @@ use Rattle.clap.specs.Kinds.{Kinds, IsAmong}
 use Rattle.clap.specs.Values.{bool_text}
 use Rattle.clap.specs.declared.error.kind.ErrorKind.{ErrorKind}
 use Rattle.clap.specs.declared.error.kind.ErrorKind.TheVariants.{ArgumentConflict, DisplayHelp, DisplayVersion, UnknownArgument, InvalidSubcommand, MissingRequiredArgument, OutOfMemory, ValueValidation}
-use Rattle.dmf_arguments.specs.declared.words.Mode.{Mode}
+use Rattle.dmf_arguments.specs.declared.words.Arguments.{Arguments}
 use Rattle.dmf_arguments.specs.declared.words.WordsFault.{WordsFault}
 use Rattle.dmf_arguments.specs.declared.words.WordsFault.TheVariants.{NoMemory}
 use Rattle.dmf_arguments.specs.Matches.{Asked, asked_of}
 use Rattle.clap.specs.Words.{Row, first_of, one_of}
-use Rattle.dmf_arguments.specs.Words.{Text, Gives, IsBound, IsHelp, IsUsage, IsVersion, ReadsWords, solving, holding, checking}
+use Rattle.dmf_arguments.specs.Words.{Text, Gives, IsBound, IsHelp, IsUsage, ReadsWords, solving, holding, checking}
 use Rattle.dmf_arguments.proofs.Table.{faults_in, asked_in, history_alone_refused, solve_history_refused, check_history_refused, nothing_taken, nothing_asked, solve_taken, solve_asked, solve_cut_taken, solve_cut_asked, solve_progress_taken, solve_progress_asked, solve_cut_progress_taken, solve_cut_progress_asked, solve_progress_cut_taken, solve_progress_cut_asked, progress_alone_refused, check_progress_refused, check_taken, check_asked, help_asked, help_of_asked, solve_help_asked, session_help_asked, check_help_asked, version_asked, cut_alone_refused, session_alone_refused, check_alone_refused, solve_path_refused, check_second_refused, check_cut_refused, unknown_refused}
 use Rattle.dmf_arguments.proofs.SessionOrders.{no_bound_refused, repeated_refused, session_asks}
 
@@ -18,7 +18,7 @@ no_kinds : {k : ErrorKind} {ks : Kinds} → [] ≡ k ∷ ks → ⊥
 no_kinds e = cc
 
 -- the words were taken
-module _ (words : List Text) (asked : Asked) (result : Result Mode WordsFault)
+module _ (words : List Text) (asked : Asked) (result : Result Arguments WordsFault)
     (clean : faults_in words ≡ []) (found : asked ≡ asked_in words) where
   -- words in which there is a fault were not taken
   untaken : (row : List Text) {k : ErrorKind} {ks : Kinds} → words ≡ row → faults_in row ≡ k ∷ ks → ⊥
@@ -79,7 +79,7 @@ module _ (words : List Text) (asked : Asked) (result : Result Mode WordsFault)
 module _ (words : List Text) (kind : ErrorKind) (fault : WordsFault)
     (among : (kind ≡ OutOfMemory) ⊎ IsAmong kind (faults_in words))
     (memory : kind ≡ OutOfMemory → fault ≡ NoMemory) (help : kind ≡ DisplayHelp → IsHelp fault)
-    (version : kind ≡ DisplayVersion → IsVersion fault)
+    (version : kind ≡ DisplayVersion → IsHelp fault)
     (usage : kind ≢ DisplayHelp → kind ≢ DisplayVersion → IsUsage fault) where
   -- words without a fault are refused for want of memory alone
   short : (row : List Text) → words ≡ row → faults_in row ≡ [] → fault ≡ NoMemory
@@ -107,9 +107,9 @@ module _ (words : List Text) (kind : ErrorKind) (fault : WordsFault)
     ]
   ]
 
-  versioned : (row : List Text) → words ≡ row → faults_in row ≡ DisplayVersion ∷ [] → IsVersion fault
+  versioned : (row : List Text) → words ≡ row → faults_in row ≡ DisplayVersion ∷ [] → IsHelp fault
   versioned row is known = elim among [
-    | inl no_memory ↦ subst IsVersion (sym (memory no_memory)) tt
+    | inl no_memory ↦ subst IsHelp (sym (memory no_memory)) tt
     | inr other ↦ elim (subst (IsAmong kind) (ap faults_in is ∙ known) other) [ inl asked ↦ version asked | inr none ↦ absurd none ]
   ]
 

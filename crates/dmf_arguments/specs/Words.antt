@@ -1,11 +1,12 @@
 -- The words of the program's arguments: what they ask for.
 -- Public: a public contract says no more than this.
-use Rattle.std.specs.Prelude.{ℕ, ◌≡◌, ◌≢◌, ◌⊎◌, ◌==◌, ◌≤◌, Bool, true, false, List, [], ◌∷◌, ◌++◌, flat_map, Option, Some, None, unwrap_or, Result, MatchResult, IsErrAnd, codes, ⊤}
+use Rattle.std.specs.Prelude.{ℕ, ◌≡◌, ◌≢◌, ◌⊎◌, ◌==◌, ◌≤◌, Bool, true, false, List, [], ◌∷◌, ◌++◌, flat_map, Option, Some, None, unwrap_or, Result, Ok, Err, MatchResult, IsErrAnd, codes, ⊤}
 use Rattle.std.specs.Str.Parse.{IsNumeral, digits_value, without_leading_plus}
+use Rattle.dmf_arguments.specs.declared.words.Arguments.{Arguments}
 use Rattle.dmf_arguments.specs.declared.words.Mode.{Mode}
 use Rattle.dmf_arguments.specs.declared.words.Mode.TheVariants as mode
 use Rattle.dmf_arguments.specs.declared.words.WordsFault.{WordsFault}
-use Rattle.dmf_arguments.specs.declared.words.WordsFault.TheVariants.{Help, Version, Usage, NoMemory}
+use Rattle.dmf_arguments.specs.declared.words.WordsFault.TheVariants.{Help, Usage, NoMemory}
 
 abbrev pub Text : Type 0
 Text = List ℕ
@@ -17,14 +18,17 @@ pub data Task : Type 0 where
   holding : Bool → Bool → ℕ → Text → Task
   checking : Text → Task
 
-abbrev pub task_of : Mode → Task
-task_of (mode.Solve cut progress) = solving cut progress
-task_of (mode.Session cut progress history problem) = holding cut progress history problem.bytes.items
-task_of (mode.Check problem) = checking problem.bytes.items
+abbrev pub task_with : Bool → Mode → Task
+task_with progress (mode.Solve cut) = solving cut progress
+task_with progress (mode.Session cut history problem) = holding cut progress history problem.bytes.items
+task_with progress (mode.Check problem) = checking problem.bytes.items
+
+abbrev pub task_of : Arguments → Task
+task_of asked = task_with asked.progress asked.mode
 
 -- Reading the words gave this task, or memory was refused.
-abbrev pub Gives : Task → Result Mode WordsFault → Type 0
-Gives task = λ result. MatchResult result (λ m. task_of m ≡ task) (λ fault. fault ≡ NoMemory)
+abbrev pub Gives : Task → Result Arguments WordsFault → Type 0
+Gives task = λ result. MatchResult result (λ asked. task_of asked ≡ task) (λ fault. fault ≡ NoMemory)
 
 -- The word does not begin with a dash (45).
 abbrev pub IsPlain : Text → Type 0
@@ -33,8 +37,8 @@ IsPlain (byte ∷ rest) = (byte == 45) ≡ false
 
 -- The bound of a session's history is at most 1,000,000.
 abbrev pub HasBound : Mode → Type 0
-HasBound (mode.Solve cut progress) = ⊤
-HasBound (mode.Session cut progress history problem) = history ≤ 1000000
+HasBound (mode.Solve cut) = ⊤
+HasBound (mode.Session cut history problem) = history ≤ 1000000
 HasBound (mode.Check problem) = ⊤
 
 -- The text writes this bound: decimal digits, behind a plus or not, of a number that is at most 1,000,000.
@@ -45,32 +49,20 @@ pub record IsBound (text : Text) (bound : ℕ) : Type 0 where
 
 abbrev pub IsHelp : WordsFault → Type 0
 IsHelp (Help text) = ⊤
-IsHelp (Version text) = ⊥
 IsHelp (Usage text) = ⊥
 IsHelp NoMemory = ⊤
 
-abbrev pub IsVersion : WordsFault → Type 0
-IsVersion (Help text) = ⊥
-IsVersion (Version text) = ⊤
-IsVersion (Usage text) = ⊥
-IsVersion NoMemory = ⊤
-
 abbrev pub IsUsage : WordsFault → Type 0
 IsUsage (Help text) = ⊥
-IsUsage (Version text) = ⊥
 IsUsage (Usage text) = ⊤
 IsUsage NoMemory = ⊤
 
--- Reading the words gave a text of help, or memory was refused.
-abbrev pub GivesHelp : Result Mode WordsFault → Type 0
+-- Reading the words gave a text that they ask for, as the help, or memory was refused.
+abbrev pub GivesHelp : Result Arguments WordsFault → Type 0
 GivesHelp result = IsErrAnd result IsHelp
 
--- Reading the words gave a text of the version, or memory was refused.
-abbrev pub GivesVersion : Result Mode WordsFault → Type 0
-GivesVersion result = IsErrAnd result IsVersion
-
 -- The words were refused with a text, or memory was refused.
-abbrev pub GivesUsage : Result Mode WordsFault → Type 0
+abbrev pub GivesUsage : Result Arguments WordsFault → Type 0
 GivesUsage result = IsErrAnd result IsUsage
 
 -- The word names no command: it is none of the three, nor `help`.
@@ -123,7 +115,7 @@ IsRepeated said word = ((said.cut ≡ true) × (word ≡ codes "--cut")) ⊎ ((s
 
 -- What reading gives, by the words behind the program's name. The path of a problem is any word that does not begin with
 -- a dash. The bound of a session's history is 1,000,000 where none is written.
-pub record ReadsWords (words : List Text) (result : Result Mode WordsFault) : Type 0 where
+pub record ReadsWords (words : List Text) (result : Result Arguments WordsFault) : Type 0 where
   pub nothing : words ≡ [] → Gives (solving false false) result
   pub solve : words ≡ codes "solve" ∷ [] → Gives (solving false false) result
   pub solve_cut : words ≡ codes "solve" ∷ codes "--cut" ∷ [] → Gives (solving true false) result
@@ -143,7 +135,7 @@ pub record ReadsWords (words : List Text) (result : Result Mode WordsFault) : Ty
   pub session_help : words ≡ codes "session" ∷ codes "--help" ∷ [] → GivesHelp result
   pub check_help : words ≡ codes "check" ∷ codes "--help" ∷ [] → GivesHelp result
   pub help_of : (rest : List Text) → words ≡ codes "help" ∷ rest → IsErrAnd result (λ fault. IsHelp fault ⊎ IsUsage fault)
-  pub version : words ≡ codes "--version" ∷ [] → GivesVersion result
+  pub version : words ≡ codes "--version" ∷ [] → GivesHelp result
   pub history_alone : (rest : List Text) → words ≡ codes "--history" ∷ rest → GivesUsage result
   pub solve_history : (text : Text) → words ≡ codes "solve" ∷ codes "--history" ∷ text ∷ [] → GivesUsage result
   pub check_history : (text path : Text) → words ≡ codes "check" ∷ codes "--history" ∷ text ∷ path ∷ [] → GivesUsage result
@@ -155,3 +147,11 @@ pub record ReadsWords (words : List Text) (result : Result Mode WordsFault) : Ty
   pub check_progress : (path : Text) → words ≡ codes "check" ∷ codes "--progress" ∷ path ∷ [] → GivesUsage result
   pub check_cut : (path : Text) → words ≡ codes "check" ∷ codes "--cut" ∷ path ∷ [] → GivesUsage result
   pub unknown : (word : Text) (rest : List Text) → IsNoCommand word → words ≡ word ∷ rest → GivesUsage result
+
+abbrev pub mode_of : Result Arguments WordsFault → Result Mode WordsFault
+mode_of (Ok asked) = Ok asked.mode
+mode_of (Err fault) = Err fault
+
+-- What reading gives of the run alone: the mode of what the words ask for, or why they ask for none.
+abbrev pub ReadsMode : List Text → Result Mode WordsFault → Type 0
+ReadsMode words result = (asked : Result Arguments WordsFault) × ReadsWords words asked × (result ≡ mode_of asked)

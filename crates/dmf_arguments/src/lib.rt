@@ -1,7 +1,7 @@
 //! The program's arguments: what they ask for, and what is told where they ask for no run.
 #![tactic(auto)]
 
-pub use words::{MAX_HISTORY, Mode, WordsFault, read_words};
+pub use words::{Arguments, MAX_HISTORY, Mode, WordsFault, read_arguments, read_words};
 
 mod help;
 mod words;

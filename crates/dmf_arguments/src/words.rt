@@ -4,7 +4,7 @@ ghost use Rattle.clap.specs.Words.{app_of, first_value, found_of, kind_of, one_t
 ghost use Rattle.clap.specs.Values.{bool_text};
 ghost use Rattle.clap.specs.declared.builder.command.Command.TheViews.{out-Command as fields_of};
 ghost use Rattle.dmf_arguments.specs.Matches.{asked_of, check_line, arguments, cut_rule, history_rule, problem_rule, progress_rule, program_line, session_line, solve_line};
-ghost use Rattle.dmf_arguments.specs.Words.{Gives, HasBound, IsBound, IsHelp, IsUsage, IsVersion, ReadsWords, Text, solving, holding, checking};
+ghost use Rattle.dmf_arguments.specs.Words.{Gives, HasBound, IsBound, IsHelp, IsUsage, ReadsMode, ReadsWords, Text, solving, holding, checking};
 ghost use Rattle.dmf_arguments.specs.declared.words.WordsFault.TheVariants.{NoMemory};
 
 use crate::help;
@@ -15,20 +15,17 @@ use std::alloc::{AllocError, Global};
 /// The largest number that `--history` takes. It is the largest bound of a session's history, too, so each history can be asked for.
 pub const MAX_HISTORY: u32 = 1_000_000;
 
-/// What the program is asked to do.
+/// The run that the arguments ask for.
 #[derive(Debug, Drop, PartialEq, Eq)]
 pub enum Mode {
-    /// Solve the problem on standard input, with the cut after its solution where that is wanted. Progress is told also where
-    /// standard error is no terminal, if that is wanted.
+    /// Solve the problem on standard input, with the cut after its solution where that is wanted.
     Solve {
         cut: bool,
-        progress: bool,
     },
-    /// Hold a session on the problem in the file at this path, with the cut after each solution where that is wanted, with
-    /// progress told as in a solve, and with at most so many states kept before the present one.
+    /// Hold a session on the problem in the file at this path, with the cut after each solution where that is wanted, and with at
+    /// most so many states kept before the present one.
     Session {
         cut: bool,
-        progress: bool,
         history: u32,
         problem: String,
     },
@@ -38,13 +35,18 @@ pub enum Mode {
     },
 }
 
+/// All that the arguments ask for: a run, and whether it tells its progress also where standard error is no terminal.
+#[derive(Debug, Drop, PartialEq, Eq)]
+pub struct Arguments {
+    pub mode: Mode,
+    pub progress: bool,
+}
+
 /// Why the words ask for no run.
 #[derive(Debug, Drop, PartialEq, Eq)]
 pub enum WordsFault {
-    /// They ask for help, and this is its text.
+    /// They ask for a text, the help or the program's version, and this is it.
     Help(String),
-    /// They ask for the program's version, and this is its text.
-    Version(String),
     /// They are none that the program takes, and this text says why.
     Usage(String),
     /// A request for memory was refused.
@@ -62,22 +64,34 @@ impl From<AllocError> for WordsFault {
     }
 }
 
+/// Reads the run that the program's arguments ask for: that of [`read_arguments`], without what else they ask for.
+#[inline(never)]
+pub fn read_words(alloc: Global, words: Vec<String>) -> Result<Mode, WordsFault>
+    ensures words { ReadsMode (drop 1 (map (λ word. word.bytes.items) words.items)) result }
+    ensures bound { IfOk result HasBound }
+{
+    match read_arguments(alloc, words) {
+        Ok(asked) => Ok(asked.mode),
+        Err(fault) => Err(fault),
+    }
+}
+
 /// Reads the program's arguments, of which the first is its name.
 ///
 /// No words behind it, or `solve`, ask for [`Mode::Solve`]; `session PROBLEM` asks for [`Mode::Session`], and
 /// `check PROBLEM` for [`Mode::Check`]. The flags `--cut` and `--progress` may stand behind `solve` and `session`, `--history N`
 /// behind `session` alone, with a number up to [`MAX_HISTORY`], which is what stands for it where it is absent, and `--help` behind
-/// each command and alone: it is answered by [`WordsFault::Help`], and so is `help`, alone or before a command. `--version` alone
-/// is answered by [`WordsFault::Version`]. A PROBLEM that begins with a dash stands behind `--`. All other words are refused
-/// by [`WordsFault::Usage`]; the texts are those of `clap`. [`WordsFault::NoMemory`] may come in place of any answer.
+/// each command and alone: it is answered by [`WordsFault::Help`], and so are `help`, alone or before a command, and `--version`
+/// alone. A PROBLEM that begins with a dash stands behind `--`. All other words are refused by [`WordsFault::Usage`]; the texts are
+/// those of `clap`. [`WordsFault::NoMemory`] may come in place of any answer.
 #[inline(never)]
-pub fn read_words(alloc: Global, words: Vec<String>) -> Result<Mode, WordsFault>
+pub fn read_arguments(alloc: Global, words: Vec<String>) -> Result<Arguments, WordsFault>
     ensures words { ReadsWords (drop 1 (map (λ word. word.bytes.items) words.items)) result }
-    ensures bound { IfOk result HasBound }
+    ensures bound { IfOk result (λ asked. HasBound asked.mode) }
 {
     let command = command(alloc)?;
     match command.try_get_matches_from(words.as_slice()) {
-        Ok(matches) => mode_of(alloc, &matches),
+        Ok(matches) => arguments_of(alloc, &matches),
         Err(error) => Err(fault_of(alloc, &error)),
     }
 }
@@ -197,7 +211,7 @@ fn problem<'a>(alloc: Global) -> Arg<'a>
 }
 
 /// What the words that the program takes ask for.
-fn mode_of(alloc: Global, matches: &ArgMatches<'_>) -> Result<Mode, WordsFault>
+fn arguments_of(alloc: Global, matches: &ArgMatches<'_>) -> Result<Arguments, WordsFault>
     ensures nothing { asked_of (subcommand_rows_of matches.now) ≡ None → Gives (solving false false) result }
     ensures solve { (cut progress : Bool) (text path : Option Text)
         → asked_of (subcommand_rows_of matches.now) ≡ Some (codes "solve", Some (bool_text cut), Some (bool_text progress), text, path)
@@ -209,25 +223,32 @@ fn mode_of(alloc: Global, matches: &ArgMatches<'_>) -> Result<Mode, WordsFault>
     ensures check { (cut progress text : Option Text) (path : Text)
         → asked_of (subcommand_rows_of matches.now) ≡ Some (codes "check", cut, progress, text, Some path)
         → Gives (checking path) result }
-    ensures bound { IfOk result HasBound }
+    ensures bound { IfOk result (λ asked. HasBound asked.mode) }
 {
     match matches.subcommand() {
-        Some(("session", session)) => Ok(Mode::Session {
-            cut: session.get_flag("cut"),
+        Some(("session", session)) => Ok(Arguments {
             progress: session.get_flag("progress"),
-            history: bound_of(session),
-            problem: path_of(alloc, session)?,
+            mode: Mode::Session {
+                cut: session.get_flag("cut"),
+                history: bound_of(session),
+                problem: path_of(alloc, session)?,
+            },
         }),
-        Some(("check", check)) => Ok(Mode::Check {
-            problem: path_of(alloc, check)?,
-        }),
-        Some((_, solve)) => Ok(Mode::Solve {
-            cut: solve.get_flag("cut"),
-            progress: solve.get_flag("progress"),
-        }),
-        None => Ok(Mode::Solve {
-            cut: false,
+        Some(("check", check)) => Ok(Arguments {
             progress: false,
+            mode: Mode::Check {
+                problem: path_of(alloc, check)?,
+            },
+        }),
+        Some((_, solve)) => Ok(Arguments {
+            progress: solve.get_flag("progress"),
+            mode: Mode::Solve {
+                cut: solve.get_flag("cut"),
+            },
+        }),
+        None => Ok(Arguments {
+            progress: false,
+            mode: Mode::Solve { cut: false },
         }),
     }
 }
@@ -256,7 +277,7 @@ fn path_of(alloc: Global, matches: &ArgMatches<'_>) -> Result<String, AllocError
 fn fault_of(alloc: Global, error: &Error) -> WordsFault
     ensures memory { kind_of error.now ≡ ErrorKind.OutOfMemory → result ≡ NoMemory }
     ensures help { kind_of error.now ≡ ErrorKind.DisplayHelp → IsHelp result }
-    ensures version { kind_of error.now ≡ ErrorKind.DisplayVersion → IsVersion result }
+    ensures version { kind_of error.now ≡ ErrorKind.DisplayVersion → IsHelp result }
     ensures usage { kind_of error.now ≢ ErrorKind.DisplayHelp → kind_of error.now ≢ ErrorKind.DisplayVersion
         → IsUsage result }
 {
@@ -267,8 +288,7 @@ fn fault_of(alloc: Global, error: &Error) -> WordsFault
         return WordsFault::NoMemory;
     };
     match error.kind() {
-        ErrorKind::DisplayHelp => WordsFault::Help(text),
-        ErrorKind::DisplayVersion => WordsFault::Version(text),
+        ErrorKind::DisplayHelp | ErrorKind::DisplayVersion => WordsFault::Help(text),
         _ => WordsFault::Usage(text),
     }
 }

@@ -79,14 +79,20 @@ pub trait History {
         ensures err { OnErr result (timeline self.new ≡ timeline self.old) };
 
     /// The edit that made the present state of the one before it: none where no state stands before it, or where the history
-    /// keeps whole states. Takes no memory.
+    /// keeps no edits. Takes no memory.
     fn last_edit(&self) -> Option<&Edit>
-        ensures { IfSome result (λ edit. LeadsBack edit.now (timeline self.now)) };
+        ensures { IfSome result (λ edit. LeadsBack edit.now (timeline self.now)) }
+    {
+        None
+    }
 
     /// The edit that makes the next state of the present one: none where no state stands past it, or where the history keeps
-    /// whole states. Takes no memory.
+    /// no edits. Takes no memory.
     fn next_edit(&self) -> Option<&Edit>
-        ensures { IfSome result (λ edit. LeadsOn edit.now (timeline self.now)) };
+        ensures { IfSome result (λ edit. LeadsOn edit.now (timeline self.now)) }
+    {
+        None
+    }
 }
 
 /// Drops what was put in first. Takes no memory, and constant time.

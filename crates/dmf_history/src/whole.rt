@@ -101,13 +101,4 @@ impl History for WholeHistory {
         self.place += 1;
         Ok(())
     }
-
-    // It keeps no edits.
-    fn last_edit(&self) -> Option<&Edit> {
-        None
-    }
-
-    fn next_edit(&self) -> Option<&Edit> {
-        None
-    }
 }

@@ -2,6 +2,7 @@
 #![tactic(auto)]
 
 pub use command::{Command, Refusal, Reply};
+pub use dmf_history::{DeltaHistory, History, MAX_BOUND, NothingToUndo, RedoFault, WholeHistory};
 pub use laws::{
     change_is_undone, command_has_answer, command_has_one_answer, greatest_is_optimal,
     solved_is_optimal,

@@ -3,7 +3,7 @@
 #![tactic(auto)]
 
 #[cfg(test)]
-mod draws;
+mod flushes;
 #[cfg(test)]
 mod histories;
 #[cfg(test)]

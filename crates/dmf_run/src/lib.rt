@@ -1,0 +1,10 @@
+//! The runs of `dmf` over any reader and writer, from the bytes that come in to the bytes that go out, and the program's arguments
+//! that ask for them, in one crate.
+#![tactic(auto)]
+
+pub use dmf_arguments::{Arguments, MAX_HISTORY, Mode, WordsFault, read_arguments, read_words};
+pub use dmf_runs::{
+    EngineFault, MAX_BYTES, MAX_LINE, MAX_LINES, Status, read_command, refusal_text, run_check,
+    run_commands, run_commands_watched, run_session, run_session_bounded, run_session_watched,
+    run_solve, run_solve_watched, status_of,
+};
