@@ -138,6 +138,30 @@ class Programs(unittest.TestCase):
             )
             self.assertIn("FileNotFoundError: there is no program dmf", ran.stderr)
 
+    def beside(self, package: str, program: str, text: str) -> "subprocess.CompletedProcess[str]":
+        """What a caller of a package at this place writes, with a program at that place, and none named or on the PATH."""
+        with tempfile.TemporaryDirectory() as folder:
+            shutil.copytree(f"{CLIENT}/dmf", f"{folder}/{package}", ignore=shutil.ignore_patterns("__pycache__"))
+            os.makedirs(os.path.dirname(f"{folder}/{program}"), exist_ok=True)
+            with open(f"{folder}/{program}", "w") as file:
+                file.write(text)
+            os.chmod(f"{folder}/{program}", 0o700)
+            words = [sys.executable, "-c", "import dmf; print(dmf.Network([('a', 'b', 1)], 'a', 'b').solve().value)"]
+            environment = {"PYTHONPATH": os.path.dirname(f"{folder}/{package}"), "PATH": folder}
+            return subprocess.run(words, env=environment, capture_output=True, text=True, timeout=SECONDS)
+
+    def test_a_program_that_belongs_to_the_package(self) -> None:
+        run_it = f'#!/bin/sh\nexec {BUILT} "$@"\n'
+        for package, program in ("clients/python/dmf", "dmf"), ("share/dmf/python/dmf", "bin/dmf"):
+            ran = self.beside(package, program, run_it)
+            self.assertEqual((ran.stdout, ran.stderr), ("1\n", ""))
+        ran = self.beside("x/python/dmf", "dmf.x", run_it)
+        self.assertIn("FileNotFoundError: there is no program dmf: ", ran.stderr)
+
+    def test_a_program_that_cannot_be_built(self) -> None:
+        ran = self.beside("share/dmf/python/dmf", "bin/dmf", "#!/bin/sh\necho no rt >&2\nexit 70\n")
+        self.assertRegex(ran.stderr, r"(?s)^no rt\n.*\ndmf.SessionEnded: there is no program: /.*/bin/dmf ended with status 70\n$")
+
     def test_an_argument_names_the_program(self) -> None:
         with pipes(program=BUILT) as network:
             self.assertEqual(network.solve().value, 5)
