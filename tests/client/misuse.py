@@ -16,6 +16,12 @@ SECONDS = 20
 WANTED = "wanted is (tail, head, capacity) or (tail, head, capacity, key), of which all but the capacity can be hashed"
 
 
+def program_of(network: dmf.Network[Any]) -> str:
+    """The path of the program that a network runs."""
+    words: Any = network._child.process.args
+    return str(words[0])
+
+
 class Rows(unittest.TestCase):
     def test_rows_of_another_form(self) -> None:
         rows: list[Any] = [("a", "b"), (), ("a", "b", 1, "key", 2), 7, None, (["a"], "b", 1), ("a", {}, 1), ("a", "b", 1, [])]
@@ -56,12 +62,21 @@ class Copies(unittest.TestCase):
             self.assertEqual(network.solve().value, 5)
 
 
+    def test_copies_of_what_a_network_gives(self) -> None:
+        """A copy of an arc is that arc, so that copies of flows and cuts are equal, and name arcs of the network."""
+        with pipes() as network:
+            plan = network.solve()
+            for again in copy.copy(plan), copy.deepcopy(plan):
+                self.assertEqual((again, again.value, network.capacity(next(iter(again)))), (plan, 5, 3))
+            self.assertEqual(copy.deepcopy(network.cut()), network.cut())
+
+
 class AtOnce(unittest.TestCase):
     def test_a_call_beside_another(self) -> None:
         """Each call is refused while another thread waits for its answer, which comes once the file `go` is there."""
         wait = 'touch "$0.got"; while [ ! -e "$0.go" ]; do sleep 0.01; done; echo c undo value 9'
         with answering(wait) as network:
-            program = network._child.process.args[0]
+            program = program_of(network)
             values: list[int] = []
             thread = threading.Thread(target=lambda: values.append(network.undo(0)), daemon=True)
             thread.start()

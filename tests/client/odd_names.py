@@ -54,7 +54,8 @@ class OddNames(unittest.TestCase):
 
     def test_refused(self) -> None:
         for name in REFUSED:
-            for rows in [(name, "b", 1)], [("a", "b", 1, name), ("a", name, 1)], [("a", "b", 1, name)]:
+            problems: list[list[Any]] = [[(name, "b", 1)], [("a", "b", 1, name), ("a", name, 1)], [("a", "b", 1, name)]]
+            for rows in problems:
                 with dmf.Network(rows, rows[0][0], "b") as network:
                     with self.assertRaises(dmf.NameNotWritable) as caught:
                         network.problem()
