@@ -70,7 +70,7 @@ FORGED = "c arc 1 Mill Lane / p max 3 2 / n 1 s / n 3 t / a 1 2 5 / a 2 3 4"
 UNKNOWN = "commands that are not known changed the network, so capacities and the arcs of cuts are left out from here on; "
 UNKNOWN += "give the commands by --commands FILE"
 # Of which rows this is told, and for which line.
-WARNED = {"a session whose commands are not known": 5, "a printed problem makes the capacities known": 1}
+WARNED = {"a session whose commands are not known": 5, "a printed problem makes the capacities known": 1, "a transcript that begins behind its first command": 6}
 LOST = "c cap value 6 / s 7 / f 1 2 5 / f 2 3 5 / f 1 3 2 / c cut 7 / c side 1"
 
 # What is told of a problem, commands (None where none are given) and an answer.
@@ -116,6 +116,18 @@ TOLD_OF = {
         f"{ANSWER} / {LOST} / c close value 2",
         f"{TOLD} / c cap value 6 / value 7 /   Quarry -> Hill: 5 /   Hill -> Site: 5 /   Quarry -> Site: 2"
         " / limit 7 /   source's side: Quarry / c close value 2",
+    ),
+    "a transcript that begins behind its first command": (
+        ROADS,
+        None,
+        f"{ANSWER} / undo / c undo value 0 / print flow / s 0 / f 1 2 0 / f 2 3 0 / f 1 3 0",
+        f"{TOLD} / undo / c undo value 0 / print flow / value 0 /   Quarry -> Hill: 0 /   Hill -> Site: 0 /   Quarry -> Site: 0",
+    ),
+    "a name of an arc that is not there is none of one that is added": (
+        ROADS + " / c arc 4 Tunnel / c node 4 Town",
+        "add 1 3 7 / solve",
+        "c add 4 value 0 / s 13 / f 1 2 4 / f 2 3 4 / f 1 3 2 / f 1 3 7",
+        "c add 4 value 0 / " + TOLD.replace("6", "13", 1) + " /   4 Quarry -> Site: 7 of 7",
     ),
     "a printed problem makes the capacities known": (
         ROADS,

@@ -94,7 +94,12 @@ class Follower:
     def take(self, line: bytes) -> list[Event]:
         """What a line tells, which has its line feed if it was read with one. Raises a `TranscriptFault`."""
         self.line += 1
+        reading = self._reading
         try:
+            if isinstance(reading, SolutionReading) and line.startswith(b"f ") and not reading.is_whole_with(1):
+                # Most lines of a large answer.
+                reading.take(fields(ended(line)))
+                return []
             return list(self._take(ended(line), line))
         except Fault as fault:
             raise self._located(fault) from None
