@@ -12,7 +12,7 @@ A tool without `.py` in its name finds this package beside itself, in the reposi
 from __future__ import annotations
 
 import re
-from collections.abc import Callable, Iterator
+from collections.abc import Iterator
 from dataclasses import dataclass, field
 from typing import NamedTuple
 
@@ -143,11 +143,11 @@ def read_problem(text: bytes) -> Problem:
     reading = _Reading()
     read = lines(text)
     # Where none of these bytes is in the text, what parts fields is the white space of `split`, which is quicker.
-    part: Callable[[bytes], list[bytes]] = fields if any(odd in text for odd in (b"\r", b"\x0b", b"\x0c")) else bytes.split
+    is_plain = not any(odd in text for odd in (b"\r", b"\x0b", b"\x0c"))
     line = 0
     try:
         for line, content in enumerate(read, 1):
-            found = part(content)
+            found = content.split() if is_plain else _FIELD.findall(content)
             if found and not found[0].startswith(b"c"):
                 reading.take(found)
         line = len(read) + 1

@@ -48,8 +48,8 @@ class TranscriptFault(TextFault):
 
 @dataclass(frozen=True)
 class Pending:
-    """A command that is not answered yet: the text that it stands in and its line there, the line's content, and what it asks for, or
-    why its form has it refused."""
+    """A command that is not answered yet: the text that it stands in, its line there, that line's content, and what it asks for,
+    or why its form has it refused."""
 
     text: str
     line: int
@@ -73,8 +73,8 @@ class Pending:
 
 class Follower:
     """Takes the lines of an answer one after the other. `timeline` has the present network, unless `is_known` is false: then
-    commands that are not known changed it. `is_numbered` is false where a printed problem alone is known of it, in which the arcs may have
-    other numbers. `solution` and `cut` are the last that were told whole."""
+    commands that are not known changed it. `is_numbered` is false where no more than a printed problem is known of it, in which
+    the arcs may have other numbers. `solution` and `cut` are the last that were told whole."""
 
     def __init__(self, problem: Problem, commands: Iterator[bytes] | None = None) -> None:
         self.timeline = Timeline(problem)
@@ -86,8 +86,8 @@ class Follower:
         self._command_line = 0
         self._waiting: deque[Pending] = deque()
         self._reading: Reading | None = None
-        # Whether a cut comes with each solve (`--cut`), where that is known; whether the last reply was that of a `solve`, so that its
-        # cut may follow; and whether a cut was taken for one of a solve that may be the reply to `print cut`.
+        # Whether a cut comes with each solve (`--cut`), where that is known; whether the last reply was that of a `solve`, so that
+        # its cut may follow; and whether a cut was taken for one of a solve that may be the reply to `print cut`.
         self._solves_have_cuts: bool | None = None
         self._awaits_cut = self._is_in_doubt = False
 
@@ -169,8 +169,8 @@ class Follower:
         return self._waiting[0] if self._waiting else None
 
     def _settle(self, is_answered: Callable[[Pending], bool]) -> Pending | None:
-        """The oldest command that is not answered, where another reply than a cut has come. Whether solves have cuts is known then: a
-        cut in doubt was the reply to `print cut` where one still waits that this reply does not answer."""
+        """The oldest command that is not answered, where another reply than a cut has come. Whether solves have cuts is known
+        then: a cut in doubt was the reply to `print cut` where one still waits that this reply does not answer."""
         if self._awaits_cut and self._solves_have_cuts:
             raise Fault("the cut of this solve is missing")
         if self._awaits_cut:
@@ -186,8 +186,8 @@ class Follower:
         return head
 
     def _asked(self, *words: str) -> Command | None:
-        """The command that a reply answers, one of these words, or None where no commands are known. Raises a `Fault` where the oldest
-        command that is not answered is another one, or is to be refused."""
+        """The command that a reply answers, one of these words, or None where no commands are known. Raises a `Fault` where the
+        oldest command that is not answered is another one, or is to be refused."""
         head = self._settle(lambda head: False) if words != (PRINT_CUT,) else self._head()
         if head is None:
             if self._given is not None:
