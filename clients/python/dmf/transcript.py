@@ -74,7 +74,8 @@ class Pending:
 class Follower:
     """Takes the lines of an answer one after the other. `timeline` has the present network, unless `is_known` is false: then
     commands that are not known changed it. `is_numbered` is false where no more than a printed problem is known of it, in which
-    the arcs may have other numbers. `solution` and `cut` are the last that were told whole."""
+    the arcs may have other numbers. `solution` and `cut` are the last ones; the solution is None where its flows were not
+    told, or not on a known network."""
 
     def __init__(self, problem: Problem, commands: Iterator[bytes] | None = None) -> None:
         self.timeline = Timeline(problem)
@@ -248,6 +249,7 @@ class Follower:
         command = self._asked(SOLVE, PRINT_FLOW)
         if not self.is_known:
             self._awaits_cut = command == Command(SOLVE)
+            self.solution = None
             yield Solution(value, is_told=False)
             return
         self._reading = SolutionReading(value, self.timeline.arcs, command)
@@ -305,7 +307,7 @@ class Follower:
         self._reading = None
         told = (reading.numbers, reading.arcs, reading.flows) if is_told else ((), (), ())
         solution = Solution(reading.value, is_told, *told, timeline.serial)
-        self.solution = solution if is_told else self.solution
+        self.solution = solution if is_told else None
         return solution
 
     def _cut(self, reading: CutReading) -> Cut:
