@@ -106,7 +106,7 @@ class Table:
         """Refuses a first row that was taken for titles, where it has the name of a place."""
         if self.heading and any(cleaned(cell) in places for cell in self.heading.cells[: len(self.form.places)]):
             cell = self.heading.cells[self.form.columns[self.form.amount]]
-            raise self.fault(f"the {self.form.amount} {shown(cell)} is no whole number", self.heading.line)
+            raise self.fault(f"the {self.form.amount} {shown(cell)} is no whole number{self.form.hint}", self.heading.line)
 
 
 def cleaned(text: str) -> str:
