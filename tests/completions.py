@@ -1,9 +1,9 @@
 """Compares what the completions of a shell offer with what the help of each command lists.
 
-    python3 tests/completions.py SHELL FILE
+    python3 tests/completions.py SHELL FILE [TOOL]
 
-FILE has the completions for SHELL (bash, zsh or fish), and `dmf` is found by PATH. Each case types a line and asks what is
-offered there. Prints what is wrong, and then 'N passed, M failed'."""
+FILE has the completions for SHELL (bash, zsh or fish) of `dmf`, or of a tool, which are found by PATH. Each case types a line and
+asks what is offered there. Prints what is wrong, and then 'N passed, M failed'."""
 
 import os
 import pty
@@ -27,8 +27,8 @@ PREPARE = {
 PLAIN = {"bash": ["bash", "--norc", "--noprofile", "-i"], "zsh": ["zsh", "-f", "-i"]}
 
 
-def help_of(*command):
-    return subprocess.run(["dmf", *command, "--help"], capture_output=True, text=True, timeout=SECONDS, check=True).stdout
+def help_of(*command, program="dmf"):
+    return subprocess.run([program, *command, "--help"], capture_output=True, text=True, timeout=SECONDS, check=True).stdout
 
 
 def listed(title, text):
@@ -66,6 +66,23 @@ def cases():
                 yield f"dmf {command} {option} a", *((set(), {PROBLEM}) if has_value else (offered, other))
             if has_value:
                 yield f"dmf {command} {option} 7 a", offered, other
+
+
+def tool_cases(tool):
+    """The same for a tool, by what argparse lists."""
+    text = help_of(program=tool)
+    options = {name: entry.partition(name)[2].partition(",")[0].strip() for entry in listed("options", text)
+               for name in re.findall(r"--?[a-z][-a-z]*", entry)}
+    assert "--help" in options
+    yield f"{tool} -", set(options), {PROBLEM}
+    yield f"{tool} --h", {it for it in options if it.startswith("--h")}, {PROBLEM}
+    yield f"{tool} < a", {PROBLEM}, set()
+    takes_files = "PROBLEM" in listed("positional arguments", text)
+    yield f"{tool} a", *(({PROBLEM}, set()) if takes_files else (set(), {PROBLEM}))
+    for option, value in options.items():
+        if value:
+            yield f"{tool} {option} a", *(({PROBLEM}, set()) if value == "FILE" else (set(), {PROBLEM}))
+            yield f"{tool} {option} 7 -", {"--help"}, {PROBLEM}
 
 
 class Terminal:
@@ -128,13 +145,13 @@ def judge(shell, file, line, wanted, others):
     return None
 
 
-def main(shell, file):
+def main(shell, file, tool=None):
     file = os.path.abspath(file)
     with tempfile.TemporaryDirectory() as folder:
         os.chdir(folder)
         for name in PROBLEM, "one.max":
             open(name, "w").close()
-        said = [judge(shell, file, *case) for case in cases()]
+        said = [judge(shell, file, *case) for case in (tool_cases(tool) if tool else cases())]
     return tell(said)
 
 

@@ -11,16 +11,13 @@ import re
 import sys
 from pathlib import Path
 
-CRATES = ["dmf_arguments", "dmf_node", "dmf_path", "dmf_net", "dmf_solver", "dmf_text", "dmf_history", "dmf_session", "dmf_run"]
+CRATES = ["dmf_arguments", "dmf_node", "dmf_path", "dmf_state", "dmf_solver", "dmf_text", "dmf_history", "dmf_session", "dmf_runs"]
 # The test that each library's example is.
 EXAMPLES = {
-    "dmf_arguments": "dmf_usage/src/example.rt",
-    "dmf_net": "dmf_words/src/examples/net.rt",
-    "dmf_solver": "dmf_words/src/examples/solver.rt",
-    "dmf_text": "dmf_words/src/examples/text.rt",
-    "dmf_history": "dmf_words/src/examples/history.rt",
-    "dmf_session": "dmf_words/src/examples/session.rt",
-    "dmf_run": "dmf_words/src/examples/run.rt",
+    "dmf_net": "dmf_interface/src/examples/net.rt",
+    "dmf_text": "dmf_interface/src/examples/text.rt",
+    "dmf_session": "dmf_interface/src/examples/session.rt",
+    "dmf_run": "dmf_interface/src/examples/run.rt",
 }
 FILES = Path("docs/FILES.md")
 CODE = re.compile(r"^```rust\n(.*?)^```$", re.MULTILINE | re.DOTALL)

@@ -19,8 +19,9 @@ PICTURES = {
     "water": "tools/dmf-problem Reservoir Harbour <examples/water/pipes.csv",
     "rota": "python3 examples/rota/arcs.py <examples/rota/rota.csv | tools/dmf-problem Staff Rota",
     "supply": (
-        "awk -f examples/supply/arcs.awk examples/supply/sites.csv examples/supply/routes.csv"
-        " | grep -v 'East Depot' | tools/dmf-problem Stock Orders"
+        "grep -v 'East Depot' examples/supply/routes.csv"
+        " | tools/dmf-problem --sources /dev/fd/3 --sinks examples/supply/orders.csv 3<<END\n"
+        "$(grep -v 'East Depot' examples/supply/stock.csv)\nEND"
     ),
 }
 HEAD = 'digraph dmf {\n  rankdir=LR\n  node [fontname="Helvetica"]\n  edge [fontname="Helvetica", fontsize=11]\n'

@@ -22,14 +22,6 @@ try() {
 
 problem=$'c node 1 A\nc node 2 B b\nc arc 2 the long way\np max 2 2\nn 1 s\nn 2 t\na 1 2 3\na 1 2 4\n'
 printf '%s' "$problem" >"$work/problem.max"
-try dmf-problem 0 "$problem" "" A "B b" <<<$'from,to,cap,name\nA,B b,3\nA,"B  b",4,the long way'
-try dmf-problem 0 "$problem" "" A "B b" <<<$'\ufefffrom;to;cap;name\r\nA;B b;3;\r\n;;;\r\nA;B b;4;the long\tway\r'
-try dmf-problem 1 "" $'dmf-problem: no arc has the end C\n' A C <<<$'from,to,cap\nA,B,3'
-try dmf-problem 1 "" $'dmf-problem: line 3: not a tail, a head and a capacity that is a whole number: A,B,2.5\n' A B \
-    <<<$'from,to,cap\nA,B,3\nA,B,2.5'
-try dmf-problem 1 "" \
-    $'dmf-problem: line 2: not a tail, a head and a capacity that is a whole number: A,,3\n' A B <<<$'from,to,cap\nA,,3'
-try dmf-problem 2 "" "$(tools/dmf-problem --help)"$'\n' A </dev/null
 try dmf-names 0 \
     $'value 5\n  A -> B b: 3 of 3\n  the long way, A -> B b: 2 of 4\n' "" "$work/problem.max" <<<$'s 5\nf 1 2 3\nf 1 2 2'
 try dmf-names 0 \

@@ -9,10 +9,12 @@ import unittest
 
 from shared import ROOT, dmf
 
+MODULES = ["by_hand", "each_refusal", "misuse", "odd_names", "reading", "children", "ends", "typed", "random_sessions"]
+
 
 def main():
     """Runs the examples of the client and of README.md, and the tests of this folder. Names what failed and what was skipped."""
-    suite = unittest.defaultTestLoader.loadTestsFromNames(["by_hand", "each_refusal", "ends", "random_sessions"])
+    suite = unittest.defaultTestLoader.loadTestsFromNames(MODULES)
     suite.addTests(doctest.DocTestSuite(dmf))
     suite.addTests(doctest.DocFileSuite(f"{ROOT}/README.md", module_relative=False))
     result = unittest.TestResult()

@@ -72,6 +72,44 @@ class Worked(unittest.TestCase):
             self.assertEqual(network.cap(("a", "b"), 2), 2)
             self.assertEqual(network.capacity(second), 2)
 
+    def test_a_named_arc_by_its_ends(self):
+        with dmf.Network([("a", "b", 3, "main"), ("b", "c", 4, "out"), ("c", "c", 1)], "a", "c") as network:
+            main, out, _ = network.arcs
+            plan = network.solve()
+            self.assertEqual((network.arc(("a", "b")), network.arc("main"), plan["a", "b"], plan["main"]), (main, main, 3, 3))
+            self.assertEqual((network.cap(("b", "c"), 2), network.capacity("out")), (2, 2))
+            # A second arc has the same ends, so that they name neither; each is still named by its key.
+            other = network.add("a", "b", 5, "other")
+            message = "2 open arcs have the key or the ends ('a', 'b'): <Arc 1: 'a' to 'b', 'main'>, <Arc 4: 'a' to 'b', 'other'>"
+            with self.assertRaises(dmf.AmbiguousArc) as caught:
+                network.close(("a", "b"))
+            self.assertEqual(str(caught.exception), message)
+            self.assertRaises(dmf.AmbiguousArc, network.flow().get, ("a", "b"))
+            self.assertEqual((network.arc("other"), network.close("main")), (other, 0))
+            self.assertEqual((network.arc(("a", "b")), network.undo(2), network.arc(("a", "b"))), (other, 2, main))
+
+    def test_a_named_arc_beside_one_without_a_name(self):
+        """The ends name neither, so that nobody takes the flow of one for all that flows."""
+        with dmf.Network([("a", "b", 3), ("a", "b", 4, "bypass"), ("b", "c", 9)], "a", "c") as network:
+            plan = network.solve()
+            self.assertRaises(dmf.AmbiguousArc, plan.__getitem__, ("a", "b"))
+            self.assertRaises(dmf.AmbiguousArc, network.cap, ("a", "b"), 1)
+            self.assertEqual((plan.between("a", "b"), plan["bypass"], plan[network.arcs[0]]), (7, 4, 3))
+
+    def test_a_key_that_is_the_ends(self):
+        with dmf.Network([("a", "b", 3, ("a", "b")), ("b", "a", 4, "back")], "a", "b") as network:
+            self.assertEqual((network.solve()["a", "b"], network.arc(("a", "b"))), (3, network.arcs[0]))
+            # The key of this one is the ends of another.
+            network.add("a", "a", 1, ("b", "a"))
+            self.assertRaises(dmf.AmbiguousArc, network.arc, ("b", "a"))
+
+    def test_between(self):
+        with pipes() as network:
+            plan = network.solve()
+            self.assertEqual((plan.between("mill", "town"), plan.between("town", "mill"), plan.between("lake", "sea")), (1, 0, 0))
+            self.assertRaises(dmf.NoSuchNode, plan.between, "lake", "see")
+            self.assertEqual((plan.get("canal"), plan.get("canal", 0), plan.get(("mill", "town"), 9)), (None, 0, 1))
+
     def test_any_names(self):
         rows = [(0, (1, 2), 3), ((1, 2), None, 2), (frozenset([1]), 0, 9), (0, "0", 1), ("0", None, 4)]
         with dmf.Network(rows, 0, None) as network:

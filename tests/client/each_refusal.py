@@ -1,11 +1,12 @@
 """Each refusal has an exception of its own, and changes nothing."""
 
-import os
+import copy
+import pickle
 import re
 import tempfile
 import unittest
 
-from shared import PIPES, ROOT, dmf, pipes
+from shared import PIPES, ROOT, answering, dmf, pipes, script
 
 LARGEST = 2**64 - 1
 
@@ -110,51 +111,52 @@ class Refusals(unittest.TestCase):
             self.assertRaises(FileNotFoundError, dmf.read, f"{folder}/missing.max")
 
 
+    def test_copies(self):
+        """An exception that is copied or sent to another process is the same one."""
+        for error in dmf.NoSuchArc("'x'"), dmf.NoMemory(), dmf.Refused.of("too windy", "solve"), dmf.NotAnArc("not an arc: ()"):
+            for again in copy.copy(error), pickle.loads(pickle.dumps(error)):
+                self.assertEqual((type(again), str(again), vars(again)), (type(error), str(error), vars(error)))
+
+    def test_tracebacks_name_the_package(self):
+        kinds = [kind for kind in vars(dmf).values() if isinstance(kind, type) and issubclass(kind, BaseException)]
+        self.assertEqual({kind.__module__ for kind in kinds}, {"dmf"})
+        self.assertGreaterEqual(set(kinds), {dmf.Error, dmf.Refused, *dmf.Refused.kinds.values()})
+
+
 class Answers(unittest.TestCase):
     """What a program answers that stands in for dmf: the problem was read, and then one answer to each command."""
 
-    def hold(self, answer, call):
-        with tempfile.TemporaryDirectory() as folder:
-            program = f"{folder}/dmf"
-            with open(program, "w") as file:
-                file.write(f"#!/bin/sh\nread line\necho c undo value 0\nwhile read line; do\n{answer}\ndone\n")
-            os.chmod(program, 0o700)
-            with pipes(program=program) as network:
-                return call(network)
-
     def test_each_text(self):
         for text, kind in dmf.Refused.kinds.items():
-            answer = f"case $line in solve) echo 'c refused 2 {text}';; *) echo c undo value 7;; esac"
-
-            def call(network):
+            with answering(f"case $line in solve) echo 'c refused 2 {text}';; *) echo c undo value 7;; esac") as network:
                 with self.assertRaises(dmf.Refused) as caught:
                     network.solve()
                 self.assertIs(type(caught.exception), kind)
                 # The session goes on.
                 self.assertEqual(network.undo(0), 7)
 
-            self.hold(answer, call)
-
     def test_a_text_that_came_later(self):
-        def call(network):
-            with self.assertRaisesRegex(dmf.Refused, "^refused: too windy: solve$"):
+        with answering("echo c refused 2 too windy") as network:
+            with self.assertRaisesRegex(dmf.Refused, "^refused: too windy: solve$") as caught:
                 network.solve()
-
-        self.hold("echo c refused 2 too windy", call)
+            self.assertEqual((type(caught.exception), caught.exception.text), (dmf.Refused, "too windy"))
 
     def test_no_answer_that_is_understood(self):
-        for answer in "echo hello", "echo s five", "echo c undo", "echo", "echo s 5; echo f 1":
-
-            def call(network):
+        for answer in "echo hello", "echo s five", "echo c undo", "echo", "echo s 5; echo f 1", "echo c solve value 5":
+            with answering(answer) as network:
                 for _ in range(2):
                     self.assertRaisesRegex(dmf.SessionEnded, "`solve` was not understood", network.solve)
 
-            self.hold(answer, call)
+    def test_the_answer_to_another_command(self):
+        with answering("echo c close value 3") as network:
+            self.assertRaisesRegex(dmf.SessionEnded, "`undo 1` was not understood", network.undo)
+        with script("cat") as program:
+            self.assertRaisesRegex(dmf.SessionEnded, "`undo 0` was not understood", pipes, program=program)
 
     def test_no_memory_for_the_problem(self):
-        with tempfile.TemporaryDirectory() as folder:
-            program = f"{folder}/dmf"
-            with open(program, "w") as file:
-                file.write("#!/bin/sh\necho dmf: no memory >&2\nexit 5\n")
-            os.chmod(program, 0o700)
+        with script("echo dmf: no memory >&2; exit 5") as program:
             self.assertRaisesRegex(dmf.NoMemory, "^no memory$", pipes, program=program)
+
+    def test_a_problem_is_refused_for_a_reason_that_came_later(self):
+        with script("echo dmf: line 5: too windy >&2; exit 3") as program:
+            self.assertRaisesRegex(dmf.Refused, "^refused: too windy: <Arc 2: 'lake' to 'town'>$", pipes, program=program)

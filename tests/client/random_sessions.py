@@ -39,12 +39,12 @@ class RandomSessions(unittest.TestCase):
     def step(self, model, network, random):
         """One random command to both. They agree, also where it is refused."""
         word = random.choice(["solve", "cap", "cap", "close", "add", "shut", "undo", "undo", "redo", "redo"])
-        arc, count = random.randint(1, max(1, len(network._arcs))), random.choice([0, 1, 1, 2, 3])
+        arc, count = random.randint(1, max(1, len(network._kept.arcs))), random.choice([0, 1, 1, 2, 3])
         tail, head, node = (random.randint(1, model.present().nodes) for _ in range(3))
         amount = random.choice([0, 1, 2, 5, 9, 2**63])
-        if word in ("cap", "close") and not network._arcs:
+        if word in ("cap", "close") and not network._kept.arcs:
             return
-        handle = network._arcs[arc - 1] if network._arcs else None
+        handle = network._kept.arcs[arc - 1] if network._kept.arcs else None
         numbers, call = {
             "solve": ([], lambda: network.solve().value),
             "cap": ([arc, amount], lambda: network.cap(handle, amount)),
@@ -105,6 +105,10 @@ class Networkx(unittest.TestCase):
 
     def test_refused(self):
         graph = networkx.DiGraph([("a", "b")])
+        with self.assertRaises(dmf.NoCapacity) as caught:
+            dmf.from_networkx(graph, "a", "b")
+        self.assertEqual(str(caught.exception), "no capacity: the edge ('a', 'b') has no attribute 'capacity'")
+        graph["a"]["b"]["capacity"] = None
         self.assertRaisesRegex(dmf.NotANumber, "None in .'a', 'b', None", dmf.from_networkx, graph, "a", "b")
         graph["a"]["b"]["capacity"] = float("inf")
         self.assertRaises(dmf.NotANumber, dmf.from_networkx, graph, "a", "b")

@@ -10,6 +10,8 @@ mod moves;
 #[cfg(test)]
 mod networks;
 #[cfg(test)]
+mod reverting;
+#[cfg(test)]
 mod sides;
 #[cfg(test)]
 mod solving;

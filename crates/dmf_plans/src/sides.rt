@@ -1,6 +1,7 @@
 //! Tests of smallest sides.
 ghost use Rattle.dmf_state.specs.Edit.{Fits};
 
+use crate::moves::{listed, shuttings};
 use crate::networks::{example, solved_example};
 use dmf_solver::{
     is_greatest, plan_shut, plan_solve, plan_solve_with_side, side_after, smallest_side,
@@ -57,6 +58,9 @@ fn the_smallest_side_is_told_before_a_node_is_shut(rt: HostRuntime) -> Result<()
     let alloc = rt.alloc();
     let state = solved_example(alloc)?;
     let edit = plan_shut(alloc, &state, 3)?;
+    let arcs = shuttings(alloc, &[(2, 2), (3, 5), (5, 3)])?;
+    let moves = listed(alloc, &[(1, 3, 2), (2, 2, 0), (3, 1, 0), (5, 3, 0)])?;
+    assert!(rt; edit == Edit::Shut { arcs, moves });
     let side = side_after(alloc, &state, &edit)?;
     assert!(rt; side.ids().eq([1, 2].iter().copied()));
     assert!(rt; side.capacity() == 2);

@@ -1,9 +1,8 @@
 //! Sessions over a history of edits and over a history of whole states write the same.
 ghost use Rattle.std.specs.Prelude.{◌≤◌};
 
-use crate::draws::Draws;
 use crate::worked::WORKED;
-use dmf_fixtures::{FULL_ARC, LENIENT, NETWORK_A, NETWORK_B, PARALLEL, TWO_SHORTEST};
+use dmf_fixtures::{Draws, FULL_ARC, LENIENT, NETWORK_A, NETWORK_B, PARALLEL, TWO_SHORTEST};
 use dmf_history::{DeltaHistory, WholeHistory};
 use dmf_runs::{EngineFault, Status, run_commands};
 use dmf_session::Session;

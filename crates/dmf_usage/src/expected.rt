@@ -1,12 +1,12 @@
 //! Words that are read, beside what they are to give.
-use dmf_arguments::{Mode, WordsFault, read_words};
+use dmf_arguments::{Arguments, WordsFault, read_arguments};
 use std::alloc::{AllocError, Global};
 use std::test::Fail;
 
 /// Reads the words behind the program's name, which are given with one space between them.
 #[inline(never)]
-fn read(alloc: Global, line: &str) -> Result<Mode, WordsFault> {
-    read_words(alloc, words_of(alloc, line)?)
+fn read(alloc: Global, line: &str) -> Result<Arguments, WordsFault> {
+    read_arguments(alloc, words_of(alloc, line)?)
 }
 
 fn words_of(alloc: Global, line: &str) -> Result<Vec<String>, AllocError> {
@@ -19,15 +19,15 @@ fn words_of(alloc: Global, line: &str) -> Result<Vec<String>, AllocError> {
 }
 
 /// What is told of words that give something else.
-fn differs(line: &str, read: &Result<Mode, WordsFault>) -> Fail {
+fn differs(line: &str, read: &Result<Arguments, WordsFault>) -> Fail {
     Fail::new(format_args!("{line}: {read:?}"))
 }
 
-/// These words are to give just this.
+/// These words are to ask for just this.
 #[inline(never)]
-pub fn expect(alloc: Global, line: &str, wanted: &Result<Mode, WordsFault>) -> Result<(), Fail> {
+pub fn expect(alloc: Global, line: &str, wanted: Arguments) -> Result<(), Fail> {
     let read = read(alloc, line);
-    if read == *wanted {
+    if read == Ok(wanted) {
         Ok(())
     } else {
         Err(differs(line, &read))

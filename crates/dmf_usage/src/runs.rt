@@ -1,6 +1,6 @@
 //! Which run the arguments ask for.
 use crate::expected::expect;
-use dmf_arguments::{Mode, read_words};
+use dmf_arguments::{Arguments, Mode, read_words};
 use std::alloc::Global;
 use std::test::Fail;
 
@@ -17,11 +17,11 @@ const SOLVES: [(&str, bool, bool); 6] = [
 #[test]
 fn words_ask_to_solve(rt: HostRuntime) -> Result<(), Fail> {
     for (line, cut, progress) in &SOLVES {
-        let wanted = Mode::Solve {
-            cut: *cut,
+        let wanted = Arguments {
+            mode: Mode::Solve { cut: *cut },
             progress: *progress,
         };
-        expect(rt.alloc(), line, &Ok(wanted))?;
+        expect(rt.alloc(), line, wanted)?;
     }
     Ok(())
 }
@@ -64,13 +64,13 @@ const BOUNDED: [Session; 5] = [
 /// Each row's words are to ask for its session.
 fn expect_sessions(alloc: Global, rows: &[Session]) -> Result<(), Fail> {
     for (line, cut, progress, history, problem) in rows {
-        let wanted = Mode::Session {
+        let mode = Mode::Session {
             cut: *cut,
-            progress: *progress,
             history: *history,
             problem: String::from_str(alloc, problem)?,
         };
-        expect(alloc, line, &Ok(wanted))?;
+        let progress = *progress;
+        expect(alloc, line, Arguments { mode, progress })?;
     }
     Ok(())
 }
@@ -88,14 +88,15 @@ fn words_ask_for_a_bounded_session(rt: HostRuntime) -> Result<(), Fail> {
 #[test]
 fn words_ask_for_a_check(rt: HostRuntime) -> Result<(), Fail> {
     let problem = String::from_str(rt.alloc(), "P")?;
-    expect(rt.alloc(), "check P", &Ok(Mode::Check { problem }))
+    let wanted = Arguments {
+        mode: Mode::Check { problem },
+        progress: false,
+    };
+    expect(rt.alloc(), "check P", wanted)
 }
 
 #[test]
 fn no_words_at_all_ask_for_solving(rt: HostRuntime) {
-    let wanted = Mode::Solve {
-        cut: false,
-        progress: false,
-    };
+    let wanted = Mode::Solve { cut: false };
     assert!(rt; read_words(rt.alloc(), Vec::new(rt.alloc())) == Ok(wanted));
 }

@@ -1,5 +1,5 @@
 //! A session from bytes to bytes, over any reader and writer.
-use dmf_runs::{Status, run_session};
+use dmf_run::{Status, run_session};
 use dmf_text::{StdSink, StdSource};
 use std::test::Fail;
 

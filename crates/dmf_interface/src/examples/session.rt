@@ -1,7 +1,6 @@
 //! A change is tried out, and taken back.
-use dmf_history::DeltaHistory;
-use dmf_session::{Command, Reply, Session};
-use dmf_state::State;
+use dmf_net::State;
+use dmf_session::{Command, DeltaHistory, Reply, Session};
 use std::test::Fail;
 
 #[test]

@@ -1,7 +1,6 @@
 //! A history with the bound 1: one state before the present one is kept, and older ones are forgotten.
-use dmf_history::{DeltaHistory, History, NothingToUndo};
-use dmf_solver::{plan_cap, plan_solve};
-use dmf_state::State;
+use dmf_net::{State, plan_cap, plan_solve};
+use dmf_session::{DeltaHistory, History, NothingToUndo};
 use std::test::Fail;
 
 #[test]

@@ -1,6 +1,5 @@
 //! How much can be sent once an arc is closed, and where the limit is then.
-use dmf_solver::{plan_close, plan_solve, smallest_side};
-use dmf_state::State;
+use dmf_net::{State, plan_close, plan_solve, smallest_side};
 use std::test::Fail;
 
 #[test]

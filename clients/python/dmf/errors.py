@@ -1,0 +1,154 @@
+"""What the package raises of its own. Each reason for which `dmf` refuses a command or a problem is a class of its own."""
+
+from __future__ import annotations
+
+import re
+from typing import Any, ClassVar
+
+
+def shown(thing: object) -> str:
+    """How a message shows what a caller gave: its repr, also where Python refuses to write one of its numbers."""
+    try:
+        return repr(thing)
+    except ValueError:
+        return f"<{type(thing).__name__} with a number of more than 4,300 digits>"
+
+
+class Error(Exception):
+    """What this package raises of its own."""
+
+
+class SessionEnded(Error):
+    """The program has ended: it was killed, it failed, or the session was ended. Nothing can be asked any more."""
+
+
+class AmbiguousArc(Error, LookupError):
+    """Several open arcs have this key, or these ends. Each has a handle, by which it can be named."""
+
+
+class NotAnArc(Error, ValueError):
+    """A row of arcs is neither (tail, head, capacity) nor (tail, head, capacity, key), or something in it cannot be hashed."""
+
+
+class NoCapacity(Error, LookupError):
+    """An edge of a graph lacks the attribute that tells its capacity."""
+
+
+class HistoryOutOfRange(Error, ValueError):
+    """The most changes that can be undone is no whole number from 0 to 1,000,000."""
+
+
+class NameNotWritable(Error, ValueError):
+    """A name cannot stand in a comment of a problem: `dmf.read` would give another one back."""
+
+
+class UsedByTwoThreads(Error, RuntimeError):
+    """Two threads used a network at once. The later call did nothing, and the session goes on."""
+
+
+class UsedByTwoProcesses(Error, RuntimeError):
+    """A process that was forked off used a network of the process before it. The call did nothing, and the session goes on."""
+
+
+class Refused(Error):
+    """The program refuses a command, or a problem. Each of its reasons is a class of its own; one that this package does not
+    know is a plain `Refused`. `text` is the reason as the program tells it, `what` was refused, and `line` is the line of the
+    problem that has the fault, where the problem was read from a file."""
+
+    text = "refused"
+    line: int | None = None
+    kinds: ClassVar[dict[str, type[Refused]]] = {}
+
+    def __init_subclass__(cls) -> None:
+        cls.text = re.sub(r"(?<=.)([A-Z]|\d+)", r" \1", cls.__name__).lower()
+        Refused.kinds[cls.text] = cls
+
+    def __init__(self, what: str = "") -> None:
+        """`what` was refused."""
+        super().__init__(f"{self.text}: {what}" if what else self.text)
+        self.what = what
+
+    def __reduce__(self) -> tuple[Any, ...]:
+        return type(self), (self.what,), self.__dict__
+
+    @staticmethod
+    def of(text: str, what: str) -> Refused:
+        """The exception for a reason of the program, and for what was refused."""
+        if text in Refused.kinds:
+            return Refused.kinds[text](what)
+        refused = Refused(f"{text}: {what}" if what else text)
+        refused.text = text
+        return refused
+
+    # That of a KeyError puts quotation marks around the message.
+    __str__ = Exception.__str__
+
+
+class NoSuchNode(Refused, KeyError):
+    """The network has no such node."""
+
+
+class NoSuchArc(Refused, KeyError):
+    """The network has no such arc: there never was one, or the change that added it was undone."""
+
+
+class ArcIsClosed(Refused):
+    """The arc was closed. Only `undo` opens it again."""
+
+
+class NotANumber(Refused, ValueError):
+    """Something is no whole number from 0 on."""
+
+
+class NumberTooLarge(Refused, ValueError):
+    """A number is past 2^64 - 1."""
+
+
+class CapacitiesPast64Bits(Refused, OverflowError):
+    """The sum of all capacities would be past 2^64 - 1."""
+
+
+class NothingToUndo(Refused):
+    """There were not so many changes, or some of them are forgotten. None of them is undone."""
+
+
+class NothingToRedo(Refused):
+    """Not so many changes were undone. None of them is made again."""
+
+
+class FlowIsNotGreatest(Refused):
+    """A cut was asked for where some flow has a larger value. `solve` comes first."""
+
+
+class NoMemory(Refused, MemoryError):
+    """A request for memory was refused."""
+
+
+class CountOutOfRange(Refused):
+    """A network has fewer nodes than 2 or more than 16,777,216, or more arcs than 134,217,728."""
+
+
+class UnknownCommand(Refused):
+    """The program does not know the command: it is older than this package."""
+
+
+class TooManyArcs(Refused):
+    """An arc was added to 134,217,728 arcs, or a problem has more arc lines than it says."""
+
+
+class SourceAndSinkAreTheSame(Refused, ValueError):
+    """One node cannot be both the source and the sink."""
+
+
+# What else the program says of a problem's text, or of a line of a session: each says it by its name.
+class LineTooLong(Refused): ...
+class WrongNumberOfFields(Refused): ...
+class ProblemLineExpected(Refused): ...
+class SecondProblemLine(Refused): ...
+class UnknownLine(Refused): ...
+class NotAMaxProblem(Refused): ...
+class NeitherSourceNorSink(Refused): ...
+class TerminalNamedTwice(Refused): ...
+class ArcBeforeSourceAndSink(Refused): ...
+class SourceOrSinkMissing(Refused): ...
+class TooFewArcs(Refused): ...

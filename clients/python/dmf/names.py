@@ -1,0 +1,45 @@
+"""Names of nodes and arcs as comments of a problem text, which `dmf.read` and the tools read."""
+
+from __future__ import annotations
+
+from collections import Counter
+from collections.abc import Hashable, Mapping
+
+from .errors import NameNotWritable, shown
+from .text import ARC, NODE, read_names
+
+
+def comments(nodes: Mapping[int, Hashable], arcs: Mapping[int, Hashable]) -> str:
+    """The comments that give nodes and arcs their names, which stand here by their numbers: each name as `str` writes it. A node
+    that is called by its own number and a blank name are left out. Raises `NameNotWritable` where a name would come back as
+    another one."""
+    node_names = {number: str(name) for number, name in nodes.items() if type(name) is not int or name != number}
+    names = {NODE: _not_blank(node_names), ARC: _not_blank({number: str(key) for number, key in arcs.items()})}
+    for kind, named in names.items():
+        for number, name in named.items():
+            _judge(kind, number, name)
+    twice = [name for name, count in Counter(names[NODE].values()).items() if count > 1]
+    if twice:
+        raise NameNotWritable(f"name not writable: two nodes are called {shown(twice[0])}")
+    return "".join(_comment(kind, number, name) for kind, named in names.items() for number, name in named.items())
+
+
+def _not_blank(names: dict[int, str]) -> dict[int, str]:
+    return {number: name for number, name in names.items() if name.strip(" \t")}
+
+
+def _comment(kind: str, number: int, name: str) -> str:
+    return f"c {kind} {number} {name}\n"
+
+
+def _judge(kind: str, number: int, name: str) -> None:
+    """Raises `NameNotWritable` where the comment of a name would be read as another one."""
+    if name.isprintable() and name == name.strip():
+        return
+    try:
+        node_names, arc_names = read_names(_comment(kind, number, name).encode())
+    except UnicodeEncodeError:
+        node_names, arc_names = {}, {}
+    if (node_names if kind == NODE else arc_names) != {number: name}:
+        why = "a name in a comment has no line feed, no half of a character, and no blank or carriage return at an end"
+        raise NameNotWritable(f"name not writable: that of {kind} {number}, {shown(name)}: {why}")

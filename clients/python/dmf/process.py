@@ -1,0 +1,196 @@
+"""The program: where it is found, how it runs as a child of this process, and how it ends."""
+
+from __future__ import annotations
+
+import contextlib
+import functools
+import operator
+import os
+import re
+import shutil
+import signal
+import subprocess
+import tempfile
+import threading
+import weakref
+from collections.abc import Iterator
+from pathlib import Path
+from typing import IO, Optional, Union
+
+from .errors import Error, HistoryOutOfRange, Refused, SessionEnded, UsedByTwoProcesses, UsedByTwoThreads, shown
+from .text import display
+
+Path_ = Union[str, bytes, "os.PathLike[str]", "os.PathLike[bytes]"]
+Program = Optional[Path_]
+# The most changes that a session can be told to keep.
+MOST_KEPT = 1_000_000
+# How long the program may take to end by itself once its input has ended, in seconds.
+SECONDS = 2
+# How much is shown of what a program told on standard error, in bytes.
+MOST_TOLD = 1 << 16
+_TOLD = re.compile(r"dmf: (?:line ([0-9]{1,10}): )?(.*)")
+
+
+class Child:
+    """A running session of the program, and the lines that go to it and come from it."""
+
+    def __init__(self, words: list[str | bytes]) -> None:
+        """Starts a program. Raises an OSError where it cannot be started."""
+        pipe = subprocess.PIPE
+        # In a file, standard error has room for whatever a program tells, and nobody has to read it meanwhile.
+        self._told = tempfile.TemporaryFile(prefix="dmf-")
+        try:
+            # In a session of its own: Ctrl-C at a terminal is for the caller alone.
+            self.process = subprocess.Popen(
+                words, stdin=pipe, stdout=pipe, stderr=self._told, bufsize=1 << 16, start_new_session=True
+            )
+        except BaseException:
+            self._told.close()
+            raise
+        self._owner = os.getpid()
+        self.end = weakref.finalize(self, _end, self.process, self._told, self._owner)
+        self._why_ended = "the session was ended"
+        self._lock = threading.Lock()
+        assert self.process.stdin and self.process.stdout
+        self._input, self._output = self.process.stdin, self.process.stdout
+
+    @contextlib.contextmanager
+    def alone(self) -> Iterator[None]:
+        """Keeps the program, and what is kept beside it, for one caller. Raises `UsedByTwoThreads` where another one has it, and
+        `UsedByTwoProcesses` in a process that was forked off."""
+        if os.getpid() != self._owner:
+            raise UsedByTwoProcesses("used by two processes at once: a process that was forked off needs a network of its own")
+        if not self._lock.acquire(blocking=False):
+            raise UsedByTwoThreads("used by two threads at once: each needs a network of its own, or a lock around its calls")
+        try:
+            yield
+        finally:
+            self._lock.release()
+
+    @contextlib.contextmanager
+    def exchange(self, lines: str) -> Iterator[None]:
+        """Sends lines, and lets the caller read what is answered. Where that is broken off the session ends, since the rest of the
+        answer would be taken for that of the next command."""
+        if not self.end.alive:
+            raise SessionEnded(self._why_ended)
+        try:
+            self._input.write(lines.encode() + b"\n")
+            self._input.flush()
+            yield
+        except Refused:
+            raise
+        except (BrokenPipeError, EOFError):
+            raise self._fault() from None
+        except (ValueError, IndexError) as error:
+            self._kill(f"the session was ended, since what dmf answered to `{lines}` was not understood")
+            raise SessionEnded(self._why_ended) from error
+        except BaseException:
+            self._kill(f"the session was ended when `{lines}` was broken off")
+            raise
+
+    def line(self) -> list[bytes]:
+        """The fields of the next line that is answered. Raises an EOFError where none comes."""
+        line = self._output.readline()
+        if not line.endswith(b"\n"):
+            raise EOFError
+        return line.split()
+
+    def close(self) -> None:
+        """Ends the program, where nobody is asking it. A process that was forked off leaves it alone."""
+        if os.getpid() == self._owner:
+            with self.alone():
+                self.end()
+
+    def _kill(self, why: str) -> None:
+        self._why_ended = why
+        self.process.kill()
+        self.end()
+
+    def _fault(self) -> Error:
+        """Why the program has ended: the refusal that it told, or else all that it told, with its status."""
+        status = self._status()
+        self._told.seek(0)
+        told = self._told.read(MOST_TOLD).decode(errors="replace").strip()
+        self.end()
+        found = _TOLD.fullmatch(told)
+        told = "\n".join(map(display, told.split("\n")))
+        self._why_ended = f"dmf {_ended(status)}{': ' if told else ''}{told}"
+        if found and (found[1] or found[2] in Refused.kinds):
+            refused = Refused.of(display(found[2]), f"line {found[1]} of the problem" if found[1] else "")
+            refused.line = int(found[1]) if found[1] else None
+            return refused
+        return SessionEnded(self._why_ended)
+
+    def _status(self) -> int | None:
+        """The status of the program once it has ended, and None where it goes on without taking or giving lines: it is killed."""
+        try:
+            return self.process.wait(SECONDS)
+        except subprocess.TimeoutExpired:
+            self.process.kill()
+            self.process.wait()
+            return None
+
+
+def _ended(status: int | None) -> str:
+    if status is None:
+        return "closed its input or its output, and was killed"
+    if status >= 0:
+        return f"ended with status {status}"
+    try:
+        return f"ended by the signal {signal.Signals(-status).name}"
+    except ValueError:
+        return f"ended by the signal {-status}"
+
+
+def _end(process: subprocess.Popen[bytes], told: IO[bytes], owner: int) -> None:
+    """Ends a program: its input ends, and it is killed where that is not enough. No process but the owner does that."""
+    if os.getpid() != owner:
+        return
+    assert process.stdin and process.stdout
+    with contextlib.suppress(OSError):
+        process.stdin.close()
+    try:
+        process.wait(SECONDS)
+    except subprocess.TimeoutExpired:
+        process.kill()
+        process.wait()
+    process.stdout.close()
+    told.close()
+
+
+def session_words(history: int | None) -> list[str | bytes]:
+    """The words that ask for a session. Raises `HistoryOutOfRange`."""
+    if history is None:
+        return ["session"]
+    try:
+        kept = operator.index(history)
+    except TypeError:
+        kept = -1
+    if not 0 <= kept <= MOST_KEPT:
+        raise HistoryOutOfRange(f"history out of range: {shown(history)} is no whole number from 0 to 1,000,000")
+    return ["session", "--history", str(kept)]
+
+
+def start(path: str | bytes, program: Program, words: list[str | bytes]) -> Child:
+    """A session that these words ask for, on the problem's file, once it has read the problem. Raises a `Refused` where the problem
+    has a fault, `SessionEnded` where the program fails, and an OSError where it is not found."""
+    child = Child([os.fspath(_program() if program is None else program), *words, "--", path])
+    with child.exchange("undo 0"):
+        if child.line() != [b"c", b"undo", b"value", b"0"]:
+            raise ValueError
+    return child
+
+
+def _program() -> str:
+    """The program, where the caller names none."""
+    return os.environ.get("DMF") or shutil.which("dmf") or _of_repository()
+
+
+@functools.cache
+def _of_repository() -> str:
+    """The program of the repository that this package lies in. The first call proves and builds it, and tells how far it is."""
+    package = Path(__file__).resolve().parent
+    if package.parts[-3:] != ("clients", "python", "dmf") or not (script := package.parents[2] / "dmf").is_file():
+        raise FileNotFoundError("there is no program dmf: name it by the argument program, by DMF, or on the PATH")
+    subprocess.run([script, "--version"], stdout=subprocess.DEVNULL, check=True)
+    return str(script)

@@ -1,0 +1,232 @@
+"""Reads problem texts as `dmf` does: lines, fields, numbers, whole problems, and the names that their comments give.
+
+A text is bytes. Its lines end at line feeds alone, and its fields at spaces and tabs alone, whatever else Unicode or a terminal
+takes for an end or a space. docs/FORMATS.md has the format and the order in which a line is judged.
+
+A tool without `.py` in its name finds this package beside itself, in the repository and where `./install` put both:
+
+    import sys, pathlib
+    sys.path[:0] = [str(pathlib.Path(__file__).resolve().parents[1] / at) for at in ("clients/python", "share/dmf/python")]
+"""
+
+from __future__ import annotations
+
+import re
+from collections.abc import Iterator
+from dataclasses import dataclass, field
+from typing import NamedTuple
+
+LARGEST = 2**64 - 1
+LONGEST = len(str(LARGEST))
+MOST_NODES = 16_777_216
+MOST_ARCS = 134_217_728
+NODE, ARC = "node", "arc"
+FIELD_COUNTS = {b"p": 4, b"n": 3, b"a": 4}
+
+_FIELD = re.compile(rb"[^ \t]+")
+# A line feed, and then a comment that names: what, its number, and the rest of the line, which may be blank.
+_NAMING = re.compile(rb"\n[ \t]*c[ \t]+(node|arc)[ \t]+([0-9]+)([ \t][^\n]*|\r?(?=\n)|\Z)")
+# Controls of a terminal, ends of lines, and marks that turn the direction in which text is shown; halves of characters.
+_UNSHOWN = re.compile("[\x00-\x1f\x7f-\x9f\u061c\u200e\u200f\u2028-\u202e\u2066-\u2069\ud800-\udfff]")
+
+
+class Fault(Exception):
+    """Why a field or a line is refused: `reason` is what `dmf` tells of it, and `field` the field that it is about, if one is."""
+
+    def __init__(self, reason: str, about: bytes = b"") -> None:
+        super().__init__(reason)
+        self.reason = reason
+        self.field = about
+
+    def __str__(self) -> str:
+        return self.reason
+
+
+class TextFault(Fault):
+    """The first fault of a text, in its line, which is counted from 1: `line 4: not a number`."""
+
+    def __init__(self, line: int, reason: str, about: bytes = b"") -> None:
+        super().__init__(reason, about)
+        self.line = line
+
+    def __str__(self) -> str:
+        return f"line {self.line}: {self.reason}"
+
+
+@dataclass
+class Problem:
+    """A problem as its text has it. Arc number j is `arcs[j - 1]`: its tail, its head and its capacity. Nodes are counted from 1
+    too. A node or an arc that no comment names is not in the names."""
+
+    node_count: int
+    source: int
+    sink: int
+    arcs: list[tuple[int, int, int]]
+    node_names: dict[int, str] = field(default_factory=dict)
+    arc_names: dict[int, str] = field(default_factory=dict)
+
+
+class Naming(NamedTuple):
+    """A comment that names: what it names, `node` or `arc`, by which number's field, and how. `start` is the place in the text at
+    which its line begins."""
+
+    start: int
+    kind: str
+    number: bytes
+    name: str
+
+
+def lines(text: bytes) -> list[bytes]:
+    """The lines of a text, without their line feeds and without one carriage return directly before a line feed. An empty rest
+    after the last line feed is no line."""
+    pieces = text.split(b"\n")
+    rest = pieces.pop()
+    if b"\r" in text:
+        pieces = [piece.removesuffix(b"\r") for piece in pieces]
+    return pieces + [rest] if rest else pieces
+
+
+def fields(line: bytes) -> list[bytes]:
+    """The longest runs of bytes other than space and tab."""
+    return _FIELD.findall(line)
+
+
+def number(digits: bytes) -> int:
+    """The number that a field writes, from 0 to 2^64 - 1. Raises a `Fault` that says `not a number` or `number too large`."""
+    if not digits.isdigit():
+        raise Fault("not a number", digits)
+    if len(digits) < LONGEST:
+        return int(digits)
+    significant = digits.lstrip(b"0")
+    if len(significant) > LONGEST or (value := int(significant or b"0")) > LARGEST:
+        raise Fault("number too large", digits)
+    return value
+
+
+def display(name: str) -> str:
+    """A text as it can be shown: what would steer a terminal, end a line or turn the direction of the text is written as `\\x1b`,
+    and so on."""
+    return _UNSHOWN.sub(_escaped, name)
+
+
+def _escaped(found: re.Match[str]) -> str:
+    code = ord(found[0])
+    return f"\\x{code:02x}" if code < 256 else f"\\u{code:04x}"
+
+
+def namings(text: bytes) -> Iterator[Naming]:
+    """The comments of the form that names nodes and arcs, `c node 3 Reservoir` and `c arc 5 Mill Lane`, also those whose name is
+    blank or whose number is too large, in their order."""
+    for found in _NAMING.finditer(b"\n" + text):
+        kind, digits, rest = found.groups()
+        if rest.endswith(b"\r") and found.end() <= len(text):
+            rest = rest[:-1]
+        yield Naming(found.start(), kind.decode(), digits, rest.strip(b" \t").decode(errors="replace"))
+
+
+def read_names(text: bytes) -> tuple[dict[int, str], dict[int, str]]:
+    """The names that the comments of a problem text give to nodes and to arcs. Of two names for one the last counts. The rest of
+    the text is not judged, and a comment of another form names nothing."""
+    names: dict[str, dict[int, str]] = {NODE: {}, ARC: {}}
+    for _, kind, digits, name in namings(text):
+        if not name:
+            continue
+        try:
+            names[kind][number(digits)] = name
+        except Fault:
+            continue
+    return names[NODE], names[ARC]
+
+
+def read_problem(text: bytes) -> Problem:
+    """The problem that a text stands for, with its names. Raises a `TextFault` for its first fault, the one that `dmf` tells."""
+    reading = _Reading()
+    read = lines(text)
+    line = 0
+    try:
+        for line, content in enumerate(read, 1):
+            found = _FIELD.findall(content)
+            if found and not found[0].startswith(b"c"):
+                reading.take(found)
+        line = len(read) + 1
+        problem = reading.end()
+    except Fault as fault:
+        raise TextFault(line, fault.reason, fault.field) from None
+    problem.node_names, problem.arc_names = read_names(text)
+    return problem
+
+
+class _Reading:
+    """What the lines of a problem text have said so far."""
+
+    def __init__(self) -> None:
+        self.node_count = 0
+        self.arc_count = 0
+        self.capacity_left = LARGEST
+        self.terminals: dict[bytes, int] = {}
+        self.arcs: list[tuple[int, int, int]] = []
+
+    def take(self, found: list[bytes]) -> None:
+        """Takes in the fields of a line. Raises the fault of the line."""
+        kind = found[0]
+        if kind not in FIELD_COUNTS:
+            raise Fault("unknown line", kind)
+        self.judge_place(kind)
+        if len(found) != FIELD_COUNTS[kind]:
+            raise Fault("wrong number of fields")
+        if kind == b"a":
+            self.take_arc(number(found[1]), number(found[2]), number(found[3]))
+        elif kind == b"n":
+            self.take_terminal(number(found[1]), found[2])
+        else:
+            self.take_counts(found)
+
+    def judge_place(self, kind: bytes) -> None:
+        if kind == b"p":
+            if self.node_count:
+                raise Fault("second problem line")
+        elif not self.node_count:
+            raise Fault("problem line expected")
+        elif kind == b"a" and len(self.terminals) < 2:
+            raise Fault("arc before source and sink")
+        elif kind == b"a" and len(self.arcs) == self.arc_count:
+            raise Fault("too many arcs")
+
+    def take_counts(self, found: list[bytes]) -> None:
+        if found[1] != b"max":
+            raise Fault("not a max problem")
+        nodes, arcs = number(found[2]), number(found[3])
+        if not 2 <= nodes <= MOST_NODES or arcs > MOST_ARCS:
+            raise Fault("count out of range")
+        self.node_count, self.arc_count = nodes, arcs
+
+    def take_terminal(self, node: int, letter: bytes) -> None:
+        if letter not in (b"s", b"t"):
+            raise Fault("neither source nor sink")
+        self.judge_node(node)
+        if letter in self.terminals:
+            raise Fault("terminal named twice")
+        if node in self.terminals.values():
+            raise Fault("source and sink are the same")
+        self.terminals[letter] = node
+
+    def take_arc(self, tail: int, head: int, capacity: int) -> None:
+        self.judge_node(tail)
+        self.judge_node(head)
+        self.capacity_left -= capacity
+        if self.capacity_left < 0:
+            raise Fault("capacities past 64 bits")
+        self.arcs.append((tail, head, capacity))
+
+    def judge_node(self, node: int) -> None:
+        if not 1 <= node <= self.node_count:
+            raise Fault("no such node", b"%d" % node)
+
+    def end(self) -> Problem:
+        if not self.node_count:
+            raise Fault("problem line expected")
+        if len(self.terminals) < 2:
+            raise Fault("source or sink missing")
+        if len(self.arcs) < self.arc_count:
+            raise Fault("too few arcs")
+        return Problem(self.node_count, self.terminals[b"s"], self.terminals[b"t"], self.arcs)

@@ -1,0 +1,129 @@
+"""What the tools beside the program share: how they read files and standard input, and how they end."""
+
+from __future__ import annotations
+
+import os
+import signal
+import stat
+import sys
+import time
+from collections.abc import Callable, Iterator
+from typing import BinaryIO, NoReturn
+
+from .text import display
+
+INTERRUPTED = 130
+# How long the next line of a file is waited for, in seconds, where the file was written to within that time.
+PATIENCE = 1.0
+
+
+class ToolFault(Exception):
+    """Why a tool ends, and with which status."""
+
+    def __init__(self, reason: str, status: int = 1) -> None:
+        super().__init__(reason)
+        self.status = status
+
+
+def run(name: str, main: Callable[[], int]) -> NoReturn:
+    """Runs a tool to its end. It ends with what `main` gives, or with the status of a `ToolFault`, which is told in one line. At
+    Ctrl-C it ends with 130, and where nobody reads on it ends by the signal of that, as other filters do."""
+    signal.signal(signal.SIGPIPE, signal.SIG_DFL)
+    signal.signal(signal.SIGINT, signal.default_int_handler)
+    try:
+        status = main()
+    except SystemExit as end:
+        status = end.code if isinstance(end.code, int) else 0
+    except KeyboardInterrupt:
+        os._exit(INTERRUPTED)
+    except ToolFault as fault:
+        status = fault.status
+        _tell(name, fault)
+    try:
+        if sys.stdout:
+            sys.stdout.flush()
+    except OSError as error:
+        status = 4
+        _tell(name, cannot("write", "standard output", error))
+    # Nothing is left to be done, and so nothing that an interrupt could break off.
+    os._exit(status)
+
+
+def _tell(name: str, fault: ToolFault) -> None:
+    warn(name, str(fault))
+
+
+def warn(name: str, text: str) -> None:
+    """Tells a line on standard error."""
+    if sys.stderr:
+        line = display(f"{name}: {text}").encode(errors="replace") + b"\n"
+        sys.stderr.buffer.write(line)
+        sys.stderr.flush()
+
+
+def cannot(do: str, what: str, error: OSError, status: int = 1) -> ToolFault:
+    return ToolFault(f"cannot {do} {what}: {error.strerror}", status)
+
+
+def read_file(path: str, status: int = 1) -> bytes:
+    """The bytes of a file; `-` is standard input."""
+    if path == "-":
+        return standard_input(status).read()
+    try:
+        with open(path, "rb") as file:
+            return file.read()
+    except OSError as error:
+        raise cannot("read", path, error, status) from None
+    except ValueError:
+        raise ToolFault(f"cannot read {path}: no path has a NUL", status) from None
+
+
+def standard_input(status: int = 1) -> BinaryIO:
+    if sys.stdin is None:
+        raise ToolFault("cannot read standard input: it is closed", status)
+    return sys.stdin.buffer
+
+
+def write(text: str) -> None:
+    """Writes a text to standard output, in UTF-8 whatever the locale, and at once."""
+    if sys.stdout is None:
+        raise ToolFault("cannot write standard output: it is closed", 4)
+    try:
+        sys.stdout.buffer.write(text.encode(errors="replace"))
+        sys.stdout.buffer.flush()
+    except OSError as error:
+        raise cannot("write", "standard output", error, 4) from None
+
+
+class CommandLines:
+    """The lines of a file of commands, each read when it is asked for, so that the file may still be written to, as by `tee`, or be
+    a pipe. `is_ended` says that nothing more will come."""
+
+    def __init__(self, path: str, status: int = 1) -> None:
+        self.path = path
+        self.status = status
+        self.is_ended = False
+        self._file: BinaryIO | None = None
+
+    def __iter__(self) -> Iterator[bytes]:
+        return self
+
+    def __next__(self) -> bytes:
+        try:
+            self._file = self._file or open(self.path, "rb")
+            line = self._file.readline()
+            while not line.endswith(b"\n") and self._is_written():
+                time.sleep(0.01)
+                line += self._file.readline()
+        except OSError as error:
+            raise cannot("read", self.path, error, self.status) from None
+        if not line:
+            raise StopIteration
+        return line
+
+    def _is_written(self) -> bool:
+        """Whether the file may have more in a moment."""
+        if self.is_ended or not self._file:
+            return False
+        now = os.fstat(self._file.fileno())
+        return stat.S_ISREG(now.st_mode) and time.time() - now.st_mtime < PATIENCE

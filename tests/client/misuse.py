@@ -1,0 +1,124 @@
+"""What a network refuses by itself, before the program is asked: rows, bounds, copies, and calls from two sides at once."""
+
+import copy
+import os
+import pickle
+import threading
+import time
+import unittest
+from collections.abc import Callable
+from typing import Any
+
+from shared import answering, dmf, pipes
+
+WANTED = "wanted is (tail, head, capacity) or (tail, head, capacity, key), of which all but the capacity can be hashed"
+
+
+class Rows(unittest.TestCase):
+    def test_rows_of_another_form(self) -> None:
+        rows: list[Any] = [("a", "b"), (), ("a", "b", 1, "key", 2), 7, None, (["a"], "b", 1), ("a", {}, 1), ("a", "b", 1, [])]
+        for row in rows:
+            with self.assertRaises(dmf.NotAnArc) as caught:
+                dmf.Network([("a", "b", 3), row], "a", "b")
+            self.assertEqual(str(caught.exception), f"not an arc: {row!r}: {WANTED}")
+            self.assertIsInstance(caught.exception, ValueError)
+
+    def test_numbers_that_python_does_not_write(self) -> None:
+        for number, kind in (10**5000, dmf.NumberTooLarge), (-(10**5000), dmf.NotANumber):
+            with self.assertRaisesRegex(kind, "<tuple with a number of more than 4,300 digits>"):
+                dmf.Network([("a", "b", number)], "a", "b")
+        self.assertRaisesRegex(dmf.HistoryOutOfRange, "4,300 digits", pipes, history=10**5000)
+
+
+class Bounds(unittest.TestCase):
+    def test_history(self) -> None:
+        bounds: list[Any] = [-1, 1_000_001, 2.5, "7", "--help"]
+        for bound in bounds:
+            with self.assertRaises(dmf.HistoryOutOfRange) as caught:
+                # No program is started.
+                pipes(history=bound, program="/nowhere/dmf")
+            wanted = f"history out of range: {bound!r} is no whole number from 0 to 1,000,000"
+            self.assertEqual((str(caught.exception), isinstance(caught.exception, ValueError)), (wanted, True))
+            self.assertRaises(dmf.HistoryOutOfRange, dmf.read, "/nowhere.max", history=bound)
+        for bound in 0, 1, 1_000_000:
+            with pipes(history=bound) as network:
+                self.assertEqual(network.solve().value, 5)
+
+
+class Copies(unittest.TestCase):
+    def test_copies(self) -> None:
+        calls: list[Callable[[Any], Any]] = [copy.copy, copy.deepcopy, pickle.dumps, lambda network: copy.deepcopy([network])]
+        with pipes() as network:
+            for call in calls:
+                self.assertRaisesRegex(TypeError, "^a network cannot be copied or pickled, since it is a running program", call, network)
+            self.assertEqual(network.solve().value, 5)
+
+
+class AtOnce(unittest.TestCase):
+    def test_a_call_beside_another(self) -> None:
+        """Each call is refused while another thread waits for its answer, which comes once the file `go` is there."""
+        wait = 'touch "$0.got"; while [ ! -e "$0.go" ]; do sleep 0.01; done; echo c undo value 9'
+        with answering(wait) as network:
+            program = network._child.process.args[0]
+            values: list[int] = []
+            thread = threading.Thread(target=lambda: values.append(network.undo(0)))
+            thread.start()
+            while not os.path.exists(f"{program}.got"):
+                time.sleep(0.01)
+            calls: list[Callable[[], object]] = [network.solve, network.flow, network.cut, network.undo, network.redo, network.end]
+            calls += [network.problem, lambda: network.cap(("lake", "mill"), 1), lambda: network.close(("lake", "mill"))]
+            calls += [lambda: network.shut("mill"), lambda: network.add("lake", "sea", 1)]
+            for call in calls:
+                self.assertRaisesRegex(dmf.UsedByTwoThreads, "^used by two threads at once: ", call)
+            # What is kept can be read.
+            self.assertEqual((network.value, len(network.arcs), network.capacity(("lake", "mill"))), (0, 5, 3))
+            with open(f"{program}.go", "w"):
+                thread.join()
+            self.assertEqual((values, network.undo(0)), ([9], 9))
+
+    def test_four_threads(self) -> None:
+        """Whatever is refused: the changes that are counted are those that were made."""
+        with pipes() as network:
+            made, others = [], []
+
+            def change(number: int) -> None:
+                for turn in range(200):
+                    try:
+                        network.cap(("mill", "sea"), 10 * turn + number)
+                        made.append(10 * turn + number)
+                    except dmf.UsedByTwoThreads:
+                        time.sleep(0.0001)
+                    except Exception as other:
+                        others.append(other)
+
+            threads = [threading.Thread(target=change, args=(number,)) for number in range(4)]
+            for thread in threads:
+                thread.start()
+            for thread in threads:
+                thread.join()
+            self.assertEqual(others, [])
+            self.assertGreaterEqual(len(made), 4)
+            # The capacity that is kept is the one that the program has.
+            capacity = network.capacity(("mill", "sea"))
+            self.assertIn(f"\na 2 4 {capacity}\n", network.problem())
+            self.assertRaises(dmf.NothingToUndo, network.undo, len(made) + 1)
+            network.undo(len(made))
+            self.assertEqual((network.capacity(("mill", "sea")), network.solve().value), (2, 5))
+
+    def test_a_forked_process(self) -> None:
+        """A process that is forked off asks nothing, and ends nothing."""
+        with pipes() as network:
+            read, write = os.pipe()
+            child = os.fork()
+            if child == 0:
+                try:
+                    with network:
+                        network.solve()
+                except BaseException as error:
+                    os.write(write, f"{type(error).__name__}: {error}".encode())
+                os._exit(0)
+            os.close(write)
+            os.waitpid(child, 0)
+            with open(read) as told:
+                self.assertRegex(told.read(), "^UsedByTwoProcesses: used by two processes at once: ")
+            self.assertEqual(network.solve().value, 5)

@@ -1,0 +1,98 @@
+"""Problems' files that `dmf.read` takes: odd lines, paths of all kinds, and what is no regular file."""
+
+import os
+import tempfile
+import threading
+import unittest
+from pathlib import Path
+
+from shared import dmf, written
+
+TEXT = b"c node 1 lake\nc node 2 sea\nc arc 1 the canal\np max 2 1\nn 1 s\nn 2 t\na 1 2 7\n"
+
+
+class Lines(unittest.TestCase):
+    def test_lines_end_at_line_feeds_alone(self) -> None:
+        for end in "\r", "\x0b", "\x0c", "\x1c", "\x85", "\u2028":
+            forged = f"c said: {end}c arc 1 forged{end}c node 2 forged\n".encode()
+            with written(forged + TEXT) as path, dmf.read(path) as network:
+                self.assertEqual((network.nodes, network.arcs[0].key), (["lake", "sea"], "the canal"))
+            with written(TEXT + forged) as path, dmf.read(path) as network:
+                self.assertEqual((network.nodes, network.arcs[0].key), (["lake", "sea"], "the canal"))
+
+    def test_carriage_returns_before_line_feeds(self) -> None:
+        with written(TEXT.replace(b"\n", b"\r\n")) as path, dmf.read(path) as network:
+            self.assertEqual((network.nodes, network.capacity("the canal")), (["lake", "sea"], 7))
+
+    def test_long_numbers_in_comments(self) -> None:
+        digits = b"9" * 5000
+        text = b"".join(b"c %s %s x\nc node 1 %s\n" % (kind, digits, digits) for kind in (b"node", b"arc"))
+        with written(TEXT + text) as path, dmf.read(path) as network:
+            self.assertEqual(network.nodes, ["9" * 5000, "sea"])
+        with written(TEXT + b"c node %s1 pond\n" % (b"0" * 5000)) as path, dmf.read(path) as network:
+            self.assertEqual(network.nodes, ["pond", "sea"])
+
+    def test_names_of_what_is_not_there(self) -> None:
+        """They name nothing, and take no name away from a node."""
+        with written(TEXT + b"c node 0 sea\nc node 3 lake\nc arc 2 x\nc arc 0 y\n") as path, dmf.read(path) as network:
+            self.assertEqual((network.nodes, network.arcs[0].key), (["lake", "sea"], "the canal"))
+
+    def test_names_that_are_no_utf_8(self) -> None:
+        with written(TEXT + b"c node 1 M\xfchle\n") as path, dmf.read(path) as network:
+            self.assertEqual(network.nodes, ["M\ufffdhle", "sea"])
+
+
+class Paths(unittest.TestCase):
+    def setUp(self) -> None:
+        folder = tempfile.TemporaryDirectory()
+        self.addCleanup(folder.cleanup)
+        self.folder = folder.name
+
+    def hold(self, path: "str | bytes | os.PathLike[str]") -> None:
+        with dmf.read(path) as network:
+            self.assertEqual((network.nodes, network.solve().value), (["lake", "sea"], 7))
+
+    def test_paths_of_all_kinds(self) -> None:
+        for name in "plain.max", "-odd.max", "blank name\n.max", "ß.max":
+            path = f"{self.folder}/{name}"
+            Path(path).write_bytes(TEXT)
+            for form in path, os.fsencode(path), Path(path):
+                self.hold(form)
+
+    def test_a_path_that_is_not_utf_8(self) -> None:
+        path = os.fsencode(self.folder) + b"/\xff.max"
+        with open(path, "wb") as file:
+            file.write(TEXT)
+        self.hold(path)
+        self.hold(os.fsdecode(path))
+
+    def test_a_pipe_is_read_once(self) -> None:
+        path = f"{self.folder}/pipe"
+        os.mkfifo(path)
+        writer = threading.Thread(target=lambda: Path(path).write_bytes(TEXT), daemon=True)
+        writer.start()
+        self.hold(path)
+        writer.join()
+
+    def test_the_end_of_a_pipe(self) -> None:
+        """As bash gives it: dmf.read('/dev/fd/5')."""
+        read, write = os.pipe()
+        os.write(write, TEXT)
+        os.close(write)
+        self.hold(f"/dev/fd/{read}")
+        os.close(read)
+
+    def test_faults_of_a_pipe_have_their_lines(self) -> None:
+        read, write = os.pipe()
+        os.write(write, TEXT + b"a 1 2 8\n")
+        os.close(write)
+        with self.assertRaises(dmf.TooManyArcs) as caught:
+            dmf.read(f"/dev/fd/{read}")
+        self.assertEqual((caught.exception.line, str(caught.exception)), (8, "too many arcs: line 8 of the problem"))
+        os.close(read)
+
+    def test_no_file(self) -> None:
+        for form in self.folder, os.fsencode(self.folder), Path(self.folder):
+            self.assertRaises(IsADirectoryError, dmf.read, form)
+        self.assertRaises(FileNotFoundError, dmf.read, f"{self.folder}/missing.max")
+        self.assertRaises(dmf.ProblemLineExpected, dmf.read, "/dev/null")

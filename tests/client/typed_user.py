@@ -1,0 +1,40 @@
+"""A caller's file, which `mypy --strict` passes: what a network gives has the type of its nodes."""
+
+from typing import Tuple
+
+import dmf
+
+
+def limit(network: dmf.Network[str]) -> list[str]:
+    """The names on the source's side of the cut, in the order of the alphabet."""
+    network.solve()
+    return sorted(network.cut().side)
+
+
+def busiest(plan: dmf.Solution[str]) -> dmf.Arc[str]:
+    """The arc on which most flows."""
+    return max(plan, key=lambda arc: plan[arc])
+
+
+def main() -> None:
+    rows = [("lake", "mill", 3), ("lake", "town", 2), ("mill", "sea", 2), ("town", "sea", 3)]
+    with dmf.Network(rows, source="lake", sink="sea") as network:
+        names: list[str] = limit(network)
+        canal: dmf.Arc[str] = network.add("lake", "sea", 7, key="canal")
+        plan = network.solve()
+        total: int = plan["canal"] + plan[canal] + plan.get("canal", 0) + plan["lake", "mill"] + network.cap(canal, 2.0)
+        print(names, total, busiest(plan).tail.upper(), {arc.head.upper(): flow for arc, flow in plan.items()})
+        try:
+            network.close("bridge")
+        except dmf.NoSuchArc as error:
+            print(error, error.line)
+    grid = dmf.Network([((0, 0), (0, 1), 3), ((0, 1), (1, 1), 2, "gate")], source=(0, 0), sink=(1, 1), history=10)
+    corner: Tuple[int, int] = sorted(grid.nodes)[0]
+    print(corner, grid.problem(names=False))
+    with dmf.read("problem.max") as read:
+        sides: list[str] = sorted(map(str, read.cut().side))
+        print(sides)
+
+
+if __name__ == "__main__":
+    main()
