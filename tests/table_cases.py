@@ -177,7 +177,7 @@ FAULTS: list[tuple[Case, str]] = [
     (Case("A,Z\n"), at(1, "no capacity: the row has 2 columns")),
     (Case("A,B,\xb2\n"), at(1, f"the capacity '\xb2' is no whole number{HINT}")),
     (Case("A,B,?\nA,B,3\n"), at(1, f"the capacity '?' is no whole number{HINT}")),
-    (Case("A,B,inf\nA,B,3\n"), at(1, "the capacity 'inf' is no whole number")),
+    (Case("A,B,inf\nA,B,3\n"), at(1, f"the capacity 'inf' is no whole number{HINT}")),
     (Case(TITLES + "A,B,3\nA,B,3.5\n"), at(3, "the capacity '3.5' is no whole number; --scale 10?")),
     (Case(TITLES + "A,B,3.55\n", ("--scale", "10", "A", "B")), at(2, "the capacity '3.55' times 10 is no whole number; --scale 100?")),
     (Case(TITLES + "A,B,1e3\n", ("--scale", "10", "A", "B")), at(2, "the capacity '1e3' is no whole number")),

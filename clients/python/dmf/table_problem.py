@@ -23,9 +23,10 @@ from .tables import LARGEST, Table, TableFault, cleaned, shown, whole_number
 
 MOST_NODES = 16_777_216
 MOST_ARCS = 134_217_728
-# How many names a warning tells, and among how many a near one is looked for.
+# How many names a warning tells; among how many a near one is looked for, and how long a name is for which one is.
 MOST_TOLD = 10
 MOST_COMPARED = 20_000
+LONGEST_COMPARED = 200
 TOO_MUCH = f"the capacities are together past {LARGEST}"
 
 
@@ -65,7 +66,9 @@ class Plan:
 
 def near(name: str, places: Iterable[str]) -> str:
     """What a message says of the places whose names are near one that no place has."""
-    folded = {place.casefold(): place for place in islice(places, MOST_COMPARED)}
+    if len(name) > LONGEST_COMPARED:
+        return ""
+    folded = {place.casefold(): place for place in islice(places, MOST_COMPARED) if len(place) <= LONGEST_COMPARED}
     found = difflib.get_close_matches(name.casefold(), folded, n=3)
     return f"; is it {' or '.join(shown(folded[it]) for it in found)}?" if found else ""
 
