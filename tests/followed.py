@@ -1,5 +1,5 @@
-"""Tests the reader of texts and the follower of sessions that the tools in Python stand on: against rows that were worked out by hand,
-and on random texts and sessions against the second implementation, which keeps whole states.
+"""Tests the reader of texts and the follower of sessions that the tools in Python stand on: against rows that were worked out by
+hand, and on random texts and sessions against the second implementation, which keeps whole states.
 
     python3 tests/followed.py [SEED]    prints what failed, and then 'N passed, M failed'
 """
@@ -22,7 +22,7 @@ from worked_once import ONCE
 from worked_sessions import HISTORIES, SESSIONS
 
 # Bytes that end no line and part no fields, whatever Unicode or a terminal takes them for: CR, VT, FF, FS, NEL and LS.
-ODD_ENDS = [b"\r", b"\x0b", b"\x0c", b"\x1c", b"\x1d", b"\x1e", b"\x85", "\x85".encode(), "\u2028".encode(), "\u2029".encode(), b"\0"]
+ODD_ENDS = [b"\r", b"\x0b", b"\x0c", b"\x1c", b"\x1d", b"\x1e", b"\x85", b"\0", *map(str.encode, "\x85\u2028\u2029")]
 LINES = {
     b"": [],
     b"\n": [b""],
@@ -67,7 +67,8 @@ NAMES = {
     b"c node 1 a\r": ({1: "a\r"}, {}),
     b"c node 1 \xc3\xa4\xff\n": ({1: "ä\ufffd"}, {}),
     # Comments of another form.
-    b"cnode 1 a\nc nodes 1 a\nc node x a\nc node 1x a\nc node 1\nc node 1 \t\nc node\nc Node 1 a\nx c node 1 a\nc c node 1 a\n": ({}, {}),
+    b"cnode 1 a\nc nodes 1 a\nc node x a\nc node 1x a\nc node 1\nc node 1 \t\nc node\nc Node 1 a\n": ({}, {}),
+    b"x c node 1 a\nc c node 1 a\n": ({}, {}),
     b"c node -1 a\nc node 1\r\nc node 1\r a\nc node \xc2\xb2 a\nc node " + b"9" * 5000 + b" a\nc node 1": ({}, {}),
     # A name ends at the line feed alone, and no other byte begins a line.
     **{b"c old" + odd + b"c node 1 a\n": ({}, {}) for odd in ODD_ENDS},

@@ -1,5 +1,5 @@
-"""Tests tools/dmf-names: what it tells of answers, sessions and transcripts against texts that were worked out by hand, what it says of
-those that do not fit, and how it ends.
+"""Tests tools/dmf-names: what it tells of answers, sessions and transcripts against texts that were worked out by hand, what it says
+of those that do not fit, and how it ends.
 
     python3 tests/names.py    prints what failed, and then 'N passed, M failed'
 """
@@ -54,7 +54,11 @@ TURNS = [
         "c node 1 Quarry / c node 2 Hill / c node 3 Site / c arc 1 Old Road / p max 3 2 / n 1 s / n 3 t / a 1 3 2 / a 1 3 7",
     ),
     ("solve", "s 9 / f 1 3 2 / f 1 3 7", "value 9 /   3 Old Road, Quarry -> Site: 2 of 2 /   4 Quarry -> Site: 7 of 7"),
-    ("print cut", "c cut 9 / c side 1", "limit 9 /   source's side: Quarry /   3 Old Road, Quarry -> Site: 2 /   4 Quarry -> Site: 7"),
+    (
+        "print cut",
+        "c cut 9 / c side 1",
+        "limit 9 /   source's side: Quarry /   3 Old Road, Quarry -> Site: 2 /   4 Quarry -> Site: 7",
+    ),
     ("undo 2", "c undo value 13", "c undo value 13"),
     ("redo", "c redo value 9", "c redo value 9"),
     ("undo 9", "c refused 18 nothing to undo", "c refused 18 nothing to undo"),
@@ -70,7 +74,11 @@ FORGED = "c arc 1 Mill Lane / p max 3 2 / n 1 s / n 3 t / a 1 2 5 / a 2 3 4"
 UNKNOWN = "commands that are not known changed the network, so capacities and the arcs of cuts are left out from here on; "
 UNKNOWN += "give the commands by --commands FILE"
 # Of which rows this is told, and for which line.
-WARNED = {"a session whose commands are not known": 5, "a printed problem makes the capacities known": 1}
+WARNED = {
+    "a session whose commands are not known": 5,
+    "a printed problem makes the capacities known": 1,
+    "a transcript that begins behind its first command": 6,
+}
 LOST = "c cap value 6 / s 7 / f 1 2 5 / f 2 3 5 / f 1 3 2 / c cut 7 / c side 1"
 
 # What is told of a problem, commands (None where none are given) and an answer.
@@ -116,6 +124,18 @@ TOLD_OF = {
         f"{ANSWER} / {LOST} / c close value 2",
         f"{TOLD} / c cap value 6 / value 7 /   Quarry -> Hill: 5 /   Hill -> Site: 5 /   Quarry -> Site: 2"
         " / limit 7 /   source's side: Quarry / c close value 2",
+    ),
+    "a transcript that begins behind its first command": (
+        ROADS,
+        None,
+        f"{ANSWER} / undo / c undo value 0 / print flow / s 0 / f 1 2 0 / f 2 3 0 / f 1 3 0",
+        f"{TOLD} / undo / c undo value 0 / print flow / value 0 /   Quarry -> Hill: 0 /   Hill -> Site: 0 /   Quarry -> Site: 0",
+    ),
+    "a name of an arc that is not there is none of one that is added": (
+        ROADS + " / c arc 4 Tunnel / c node 4 Town",
+        "add 1 3 7 / solve",
+        "c add 4 value 0 / s 13 / f 1 2 4 / f 2 3 4 / f 1 3 2 / f 1 3 7",
+        "c add 4 value 0 / " + TOLD.replace("6", "13", 1) + " /   4 Quarry -> Site: 7 of 7",
     ),
     "a printed problem makes the capacities known": (
         ROADS,
@@ -169,7 +189,12 @@ TOLD_OF = {
 ANSWER_7 = "f 1 2 5 / f 2 3 5 / f 1 3 2"
 # What is said of an answer that does not fit the problem or the commands, and the lines of it that are told before that.
 FAULTS = [
-    (ROADS, None, ANSWER.replace("f 2 3 4", "f 2 3 150"), "line 3 of the answer: over capacity: arc 2, from 2 to 3, carries at most 4, and not 150"),
+    (
+        ROADS,
+        None,
+        ANSWER.replace("f 2 3 4", "f 2 3 150"),
+        "line 3 of the answer: over capacity: arc 2, from 2 to 3, carries at most 4, and not 150",
+    ),
     (ROADS, None, ANSWER.replace("f 2 3", "f 3 2"), "line 3 of the answer: no such arc: 3 to 2"),
     (ROADS, None, "s 6 / f 1 3 2", "line 2 of the answer: arc 1 leads from 1 to 2, and not from 1 to 3"),
     (ROADS, None, "s 6 / f 1 2 4 / f 2 3 4", "line 4 of the answer: the solution has 2 flows, and the network 3 arcs"),
@@ -195,7 +220,12 @@ FAULTS = [
     (ROADS, None, "p max 3 1 / n 1 s / a 1 2 5 / n 3 t", "line 3 of the answer: arc before source and sink"),
     (ROADS, None, "p max 3 3 / n 1 s / s 6", "line 3 of the answer: source or sink missing"),
     (ROADS, "close 1", "c cap value 0", "line 1 of the answer: this does not answer `close 1`, line 1 of the commands"),
-    (ROADS, "c / close 9", "c close value 0", "line 1 of the answer: this does not answer `close 9`, line 2 of the commands: no such arc"),
+    (
+        ROADS,
+        "c / close 9",
+        "c close value 0",
+        "line 1 of the answer: this does not answer `close 9`, line 2 of the commands: no such arc",
+    ),
     (ROADS, "wash", "c close value 0", "line 1 of the answer: this does not answer `wash`, line 1 of the commands"),
     (ROADS, "close 1", "c refused 2 no such arc", "line 1 of the answer: this does not answer `close 1`, line 1 of the commands"),
     (ROADS, "close 1", "c refused 1 no such arc", "line 1 of the answer: this does not answer `close 1`, line 1 of the commands"),
@@ -226,6 +256,11 @@ TABLES = [
         [(*OLD, 2, 2, "yes", "yes"), (4, "", "Quarry", "Site", 7, 7, "yes", "yes")],
     ),
     (
+        "the last solution before a change that is not known",
+        (ROADS, None, f"{ANSWER} / {CUT} / c undo value 0"),
+        [(*MILL, 4, 5, "no", "no"), (*HILL, 4, 4, "yes", "yes"), (*OLD, 2, 2, "yes", "yes")],
+    ),
+    (
         "a cut of another state",
         (ROADS, "solve / print cut / cap 2 9 / solve", f"{ANSWER} / {CUT} / c cap value 6 / s 7 / {ANSWER_7}"),
         [(*MILL, 5, 5, "yes", ""), (*HILL, 5, 9, "no", ""), (*OLD, 2, 2, "yes", "")],
@@ -237,9 +272,15 @@ TABLES = [
     ),
 ]
 NO_TABLES = [
-    (ROADS, None, CUT, "the answer has no solution with its flows"),
-    (ROADS, None, "s 6", "the answer has no solution with its flows"),
-    (ROADS, None, "c close value 2 / p max 3 1 / n 1 s / n 3 t / a 1 3 2 / s 2 / f 1 3 2", "the numbers of the arcs are not known; give the commands by --commands FILE"),
+    (ROADS, None, CUT, "the answer ends without a solution and its flows"),
+    (ROADS, None, f"{ANSWER} / s 6", "the answer ends without a solution and its flows"),
+    (ROADS, None, f"{ANSWER} / {LOST}", "the arcs of the last solution are not known; give the commands by --commands FILE"),
+    (
+        ROADS,
+        None,
+        "c close value 2 / p max 3 1 / n 1 s / n 3 t / a 1 3 2 / s 2 / f 1 3 2",
+        "the arcs of the last solution are not known; give the commands by --commands FILE",
+    ),
 ]
 
 
@@ -264,7 +305,8 @@ def wrong_tables():
         ran = names_of(*texts, "--csv")
         rows = list(csv.reader(io.StringIO(ran.out.decode(), newline="")))
         wanted_rows = [TITLES, *([str(field) for field in row] for row in wanted)]
-        yield (ran.status, rows, ran.err) != (0, wanted_rows, b"") and f"a table of {name}: {ran}"
+        is_warned = ran.err.endswith(UNKNOWN.encode() + b"\n") if "not known" in name else ran.err == b""
+        yield (ran.status, rows, is_warned) != (0, wanted_rows, True) and f"a table of {name}: {ran}"
     for *texts, told in NO_TABLES:
         ran = names_of(*texts, "--csv")
         last = ran.err.decode().splitlines()[-1:]

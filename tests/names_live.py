@@ -56,7 +56,8 @@ def wrong_live(problem):
         with open(f"{folder}/commands", "wb", buffering=0) as commands, running(
             f"{folder}/problem", "--commands", f"{folder}/commands"
         ) as tool:
-            for command, reply in [(b"cap 1 9\n", b"c cap value 0\n"), (b"undo\n", b"c undo value 0\n"), (b"shut 2\n", b"c shut value 0\n")]:
+            for command in b"cap 1 9\n", b"undo\n", b"shut 2\n":
+                reply = b"c %s value 0\n" % command.split()[0]
                 # The reply may come before the command is written, as of `tee`.
                 tool.stdin.write(reply)
                 time.sleep(0.1)
@@ -92,9 +93,11 @@ def wrong_ends(problem):
             tool.stdin.write(b"hello\n")
             ended = tool.wait(SECONDS), tool.stderr.read()
             yield ended != (4, b"dmf-names: cannot write standard output: No space left on device\n") and f"a full disk: {ended}"
-        for closed, wanted in (">&-", (4, "cannot write standard output: it is closed")), ("<&-", (1, "cannot read standard input: it is closed")):
-            ran = subprocess.run(f"{TOOL} {folder}/problem {closed}", shell=True, input=b"hello\n", capture_output=True, timeout=SECONDS)
-            yield (ran.returncode, ran.stderr.decode()) != (wanted[0], f"dmf-names: {wanted[1]}\n") and f"{closed}: {ran}"
+        for closed, status, told in (">&-", 4, "write standard output"), ("<&-", 1, "read standard input"):
+            command = f"{TOOL} {folder}/problem {closed}"
+            ran = subprocess.run(command, shell=True, input=b"hello\n", capture_output=True, timeout=SECONDS)
+            ended = ran.returncode, ran.stderr.decode()
+            yield ended != (status, f"dmf-names: cannot {told}: it is closed\n") and f"{closed}: {ran}"
         for words, told in (["missing"], "missing"), (["problem", "--commands", "missing"], "missing"), (["."], "."):
             ran = subprocess.run([TOOL, *words], cwd=folder, input=b"c undo value 0\n", capture_output=True, timeout=SECONDS)
             is_told = ran.returncode == 1 and ran.stderr.startswith(f"dmf-names: cannot read {told}: ".encode())

@@ -1,5 +1,7 @@
 """Odd names of nodes and keys: what goes into a problem's text comes back by `dmf.read`, and nothing in a name is a line of its own."""
 
+from __future__ import annotations
+
 import subprocess
 import sys
 import unittest
@@ -52,7 +54,8 @@ class OddNames(unittest.TestCase):
 
     def test_refused(self) -> None:
         for name in REFUSED:
-            for rows in [(name, "b", 1)], [("a", "b", 1, name), ("a", name, 1)], [("a", "b", 1, name)]:
+            problems: list[list[Any]] = [[(name, "b", 1)], [("a", "b", 1, name), ("a", name, 1)], [("a", "b", 1, name)]]
+            for rows in problems:
                 with dmf.Network(rows, rows[0][0], "b") as network:
                     with self.assertRaises(dmf.NameNotWritable) as caught:
                         network.problem()
