@@ -245,8 +245,14 @@ WARNINGS: list[tuple[Case, list[str]]] = [
     ),
     (
         Case("A,B,3\nA,b,3\nb,B,3\n"),
-        ["names that differ only in case are several places: 'B', 'b'"],
+        ["names that differ only in case, or in what is not seen, are several places: 'B', 'b'"],
     ),
+    (
+        Case("A,B,3\nA,e\u0301,3\ne\u0301,B,3\nA,\xe9\u200b,3\n\xe9\u200b,B,3\n"),
+        ["names that differ only in case, or in what is not seen, are several places: 'e\u0301', '\xe9\\u200b'"],
+    ),
+    # Two files, one behind the other, each with its mark.
+    (Case("\ufeffA,B,3\n\ufeffA,B,3\n"), ["names that differ only in spaces are one place: '\\ufeffA' is 'A'"]),
     (Case("A,B,3\nA,B ,3\n"), ["names that differ only in spaces are one place: 'B ' is 'B'"]),
     (
         Case("from,to,2024\nA,B,3\n"),

@@ -216,11 +216,19 @@ def _told(names: Sequence[str]) -> str:
     return ", ".join(map(shown, names[:MOST_TOLD])) + (f" and {rest} more" if rest > 0 else "")
 
 
+def _seen(name: str) -> str:
+    """A name without what can hardly be seen: case, how letters are composed, and characters that show nothing."""
+    if name.isascii():
+        return name.casefold()
+    letters = unicodedata.normalize("NFKC", name).casefold()
+    return "".join(letter for letter in letters if unicodedata.category(letter) != "Cf")
+
+
 def _look_alike(plan: Plan) -> Iterator[list[str]]:
-    """The names of places that differ in case alone, or in how their letters are composed."""
+    """The names of places that look alike."""
     alike: dict[str, list[str]] = {}
     for place in plan.places:
-        alike.setdefault(unicodedata.normalize("NFKC", place).casefold(), []).append(place)
+        alike.setdefault(_seen(place), []).append(place)
     return (names for names in alike.values() if len(names) > 1)
 
 
@@ -243,7 +251,7 @@ def warnings(plan: Plan) -> Iterator[str]:
             told = [f"{shown(other)} is {shown(name)}" for name, other in table.respelled.items()]
             yield f"names that differ only in spaces are one place: {', '.join(told[:MOST_TOLD])}"
     for names in islice(_look_alike(plan), MOST_TOLD):
-        yield f"names that differ only in case are several places: {_told(names)}"
+        yield f"names that differ only in case, or in what is not seen, are several places: {_told(names)}"
     rows = [record.places for record in plan.arcs.records if record.places[0] != record.places[1]]
     left, entered = {tail for tail, _ in rows}, {head for _, head in rows}
     if plan.both_ways:

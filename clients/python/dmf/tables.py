@@ -110,8 +110,9 @@ class Table:
 
 
 def cleaned(text: str) -> str:
-    """A text without white space around it, and with one space for each run of white space in it."""
-    return " ".join(text.split())
+    """A text without white space around it, and with one space for each run of white space in it. A mark of the order of bytes, as
+    each of several files may begin with, is white space too."""
+    return " ".join(text.replace("\ufeff", " ").split())
 
 
 def shown(text: str) -> str:
