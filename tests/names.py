@@ -10,7 +10,7 @@ import os
 import sys
 
 from built import tell
-from names_live import wrong_ends, wrong_live, wrong_places
+from names_live import Wrong, wrong_ends, wrong_live, wrong_places
 from names_run import names_of, text
 
 # Six lorries an hour at most: the Hill's road lets four through, and the Old Road two.
@@ -284,7 +284,7 @@ NO_TABLES = [
 ]
 
 
-def wrong_told():
+def wrong_told() -> Wrong:
     for name, (problem, commands, answer, wanted) in TOLD_OF.items():
         ran = names_of(problem, commands, answer)
         line = WARNED.get(name)
@@ -292,7 +292,7 @@ def wrong_told():
         yield ran != (0, text(wanted), warned.encode()) and f"{name}: {ran}"
 
 
-def wrong_faults():
+def wrong_faults() -> Wrong:
     for problem, commands, answer, wanted in FAULTS:
         status, out, err = names_of(problem, commands, answer)
         # Nothing is told of the reply that does not fit.
@@ -300,7 +300,7 @@ def wrong_faults():
         yield ((status, err.decode()) != (1, f"dmf-names: {wanted}\n") or is_told) and f"{wanted}: {status}, {out}, {err}"
 
 
-def wrong_tables():
+def wrong_tables() -> Wrong:
     for name, texts, wanted in TABLES:
         ran = names_of(*texts, "--csv")
         rows = list(csv.reader(io.StringIO(ran.out.decode(), newline="")))
@@ -313,7 +313,7 @@ def wrong_tables():
         yield (ran.status, ran.out, last) != (1, b"", [f"dmf-names: {told}"]) and f"no table: {ran}"
 
 
-def wrong_round():
+def wrong_round() -> Wrong:
     """A printed problem that is told is a problem with the same names, and the numbers that it has there."""
     printed = names_of(ROADS, "close 1 / print problem", "c close value 0 / p max 3 2 / n 1 s / n 3 t / a 2 3 4 / a 1 3 2").out
     told = names_of(printed.split(b"\n", 1)[1], None, "s 2 / f 2 3 0 / f 1 3 2").out
@@ -321,7 +321,7 @@ def wrong_round():
     yield told != text(wanted) and f"a printed problem, read again: {printed}, {told}"
 
 
-def main():
+def main() -> str | bool:
     if not os.path.exists("tools/dmf-names"):
         return "this is run at the root of the repository"
     said = [*wrong_told(), *wrong_faults(), *wrong_tables(), *wrong_round()]
