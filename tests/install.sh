@@ -1,15 +1,16 @@
 #!/usr/bin/env bash
-# Tests ./install in folders of its own: what it puts, replaces, refuses and removes, with a stand-in for rt that makes a
-# program which writes its version; then the built program, and what the completions offer, as they are once installed.
+# Tests ./install in folders of its own: what it puts, replaces, refuses, leaves and removes, with a stand-in for rt that makes a
+# program which writes its version; then the built program, the tools, the package, and what the completions offer, once installed.
 . "$(dirname "$0")/cases.bash"
 
 home=$PWD
 chmod 755 "$work"
 root="$work/a clone"
 prefix="$work/a place"
-mkdir -p "$root/bin" "$root/crates/dmf/src" "$root/docs"
-cp -r install dmf completions "$root"
-cp docs/dmf.1 "$root/docs"
+mkdir -p "$root/bin" "$root/crates/dmf/src" "$root/docs" "$root/clients/python/dmf"
+cp -r install dmf completions tools "$root"
+cp docs/*.1 "$root/docs"
+cp clients/python/dmf/*.py clients/python/dmf/py.typed "$root/clients/python/dmf"
 printf 'dmf:\n' >"$root/crates.txt"
 echo 1 >"$root/crates/dmf/src/version"
 
@@ -19,13 +20,14 @@ stand_in() {
 }
 
 # Calls the script, which a link leads to, from another folder and with no other variable than PATH, and judges it: the case's
-# name, the status, what is written and what is told. The words come last.
+# name, the status, what is written and what is told, without times. The words come last.
 ln -s "$root/install" "$work/linked"
 call() {
     local name=$1 wanted=$2 out=$3 err=$4 status
     shift 4
-    (cd "$work" && env -i PATH="$root/bin:/usr/bin:/bin" timeout 60 ./linked "$@") >"$work/out" 2>"$work/err" </dev/null
+    (cd "$work" && env -i PATH="$root/bin:/usr/bin:/bin" timeout 60 ./linked "$@") >"$work/out" 2>"$work/told" </dev/null
     status=$?
+    sed 's/, after [0-9]* s$//' "$work/told" >"$work/err"
     judge "$name" "$status" "$wanted" "$out" "$err"
 }
 
@@ -45,17 +47,36 @@ tree() {
 
 # What stands in a line for each file: the word before it, and the folder.
 lines() {
-    for place in bin/dmf share/man/man1/dmf.1 share/bash-completion/completions/dmf share/zsh/site-functions/_dmf \
-        share/fish/vendor_completions.d/dmf.fish; do
-        echo "$1 $2/$place"
+    local file name
+    for file in dmf dmf-problem dmf-names dmf-dot; do
+        echo "$1 $2/bin/$file"
     done
+    for file in docs/*.1; do
+        echo "$1 $2/share/man/man1/${file#docs/}"
+    done
+    for file in clients/python/dmf/*.py clients/python/dmf/py.typed; do
+        echo "$1 $2/share/dmf/python/${file#clients/python/}"
+    done
+    for name in dmf dmf-problem dmf-names dmf-dot; do
+        echo "$1 $2/share/bash-completion/completions/$name"
+        echo "$1 $2/share/fish/vendor_completions.d/$name.fish"
+    done
+    echo "$1 $2/share/zsh/site-functions/_dmf"
+    echo "$1 $2/share/zsh/site-functions/_dmf-tools"
 }
 
-putting="$(lines put "$prefix")
-$prefix/bin is not in PATH
+# What a call tells that puts all into a folder.
+told() {
+    lines put "$1"
+    echo "$1/bin is not in PATH"
+    echo "Python imports the package dmf with PYTHONPATH=$1/share/dmf/python"
+}
+
+putting="$(told "$prefix")
 "
 first="$first_call
-dmf: 1 of 1: dmf
+"
+built="dmf: 1 of 1: dmf is built
 "
 
 # Building.
@@ -64,10 +85,11 @@ stand_in <<'END'
 echo "no proof"
 exit 1
 END
-call "a program that is not built" 1 "" "${first}no proof
+call "a program that is not built" 1 "" "${first}dmf: dmf is not built
+no proof
 install: the program could not be built; nothing was put
 " --prefix "$prefix"
-same "nothing is put without a program" "$(ls "$prefix" 2>&1 | head -c 3)" "ls:"
+same "nothing is put without a program" "$([ -e "$prefix" ] || echo nothing)" nothing
 stand_in <<'END'
 #!/bin/sh
 mkdir -p out
@@ -77,12 +99,16 @@ END
 mkdir -p "$prefix/share/man/man7" "$prefix/bin"
 echo other >"$prefix/bin/other"
 before=$(tree "$prefix")
-call "the first call" 0 "$putting" "$first" --prefix "a place/"
+call "the first call" 0 "$putting" "$first$built" --prefix "a place/"
 
 # What is put.
 same "the program is put" "$("$prefix/bin/dmf")" "dmf 1"
 for pair in docs/dmf.1=share/man/man1/dmf.1 completions/dmf.bash=share/bash-completion/completions/dmf \
-    completions/_dmf=share/zsh/site-functions/_dmf completions/dmf.fish=share/fish/vendor_completions.d/dmf.fish; do
+    completions/_dmf=share/zsh/site-functions/_dmf completions/dmf.fish=share/fish/vendor_completions.d/dmf.fish \
+    completions/_dmf-tools=share/zsh/site-functions/_dmf-tools \
+    completions/dmf-tools.bash=share/bash-completion/completions/dmf-names \
+    completions/dmf-tools.fish=share/fish/vendor_completions.d/dmf-dot.fish \
+    clients/python/dmf/__init__.py=share/dmf/python/dmf/__init__.py; do
     same "${pair%=*} is put" "$(sha256sum <"$prefix/${pair#*=}")" "$(sha256sum <"${pair%=*}")"
     same "${pair%=*} can be read by all" "$(stat -c %a "$prefix/${pair#*=}")" 644
 done
@@ -97,8 +123,7 @@ echo 2 >"$root/crates/dmf/src/version"
 touch -d '1 hour' "$root/crates/dmf/src"
 call "an upgrade" 0 "$putting" \
     "dmf: a source has changed since the program was built. What depends on it is proved and built again.
-dmf: 1 of 1: dmf
-" --prefix "$prefix"
+$built" --prefix "$prefix"
 same "the newer program is put" "$("$prefix/bin/dmf")" "dmf 2"
 same "the older program is whole" "$(sh <&3)" "dmf 1"
 exec 3<&-
@@ -108,11 +133,117 @@ touch -r "$root/install" "$root/crates/dmf/src"
 rm "$prefix/share/man/man1/dmf.1"
 (cd "$work" && "$root/install" --remove --prefix "$prefix") >"$work/out" 2>"$work/err"
 judge "removing, where a file is not there" "$?" 0 "$(
-    lines removed "$prefix" | LC_ALL=C sort -r | sed 's/^removed \(.*man1\)/not there: \1/'
+    lines removed "$prefix" | LC_ALL=C sort -r | sed 's|^removed \(.*man1/dmf.1\)|not there: \1|'
     echo "removed $prefix/share/dmf/installed"
 )"$'\n' ""
 same "what others put stays" "$(tree "$prefix")" "$before"
 call "removing again" 0 "nothing was put below $prefix"$'\n' "" --remove --prefix "$prefix"
+
+# What was changed since it was put, and what others put beside it.
+(cd "$work" && "$root/install" --prefix "$prefix") >"$work/out" 2>"$work/err"
+judge "putting again" "$?" 0 "$putting" ""
+echo mine >"$prefix/bin/dmf"
+echo mine >"$prefix/share/man/man1/mine.1"
+before=$(tree "$prefix")
+call "a file that was changed" 1 "" \
+    "install: $prefix/bin/dmf was changed since this script put it; nothing was put (move it away first)
+" --prefix "$prefix"
+same "all stays as it is" "$(tree "$prefix")" "$before"
+mkdir "$prefix/share/dmf/python/dmf/__pycache__"
+: >"$prefix/share/dmf/python/dmf/__pycache__/tables.cpython-311.pyc"
+call "removing, where a file was changed" 0 "$(
+    lines removed "$prefix" | LC_ALL=C sort -r | sed "s|^removed \($prefix/bin/dmf\)\$|left, since it was changed: \1|"
+    echo "removed $prefix/share/dmf/installed"
+    echo "left, since it is not empty: $prefix/share/man/man1"
+)"$'\n' "" --remove --prefix "$prefix"
+same "what was changed stays" "$(cd "$prefix" && find . -type f | LC_ALL=C sort)" "./bin/dmf
+./bin/other
+./share/man/man1/mine.1"
+same "emptied folders do not stay" "$(cd "$prefix" && find . -type d | LC_ALL=C sort)" ".
+./bin
+./share
+./share/man
+./share/man/man1
+./share/man/man7"
+rm -r "$prefix/bin/dmf" "$prefix/share/man/man1"
+
+# A call that fails midway: the next one knows what stands there, of before and of this one.
+quiet() {
+    (cd "$work" && env -i PATH="$root/bin:/usr/bin:/bin" ./linked "$@") >"$work/out" 2>"$work/err" </dev/null
+}
+quiet --prefix "$prefix"
+echo '# newer' >>"$root/tools/dmf-problem"
+echo '# newer' >>"$root/tools/dmf-dot"
+cat >"$root/bin/mv" <<'END'
+#!/bin/sh
+case "$3" in
+*/bin/dmf-names) exit 1 ;;
+*) exec /bin/mv "$@" ;;
+esac
+END
+chmod 755 "$root/bin/mv"
+quiet --prefix "$prefix"
+same "a call that fails midway" "$? $(cat "$work/err")" "1 install: cannot write $prefix/bin/dmf-names"
+same "it has put the first files alone" "$(tail -qn 1 "$prefix"/bin/dmf-{problem,dot} | grep -c newer)" 1
+rm "$root/bin/mv"
+call "a call behind one that failed" 0 "$putting" "" --prefix "$prefix"
+same "it puts the others" "$(tail -qn 1 "$prefix"/bin/dmf-{problem,dot} | grep -c newer)" 2
+same "its list has each file once" "$(cut -d ' ' -f 2- "$prefix/share/dmf/installed" | sort | uniq -d)" ""
+
+# Lists that this script did not write.
+list=$prefix/share/dmf/installed
+cp "$list" "$work/list"
+echo victim >"$work/victim"
+sum=$(sha256sum <"$work/victim")
+ln -s "$work" "$prefix/way"
+before=$(tree "$prefix")
+for place in ../victim "$work/victim" way/victim share/../../victim; do
+    echo "${sum%% *} $place" | cat "$work/list" - >"$list"
+    call "removing a list with $place" 1 "" "install: $list names $place, which is not below $prefix; nothing was removed
+" --remove --prefix "$prefix"
+    call "putting beside a list with $place" 1 "" "install: $list names $place, which is not below $prefix; nothing was put
+" --prefix "$prefix"
+done
+older="has not the mark of this script; nothing was removed. If an older ./install wrote it, remove the files that it names, and it, by hand"
+printf '%s\n' bin/ bin/dmf bin/other share/dmf/installed >"$list"
+call "a list without a mark" 1 "" "install: $list $older"$'\n' --remove --prefix "$prefix"
+call "putting beside a list without a mark" 1 "" "install: $list ${older/removed/put}"$'\n' --prefix "$prefix"
+rm "$list"
+ln -s "$work/list" "$list"
+call "a list that is a link" 1 "" "install: $list is no file below $prefix; nothing was removed"$'\n' --remove --prefix "$prefix"
+rm "$list"
+cp "$work/list" "$list"
+same "nothing was removed" "$(tree "$prefix") $(cat "$work/victim")" "$before victim"
+rm "$prefix/way"
+
+# A folder that leads elsewhere: what is there stays.
+mv "$prefix/share/dmf/python" "$work/elsewhere"
+ln -s "$work/elsewhere" "$prefix/share/dmf/python"
+before=$(tree "$work/elsewhere")
+quiet --prefix "$prefix"
+same "a folder that leads elsewhere" "$? $(grep -c 'names share/dmf/python/dmf.*, which is not below .*; nothing was put$' "$work/err")" "1 1"
+quiet --remove --prefix "$prefix"
+same "removing where a folder leads elsewhere" "$? $(grep -c ', which is not below .*; nothing was removed$' "$work/err")" "1 1"
+same "what is elsewhere stays" "$(tree "$work/elsewhere")" "$before"
+rm "$prefix/share/dmf/python"
+mv "$work/elsewhere" "$prefix/share/dmf/python"
+mkdir -p "$work/linked place"
+ln -s "$work/elsewhere" "$work/linked place/bin"
+quiet --prefix "$work/linked place"
+same "putting where a folder leads elsewhere" "$? $(cat "$work/err")" \
+    "1 install: $work/linked place/bin/dmf is not below $work/linked place, where symbolic links lead; nothing was put"
+rm -r "$work/linked place"
+
+# The prefix may itself be a link.
+mkdir "$work/true place"
+ln -s "$work/true place" "$work/other name"
+quiet --prefix "$work/other name" && quiet --remove --prefix "$work/other name"
+same "a prefix that is a link" "$? $(find "$work/true place")" "0 $work/true place"
+
+call "removing it all" 0 "$(
+    lines removed "$prefix" | LC_ALL=C sort -r
+    echo "removed $prefix/share/dmf/installed"
+)"$'\n' "" --remove --prefix "$prefix"
 
 # What is refused.
 echo mine >"$prefix/bin/dmf"
@@ -144,19 +275,27 @@ same "a folder that was made is removed" "$? $(find "$work/new" 2>&1 | head -c 5
 printf '#!/bin/sh\necho 1000\n' >"$root/bin/id"
 chmod 755 "$root/bin/id"
 env -i PATH="$root/bin:/usr/bin:/bin" HOME="$work/home" "$root/install" >"$work/out" 2>"$work/err"
-judge "at home" "$?" 0 "$(lines put "$work/home/.local")
-$work/home/.local/bin is not in PATH
-" ""
+judge "at home" "$?" 0 "$(told "$work/home/.local")"$'\n' ""
 call "without a home" 2 "" "$(printf 'install: no folder: HOME is not set, or --prefix is empty\n' && "$root/install" --help)"$'\n'
 
 # The program itself.
 env -i PATH=/usr/bin:/bin ./install --prefix "$work/real" >"$work/out" 2>"$work/err"
-judge "the program is installed" "$?" 0 "$(lines put "$work/real")
-$work/real/bin is not in PATH
-" ""
+judge "the program is installed" "$?" 0 "$(told "$work/real")"$'\n' ""
 env -i "$work/real/bin/dmf" solve <examples/a.max >"$work/out" 2>"$work/err"
 judge "the installed program runs" "$?" 0 "$solution_a" ""
 same "it needs libc alone" "$(ldd "$work/real/bin/dmf" | sed -n 's/^\t\(lib[^ ]*\.so\).*/\1/p')" libc.so
+
+# The tools, from elsewhere and by a link, and the package.
+ln -s "$work/real/bin/dmf-problem" "$work/a tool"
+(cd / && printf 'A,B,3\n' | "$work/a tool" A B) >"$work/out" 2>"$work/err"
+judge "dmf-problem is installed" "$?" 0 $'c node 1 A\nc node 2 B\np max 2 1\nn 1 s\nn 2 t\na 1 2 3\n' ""
+cp "$work/out" "$work/problem"
+"$work/real/bin/dmf-names" "$work/problem" <<<$'s 3\nf 1 2 3' >"$work/out" 2>"$work/err"
+same "dmf-names is installed" "$? $(head -n 1 "$work/out")" "0 value 3"
+"$work/real/bin/dmf-dot" "$work/problem" >"$work/out" 2>"$work/err"
+same "dmf-dot is installed" "$? $(head -n 1 "$work/out")" "0 digraph dmf {"
+(cd / && PYTHONPATH=$work/real/share/dmf/python python3 -c 'import dmf; print(dmf.__file__)') >"$work/out" 2>"$work/err"
+judge "the package is installed" "$?" 0 "$work/real/share/dmf/python/dmf/__init__.py"$'\n' ""
 
 # The completions.
 export PATH=$work/real/bin:$PATH
@@ -164,9 +303,22 @@ if ! python3 -c 'import pty; pty.openpty()' 2>/dev/null; then
     echo "skipped: no terminal can be had, so completions were not tried"
     finish
 fi
+
+# The file with the completions of a tool for a shell.
+tool_completions() {
+    case $2 in
+    bash) echo "$work/real/share/bash-completion/completions/$1" ;;
+    zsh) echo "$work/real/share/zsh/site-functions/_dmf-tools" ;;
+    fish) echo "$work/real/share/fish/vendor_completions.d/$1.fish" ;;
+    esac
+}
+
 for pair in bash=bash-completion/completions/dmf zsh=zsh/site-functions/_dmf fish=fish/vendor_completions.d/dmf.fish; do
     if command -v "${pair%%=*}" >/dev/null; then
         count_script "$home/tests/completions.py" "${pair%%=*}" "$work/real/share/${pair#*=}"
+        for tool in dmf-problem dmf-names dmf-dot; do
+            count_script "$home/tests/completions.py" "${pair%%=*}" "$(tool_completions "$tool" "${pair%%=*}")" "$tool"
+        done
     else
         echo "skipped: ${pair%%=*} is not there, so its completions were not tried"
     fi

@@ -18,7 +18,8 @@ from built import BUILT
 PAUSE = 0.8
 SECONDS = 60
 ERASED = "\r\x1b[K"
-WORD = re.compile(r"dmf: (?:(reading|writing), \d+ MB|(solving), value (\d+), phase (\d+), (\d+) paths)")
+WORD = re.compile(r"dmf: (?:(reading|writing), \d+ MB(?: of \d+ MB)?|(solving), value (\d+), phase (\d+), (\d+) paths)")
+INVITATION = "dmf: reads a problem from the terminal; Ctrl-D ends it (dmf --help says more)\n"
 SMALL = b"p max 2 1\nn 1 s\nn 2 t\na 1 2 3\n"
 SMALL_SOLUTION = b"s 3\nf 1 2 3\n"
 
@@ -124,6 +125,12 @@ def tasks_of(told):
     return [*dict.fromkeys(word[1] or word[2] for word in words_of(told))]
 
 
+def lines_of(told):
+    """What the words tell of where each is a line, in their order, each once."""
+    words = [WORD.fullmatch(line) for line in told.splitlines()]
+    return [*dict.fromkeys(word[1] or word[2] for word in words)] if all(words) and told.endswith("\n") else []
+
+
 def solves_of(told):
     """The words of each solve: value, phase and paths. A solve begins with fewer paths than the one before had."""
     solves = []
@@ -156,7 +163,7 @@ def expect_of_solve(expect):
     status, solution, told = on_terminal(["solve"], SMALL, both=False, wait=False)
     expect("a quick solve tells nothing", (status, solution, told) == (0, SMALL_SOLUTION, ""))
     status, told = typed(["solve"], SMALL.splitlines(keepends=True))
-    expect("nothing is told between lines that are typed", (status, told.encode()) == (0, SMALL_SOLUTION))
+    expect("nothing is told between lines that are typed", (status, told.encode()) == (0, INVITATION.encode() + SMALL_SOLUTION))
     status, solution, told = on_terminal(["solve"], problem[:-2] + b"x\n", both=False, wait=True)
     fault = told.rpartition(ERASED)[2]
     expect("a fault is told on a line of its own", status == 3 and fault.startswith("dmf: line ") and solution == b"")
@@ -200,11 +207,25 @@ def expect_of_asking(expect):
     problem = network(64, 60, 3, 100, 1990)
     silent = subprocess.run([BUILT, "solve", "--cut"], input=problem, capture_output=True)
     asked = subprocess.run([BUILT, "solve", "--cut", "--progress"], input=problem, capture_output=True)
-    expect("asked for, a solve tells without a terminal that it reads", tasks_of(asked.stderr.decode())[:1] == ["reading"])
+    expect("asked for, a solve tells without a terminal that it reads, on lines", lines_of(asked.stderr.decode())[:1] == ["reading"])
     expect("and writes the same solution", (asked.returncode, asked.stdout) == (0, silent.stdout))
     asked = subprocess.run([BUILT, "session", "--progress", "small.max"], input=b"solve\n", capture_output=True)
-    expect("asked for, a quick session tells that it reads and solves", tasks_of(asked.stderr.decode())[:2] == ["reading", "solving"])
+    expect("asked for, a quick session tells that it reads and solves", lines_of(asked.stderr.decode())[:2] == ["reading", "solving"])
     expect("and writes the same replies", (asked.returncode, asked.stdout) == (0, SMALL_SOLUTION))
+
+
+def expect_of_sizes(expect):
+    """Where the size is known, it is told beside what is read: 9 bytes for each line of a comment make three megabytes."""
+    with open("large.max", "wb") as file:
+        file.write(SMALL + b"c filler\n" * 333_334)
+    with open("large.max", "rb") as file:
+        asked = subprocess.run([BUILT, "solve", "--progress"], stdin=file, capture_output=True)
+    expect("of a file the size is told", asked.stderr.startswith(b"dmf: reading, 0 MB of 3 MB\n"))
+    asked = subprocess.run([BUILT, "session", "--progress", "large.max"], input=b"", capture_output=True)
+    expect("of a session's problem too", asked.stderr.startswith(b"dmf: reading, 0 MB of 3 MB\n"))
+    with open("large.max", "rb") as file:
+        asked = subprocess.run([BUILT, "solve", "--progress"], input=file.read(), capture_output=True)
+    expect("of a pipe it is not known", asked.stderr.startswith(b"dmf: reading, 0 MB\n"))
 
 
 def main():
@@ -221,6 +242,7 @@ def main():
         expect_of_sessions(expect)
         expect_of_slow_texts(expect)
         expect_of_asking(expect)
+        expect_of_sizes(expect)
         os.chdir("/")
     print(f"{said.count(True)} passed, {said.count(False)} failed")
     return not all(said)

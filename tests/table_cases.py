@@ -177,7 +177,7 @@ FAULTS: list[tuple[Case, str]] = [
     (Case("A,Z\n"), at(1, "no capacity: the row has 2 columns")),
     (Case("A,B,\xb2\n"), at(1, f"the capacity '\xb2' is no whole number{HINT}")),
     (Case("A,B,?\nA,B,3\n"), at(1, f"the capacity '?' is no whole number{HINT}")),
-    (Case("A,B,inf\nA,B,3\n"), at(1, "the capacity 'inf' is no whole number")),
+    (Case("A,B,inf\nA,B,3\n"), at(1, f"the capacity 'inf' is no whole number{HINT}")),
     (Case(TITLES + "A,B,3\nA,B,3.5\n"), at(3, "the capacity '3.5' is no whole number; --scale 10?")),
     (Case(TITLES + "A,B,3.55\n", ("--scale", "10", "A", "B")), at(2, "the capacity '3.55' times 10 is no whole number; --scale 100?")),
     (Case(TITLES + "A,B,1e3\n", ("--scale", "10", "A", "B")), at(2, "the capacity '1e3' is no whole number")),
@@ -245,8 +245,14 @@ WARNINGS: list[tuple[Case, list[str]]] = [
     ),
     (
         Case("A,B,3\nA,b,3\nb,B,3\n"),
-        ["names that differ only in case are several places: 'B', 'b'"],
+        ["names that differ only in case, or in what is not seen, are several places: 'B', 'b'"],
     ),
+    (
+        Case("A,B,3\nA,e\u0301,3\ne\u0301,B,3\nA,\xe9\u200b,3\n\xe9\u200b,B,3\n"),
+        ["names that differ only in case, or in what is not seen, are several places: 'e\u0301', '\xe9\\u200b'"],
+    ),
+    # Two files, one behind the other, each with its mark.
+    (Case("\ufeffA,B,3\n\ufeffA,B,3\n"), ["names that differ only in spaces are one place: '\\ufeffA' is 'A'"]),
     (Case("A,B,3\nA,B ,3\n"), ["names that differ only in spaces are one place: 'B ' is 'B'"]),
     (
         Case("from,to,2024\nA,B,3\n"),

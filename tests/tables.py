@@ -134,13 +134,15 @@ def wrong_streams() -> Iterator[Optional[str]]:
     for locale in "C", "C.UTF-8", "POSIX":
         yield judge(case, 0, problem, "", LC_ALL=locale)
     yield judge(case, 0, problem, "", LC_ALL="C.UTF-8", PYTHONIOENCODING="latin-1")
-    for redirected, said in (
-        (">/dev/full", "dmf-problem: cannot write: No space left on device\n"),
-        (">&-", "dmf-problem: cannot write: Bad file descriptor\n"),
-        ("<&-", "dmf-problem: cannot read standard input: Bad file descriptor\n"),
+    for redirected, status, said in (
+        (">/dev/full", 4, "cannot write standard output: No space left on device"),
+        (">&-", 4, "cannot write standard output: it is closed"),
+        ("<&-", 1, "cannot read standard input: it is closed"),
+        ("<&1 >/dev/null", 1, "cannot read standard input: Bad file descriptor"),
     ):
         ran = subprocess.run(["sh", "-c", f'printf "A,B,3\n" | "$0" A B {redirected}', TOOL], capture_output=True, timeout=SECONDS)
-        yield None if (ran.returncode, ran.stderr.decode()) == (1, said) else f"{redirected}: {ran}"
+        is_told = (ran.returncode, ran.stderr.decode()) == (status, f"dmf-problem: {said}\n")
+        yield None if is_told else f"{redirected}: {ran}"
 
 
 def wrong_ends() -> Iterator[Optional[str]]:

@@ -1,12 +1,16 @@
 """Problems' files that `dmf.read` takes: odd lines, paths of all kinds, and what is no regular file."""
 
+from __future__ import annotations
+
 import os
+import subprocess
+import sys
 import tempfile
 import threading
 import unittest
 from pathlib import Path
 
-from shared import dmf, written
+from shared import CLIENT, dmf, written
 
 TEXT = b"c node 1 lake\nc node 2 sea\nc arc 1 the canal\np max 2 1\nn 1 s\nn 2 t\na 1 2 7\n"
 
@@ -48,7 +52,7 @@ class Paths(unittest.TestCase):
         self.addCleanup(folder.cleanup)
         self.folder = folder.name
 
-    def hold(self, path: "str | bytes | os.PathLike[str]") -> None:
+    def hold(self, path: str | bytes | Path) -> None:
         with dmf.read(path) as network:
             self.assertEqual((network.nodes, network.solve().value), (["lake", "sea"], 7))
 
@@ -56,7 +60,8 @@ class Paths(unittest.TestCase):
         for name in "plain.max", "-odd.max", "blank name\n.max", "ß.max":
             path = f"{self.folder}/{name}"
             Path(path).write_bytes(TEXT)
-            for form in path, os.fsencode(path), Path(path):
+            forms: list[str | bytes | Path] = [path, os.fsencode(path), Path(path)]
+            for form in forms:
                 self.hold(form)
 
     def test_a_path_that_is_not_utf_8(self) -> None:
@@ -82,6 +87,20 @@ class Paths(unittest.TestCase):
         self.hold(f"/dev/fd/{read}")
         os.close(read)
 
+    def test_standard_input(self) -> None:
+        """Also where it is a file: to the program, standard input is something else."""
+        script = "import dmf; network = dmf.read('/dev/stdin'); print(network.solve().value, network.nodes)"
+        environment = {**os.environ, "PYTHONPATH": CLIENT}
+        with written(TEXT) as path, open(path) as file:
+            for given in {"stdin": file}, {"input": TEXT.decode()}:
+                words = [sys.executable, "-c", script]
+                ran = subprocess.run(words, env=environment, capture_output=True, text=True, timeout=20, **given)  # type: ignore
+                self.assertEqual((ran.stdout, ran.stderr), ("7 ['lake', 'sea']\n", ""))
+
+    def test_an_open_file(self) -> None:
+        with written(TEXT) as path, open(path) as file:
+            self.hold(f"/dev/fd/{file.fileno()}")
+
     def test_faults_of_a_pipe_have_their_lines(self) -> None:
         read, write = os.pipe()
         os.write(write, TEXT + b"a 1 2 8\n")
@@ -92,7 +111,8 @@ class Paths(unittest.TestCase):
         os.close(read)
 
     def test_no_file(self) -> None:
-        for form in self.folder, os.fsencode(self.folder), Path(self.folder):
+        forms: list[str | bytes | Path] = [self.folder, os.fsencode(self.folder), Path(self.folder)]
+        for form in forms:
             self.assertRaises(IsADirectoryError, dmf.read, form)
         self.assertRaises(FileNotFoundError, dmf.read, f"{self.folder}/missing.max")
         self.assertRaises(dmf.ProblemLineExpected, dmf.read, "/dev/null")

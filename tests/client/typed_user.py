@@ -28,6 +28,8 @@ def main() -> None:
             network.close("bridge")
         except dmf.NoSuchArc as error:
             print(error, error.line)
+    mixed: list[dmf.Row[str]] = [("lake", "sea", 3), ("lake", "sea", 2, "canal")]
+    print(dmf.Network(mixed, "lake", "sea").value)
     grid = dmf.Network([((0, 0), (0, 1), 3), ((0, 1), (1, 1), 2, "gate")], source=(0, 0), sink=(1, 1), history=10)
     corner: Tuple[int, int] = sorted(grid.nodes)[0]
     print(corner, grid.problem(names=False))

@@ -23,7 +23,7 @@ class Network(Generic[Node]):
     The arcs are `(tail, head, capacity)` or `(tail, head, capacity, key)`, any number of them between two nodes. Capacities are whole
     numbers from 0 on, with a sum below 2^64, in any unit. The nodes are the ends of the arcs, and those that `nodes` names
     beside. An arc is named by its handle, which `arcs` and `add` give; by its key, where one was given; or by `(tail, head)`,
-    where no other open arc has these ends.
+    where no other open arc has these ends. To a type checker, arcs are rows of the type `dmf.Row`, as in `dmf.Row[str]`.
 
     `program` is the path of the program, and `history` the most changes that can be undone, from 0 to 1,000,000.
 

@@ -3,7 +3,6 @@
 from __future__ import annotations
 
 import os
-import stat
 import tempfile
 from collections import Counter
 from typing import Any
@@ -11,44 +10,32 @@ from typing import Any
 from .errors import NoCapacity, shown
 from .kept import Kept
 from .network import Network
-from .process import Child, Path_, Program, session_words, start
+from .process import Child, FilePath, Program, session_words, start
 from .solution import Node
 from .text import read_names
 
 
-def read(path: Path_, *, program: Program = None, history: int | None = None) -> Network[int | str]:
+def read(path: FilePath, *, program: Program = None, history: int | None = None) -> Network[int | str]:
     """The network of a problem's file in the DIMACS format, which is read once. Its nodes are the numbers from 1 on; but those
-    that comments `c node 3 Reservoir` name are called by their names, where no other has the same. A comment
-    `c arc 5 Mill Street` gives the key of an arc. `program` and `history` are those of `Network`.
+    that comments `c node 3 Reservoir` name are called by their names, where no other has the same: the two nodes of a place with
+    a limit have one name, so they keep their numbers. A comment `c arc 5 Mill Street` gives the key of an arc. `program` and
+    `history` are those of `Network`.
 
     Raises a `Refused` with the number of the line where the file has a fault, an OSError where it cannot be read, and what
     `Network` raises.
     """
     words = session_words(history)
-    place = os.fspath(path)
-    with open(place, "rb") as file:
-        is_regular = stat.S_ISREG(os.fstat(file.fileno()).st_mode)
+    with open(os.fspath(path), "rb") as file:
         text = file.read()
     node_names, arc_names = read_names(text)
-    if is_regular and _is_word(place):
-        child = start(place, program, words)
-    else:
-        with tempfile.NamedTemporaryFile(prefix="dmf-", suffix=".max") as copy:
-            copy.write(text)
-            copy.flush()
-            child = start(copy.name, program, words)
+    # The program is given a copy: a pipe is empty now, a file may have changed, and /dev/stdin is another file to the program.
+    with tempfile.NamedTemporaryFile(prefix="dmf-", suffix=".max") as copy:
+        copy.write(text)
+        copy.flush()
+        child = start(copy.name, program, words)
     network: Network[int | str] = Network.__new__(Network)
     network._begin(child, _kept(child, node_names, arc_names))
     return network
-
-
-def _is_word(path: str | bytes) -> bool:
-    """Whether the program takes a path: it is UTF-8."""
-    try:
-        os.fsencode(path).decode()
-    except UnicodeDecodeError:
-        return False
-    return True
 
 
 def _kept(child: Child, node_names: dict[int, str], arc_names: dict[int, str]) -> Kept[int | str]:

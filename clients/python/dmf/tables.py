@@ -106,12 +106,13 @@ class Table:
         """Refuses a first row that was taken for titles, where it has the name of a place."""
         if self.heading and any(cleaned(cell) in places for cell in self.heading.cells[: len(self.form.places)]):
             cell = self.heading.cells[self.form.columns[self.form.amount]]
-            raise self.fault(f"the {self.form.amount} {shown(cell)} is no whole number", self.heading.line)
+            raise self.fault(f"the {self.form.amount} {shown(cell)} is no whole number{self.form.hint}", self.heading.line)
 
 
 def cleaned(text: str) -> str:
-    """A text without white space around it, and with one space for each run of white space in it."""
-    return " ".join(text.split())
+    """A text without white space around it, and with one space for each run of white space in it. A mark of the order of bytes, as
+    each of several files may begin with, is white space too."""
+    return " ".join(text.replace("\ufeff", " ").split())
 
 
 def shown(text: str) -> str:
@@ -183,6 +184,8 @@ def delimiter_of(text: str, width: int) -> str:
 def whole_number(text: str, scale: Optional[Decimal] = None) -> int:
     """The number of digits, or with a scale the decimal number times it, from 0 to 2^64 - 1. Raises a ValueError that says what the
     text is: `is no whole number`."""
+    if scale is None and len(text) < LONGEST_NUMBER and text.isascii() and text.isdigit():
+        return int(text)
     found = _DECIMAL.fullmatch(text)
     if not found or not (found[1] or found[2]):
         is_negative = text[:1] in "-\u2212" and text[1:2].isdigit()
@@ -244,6 +247,8 @@ class _Reader:
         self.columns = columns
         self.scale = scale
         self.width = width
+        # The name that each cell of a place writes; for each name the first cell that writes it; and see `Table`.
+        self.names: dict[str, str] = {}
         self.spellings: dict[str, str] = {}
         self.respelled: dict[str, str] = {}
 
@@ -278,9 +283,12 @@ class _Reader:
 
     def place(self, row: Row, column: str) -> str:
         """The name of a place. How it is spelled is kept."""
-        name, cell = self.name(row, column), self.cell(row, column)
-        if self.spellings.setdefault(name, cell) != cell:
-            self.respelled[name] = cell if cell != name else self.spellings[name]
+        cell = self.cell(row, column)
+        name = self.names.get(cell)
+        if name is None:
+            name = self.names[cell] = self.name(row, column)
+            if self.spellings.setdefault(name, cell) != cell:
+                self.respelled[name] = cell if cell != name else self.spellings[name]
         return name
 
     def amount(self, row: Row) -> int:

@@ -3,8 +3,8 @@
 
 ghost use Rattle.std.specs.Prelude.{◌≤◌};
 
+mod explain;
 mod fault;
-mod progress;
 mod words;
 
 use dmf_run::{
@@ -12,9 +12,12 @@ use dmf_run::{
     run_check, run_session_watched, run_solve_watched, status_of,
 };
 use dmf_session::MAX_BOUND;
+use dmf_terminal::{
+    Dialogue, HeardSink, KeptCommands, Progress, WatchedCommands, WatchedSink, WatchedSolve,
+    WatchedSource, help_without_page, invite,
+};
 use dmf_text::{StdSink, StdSource};
 use fault::Fault;
-use progress::{Progress, WatchedCommands, WatchedSink, WatchedSolve, WatchedSource};
 use std::fs::File;
 use std::io::BufWriter;
 use std::process::ExitCode;
@@ -28,6 +31,7 @@ fn main(rt: HostRuntime) -> ExitCode {
     if let Err(fault) = &outcome {
         // Where this cannot be told, the status still tells it.
         let _ = tell(&rt, fault);
+        explain::explain(&rt, fault);
     }
     ExitCode::from(program_status(outcome))
 }
@@ -53,6 +57,7 @@ fn run(rt: &HostRuntime) -> Result<Status, Fault> {
 /// Solves the problem on standard input, and tells the cut where it is wanted.
 #[inline(never)]
 fn solve(rt: &HostRuntime, want_cut: bool, want_progress: bool) -> Result<Status, Fault> {
+    invite(rt);
     let progress = Progress::new(rt, want_progress);
     let mut out = WatchedSink::new(output(rt)?, &progress);
     let mut problem = WatchedSource::of_input(StdSource::new(rt.stdin()), &progress);
@@ -76,9 +81,11 @@ fn hold_session(
 {
     let progress = Progress::new(rt, want_progress);
     let file = open_problem(rt, path)?;
-    let mut problem = WatchedSource::of_file(StdSource::new(file), &progress);
-    let mut out = WatchedSink::new(output(rt)?, &progress);
-    let mut commands = WatchedCommands::new(StdSource::new(rt.stdin()), &progress);
+    let mut problem = WatchedSource::of_file(StdSource::new(file), path, &progress);
+    let dialogue = Dialogue::new(rt, path);
+    let mut out = HeardSink::new(WatchedSink::new(output(rt)?, &progress), &dialogue);
+    let commands = WatchedCommands::new(StdSource::new(rt.stdin()), &progress);
+    let mut commands = KeptCommands::new(commands, &dialogue);
     let mut watch = WatchedSolve::new(&progress);
     let outcome = run_session_watched(
         rt.alloc(),
@@ -98,7 +105,7 @@ fn hold_session(
 fn check(rt: &HostRuntime, path: &str) -> Result<Status, Fault> {
     let progress = Progress::new(rt, false);
     let file = open_problem(rt, path)?;
-    let mut problem = WatchedSource::of_file(StdSource::new(file), &progress);
+    let mut problem = WatchedSource::of_file(StdSource::new(file), path, &progress);
     let mut out = WatchedSink::new(output(rt)?, &progress);
     let mut solution = WatchedSource::of_input(StdSource::new(rt.stdin()), &progress);
     let outcome = run_check(rt.alloc(), &mut problem, &mut solution, &mut out);
@@ -133,7 +140,11 @@ fn open_problem(rt: &HostRuntime, path: &str) -> Result<File, Fault> {
 
 /// Writes the text that was asked for.
 fn print(rt: &HostRuntime, text: &str) -> Result<Status, Fault> {
-    match print!(rt; "{text}") {
+    let written = match help_without_page(rt, text) {
+        Some(front) => println!(rt; "{front}"),
+        None => print!(rt; "{text}"),
+    };
+    match written {
         Ok(()) => Ok(Status::Well),
         Err(_) => Err(Fault::Run(EngineFault::Write)),
     }

@@ -1,6 +1,6 @@
 //! Readers and writers whose calls are counted.
 use std::io;
-use std::io::{Read, Write};
+use std::io::{ErrorKind, Read, Write};
 
 /// Passes its calls on, and counts those that read or write.
 #[derive(Drop)]
@@ -24,5 +24,26 @@ impl<'a, T: Write> Write for Counted<'a, T> {
 
     fn flush(&mut self) -> io::Result<()> {
         self.inner.flush()
+    }
+}
+
+/// Takes all that it is given and keeps none of it, and counts its flushes. Each of them fails, or none.
+#[derive(Drop)]
+pub struct FlushCounter<'a> {
+    pub flushes: &'a mut usize,
+    pub fails: bool,
+}
+
+impl<'a> Write for FlushCounter<'a> {
+    fn write(&mut self, bytes: &[u8]) -> io::Result<usize> {
+        Ok(bytes.len())
+    }
+
+    fn flush(&mut self) -> io::Result<()> {
+        *self.flushes = self.flushes.saturating_add(1);
+        if self.fails {
+            return Err(io::Error::from(ErrorKind::StorageFull));
+        }
+        Ok(())
     }
 }

@@ -1,7 +1,7 @@
 //! What tests give to runs: problem texts, readers and writers that are slow or fail, or are counted, and numbers that look random.
 #![tactic(auto)]
 
-pub use counts::Counted;
+pub use counts::{Counted, FlushCounter};
 pub use draws::Draws;
 pub use readers::ByteReader;
 pub use texts::{FULL_ARC, LENIENT, NETWORK_A, NETWORK_B, NO_ARCS, PARALLEL, TWO_SHORTEST};

@@ -17,9 +17,9 @@ use Rattle.dmf_runs.specs.Streams.{Writer}
 use Rattle.dmf_runs.specs.Pending.{Pending}
 use Rattle.dmf_runs.specs.KeptLine.{Kept, Means}
 use Rattle.dmf_runs.specs.Line.{HasNoLineFeed, with_line_feeds, line_meaning}
-use Rattle.dmf_runs.specs.Run.{LineRuns, Runs}
+use Rattle.dmf_runs.specs.Run.{HasReply, LineRuns, Runs}
 use Rattle.dmf_runs.specs.Input.{InputState, Takes, HasEnded, HasFailed, IsPastLimit, GivesLine, GivesEnd, left}
-use Rattle.dmf_runs.specs.Outcome.{RestRuns, RunsAll, RunsCommands, status_if, line_count}
+use Rattle.dmf_runs.specs.Outcome.{LastHasReply, RestRuns, RunsAll, RunsCommands, status_if, line_count}
 use Rattle.dmf_runs.proofs.TakingLemmas.{Takes-trans}
 use Rattle.dmf_runs.proofs.LineLemmas.{or-false}
 use Rattle.dmf_runs.proofs.Progress.{streams, IsFresh, Progress, Carried, Progress-more}
@@ -175,6 +175,10 @@ rest-runs : (want_cut : Bool) (number : ℕ) (u : Timeline) (line text : List �
 rest-runs want_cut number u [] text refused v some runs = absurd (omega (arith, some))
 rest-runs want_cut number u (byte ∷ line) text refused v some runs = (v, runs)
 
+rest-replies : (lines : List (List ℕ)) (line : List ℕ) → 0 < length line → HasReply (line_meaning false line) → LastHasReply lines line
+rest-replies lines [] some replies = absurd (omega (arith, some))
+rest-replies lines (byte ∷ line) some replies = replies
+
 count-le : (lines : List (List ℕ)) (rest : List ℕ) → line_count lines rest ≤ length lines + 1
 count-le lines [] = omega arith
 count-le lines (byte ∷ rest) = omega arith
@@ -220,11 +224,12 @@ RunsCommands-last want_cut t before now then held holds next number u is_refused
       ),
     )
 
--- A line of which a front was written, and then a put or the flush failed.
+-- A line with a reply, of which a front was written, and then a put or the flush failed.
 pub record Broken (want_cut : Bool) (u : Timeline) (meaning : Result (Option Command) Refusal) (number : ℕ) (holds next : Writer) (v : Timeline) : Type 0 where
   pub text : List ℕ
   pub refused : Bool
   pub runs : LineRuns (Answers want_cut) number u meaning text refused v
+  pub replies : HasReply meaning
   pub front : List ℕ
   pub rest : List ℕ
   pub text_is : text ≡ front ++ rest
@@ -251,6 +256,7 @@ RunsCommands-write want_cut t before now then held holds next number u is_refuse
           whole = p.written ++ b.text;
           refused = is_refused || b.refused;
           runs = all-so-far want_cut t (p.lines ++ gave.0 ∷ []) (p.written ++ b.text) (is_refused || b.refused) v more.each more.runs;
+          replies = (p.lines, gave.0, refl, subst HasReply (means gave.0 gave.3) b.replies);
           ends = inl refl;
           rest = b.rest;
           text_is = ap (λ x. p.written ++ x) b.text_is ∙ sym (append_assoc p.written b.front b.rest);
@@ -280,6 +286,7 @@ RunsCommands-write_last want_cut t before now then held holds next number u is_r
           whole = p.written ++ b.text;
           refused = is_refused || b.refused;
           runs = all-with-last want_cut t p.lines line p.written b.text is_refused b.refused u v p.each gave.1 gave.4 p.runs runs;
+          replies = rest-replies p.lines line gave.4 (subst HasReply (means gave.0 gave.3) b.replies);
           ends = inr (gave.5.none_pending, gave.5.at_end);
           rest = b.rest;
           text_is = ap (λ x. p.written ++ x) b.text_is ∙ sym (append_assoc p.written b.front b.rest);

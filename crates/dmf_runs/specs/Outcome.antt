@@ -10,7 +10,7 @@ use Rattle.dmf_runs.specs.declared.fault.EngineFault.TheVariants as fault
 use Rattle.dmf_runs.specs.Streams.{Streams}
 use Rattle.dmf_runs.specs.Line.{HasNoLineFeed, with_line_feeds, IsSplit, line_meaning}
 use Rattle.dmf_session.specs.Step.{Answers}
-use Rattle.dmf_runs.specs.Run.{Answering, LineRuns, Runs}
+use Rattle.dmf_runs.specs.Run.{Answering, HasReply, LineRuns, Runs}
 
 -- a last line, which no line feed ended, if there is one
 abbrev pub RestRuns : Answering → ℕ → Timeline → List ℕ → List ℕ → Bool → Type 0
@@ -42,8 +42,15 @@ pub record RunsEndedLines (want_cut : Bool) (t : Timeline) (given text : List �
   pub after : Timeline
   pub runs : Runs (Answers want_cut) 1 t lines text refused after
 
--- First lines of the text that was given were carried out, and this is a front of what they write. The last of them was
--- ended by a line feed, or it is the last line of all, and the reader is at its end.
+-- There is a last line, and it has a reply: the rest, which no line feed ended, or where that is empty the last of the lines.
+abbrev pub LastHasReply : List (List ℕ) → List ℕ → Type 0
+LastHasReply lines [] =
+    (before : List (List ℕ)) × (line : List ℕ) × (lines ≡ before ++ line ∷ []) × HasReply (line_meaning true line)
+LastHasReply lines (byte ∷ rest) = HasReply (line_meaning false (byte ∷ rest))
+
+-- First lines of the text that was given were carried out, and this is a front of what they write. The last of them has a
+-- reply, so that neither a blank line nor a comment made the writer fail; it was ended by a line feed, or it is the last line
+-- of all, and the reader is at its end.
 pub record RunsFront (want_cut : Bool) (t : Timeline) (known : Option (List ℕ)) (given text : List ℕ) : Type 0 where
   pub front : List ℕ
   pub behind : List ℕ
@@ -51,6 +58,7 @@ pub record RunsFront (want_cut : Bool) (t : Timeline) (known : Option (List ℕ)
   pub whole : List ℕ
   pub refused : Bool
   pub runs : RunsAll (Answers want_cut) t front whole refused
+  pub replies : LastHasReply runs.lines runs.rest
   pub ends : (runs.rest ≡ []) ⊎ ((behind ≡ []) × IsAtEnd known)
   pub rest : List ℕ
   pub text_is : whole ≡ text ++ rest

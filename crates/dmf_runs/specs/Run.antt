@@ -1,6 +1,6 @@
 -- What a run of command lines writes.
 -- Public: a public contract says no more than this.
-use Rattle.std.specs.Prelude.{ℕ, ◌≡◌, ◌+◌, List, [], ◌∷◌, ◌++◌, codes, decimal, Bool, true, false, ◌||◌, Option, Some, None, Result, Ok, Err}
+use Rattle.std.specs.Prelude.{ℕ, ◌≡◌, ◌≢◌, ◌+◌, List, [], ◌∷◌, ◌++◌, codes, decimal, Bool, true, false, ◌||◌, Option, Some, None, Result, Ok, Err}
 use Rattle.dmf_state.specs.NetworkState.{NetworkState}
 use Rattle.dmf_state.specs.Side.{CutSide}
 use Rattle.dmf_text.specs.Written.{written_line, problem_text, solution_text, cut_text}
@@ -59,6 +59,10 @@ abbrev pub Shows : ℕ → Command → Result Reply Refusal → Timeline → Lis
 Shows number command (Ok reply) u text refused =
     (s : NetworkState) × IsPresent u s × (text ≡ reply_text command reply s) × (refused ≡ false)
 Shows number command (Err refusal) u text refused = (text ≡ refused_text number refusal) × (refused ≡ true)
+
+-- A line that means this has a reply: it is neither blank nor a comment.
+abbrev pub HasReply : Result (Option Command) Refusal → Type 0
+HasReply meaning = meaning ≢ Ok None
 
 -- How a command that is given to a timeline may be answered, and which timeline the answer leaves.
 abbrev pub Answering : Type 1

@@ -1,5 +1,5 @@
 //! A session from bytes to bytes.
-ghost use Rattle.std.specs.Prelude.{◌≡◌, ◌≤◌, Ok, Some, length};
+ghost use Rattle.std.specs.Prelude.{◌≡◌, ◌≤◌, IsOk, None, Ok, Some, length};
 ghost use Rattle.dmf_runs.specs.Streams.{reader_of, writer_of, streams_of};
 ghost use Rattle.dmf_runs.specs.Outcome.{RunsCommands, status_if};
 ghost use Rattle.dmf_runs.specs.Session.{RunsSession};
@@ -184,7 +184,7 @@ fn status(is_refused: bool) -> Status
     }
 }
 
-/// Carries out a line, and writes and flushes its reply, if it has one.
+/// Carries out a line, and writes and flushes its reply. One without a reply leaves the writer as it was.
 fn answer<H: History, W: Sink, V: Watch>(
     alloc: Global,
     session: &mut Session<H>,
@@ -194,8 +194,9 @@ fn answer<H: History, W: Sink, V: Watch>(
     want_cut: bool,
     watch: &mut V,
 ) -> Result<Answer, WriteFault>
-    ensures { WritesLine want_cut W.contents W.has_failed out.old out.new number
+    ensures line { WritesLine want_cut W.contents W.has_failed out.old out.new number
         (H.timeline session.old) meaning (H.timeline session.new) result }
+    ensures silent { meaning ≡ Ok None → (out.new ≡ out.old) × IsOk result }
 {
     match meaning {
         Ok(None) => Ok(Answer::Accepted),

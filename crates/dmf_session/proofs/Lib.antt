@@ -1,5 +1,6 @@
 pub mod Changed
 pub mod Optimal
+pub mod Telling
 pub mod Answering
 pub mod OneAnswer
 pub mod Undoing

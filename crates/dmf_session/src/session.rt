@@ -1,4 +1,4 @@
-ghost use Rattle.std.specs.Prelude.{◌≡◌, ◌≤◌, ◌↔◌, Bool, Some, Err, IfOk, IsOkUnless, OnOk, OnErr};
+ghost use Rattle.std.specs.Prelude.{◌≡◌, ◌≤◌, ◌↔◌, Bool, Some, Err, IfOk, IsOkUnless, MatchResult, OnOk, OnErr};
 ghost use Rattle.dmf_session.specs.declared.command.Command.TheVariants.{Cap, Add, Close, Shut, Solve, Undo, Redo, PrintCut};
 ghost use Rattle.dmf_history.specs.declared.history.RedoFault.TheVariants as redo;
 ghost use Rattle.dmf_history.specs.Timeline.{IsTimeline, IsPresent, future_of, back, forward, FitsPresent, Appends, AddsArcs};
@@ -7,7 +7,9 @@ ghost use Rattle.dmf_session.specs.Kept.{KeepsPresent, KeepsApplied};
 ghost use Rattle.dmf_solver.specs.ResidualNetwork.{IsResidualOf};
 ghost use Rattle.dmf_state.specs.Edit.{applied};
 ghost use Rattle.dmf_solver.specs.Planning.{PlansSolve};
+ghost use Rattle.dmf_solver.specs.Told.{TellsSolve, MayTellSolve};
 ghost use Rattle.dmf_session.specs.Optimal.{HasOptimalPresent};
+ghost use Rattle.dmf_session.specs.Telling.{TellsStep};
 
 use crate::command::{Command, Refusal, Reply};
 use crate::kept::{kept_after, kept_before};
@@ -113,6 +115,7 @@ impl<H: History> Session<H> {
     ) -> Result<Reply, Refusal>
         ensures answer { Answers want_cut (H.timeline self.old) command result (H.timeline self.new) }
         ensures optimal { command ≡ Solve → OnOk result (HasOptimalPresent (H.timeline self.new)) }
+        ensures told { TellsStep (H.timeline self.old) command result (H.timeline self.new) (W.told watch.old) (W.told watch.new) }
     {
         let answer = self.carry_out(alloc, command, want_cut, watch);
         self.let_go_if_refused(&answer);
@@ -128,6 +131,7 @@ impl<H: History> Session<H> {
     ) -> Result<Reply, Refusal>
         ensures answer { Answers want_cut (H.timeline self.old) command result (H.timeline self.new) }
         ensures optimal { command ≡ Solve → OnOk result (HasOptimalPresent (H.timeline self.new)) }
+        ensures told { TellsStep (H.timeline self.old) command result (H.timeline self.new) (W.told watch.old) (W.told watch.new) }
     {
         match command {
             Command::Cap { arc, cap } => self.cap(alloc, arc, cap),
@@ -185,6 +189,7 @@ impl<H: History> Session<H> {
     ) -> Result<Reply, Refusal>
         ensures answer { Answers want_cut (H.timeline self.old) Solve result (H.timeline self.new) }
         ensures optimal { OnOk result (HasOptimalPresent (H.timeline self.new)) }
+        ensures told { TellsStep (H.timeline self.old) Solve result (H.timeline self.new) (W.told watch.old) (W.told watch.new) }
     {
         greatest_is_optimal();
         let network = self.take_network(alloc)?;
@@ -316,6 +321,9 @@ fn plan_wanted<W: Watch>(
     ensures edit { IfOk result (λ planned. PlansSolve state.now planned.0) }
     ensures side { IfOk result (λ planned. IsSideWanted want_cut state.now.network planned.1) }
     ensures kept { IfOk result (λ planned. IsResidualOf (applied planned.0 state.now) planned.2) }
+    ensures told { MatchResult result
+        (λ planned. TellsSolve state.now (applied planned.0 state.now).flows (W.told watch.old) (W.told watch.new))
+        (λ _. MayTellSolve state.now (W.told watch.old) (W.told watch.new)) }
 {
     if want_cut {
         let (edit, side, solved) = network.plan_solve_with_side(alloc, state, watch)?;

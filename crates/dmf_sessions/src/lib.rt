@@ -3,6 +3,8 @@
 #![tactic(auto)]
 
 #[cfg(test)]
+mod flushes;
+#[cfg(test)]
 mod histories;
 #[cfg(test)]
 mod slow;

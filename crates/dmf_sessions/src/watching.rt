@@ -1,4 +1,6 @@
 //! What a watch is told of the solves of a session.
+ghost use Rattle.std.specs.Prelude.{map, pos, Some, None, if◌then◌else◌};
+
 use dmf_fixtures::NETWORK_A;
 use dmf_history::MAX_BOUND;
 use dmf_runs::{Status, run_session_watched};
@@ -6,19 +8,19 @@ use dmf_solver::Watch;
 use dmf_text::{StdSink, StdSource};
 use std::test::Fail;
 
-/// Keeps the first paths that it is told of: the value that each leads to, and how many links it has.
+/// Keeps the paths that it is told of: the value that each leads to, and how many links it has.
 #[derive(Drop)]
 struct Paths {
-    told: [(u64, u32); 8],
-    count: usize,
+    told: Vec<(u64, u32)>,
+    /// Whether memory was refused for none of them.
+    is_whole: bool,
 }
 
 impl Watch for Paths {
+    ghost told = { λ s. if s.is_whole then Some (map (λ path. record { value = pos path.0; links = path.1 }) s.told.items) else None };
+
     fn augmented(&mut self, value: u64, links: u32) {
-        if self.count < self.told.len() {
-            self.told[self.count] = (value, links);
-            self.count += 1;
-        }
+        self.is_whole = self.is_whole && self.told.push((value, links)).is_ok();
     }
 }
 
@@ -27,8 +29,8 @@ impl Watch for Paths {
 fn each_path_of_each_solve_is_told(rt: HostRuntime) -> Result<(), Fail> {
     let mut written = Vec::new(rt.alloc());
     let mut paths = Paths {
-        told: [(0, 0); 8],
-        count: 0,
+        told: Vec::new(rt.alloc()),
+        is_whole: true,
     };
     let outcome = run_session_watched(
         rt.alloc(),
@@ -40,16 +42,8 @@ fn each_path_of_each_solve_is_told(rt: HostRuntime) -> Result<(), Fail> {
         &mut paths,
     );
     assert!(rt; outcome == Ok(Status::Well));
-    let wanted = [
-        (2, 2),
-        (4, 2),
-        (5, 3),
-        (7, 1),
-        (9, 2),
-        (11, 2),
-        (12, 3),
-        (0, 0),
-    ];
-    assert!(rt; paths.told == wanted);
+    let wanted = [(2, 2), (4, 2), (5, 3), (7, 1), (9, 2), (11, 2), (12, 3)];
+    assert!(rt; paths.is_whole);
+    assert!(rt; paths.told.as_slice() == wanted.as_slice());
     Ok(())
 }

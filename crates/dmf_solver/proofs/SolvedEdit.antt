@@ -1,5 +1,5 @@
 -- The edit of a solve: its moves list where the flow that the search has reached differs.
-use Rattle.std.proofs.Common.{ℕ, ◌≡◌, ◌∙◌, List, Vec, Global, ap, refl, subst, sym}
+use Rattle.std.proofs.Common.{ℕ, ◌≡◌, ◌∙◌, List, Option, Vec, Global, ap, refl, subst, sym}
 use Rattle.dmf_path.specs.Search.{Searched}
 use Rattle.dmf_state.specs.declared.edit.Move.{Move}
 use Rattle.dmf_state.specs.declared.edit.Edit.TheVariants as edit
@@ -12,6 +12,7 @@ use Rattle.dmf_solver.specs.Pairs.{IsSolved, reached_flows}
 use Rattle.dmf_solver.specs.Planning.{PlansSolve}
 use Rattle.dmf_solver.specs.ResidualNetwork.{IsResidualOf, residual_search}
 use Rattle.dmf_solver.specs.Solve.{Solves}
+use Rattle.dmf_solver.specs.Told.{Told, TellsSolve}
 use Rattle.dmf_solver.proofs.GreatestFlow.{greatest-from_no_path, cut-from_no_path}
 use Rattle.dmf_state.proofs.Moving.{AreMovesBetween, moves-between, flows-long}
 
@@ -38,6 +39,11 @@ PlansSolve-listed s search value moves state is listed =
 -- makes the flow that the search has reached,
 pub flows-listed : (s : NetworkState) (search : Searched) (value : ℕ) (moves : Vec Move Global) → IsState s → IsSolved s search value → moves.items ≡ differences 1 s.flows (reached_flows s search) → (applied (edit.Solve moves) s).flows ≡ reached_flows s search
 flows-listed s search value moves state is listed = (between s search value moves.items state is listed).makes
+
+-- told what the search told,
+pub told-listed : (s : NetworkState) (search : Searched) (value : ℕ) (moves : Vec Move Global) (told_before told_after : Option (List Told)) → IsState s → IsSolved s search value → moves.items ≡ differences 1 s.flows (reached_flows s search) → TellsSolve s (reached_flows s search) told_before told_after → TellsSolve s (applied (edit.Solve moves) s).flows told_before told_after
+told-listed s search value moves told_before told_after state is listed tells =
+    subst (λ flows. TellsSolve s flows told_before told_after) (sym (flows-listed s search value moves state is listed)) tells
 
 -- and leaves the search's links as those of the residual network.
 pub residual-listed : (s : NetworkState) (search : Searched) (value : ℕ) (moves : Vec Move Global) → IsState s → IsSolved s search value → moves.items ≡ differences 1 s.flows (reached_flows s search) → IsResidualOf (applied (edit.Solve moves) s) search

@@ -1,12 +1,14 @@
 -- Augmenting along least paths, one after the other: the flow stays a flow, and its value grows up to a bound.
-use Rattle.std.proofs.Common.{ℕ, List, [], ◌∷◌, ◌++◌, ap, subst, sym, arith}
+use Rattle.std.proofs.Common.{ℕ, ◌≡◌, List, [], ◌∷◌, ◌++◌, length, Option, Some, None, ap, subst, sym, ◌∙◌, arith, append_assoc, append-nil}
 use Rattle.std.proofs.lemmas.Int.{ints}
 use Rattle.dmf_path.specs.Step.{Step}
 use Rattle.dmf_state.specs.Network.{Network}
 use Rattle.dmf_state.specs.NetworkState.{NetworkState, IsState, with_flows}
+use Rattle.dmf_state.specs.Flow.{flow_value}
 use Rattle.dmf_path.specs.Path.{IsLeastPath}
 use Rattle.dmf_solver.specs.Residual.{residual_steps, augmented}
 use Rattle.dmf_solver.specs.Solve.{Augments}
+use Rattle.dmf_solver.specs.Told.{Told, told_of, AreTold}
 use Rattle.dmf_solver.proofs.Augmenting.{augmented-flow, augmented-value}
 
 -- one path more, the last
@@ -33,9 +35,31 @@ IsState-augmented s flows path state least =
     }
 
 -- one path more
-pub reached-more : (s : NetworkState) (flows : List ℕ) (path : List Step) → IsReached s flows → IsLeastPath (residual_steps s.network.arcs flows) s.network.source s.network.sink path → IsReached s (augmented path flows)
+abbrev pub reached-more : (s : NetworkState) (flows : List ℕ) (path : List Step) → IsReached s flows → IsLeastPath (residual_steps s.network.arcs flows) s.network.source s.network.sink path → IsReached s (augmented path flows)
 reached-more s flows path reached least = record {
   state = IsState-augmented s flows path reached.state least;
   paths = reached.paths ++ path ∷ [];
   augments = Augments-push s.network s.flows reached.paths flows path reached.augments least;
 }
+
+-- ---- what is told
+
+-- One path more is told behind the others.
+pub told_of-push : (n : Network) (flows : List ℕ) (paths : List (List Step)) (last : List ℕ) (path : List Step) → Augments n flows paths last
+    → told_of n flows (paths ++ path ∷ []) ≡ told_of n flows paths ++ record { value = flow_value n (augmented path last); links = length path } ∷ []
+told_of-push n flows [] last path augments = ap (λ now. told_of n now (path ∷ [])) augments
+told_of-push n flows (first ∷ paths) last path augments =
+    ap (λ (told : List Told). record { value = flow_value n (augmented first flows); links = length first } ∷ told)
+    (told_of-push n (augmented first flows) paths last path augments.1)
+
+-- What is told after these is told after all of them.
+pub AreTold-trans : (a b c : Option (List Told)) (these more : List Told) → AreTold a b these → AreTold b c more → AreTold a c (these ++ more)
+AreTold-trans a b None these more p q = tt
+AreTold-trans a None (Some z) these more p q = absurd q
+AreTold-trans None (Some y) (Some z) these more p q = absurd p
+AreTold-trans (Some x) (Some y) (Some z) these more p q = q ∙ ap (λ told. told ++ more) p ∙ append_assoc x these more
+
+-- Where nothing is told, what was told stays as it was.
+pub AreTold-none : (a : Option (List Told)) → AreTold a a []
+AreTold-none None = tt
+AreTold-none (Some x) = sym (append-nil x)

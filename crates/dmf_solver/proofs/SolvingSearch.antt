@@ -1,5 +1,5 @@
 -- Solving by a search among the residual pairs: what the search keeps as it augments, and which flow it tells at the end.
-use Rattle.std.proofs.Common.{ℕ, ◌≡◌, ◌≢◌, ◌+◌, ◌-◌, ◌*◌, ◌^◌, ◌<◌, ◌≤◌, Bool, true, false, ◌==◌, cond, ltb, min, List, [], ◌∷◌, length, get_or, refl, ap, sym, ◌∙◌, subst, arith, pos, suc, ⊎_elim, Option}
+use Rattle.std.proofs.Common.{ℕ, ◌≡◌, ◌≢◌, ◌+◌, ◌-◌, ◌*◌, ◌^◌, ◌<◌, ◌≤◌, Bool, true, false, ◌==◌, cond, ltb, min, List, [], ◌∷◌, ◌++◌, length, get_or, refl, ap, sym, ◌∙◌, subst, arith, pos, suc, ⊎_elim, Option}
 use Rattle.std.specs.List.{Contains}
 use Rattle.std.proofs.lemmas.Bool.Decides.{nat_tests}
 use Rattle.std.proofs.lemmas.Int.{ints}
@@ -21,6 +21,7 @@ use Rattle.dmf_state.specs.Flow.{AreWithinCapacities, IsFlow, flow_value}
 use Rattle.dmf_state.specs.NetworkState.{NetworkState, IsState, with_flows}
 use Rattle.dmf_solver.specs.Residual.{residual_steps, augmented}
 use Rattle.dmf_solver.specs.Solve.{Solves}
+use Rattle.dmf_solver.specs.Told.{Told, told_of, AreTold, TellsSolve}
 use Rattle.dmf_solver.specs.ResidualNetwork.{residual_pair, residual_pairs, residual_search}
 use Rattle.dmf_solver.specs.Pairs.{flow_read, flows_read, reached_flows, IsSolved}
 use Rattle.dmf_solver.specs.declared.moves.FlowLink.TheVariants.{Against}
@@ -32,7 +33,7 @@ use Rattle.dmf_state.proofs.Changing.{within-at}
 use Rattle.dmf_solver.proofs.ResidualSearch.{length-residual_pairs}
 use Rattle.dmf_solver.proofs.ResidualSteps.{IsResidual, along, against, in-optional, residual-contained}
 use Rattle.dmf_solver.proofs.RoomLeaving.{room_leaving, room_leaving-falls}
-use Rattle.dmf_solver.proofs.Solving.{IsReached, reached-more}
+use Rattle.dmf_solver.proofs.Solving.{IsReached, reached-more, told_of-push}
 
 -- an arc with a pair leads to another node
 pair-no_loop : (arc : Arc) → is_loop arc ≡ false → arc.tail ≢ arc.head
@@ -126,14 +127,16 @@ pub record IsSolving (s : NetworkState) (search : Searched) (value : ℕ) : Type
   pub search_is : search ≡ residual_search s.network flows
   pub value_is : pos value ≡ flow_value s.network flows
 
--- The search augments, the value grows by the amount, and the rooms that leave the source fall.
-pub record IsNext (s : NetworkState) (old new : Searched) (value : ℕ) : Type 0 where
+-- The search augments, the value grows by the amount, what is told grows by that and the links, and the rooms that leave the
+-- source fall.
+pub record IsNext (s : NetworkState) (before : List (List Step)) (links : ℕ) (old new : Searched) (value : ℕ) : Type 0 where
   pub solving : IsSolving s new value
+  pub told : told_of s.network s.flows solving.reached.paths ≡ told_of s.network s.flows before ++ record { value = pos value; links = links } ∷ []
   pub small : value < 2 ^ 64
   pub falls : room_leaving new.pairs s.network.source < room_leaving old.pairs s.network.source
 
 -- one path more
-pub solving-more : (s : NetworkState) (limit value : ℕ) (found : AugmentingPath) (old new : Searched) → limit + 1 ≡ 2 ^ 64 → IsSolving s old value → Augments limit found old new → IsNext s old new (value + found.amount)
+pub solving-more : (s : NetworkState) (limit value : ℕ) (found : AugmentingPath) (old new : Searched) → limit + 1 ≡ 2 ^ 64 → (is : IsSolving s old value) → Augments limit found old new → IsNext s is.reached.paths found.links old new (value + found.amount)
 solving-more s limit value found old new all is augments =
     let n = s.network in
     let state = is.reached.state in
@@ -158,6 +161,9 @@ solving-more s limit value found old new all is augments =
         search_is = next;
         value_is = value_is;
       };
+      told =
+          told_of-push n s.flows is.reached.paths is.flows path is.reached.augments
+          ∙ ap (λ (told : Told). told_of n s.flows is.reached.paths ++ told ∷ []) (λ i. record { value = sym value_is i; links = sym push.links_are i });
       small = omega (arith, ints, value_is, most, state.network.capacities);
       falls = rw (next, is.search_is) (room_leaving-falls s is.flows path state reached.state least);
     }
@@ -179,21 +185,38 @@ read-flows (arc ∷ arcs) (first ∷ firsts) (flow ∷ flows) below within kept 
     let later = read-flows arcs firsts flows below.1 within.1 (λ k h loop. kept (suc k) (omega (arith, h)) loop) in
     λ i. here i ∷ later i
 
--- Where no path is left, they are the outcome of solving.
+-- The flows that are read off the search are those that were reached.
+solving-read : (s : NetworkState) (value : ℕ) (old new : Searched) → IsState s → (is : IsSolving s old value) → new ≡ old → is.flows ≡ reached_flows s new
+solving-read s value old new state is same =
+    sym (ap (reached_flows s) (same ∙ is.search_is) ∙ read-flows s.network.arcs s.flows is.flows state.flow.within is.reached.state.flow.within is.kept)
+
+-- Where no path is left, they are the outcome of solving,
+solving-solves : (s : NetworkState) (value : ℕ) (old : Searched) → (is : IsSolving s old value) → HasNoPath (steps_of old.pairs) old.start old.goal → Solves s.network s.flows is.flows
+solving-solves s value old is none =
+    let n = s.network in
+    let left = subst (λ (o : Searched). HasNoPath (steps_of o.pairs) o.start o.goal) is.search_is none in
+    let no_path = no_path-without_loops (residual_steps n.arcs is.flows) (steps_of (residual_pairs n.arcs is.flows)) n.source n.sink (residual-without_loops n.arcs is.flows) left in
+    record { paths = is.reached.paths; augments = is.reached.augments; no_path = no_path }
+
+-- the search has come to it,
 pub solving-done : (s : NetworkState) (value : ℕ) (old new : Searched) → IsState s → IsSolving s old value → HasNoPath (steps_of old.pairs) old.start old.goal → new ≡ old → IsSolved s new value
 solving-done s value old new state is none same =
     let n = s.network in
-    let search : new ≡ residual_search n is.flows = same ∙ is.search_is in
-    let left = subst (λ (o : Searched). HasNoPath (steps_of o.pairs) o.start o.goal) is.search_is none in
-    let no_path = no_path-without_loops (residual_steps n.arcs is.flows) (steps_of (residual_pairs n.arcs is.flows)) n.source n.sink (residual-without_loops n.arcs is.flows) left in
-    let read : is.flows ≡ reached_flows s new = sym (ap (reached_flows s) search ∙ read-flows n.arcs s.flows is.flows state.flow.within is.reached.state.flow.within is.kept) in
-    let solves : Solves n s.flows is.flows = record { paths = is.reached.paths; augments = is.reached.augments; no_path = no_path } in
+    let read = solving-read s value old new state is same in
     record {
-      solves = subst (Solves n s.flows) read solves;
+      solves = subst (Solves n s.flows) read (solving-solves s value old is none);
       state = subst (λ flows. IsState (with_flows s flows)) read is.reached.state;
-      search_is = subst (λ flows. new ≡ residual_search n flows) read search;
+      search_is = subst (λ flows. new ≡ residual_search n flows) read (same ∙ is.search_is);
       value_is = subst (λ flows. pos value ≡ flow_value n flows) read is.value_is;
     }
+
+-- and all its paths were told.
+pub solving-told : (s : NetworkState) (value : ℕ) (old new : Searched) (before after : Option (List Told)) → IsState s → (is : IsSolving s old value) → AreTold before after (told_of s.network s.flows is.reached.paths) → HasNoPath (steps_of old.pairs) old.start old.goal → new ≡ old
+    → TellsSolve s (reached_flows s new) before after
+unfolding solving-solves
+solving-told s value old new before after state is told none same =
+    subst (λ flows. TellsSolve s flows before after) (solving-read s value old new state is same)
+    (record { solves = solving-solves s value old is none; told = told })
 
 -- There is a pair, or the place of one, for each flow,
 pub pairs-long : (s : NetworkState) (search : Searched) → IsState s → search ≡ residual_search s.network (reached_flows s search) → AreWithinCapacities s.network.arcs (reached_flows s search) → length search.pairs ≡ length s.flows

@@ -1,6 +1,7 @@
 pub mod Greatest
 pub mod Residual
 pub mod Solve
+pub mod Told
 pub mod Drain
 pub mod Change
 pub mod Laws

@@ -1,4 +1,4 @@
-ghost use Rattle.std.specs.Prelude.{◌≡◌, ◌≢◌, ◌-◌, ◌≤◌, Err, IfOk, IsOkUnless, MatchOption, pos};
+ghost use Rattle.std.specs.Prelude.{◌≡◌, ◌≢◌, ◌-◌, ◌≤◌, Err, IfOk, IsOkUnless, MatchOption, MatchResult, pos};
 ghost use Rattle.std.specs.Result.{result_err};
 ghost use Rattle.dmf_solver.specs.Change.{Cap, Close, Add, Shut, Solve, arc_refusal, change_fault, Becomes, IsEditOf};
 ghost use Rattle.dmf_state.specs.Cut.{HasCutOf};
@@ -10,6 +10,7 @@ ghost use Rattle.dmf_solver.specs.Greatest.{IsGreatest};
 ghost use Rattle.dmf_solver.specs.Pairs.{IsSolved, reached_flows};
 ghost use Rattle.dmf_solver.specs.Planning.{PlansSolve};
 ghost use Rattle.dmf_state.specs.Side.{IsSmallestSide};
+ghost use Rattle.dmf_solver.specs.Told.{TellsSolve, MayTellSolve};
 
 use crate::drain::drain;
 use crate::fault::PlanFault;
@@ -145,6 +146,9 @@ pub fn plan_solve_watched<W: Watch>(
 ) -> Result<Edit, PlanFault>
     ensures refused { IsOkUnless result PlanFault.NoMemory }
     ensures edit { IfOk result (PlansSolve state.now) }
+    ensures told { MatchResult result
+        (λ edit. TellsSolve state.now (applied edit state.now).flows (W.told watch.old) (W.told watch.new))
+        (λ _. MayTellSolve state.now (W.told watch.old) (W.told watch.new)) }
 {
     let search = residual_search(alloc, state)?;
     let solved = solve(search, state, &mut Vec::new(alloc), watch);
@@ -174,6 +178,9 @@ pub fn plan_solve_with_side_watched<W: Watch>(
     ensures edit { IfOk result (λ planned. PlansSolve state.now planned.0) }
     ensures side { IfOk result (λ planned. IsSmallestSide state.now.network planned.1) }
     ensures value { IfOk result (λ planned. pos planned.1.capacity ≡ flow_value state.now.network (applied planned.0 state.now).flows) }
+    ensures told { MatchResult result
+        (λ planned. TellsSolve state.now (applied planned.0 state.now).flows (W.told watch.old) (W.told watch.new))
+        (λ _. MayTellSolve state.now (W.told watch.old) (W.told watch.new)) }
 {
     let search = residual_search(alloc, state)?;
     let solved = solve(search, state, &mut Vec::new(alloc), watch);

@@ -1,4 +1,4 @@
-ghost use Rattle.std.specs.Prelude.{◌≡◌, ◌↔◌, None, pos, IfErr, IfOk, IfSome, IsOkUnless, OnOk};
+ghost use Rattle.std.specs.Prelude.{◌≡◌, ◌↔◌, None, pos, IfErr, IfOk, IfSome, IsOkUnless, MatchResult, OnOk};
 ghost use Rattle.dmf_state.specs.Direction.{edited_along, FitsAlong};
 ghost use Rattle.dmf_state.specs.Edit.{applied, AddsArc, Fits};
 ghost use Rattle.dmf_state.specs.Flow.{flow_value};
@@ -7,6 +7,7 @@ ghost use Rattle.dmf_solver.specs.Planning.{PlansSolve};
 ghost use Rattle.dmf_solver.specs.ResidualNetwork.{IsResidualOf};
 ghost use Rattle.dmf_state.specs.Revert.{reverted, Stands};
 ghost use Rattle.dmf_state.specs.Side.{IsSmallestSide};
+ghost use Rattle.dmf_solver.specs.Told.{TellsSolve, MayTellSolve};
 
 use crate::edited::moves_of;
 use crate::fault::{CutFault, PlanFault};
@@ -59,6 +60,9 @@ impl ResidualNetwork {
         ensures refused { IsOkUnless result PlanFault.NoMemory }
         ensures edit { IfOk result (λ planned. PlansSolve state.now planned.0) }
         ensures kept { IfOk result (λ planned. IsResidualOf (applied planned.0 state.now) planned.1) }
+        ensures told { MatchResult result
+            (λ planned. TellsSolve state.now (applied planned.0 state.now).flows (W.told watch.old) (W.told watch.new))
+            (λ _. MayTellSolve state.now (W.told watch.old) (W.told watch.new)) }
     {
         let mut passed = vec![in alloc; false; state.nodes() as usize + 1]?;
         let Solved { search, .. } = solve(self.search, state, &mut passed, watch);
@@ -82,6 +86,9 @@ impl ResidualNetwork {
         ensures side { IfOk result (λ planned. IsSmallestSide state.now.network planned.1) }
         ensures value { IfOk result (λ planned. pos planned.1.capacity ≡ flow_value state.now.network (applied planned.0 state.now).flows) }
         ensures kept { IfOk result (λ planned. IsResidualOf (applied planned.0 state.now) planned.2) }
+        ensures told { MatchResult result
+            (λ planned. TellsSolve state.now (applied planned.0 state.now).flows (W.told watch.old) (W.told watch.new))
+            (λ _. MayTellSolve state.now (W.told watch.old) (W.told watch.new)) }
     {
         let mut passed = vec![in alloc; false; state.nodes() as usize + 1]?;
         let solved = solve(self.search, state, &mut passed, watch);

@@ -2,8 +2,9 @@ ghost use Rattle.std.specs.Prelude.{◌≡◌, ◌↔◌, false, IfOk, IsTrue};
 ghost use Rattle.dmf_path.specs.Passed.{KeepsUnpassed};
 ghost use Rattle.dmf_state.specs.NetworkState.{IsState};
 ghost use Rattle.dmf_solver.specs.Greatest.{IsGreatest, IsSurpassed};
-ghost use Rattle.dmf_solver.specs.Pairs.{IsSolved};
+ghost use Rattle.dmf_solver.specs.Pairs.{reached_flows, IsSolved};
 ghost use Rattle.dmf_solver.specs.ResidualNetwork.{residual_pairs, IsResidualOf};
+ghost use Rattle.dmf_solver.specs.Told.{TellsSolve};
 
 use crate::residual::residual_search;
 use crate::watch::Watch;
@@ -28,6 +29,7 @@ pub fn solve<W: Watch>(
 ) -> Solved
     requires { IsResidualOf state.now search }
     ensures solved { IsSolved state.now result.search result.value }
+    ensures told { TellsSolve state.now (reached_flows state.now result.search) (W.told watch.old) (W.told watch.new) }
     ensures state { IsState state.now }
     ensures passed { KeepsUnpassed passed.new.items (residual_pairs state.now.network.arcs state.now.flows) result.search.pairs }
 {

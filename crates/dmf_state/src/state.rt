@@ -9,6 +9,7 @@ ghost use Rattle.dmf_state.specs.NetworkState.{IsState, without_arcs};
 use crate::arc::Arc;
 use crate::fault::NoMemory;
 use crate::flow_sums::NodeFlow;
+use crate::limits::MAX_NODES;
 use std::alloc::Global;
 use std::marker::Model;
 
@@ -62,6 +63,8 @@ impl State {
         requires two_terminals { source ≢ sink }
         ensures { result ≡ without_arcs nodes source sink }
     {
+        // The bound that `at_most_nodes` names.
+        prove!(MAX_NODES == 16_777_216);
         State {
             nodes,
             source,

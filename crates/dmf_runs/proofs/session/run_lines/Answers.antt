@@ -1,4 +1,5 @@
 use Rattle.std.proofs.Common.{◌≡◌, ◌+◌, [], Err, refl, sym, ap, ◌∙◌, subst, arith, false}
+use Rattle.std.proofs.lemmas.Bool.{false≢true}
 use Rattle.std.proofs.lemmas.Result.{err_from_is_err_and}
 use Rattle.dmf_session.specs.Step.{Answers}
 use Rattle.dmf_runs.specs.Streams.{reader_of, writer_of}
@@ -33,7 +34,7 @@ pub returns-in_err-answer-in-Line : goal.returns-in_err-answer-in-Line
 returns-in_err-answer-in-Line g c =
     let failed = err_from_is_err_and c.from_residual-in_err-answer-in-Line.result c.from_residual-in_err-answer-in-Line.ensures.1 in
     let gave = rw c.in-Line.is at c.in_ok-next_line.ensures in
-    let told = c.in_err-answer-in-Line.ensures in
+    let told = c.in_err-answer-in-Line.ensures.line in
     let before = input_over (record { bytes = []; count = 0 }) (reader_of g.C.Source.remaining g.C.Source.has_failed c.args.commands.now) in
     let then = input_over c.next_line.new.self (reader_of g.C.Source.remaining g.C.Source.has_failed c.next_line.new.source) in
     let held = writer_of g.W.Sink.contents g.W.Sink.has_failed c.args.out.now in
@@ -41,7 +42,7 @@ returns-in_err-answer-in-Line g c =
     let next = writer_of g.W.Sink.contents g.W.Sink.has_failed c.answer.new.out in
     let meaning = c.meaning_of-meaning.result in
     let broken : Broken c.args.want_cut (g.H.History.timeline c.loop-number.session) meaning c.loop-number.number holds next (g.H.History.timeline c.answer.new.session) =
-    record { text = told.0; refused = told.1; runs = told.2; front = told.3.0; rest = told.3.1; text_is = told.3.2; appends = told.3.3; writer = told.3.4 } in
+    record { text = told.0; refused = told.1; runs = told.2; replies = λ none. false≢true (c.in_err-answer-in-Line.ensures.silent none).1; front = told.3.0; rest = told.3.1; text_is = told.3.2; appends = told.3.3; writer = told.3.4 } in
     subst (λ result. RunsCommands c.args.want_cut (g.H.History.timeline c.args.session.now) (streams before held) (streams then next) result) (sym (failed.1 ∙ ap Err failed.2))
     (RunsCommands-write c.args.want_cut _ _ _ then _ holds next c.loop-number.number _ _ meaning _ _ c.loop-number.invariant gave c.meaning_of-meaning.ensures broken)
 
@@ -49,7 +50,7 @@ pub returns-in_err-answer-in-Last : goal.returns-in_err-answer-in-Last
 returns-in_err-answer-in-Last g c =
     let failed = err_from_is_err_and c.from_residual-in_err-answer-in-Last.result c.from_residual-in_err-answer-in-Last.ensures.1 in
     let gave = rw c.in-Last.is at c.in_ok-next_line.ensures in
-    let told = c.in_err-answer-in-Last.ensures in
+    let told = c.in_err-answer-in-Last.ensures.line in
     let before = input_over (record { bytes = []; count = 0 }) (reader_of g.C.Source.remaining g.C.Source.has_failed c.args.commands.now) in
     let then = input_over c.next_line.new.self (reader_of g.C.Source.remaining g.C.Source.has_failed c.next_line.new.source) in
     let held = writer_of g.W.Sink.contents g.W.Sink.has_failed c.args.out.now in
@@ -57,14 +58,14 @@ returns-in_err-answer-in-Last g c =
     let next = writer_of g.W.Sink.contents g.W.Sink.has_failed c.answer-in-Last.new.out in
     let meaning = c.meaning_of-meaning-in-Last.result in
     let broken : Broken c.args.want_cut (g.H.History.timeline c.loop-number.session) meaning c.loop-number.number holds next (g.H.History.timeline c.answer-in-Last.new.session) =
-    record { text = told.0; refused = told.1; runs = told.2; front = told.3.0; rest = told.3.1; text_is = told.3.2; appends = told.3.3; writer = told.3.4 } in
+    record { text = told.0; refused = told.1; runs = told.2; replies = λ none. false≢true (c.in_err-answer-in-Last.ensures.silent none).1; front = told.3.0; rest = told.3.1; text_is = told.3.2; appends = told.3.3; writer = told.3.4 } in
     subst (λ result. RunsCommands c.args.want_cut (g.H.History.timeline c.args.session.now) (streams before held) (streams then next) result) (sym (failed.1 ∙ ap Err failed.2))
     (RunsCommands-write_last c.args.want_cut _ _ _ then _ holds next c.loop-number.number _ _ meaning _ _ c.loop-number.invariant gave c.meaning_of-meaning-in-Last.ensures broken)
 
 pub returns-in-Last : goal.returns-in-Last
 returns-in-Last g c =
     let gave = rw c.in-Last.is at c.in_ok-next_line.ensures in
-    let told = c.in_ok-answer-in-Last.ensures in
+    let told = c.in_ok-answer-in-Last.ensures.line in
     let then = input_over c.next_line.new.self (reader_of g.C.Source.remaining g.C.Source.has_failed c.next_line.new.source) in
     let holds = writer_of g.W.Sink.contents g.W.Sink.has_failed c.loop-number.out in
     let next = writer_of g.W.Sink.contents g.W.Sink.has_failed c.answer-in-Last.new.out in
@@ -82,7 +83,7 @@ returns-in-End g c =
 pub loop-number-preserved : goal.loop-number-preserved
 loop-number-preserved g c =
     let gave = rw c.in-Line.is at c.in_ok-next_line.ensures in
-    let told = c.in_ok-answer-in-Line.ensures in
+    let told = c.in_ok-answer-in-Line.ensures.line in
     let then = input_over c.next_line.new.self (reader_of g.C.Source.remaining g.C.Source.has_failed c.next_line.new.source) in
     let holds = writer_of g.W.Sink.contents g.W.Sink.has_failed c.loop-number.out in
     let next = writer_of g.W.Sink.contents g.W.Sink.has_failed c.answer.new.out in

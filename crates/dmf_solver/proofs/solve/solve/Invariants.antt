@@ -1,5 +1,6 @@
 use Rattle.dmf_path.specs.Passed.{KeepsUnpassed}
 use Rattle.dmf_solver.specs.ResidualNetwork.{residual_pairs}
+use Rattle.dmf_solver.specs.Told.{told_of, AreTold}
 use Rattle.dmf_solver.proofs.SolvingSearch.{IsSolving}
 use Rattle.dmf_solver.proofs.RoomLeaving.{room_leaving}
 use Rattle.dmf_solver.proofs.solve.solve.Given as goal
@@ -7,6 +8,7 @@ use Rattle.dmf_solver.proofs.solve.solve.Given as goal
 abbrev pub invariant-loop-found : goal.invariant-loop-found
 invariant-loop-found g l = record {
   solving : IsSolving l.state l.search l.value;
+  told : AreTold (g.W.Watch.told l.initial.watch) (g.W.Watch.told l.watch) (told_of l.state.network l.state.flows solving.reached.paths);
   kept : KeepsUnpassed l.passed.items (residual_pairs l.state.network.arcs l.state.flows) l.search.pairs;
 }
 

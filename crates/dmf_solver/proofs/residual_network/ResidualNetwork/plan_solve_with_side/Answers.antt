@@ -1,6 +1,6 @@
 use Rattle.std.proofs.Common.{ap, sym, ◌∙◌, pos}
 use Rattle.dmf_state.specs.Flow.{flow_value}
-use Rattle.dmf_solver.proofs.SolvedEdit.{PlansSolve-listed, flows-listed, residual-listed}
+use Rattle.dmf_solver.proofs.SolvedEdit.{PlansSolve-listed, flows-listed, told-listed, residual-listed}
 use Rattle.dmf_solver.proofs.residual_network.ResidualNetwork.plan_solve_with_side.Goals as goal
 
 pub returns-clause-edit : goal.returns-clause-edit
@@ -13,3 +13,6 @@ returns-clause-value g c =
 
 pub returns-clause-kept : goal.returns-clause-kept
 returns-clause-kept g c = residual-listed c.args.state.now c.solve-solved.result.search c.solve-solved.result.value c.in_ok-moves.moves c.solve-solved.ensures.state c.solve-solved.ensures.solved c.in_ok-moves.ensures
+
+pub returns-clause-told : goal.returns-clause-told
+returns-clause-told g c = told-listed c.args.state.now c.solve-solved.result.search c.solve-solved.result.value c.in_ok-moves.moves _ _ c.solve-solved.ensures.state c.solve-solved.ensures.solved c.in_ok-moves.ensures c.solve-solved.ensures.told

@@ -1,10 +1,13 @@
-//! How far a run is, told on standard error: one line, which each next word replaces and which is erased before anything is
-//! answered or asked for. Nothing else depends on it, and where it cannot be told, the run goes on.
+//! How far a run is, told on standard error. On a terminal that is one line, which each next word replaces and which is erased
+//! before anything is answered or asked for; elsewhere each word is a line. Nothing else depends on it, and where it cannot be
+//! told, the run goes on.
 ghost use Rattle.std.specs.Prelude.{◌≡◌};
 
-use dmf_net::Watch;
+use crate::explain::{Origin, file_size};
+use dmf_solver::Watch;
 use dmf_text::{Failed, Sink, Source};
 use std::cell::Cell;
+use std::fmt;
 use std::io::IsTerminal;
 use std::rt::HostRuntime;
 use std::time::{Duration, Instant};
@@ -20,10 +23,52 @@ const CALLS: u64 = 64;
 
 const MEGABYTE: u64 = 1_000_000;
 
+/// How far a task is.
+#[derive(Clone, Copy)]
+enum Word {
+    /// So many bytes are read, of so many, where that is known.
+    Reading { bytes: u64, size: Option<u64> },
+    Solving { value: u64, phases: u32, paths: u64 },
+    /// So many bytes are written.
+    Writing { bytes: u64 },
+}
+
+impl fmt::Display for Word {
+    fn fmt<W: fmt::Write>(&self, f: &mut fmt::Formatter<W>) -> fmt::Result {
+        match *self {
+            Word::Reading {
+                bytes,
+                size: Some(size),
+            } => {
+                let (read, whole) = (bytes / MEGABYTE, size / MEGABYTE);
+                write!(f, "dmf: reading, {read} MB of {whole} MB")
+            }
+            Word::Reading { bytes, size: None } => {
+                let read = bytes / MEGABYTE;
+                write!(f, "dmf: reading, {read} MB")
+            }
+            Word::Solving {
+                value,
+                phases,
+                paths,
+            } => write!(
+                f,
+                "dmf: solving, value {value}, phase {phases}, {paths} paths"
+            ),
+            Word::Writing { bytes } => {
+                let written = bytes / MEGABYTE;
+                write!(f, "dmf: writing, {written} MB")
+            }
+        }
+    }
+}
+
 /// The line on standard error. What it tells of is a task: to read a text, to solve, or to write an answer.
 #[derive(Drop)]
 pub struct Progress<'a> {
     rt: &'a HostRuntime,
+    /// Whether standard error is a terminal, on which a word can be replaced.
+    is_terminal: bool,
     /// How long a task is silent at first, in milliseconds; none, where nothing is told at all.
     patience: Option<u64>,
     /// When the next word may come.
@@ -37,20 +82,28 @@ impl<'a> Progress<'a> {
     /// A line that is still empty. It comes at once where it was asked for, else after a while, and never on what is no
     /// terminal.
     pub fn new(rt: &'a HostRuntime, is_asked_for: bool) -> Self {
+        let is_terminal = rt.stderr().is_terminal();
         let patience = if is_asked_for {
             Some(0)
-        } else if rt.stderr().is_terminal() {
+        } else if is_terminal {
             Some(PATIENCE)
         } else {
             None
         };
         Progress {
             rt,
+            is_terminal,
             patience,
             due: Cell::new(None),
             is_shown: Cell::new(false),
             is_busy: Cell::new(false),
         }
+    }
+
+    /// How many bytes a text has, where something is told and it is that of a regular file.
+    fn size_of(&self, origin: Origin<'_>) -> Option<u64> {
+        self.patience?;
+        file_size(self.rt, origin)
     }
 
     /// Begins a task, unless one goes on. Whether it is a new one.
@@ -74,6 +127,16 @@ impl<'a> Progress<'a> {
         }
     }
 
+    /// Tells a word.
+    fn tell(&self, word: Word) {
+        if self.is_terminal {
+            self.is_shown.set(true);
+            let _ = eprint!(self.rt; "\r\x1b[K{word}");
+        } else {
+            let _ = eprintln!(self.rt; "{word}");
+        }
+    }
+
     /// Whether it is time for a word. If so, the next may come after a pause.
     fn is_due(&self) -> bool {
         let Some(due) = self.due.get() else {
@@ -86,7 +149,6 @@ impl<'a> Progress<'a> {
             return false;
         }
         self.due.set(after(self.rt, PAUSE));
-        self.is_shown.set(true);
         true
     }
 }
@@ -105,16 +167,19 @@ pub struct WatchedSource<'a, S> {
     progress: &'a Progress<'a>,
     is_told: bool,
     bytes: u64,
+    /// How many bytes there are, where that is known.
+    size: Option<u64>,
 }
 
 impl<'a, S: Source> WatchedSource<'a, S> {
-    /// That of a file.
-    pub fn of_file(source: S, progress: &'a Progress<'a>) -> Self {
+    /// That of the file at this path.
+    pub fn of_file(source: S, path: &str, progress: &'a Progress<'a>) -> Self {
         WatchedSource {
             source,
             progress,
             is_told: true,
             bytes: 0,
+            size: progress.size_of(Origin::File(path)),
         }
     }
 
@@ -125,6 +190,7 @@ impl<'a, S: Source> WatchedSource<'a, S> {
             progress,
             is_told: !progress.rt.stdin().is_terminal(),
             bytes: 0,
+            size: progress.size_of(Origin::Input),
         }
     }
 }
@@ -142,7 +208,10 @@ impl<S: Source> Source for WatchedSource<'_, S> {
         let given = self.source.read(buffer)?;
         self.bytes = self.bytes.saturating_add(given as u64);
         if given > 0 && self.progress.is_due() {
-            let _ = eprint!(self.progress.rt; "\r\x1b[Kdmf: reading, {} MB", self.bytes / MEGABYTE);
+            self.progress.tell(Word::Reading {
+                bytes: self.bytes,
+                size: self.size,
+            });
         }
         Ok(given)
     }
@@ -203,10 +272,11 @@ impl Watch for WatchedSolve<'_> {
         self.phases = self.phases.saturating_add(u32::from(is_new_phase));
         self.links = links;
         if (is_new_phase || self.paths % CALLS == 1) && self.progress.is_due() {
-            let _ = eprint!(self.progress.rt;
-                "\r\x1b[Kdmf: solving, value {value}, phase {}, {} paths",
-                self.phases, self.paths
-            );
+            self.progress.tell(Word::Solving {
+                value,
+                phases: self.phases,
+                paths: self.paths,
+            });
         }
     }
 }
@@ -248,7 +318,7 @@ impl<W: Sink> Sink for WatchedSink<'_, W> {
         let taken = self.sink.put(bytes)?;
         self.bytes = self.bytes.saturating_add(taken as u64);
         if self.is_told && self.puts % CALLS == 0 && self.progress.is_due() {
-            let _ = eprint!(self.progress.rt; "\r\x1b[Kdmf: writing, {} MB", self.bytes / MEGABYTE);
+            self.progress.tell(Word::Writing { bytes: self.bytes });
         }
         Ok(taken)
     }

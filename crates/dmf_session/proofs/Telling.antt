@@ -1,0 +1,36 @@
+-- What a solve told, by the answer that the session gives.
+use Rattle.std.proofs.Common.{List, Option, Result, Ok, Err, inl, subst}
+use Rattle.std.specs.Result.{IsErr}
+use Rattle.std.proofs.lemmas.Bool.{false≢true}
+use Rattle.dmf_state.specs.declared.edit.Edit.{Edit}
+use Rattle.dmf_state.specs.Edit.{applied}
+use Rattle.dmf_state.specs.NetworkState.{NetworkState}
+use Rattle.dmf_solver.specs.Told.{Told, TellsSolve, MayTellSolve}
+use Rattle.dmf_solver.proofs.Solving.{AreTold-none}
+use Rattle.dmf_history.specs.Timeline.{Timeline, IsPresent, Appends}
+use Rattle.dmf_history.proofs.Appending.{one-present, appends-applied}
+use Rattle.dmf_session.specs.declared.command.Command.TheVariants.{Solve}
+use Rattle.dmf_session.specs.declared.command.Reply.{Reply}
+use Rattle.dmf_session.specs.declared.command.Refusal.{Refusal}
+use Rattle.dmf_session.specs.Telling.{TellsStep}
+use Rattle.dmf_session.proofs.Optimal.{present-appended}
+
+-- A solve that is refused before it is planned tells nothing.
+pub TellsStep-nothing : (t u : Timeline) (result : Result Reply Refusal) (told : Option (List Told)) → IsErr result → TellsStep t Solve result u told told
+TellsStep-nothing t u (Ok reply) told err = absurd (false≢true err)
+TellsStep-nothing t u (Err refusal) told err = λ s present. inl (AreTold-none told)
+
+-- One that is refused later tells what its plan told,
+pub TellsStep-refused : (t u : Timeline) (s : NetworkState) (result : Result Reply Refusal) (before after : Option (List Told)) → IsPresent t s → IsErr result → MayTellSolve s before after → TellsStep t Solve result u before after
+TellsStep-refused t u s (Ok reply) before after present err told = absurd (false≢true err)
+TellsStep-refused t u s (Err refusal) before after present err told =
+    λ other also. subst (λ p. MayTellSolve p before after) (one-present t s other present also) told
+
+-- and so does one whose outcome was appended.
+pub TellsStep-solved : (t u : Timeline) (s : NetworkState) (edit : Edit) (reply : Reply) (before after : Option (List Told)) → IsPresent t s → Appends edit t u → TellsSolve s (applied edit s).flows before after → TellsStep t Solve (Ok reply) u before after
+TellsStep-solved t u s edit reply before after present appends told =
+    λ other also. (
+      applied edit s,
+      present-appended t u s (applied edit s) present (appends-applied t u s edit present appends),
+      subst (λ p. TellsSolve p (applied edit s).flows before after) (one-present t s other present also) told,
+    )

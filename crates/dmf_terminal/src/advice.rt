@@ -1,0 +1,120 @@
+//! What is wrong with a number's field, whatever the text.
+use crate::fields::{Placed, Places, field_at, first_fault};
+use crate::part::{Part, Parts, about, words};
+use dmf_text::NumberFault;
+
+/// What explains a fault: the place of the field that has it, counted from 1 and 0 where it is none, and what was expected.
+#[derive(Clone, Copy)]
+pub struct Advice<'a> {
+    pub place: usize,
+    pub parts: Parts<'a>,
+}
+
+impl<'a> Advice<'a> {
+    /// That of a whole line or text.
+    pub fn of_line(parts: Parts<'a>) -> Advice<'a> {
+        Advice { place: 0, parts }
+    }
+
+    /// These words, of a whole line or text.
+    pub fn saying(text: &'a str) -> Advice<'a> {
+        Advice::of_line(words(text))
+    }
+
+    /// These words behind the field that has the fault.
+    pub fn about(placed: Placed<'a>, text: &'a str) -> Advice<'a> {
+        Advice {
+            place: placed.place,
+            parts: about(placed.field, text),
+        }
+    }
+
+    /// These words behind the field at a place of the line, and others where there is no such line.
+    pub fn at(
+        line: Option<&'a [u8]>,
+        place: usize,
+        text: &'a str,
+        else_text: &'a str,
+    ) -> Advice<'a> {
+        match line.and_then(|line| field_at(line, place)) {
+            Some(field) => Advice::about(Placed { place, field }, text),
+            None => Advice::saying(else_text),
+        }
+    }
+}
+
+/// A field of a line that is no number. Behind a word in place of a node stand the words on names.
+pub fn not_a_number<'a>(line: Option<&'a [u8]>, on_names: &'a str) -> Advice<'a> {
+    let Some(placed) = line.and_then(|line| faulty(line, NumberFault::NotANumber)) else {
+        return Advice::saying(
+            "a number has digits alone: whole, without sign, from 0 to 18446744073709551615",
+        );
+    };
+    let way = if placed.place < 4 && is_word(placed.field) {
+        on_names
+    } else {
+        way_on(placed.field)
+    };
+    Advice {
+        place: placed.place,
+        parts: [
+            Part::Quoted(placed.field),
+            Part::Words(" is no whole number from 0 to 18446744073709551615"),
+            Part::Words(way),
+            Part::Words(""),
+            Part::Words(""),
+        ],
+    }
+}
+
+/// Whether the field begins with a letter or a quote.
+fn is_word(field: &[u8]) -> bool {
+    match field {
+        [first, ..] => first.is_ascii_alphabetic() || *first == b'"',
+        [] => false,
+    }
+}
+
+/// A field of a line whose number is too large.
+pub fn too_large<'a>(line: Option<&'a [u8]>) -> Advice<'a> {
+    match line.and_then(|line| faulty(line, NumberFault::TooLarge)) {
+        Some(placed) => Advice::about(placed, " is past 18446744073709551615, the largest number"),
+        None => Advice::saying("the largest number is 18446744073709551615"),
+    }
+}
+
+/// The first field of a line of a problem or a solution that has this fault.
+fn faulty(line: &[u8], fault: NumberFault) -> Option<Placed<'_>> {
+    let kind = field_at(line, 1)?;
+    first_fault(line, Places::of_numbers(kind), fault)
+}
+
+/// What to write in place of a field that is no number.
+pub fn way_on<'a>(field: &[u8]) -> &'a str {
+    if is_infinite(field) {
+        "; there is no infinite capacity: write a large number"
+    } else if field.ends_with(b"\r") {
+        "; the text ends with a carriage return and no line feed behind it"
+    } else if field.starts_with(b"-") || field.starts_with(b"+") {
+        "; numbers have no sign (for no limit write a large number)"
+    } else if field.contains(&b',') {
+        "; write digits alone, without commas"
+    } else if field.first().is_some_and(|byte| byte.is_ascii_digit()) {
+        "; write digits alone"
+    } else {
+        ""
+    }
+}
+
+/// Whether the field stands for infinity, as other programs write it.
+fn is_infinite(field: &[u8]) -> bool {
+    let unsigned = match field {
+        [b'+', rest @ ..] => rest,
+        whole => whole,
+    };
+    unsigned.eq_ignore_ascii_case(b"inf")
+        || unsigned.eq_ignore_ascii_case(b"infinity")
+        || unsigned.eq_ignore_ascii_case(b"infinite")
+        || unsigned.eq_ignore_ascii_case(b"oo")
+        || unsigned == b"\xe2\x88\x9e".as_slice()
+}

@@ -1,0 +1,89 @@
+//! Which field of a line a fault is about.
+use dmf_text::{Fields, NumberFault, number};
+
+/// A field of a line, by its place, counted from 1.
+#[derive(Clone, Copy)]
+pub struct Placed<'a> {
+    pub place: usize,
+    pub field: &'a [u8],
+}
+
+/// The places of some fields: the first and the last.
+#[derive(Clone, Copy)]
+pub struct Places {
+    pub first: usize,
+    pub last: usize,
+}
+
+impl Places {
+    /// The places of the numbers in a line of a problem or a solution with this first field.
+    pub fn of_numbers(kind: &[u8]) -> Places {
+        match kind {
+            b"p" => Places { first: 3, last: 4 },
+            b"n" | b"s" => Places { first: 2, last: 2 },
+            _ => Places { first: 2, last: 4 },
+        }
+    }
+
+    fn have(self, place: usize) -> bool {
+        self.first <= place && place <= self.last
+    }
+}
+
+/// The field at this place.
+pub fn field_at(line: &[u8], place: usize) -> Option<&[u8]> {
+    let mut at = 0usize;
+    for field in Fields::new(line) {
+        at = at.saturating_add(1);
+        if at == place {
+            return Some(field);
+        }
+    }
+    None
+}
+
+/// How many fields the line has.
+pub fn count(line: &[u8]) -> u64 {
+    let mut fields = 0u64;
+    for _ in Fields::new(line) {
+        fields = fields.saturating_add(1);
+    }
+    fields
+}
+
+/// The first field at these places that has this fault.
+pub fn first_fault<'a>(line: &'a [u8], places: Places, fault: NumberFault) -> Option<Placed<'a>> {
+    let mut place = 0usize;
+    for field in Fields::new(line) {
+        place = place.saturating_add(1);
+        if places.have(place) && number(field) == Err(fault) {
+            return Some(Placed { place, field });
+        }
+    }
+    None
+}
+
+/// The first field at these places whose number is below the least or past the most.
+pub fn first_outside<'a>(
+    line: &'a [u8],
+    places: Places,
+    least: u64,
+    most: u64,
+) -> Option<Placed<'a>> {
+    let mut place = 0usize;
+    for field in Fields::new(line) {
+        place = place.saturating_add(1);
+        if places.have(place) && is_outside(field, least, most) {
+            return Some(Placed { place, field });
+        }
+    }
+    None
+}
+
+/// Whether the field is no number from the least to the most.
+fn is_outside(field: &[u8], least: u64, most: u64) -> bool {
+    match number(field) {
+        Ok(number) => number < least || number > most,
+        Err(_) => true,
+    }
+}

@@ -1,0 +1,78 @@
+//! Names that comments of a problem text give to its nodes and arcs (docs/FORMATS.md, Names).
+use dmf_text::{Fields, Lines, number};
+
+/// What a comment names.
+#[derive(Clone, Copy, PartialEq, Eq)]
+pub enum Thing {
+    Node,
+    Arc,
+}
+
+/// The things with a name: the first in the text's order, and whether it is the only one.
+#[derive(Clone, Copy)]
+pub struct Named {
+    pub number: u64,
+    pub is_only: bool,
+}
+
+/// What the comments of a problem text call so. A thing keeps the first name that it is given.
+pub fn find_named(text: &[u8], thing: Thing, name: &[u8]) -> Option<Named> {
+    let mut found: Option<Named> = None;
+    for (_, line) in Lines::new(text) {
+        if let Some(number) = numbered_as(line, thing, name) {
+            found = Some(also(found, number));
+        }
+    }
+    found
+}
+
+/// What was found, with one thing more.
+fn also(found: Option<Named>, number: u64) -> Named {
+    match found {
+        None => Named {
+            number,
+            is_only: true,
+        },
+        Some(first) => Named {
+            number: first.number,
+            is_only: first.is_only && first.number == number,
+        },
+    }
+}
+
+/// The number of the thing that this line calls so, if it is a comment that names such a thing.
+fn numbered_as(line: &[u8], thing: Thing, name: &[u8]) -> Option<u64> {
+    let mut fields = Fields::new(line);
+    let word = match thing {
+        Thing::Node => b"node".as_slice(),
+        Thing::Arc => b"arc".as_slice(),
+    };
+    if fields.next() != Some(b"c".as_slice()) || fields.next() != Some(word) {
+        return None;
+    }
+    let number = number(fields.next()?).ok()?;
+    if behind(line, 3) == name {
+        Some(number)
+    } else {
+        None
+    }
+}
+
+/// What stands behind so many fields of a line, without the blanks around it.
+pub fn behind(line: &[u8], fields: usize) -> &[u8] {
+    let mut rest = line.trim_ascii();
+    for _ in 0..fields {
+        rest = without_field(rest);
+    }
+    rest
+}
+
+/// The bytes behind the field with which they begin.
+fn without_field(bytes: &[u8]) -> &[u8] {
+    for (i, byte) in bytes.iter().enumerate() {
+        if *byte == b' ' || *byte == b'\t' {
+            return (&bytes[i..]).trim_ascii();
+        }
+    }
+    &[]
+}

@@ -1,0 +1,104 @@
+//! Pieces of which explanations are put together.
+use bstr::ByteSlice;
+use std::fmt;
+
+/// So many characters of a field or a name are shown, and two points for the rest.
+const MOST_SHOWN: usize = 60;
+
+/// A piece of an explanation.
+#[derive(Clone, Copy)]
+pub enum Part<'a> {
+    /// The program's own words.
+    Words(&'a str),
+    /// What somebody else wrote, between quotes.
+    Quoted(&'a [u8]),
+    /// The same without quotes.
+    Shown(&'a [u8]),
+    Number(u64),
+}
+
+/// The pieces of an explanation, in order. Those that are not needed are empty words.
+pub type Parts<'a> = [Part<'a>; 5];
+
+const NOTHING: Part<'static> = Part::Words("");
+
+/// These words alone.
+pub fn words<'a>(text: &'a str) -> Parts<'a> {
+    [Part::Words(text), NOTHING, NOTHING, NOTHING, NOTHING]
+}
+
+/// A field in quotes, and words behind it.
+pub fn about<'a>(field: &'a [u8], text: &'a str) -> Parts<'a> {
+    [
+        Part::Quoted(field),
+        Part::Words(text),
+        NOTHING,
+        NOTHING,
+        NOTHING,
+    ]
+}
+
+/// A number between two texts.
+pub fn numbered<'a>(before: &'a str, number: u64, behind: &'a str) -> Parts<'a> {
+    [
+        Part::Words(before),
+        Part::Number(number),
+        Part::Words(behind),
+        NOTHING,
+        NOTHING,
+    ]
+}
+
+impl fmt::Display for Part<'_> {
+    fn fmt<W: fmt::Write>(&self, f: &mut fmt::Formatter<W>) -> fmt::Result {
+        match self {
+            Part::Words(text) => f.write_str(text),
+            Part::Quoted(bytes) => {
+                let shown = Shown(bytes);
+                write!(f, "'{shown}'")
+            }
+            Part::Shown(bytes) => {
+                let shown = Shown(bytes);
+                write!(f, "{shown}")
+            }
+            Part::Number(number) => write!(f, "{number}"),
+        }
+    }
+}
+
+/// The pieces, one behind the other.
+#[derive(Clone, Copy)]
+pub struct Said<'a>(pub Parts<'a>);
+
+impl fmt::Display for Said<'_> {
+    fn fmt<W: fmt::Write>(&self, f: &mut fmt::Formatter<W>) -> fmt::Result {
+        let [first, second, third, fourth, fifth] = self.0;
+        write!(f, "{first}{second}{third}{fourth}{fifth}")
+    }
+}
+
+/// Bytes as a terminal may be given them: no control character among them, and cut where they are many.
+#[derive(Clone, Copy)]
+pub struct Shown<'a>(pub &'a [u8]);
+
+impl fmt::Display for Shown<'_> {
+    fn fmt<W: fmt::Write>(&self, f: &mut fmt::Formatter<W>) -> fmt::Result {
+        for (i, character) in self.0.chars().enumerate() {
+            if i == MOST_SHOWN {
+                return f.write_str("..");
+            }
+            show(character, f)?;
+        }
+        Ok(())
+    }
+}
+
+/// Writes a character, a control character by its number.
+fn show<W: fmt::Write>(character: char, f: &mut fmt::Formatter<W>) -> fmt::Result {
+    if character.is_control() {
+        let number = character as u32;
+        write!(f, "\\x{number:02x}")
+    } else {
+        f.write_char(character)
+    }
+}

@@ -1,0 +1,262 @@
+//! The refusals of a session, explained.
+use crate::advice::way_on;
+use crate::fields::{Places, count, field_at, first_fault};
+use crate::front::Front;
+use crate::names::{Named, Thing, behind, find_named};
+use crate::part::{Part, Parts, about, numbered, words};
+use crate::problem::found;
+use dmf_text::{NumberFault, number};
+
+/// Why a command line was refused.
+#[derive(Clone, Copy, PartialEq, Eq)]
+pub enum Reason {
+    UnknownCommand,
+    FieldCount,
+    NotANumber,
+    TooLarge,
+    NoSuchArc,
+    Closed,
+    NoSuchNode,
+    TooManyArcs,
+    SumTooLarge,
+    NothingToUndo,
+    NothingToRedo,
+    NotGreatest,
+    NoMemory,
+    LineTooLong,
+}
+
+/// A refusal, as the reply to a command line tells it.
+#[derive(Clone, Copy)]
+pub struct Refused {
+    pub line: u64,
+    pub reason: Reason,
+}
+
+impl Refused {
+    /// The refusal that a reply is.
+    pub fn of_reply(reply: &[u8]) -> Option<Refused> {
+        if !reply.starts_with(b"c refused ") {
+            return None;
+        }
+        Some(Refused {
+            line: number(field_at(reply, 3)?).ok()?,
+            reason: reason_of(behind(reply, 3))?,
+        })
+    }
+
+    /// Whether the problem's text helps to explain it.
+    pub fn is_about_problem(self) -> bool {
+        matches!(
+            self.reason,
+            Reason::NoSuchArc | Reason::NoSuchNode | Reason::NotANumber | Reason::FieldCount
+        )
+    }
+}
+
+/// The reason that a reply tells by this text.
+fn reason_of(text: &[u8]) -> Option<Reason> {
+    match text {
+        b"unknown command" => Some(Reason::UnknownCommand),
+        b"wrong number of fields" => Some(Reason::FieldCount),
+        b"not a number" => Some(Reason::NotANumber),
+        b"number too large" => Some(Reason::TooLarge),
+        b"no such arc" => Some(Reason::NoSuchArc),
+        b"arc is closed" => Some(Reason::Closed),
+        b"no such node" => Some(Reason::NoSuchNode),
+        b"too many arcs" => Some(Reason::TooManyArcs),
+        b"capacities past 64 bits" => Some(Reason::SumTooLarge),
+        b"nothing to undo" => Some(Reason::NothingToUndo),
+        b"nothing to redo" => Some(Reason::NothingToRedo),
+        b"flow is not greatest" => Some(Reason::NotGreatest),
+        b"no memory" => Some(Reason::NoMemory),
+        b"line too long" => Some(Reason::LineTooLong),
+        _ => None,
+    }
+}
+
+/// What is known of the problem of a session.
+#[derive(Clone, Copy)]
+pub struct Known<'a> {
+    /// Its text, where that can be read again.
+    pub text: Option<&'a [u8]>,
+    /// Whether an arc was added in the session.
+    pub has_added: bool,
+}
+
+const COMMANDS: &str =
+    "the commands are cap I U, add V W U, close I, shut V, solve, undo [K], redo [K] and \
+print problem, print flow, print cut; Ctrl-D ends the session";
+
+/// What explains a refusal of this command line.
+pub fn refusal_advice<'a>(reason: Reason, line: &'a [u8], known: Known<'_>) -> Parts<'a> {
+    let word = field_at(line, 1).unwrap_or(&[]);
+    match reason {
+        Reason::UnknownCommand => unknown_command(word, line),
+        Reason::FieldCount => field_count(word, line, known),
+        Reason::NotANumber => not_a_number(word, line, known),
+        Reason::TooLarge => words("the largest number is 18446744073709551615"),
+        Reason::NoSuchArc => arcs(known),
+        Reason::NoSuchNode => nodes(known),
+        Reason::Closed => words("undo alone opens a closed arc"),
+        Reason::TooManyArcs => words("a network has at most 134217728 arcs, closed ones counted"),
+        Reason::SumTooLarge => {
+            words("the sum of all capacities would pass 2^64 - 1: give a smaller number")
+        }
+        Reason::NothingToUndo => {
+            words("there are not so many changes to undo; undo K takes back all K or none")
+        }
+        Reason::NothingToRedo => words(
+            "there are not so many undone changes; a new change drops them, and redo K makes all K or none",
+        ),
+        Reason::NotGreatest => words("solve first: a cut is told of a greatest flow alone"),
+        Reason::NoMemory => words("a request for memory was refused; the command changed nothing"),
+        Reason::LineTooLong => words("a command line has at most 4096 bytes"),
+    }
+}
+
+fn unknown_command<'a>(word: &'a [u8], line: &'a [u8]) -> Parts<'a> {
+    if word == b"print".as_slice() {
+        return about(
+            field_at(line, 2).unwrap_or(b""),
+            " is not printed: print problem, print flow or print cut",
+        );
+    }
+    if is_asking(word) {
+        return words(COMMANDS);
+    }
+    if word.iter().any(|byte| byte.is_ascii_uppercase()) {
+        return about(
+            word,
+            " is no command: all commands are in lower case (help lists them)",
+        );
+    }
+    [
+        Part::Quoted(word),
+        Part::Words(" is no command: "),
+        Part::Words(COMMANDS),
+        Part::Words(""),
+        Part::Words(""),
+    ]
+}
+
+/// Whether somebody asks with this word for help or for the end.
+fn is_asking(word: &[u8]) -> bool {
+    matches!(word, b"help" | b"?" | b"quit" | b"exit" | b"q" | b"h")
+}
+
+fn field_count<'a>(word: &[u8], line: &'a [u8], known: Known<'_>) -> Parts<'a> {
+    match named_at(word, line, known) {
+        Some(named) => by_name(Thing::Arc, behind(line, 1), named),
+        None => wrong_count(word, line),
+    }
+}
+
+fn wrong_count<'a>(word: &[u8], line: &'a [u8]) -> Parts<'a> {
+    found(form_of(word), count(line))
+}
+
+/// What a command with this word takes.
+fn form_of<'a>(word: &[u8]) -> &'a str {
+    match word {
+        b"cap" => "cap takes an arc and its new capacity (cap I U, 3 fields)",
+        b"add" => "add takes two nodes and a capacity (add V W U, 4 fields)",
+        b"close" => "close takes an arc (close I, 2 fields)",
+        b"shut" => "shut takes a node (shut V, 2 fields)",
+        b"solve" => "solve takes nothing (1 field)",
+        b"undo" | b"redo" => "undo and redo take a count or nothing (1 or 2 fields)",
+        _ => "print takes problem, flow or cut (2 fields)",
+    }
+}
+
+/// The arc that the fields behind `close` name.
+fn named_at(word: &[u8], line: &[u8], known: Known<'_>) -> Option<Named> {
+    match (word, known.text) {
+        (b"close", Some(text)) => find_named(text, Thing::Arc, behind(line, 1)),
+        _ => None,
+    }
+}
+
+fn not_a_number<'a>(word: &[u8], line: &'a [u8], known: Known<'_>) -> Parts<'a> {
+    let places = Places { first: 2, last: 4 };
+    let Some(placed) = first_fault(line, places, NumberFault::NotANumber) else {
+        return words("a number has digits alone");
+    };
+    let Some(thing) = thing_at(word, placed.place) else {
+        return [
+            Part::Quoted(placed.field),
+            Part::Words(" is no whole number from 0 to 18446744073709551615"),
+            Part::Words(way_on(placed.field)),
+            Part::Words(""),
+            Part::Words(""),
+        ];
+    };
+    match known
+        .text
+        .and_then(|text| find_named(text, thing, placed.field))
+    {
+        Some(named) => by_name(thing, placed.field, named),
+        None => by_number(thing, placed.field),
+    }
+}
+
+/// What the field at this place of a command with this word is the number of.
+fn thing_at(word: &[u8], place: usize) -> Option<Thing> {
+    match (word, place) {
+        (b"cap" | b"close", 2) => Some(Thing::Arc),
+        (b"add", 2 | 3) | (b"shut", 2) => Some(Thing::Node),
+        _ => None,
+    }
+}
+
+fn by_name<'a>(thing: Thing, name: &'a [u8], named: Named) -> Parts<'a> {
+    [
+        Part::Words(match thing {
+            Thing::Arc => "arcs go by number here: ",
+            Thing::Node => "nodes go by number here: ",
+        }),
+        Part::Number(named.number),
+        Part::Words(" is "),
+        Part::Shown(name),
+        Part::Words(if named.is_only {
+            ""
+        } else {
+            ", and so is another"
+        }),
+    ]
+}
+
+fn by_number<'a>(thing: Thing, field: &'a [u8]) -> Parts<'a> {
+    about(
+        field,
+        match thing {
+            Thing::Arc =>
+                " is no number: arcs go by number here, from 1 in the order of the problem",
+            Thing::Node => " is no number: nodes go by number here",
+        },
+    )
+}
+
+fn arcs<'a>(known: Known<'_>) -> Parts<'a> {
+    let arcs = known.text.and_then(|text| Front::of(text, 0).0.arcs);
+    match arcs {
+        None => words(
+            "arcs are numbered from 1 in the order of the problem, and added ones follow",
+        ),
+        Some(0) if !known.has_added => words("the problem has no arcs"),
+        Some(arcs) if known.has_added => numbered(
+            "the problem has arcs 1 to ",
+            arcs,
+            ", and added ones follow by the number in their reply",
+        ),
+        Some(arcs) => numbered("there are arcs 1 to ", arcs, ""),
+    }
+}
+
+fn nodes<'a>(known: Known<'_>) -> Parts<'a> {
+    let nodes = known.text.and_then(|text| Front::of(text, 0).0.nodes);
+    match nodes {
+        None => words("nodes are numbered from 1 to NODES of the problem line"),
+        Some(nodes) => numbered("there are nodes 1 to ", nodes, ""),
+    }
+}

@@ -1,0 +1,64 @@
+//! The command lines that were read last, so that a refusal can be explained by the line that it is about.
+use dmf_text::Lines;
+use std::alloc::{AllocError, Global};
+
+/// No more of a line is kept: a longer one is refused for its length.
+const MOST_KEPT: usize = 4096;
+
+/// The lines of the piece that was read last, with the front of the first one that came before it.
+#[derive(Drop)]
+pub struct TypedLines {
+    text: Vec<u8>,
+    /// The number of the first of them; past all where a request for memory was refused.
+    first: u64,
+}
+
+impl TypedLines {
+    pub fn new(alloc: Global) -> TypedLines {
+        TypedLines {
+            text: Vec::new(alloc),
+            first: 1,
+        }
+    }
+
+    /// Takes the piece that was read next, and lets the lines go that were answered.
+    pub fn take(&mut self, piece: &[u8]) {
+        self.let_whole_lines_go();
+        self.text.truncate(MOST_KEPT);
+        if self.append(piece).is_err() {
+            self.text.clear();
+            self.first = u64::MAX;
+        }
+    }
+
+    fn append(&mut self, piece: &[u8]) -> Result<(), AllocError> {
+        self.text.extend_from_slice(piece)
+    }
+
+    /// Lets all bytes up to the last line feed go.
+    fn let_whole_lines_go(&mut self) {
+        let mut lines = 0u64;
+        let mut end = 0;
+        for (i, byte) in self.text.iter().enumerate() {
+            if *byte == b'\n' {
+                lines = lines.saturating_add(1);
+                end = i + 1;
+            }
+        }
+        self.first = self.first.saturating_add(lines);
+        let end = end.min(self.text.len());
+        self.text.rotate_left(end);
+        self.text.truncate(self.text.len() - end);
+    }
+
+    /// The line with this number, if it is kept.
+    pub fn line(&self, number: u64) -> Option<&[u8]> {
+        let wanted = number.checked_sub(self.first)?.saturating_add(1);
+        for (i, line) in Lines::new(&self.text) {
+            if i == wanted {
+                return Some(line);
+            }
+        }
+        None
+    }
+}

@@ -1,0 +1,93 @@
+//! What may have been meant by words that the program does not take.
+use crate::part::Shown;
+use dmf_text::number;
+use std::fmt;
+
+/// What may have been meant.
+#[derive(Clone, Copy)]
+pub enum Meant<'a> {
+    /// To solve the problem in this file: it is read from standard input.
+    Solve { with_cut: bool, file: &'a str },
+    /// A bound of the history.
+    History { most: u32 },
+}
+
+impl fmt::Display for Meant<'_> {
+    fn fmt<W: fmt::Write>(&self, f: &mut fmt::Formatter<W>) -> fmt::Result {
+        match self {
+            Meant::Solve { with_cut, file } => {
+                let cut = if *with_cut { "--cut " } else { "" };
+                let shown = Shown(file.as_bytes());
+                write!(f, "dmf solve {cut}<{shown}")
+            }
+            Meant::History { most } => write!(f, "N is a whole number from 0 to {most}"),
+        }
+    }
+}
+
+/// What may have been meant by these words, of which the first is the program's name.
+pub fn meant_by<'a>(words: &'a [String], most: u32) -> Option<Meant<'a>> {
+    if has_wrong_history(words, u64::from(most)) {
+        return Some(Meant::History { most });
+    }
+    match words {
+        [_, command, rest @ ..] if command.as_str() == "solve" => solve_of(rest),
+        [_, file] if is_plain(file.as_str()) && !file.as_str().starts_with("-") => Some(
+            Meant::Solve {
+                with_cut: false,
+                file: file.as_str(),
+            },
+        ),
+        _ => None,
+    }
+}
+
+/// What is to be solved by the words behind `solve`: they have one file beside the flags, whose name needs no quotes.
+fn solve_of(words: &[String]) -> Option<Meant<'_>> {
+    let mut with_cut = false;
+    let mut meant: Option<&str> = None;
+    for word in words {
+        let word = word.as_str();
+        match word {
+            "--cut" => with_cut = true,
+            "--progress" => {}
+            file if meant.is_none() && is_plain(file) && !file.starts_with("-") => meant = Some(
+                file,
+            ),
+            _ => return None,
+        }
+    }
+    let file = meant?;
+    Some(Meant::Solve { with_cut, file })
+}
+
+/// Whether a shell takes the word as it stands.
+fn is_plain(word: &str) -> bool {
+    let mut is_plain = !word.is_empty();
+    for byte in word.as_bytes() {
+        is_plain &= byte.is_ascii_alphanumeric() || b"._/-+,:@%=".contains(byte);
+    }
+    is_plain
+}
+
+/// Whether a word behind `--history` is no number up to the most.
+fn has_wrong_history(words: &[String], most: u64) -> bool {
+    let mut is_bound = false;
+    for word in words {
+        let word = word.as_bytes();
+        if is_bound && !is_at_most(word, most) {
+            return true;
+        }
+        is_bound = word == b"--history".as_slice();
+        if let Some(value) = word.strip_prefix(b"--history=".as_slice()) {
+            if !is_at_most(value, most) {
+                return true;
+            }
+        }
+    }
+    is_bound
+}
+
+fn is_at_most(word: &[u8], most: u64) -> bool {
+    matches!(number(word), Ok(number) if number <= most)
+}

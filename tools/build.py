@@ -1,0 +1,352 @@
+#!/usr/bin/env python3
+"""Proves and builds the program `dmf`, for the script of that name at the root.
+
+    python3 tools/build.py
+
+A crate begins once those are built that it stands on, the one with the longest chain above it first, and several are built side by
+side, as many as processors and memory allow. Standard error tells which are in work and which are built, how long it has taken, and
+how long the rest is likely to take: on a terminal in one line, which is written anew, and elsewhere in a line for each crate.
+
+Each crate is built in a folder of its own, beside links to what it stands on, since `rt` lets no two of its calls work over one
+crate. What was built is moved to the crate's out/ once it is whole, so an interrupt leaves nothing half made, and the next call
+goes on with the crates that are missing. Two calls at once wait for one another.
+
+The status is 0 where the program is built, 70 where a crate fails, and 130 after an interrupt.
+"""
+
+from __future__ import annotations
+
+import contextlib
+import fcntl
+import os
+import shutil
+import signal
+import subprocess
+import sys
+import tempfile
+import time
+from collections.abc import Iterator
+from dataclasses import dataclass, field
+from pathlib import Path
+from types import FrameType
+from typing import IO, NoReturn
+
+ROOT = Path(__file__).resolve().parents[1]
+PROGRAM = "dmf"
+FAILED, INTERRUPTED = 70, 130
+# What one crate may take of memory, in GiB, when it is proved.
+MEMORY = 3.5
+# The seconds that each crate took alone on four processors of 2.5 GHz: they say which is begun first, and how long the rest takes.
+SECONDS = {
+    "dmf_arguments": 71, "dmf_node": 5, "dmf_path": 162, "dmf_state": 67, "dmf_solver": 124, "dmf_net": 8, "dmf_text": 93,
+    "dmf_history": 50, "dmf_session": 94, "dmf_runs": 138, "dmf_run": 8, "dmf_terminal": 60, "dmf": 187,
+}  # fmt: skip
+UNKNOWN_SECONDS = 60
+
+
+class Failure(Exception):
+    """A crate that could not be built, with what `rt` said of it."""
+
+
+@dataclass
+class Crate:
+    """A crate of the repository, with the crates below it that it stands on, directly and by others."""
+
+    name: str
+    libraries: list[str]
+    below: list[str] = field(default_factory=list)
+
+    @property
+    def folder(self) -> Path:
+        return ROOT / "crates" / self.name
+
+    @property
+    def seconds(self) -> float:
+        return SECONDS.get(self.name, UNKNOWN_SECONDS)
+
+    @property
+    def command(self) -> list[str]:
+        """What builds it. `rt run` also runs the program, so it is given a session without commands, which ends with 0."""
+        if self.name == PROGRAM:
+            return ["rt", "run", "--", "session", str(ROOT / "examples/a.max")]
+        return ["rt", "lib"]
+
+
+def read_crates() -> dict[str, Crate]:
+    """The program's crate and all that it stands on, the lowest first."""
+    lines = (line.partition("#")[0].partition(":") for line in (ROOT / "crates.txt").read_text().splitlines())
+    libraries = {name.strip(): rest.split() for name, _, rest in lines if name.strip()}
+    crates: dict[str, Crate] = {}
+
+    def add(name: str) -> None:
+        if name in libraries and name not in crates:
+            crate = Crate(name, libraries[name])
+            for library in crate.libraries:
+                add(library)
+                if library in crates:
+                    crate.below += [it for it in [*crates[library].below, library] if it not in crate.below]
+            crates[name] = crate
+
+    add(PROGRAM)
+    return crates
+
+
+def at_once() -> int:
+    """How many crates may be built side by side."""
+    memory = os.sysconf("SC_PAGE_SIZE") * os.sysconf("SC_PHYS_PAGES") / 2**30
+    return max(1, min(len(os.sched_getaffinity(0)), int(memory / MEMORY)))
+
+
+def duration(seconds: float) -> str:
+    """A time in words: 40 s, 3 min 5 s, 12 min."""
+    minutes, rest = divmod(round(seconds), 60)
+    if minutes >= 10:
+        return f"{minutes + (rest >= 30)} min"
+    return f"{minutes} min {rest} s" if minutes else f"{rest} s"
+
+
+class Told:
+    """What standard error tells of the build."""
+
+    def __init__(self) -> None:
+        self.is_terminal = sys.stderr.isatty()
+
+    def line(self, text: str) -> None:
+        self.erase()
+        print(f"dmf: {text}", file=sys.stderr, flush=True)
+
+    def status(self, text: str) -> None:
+        """Writes the line of a terminal anew, as far as it is wide."""
+        if self.is_terminal:
+            width = shutil.get_terminal_size().columns - 1
+            print(f"\r{f'dmf: {text}'[:width]}\x1b[K", end="", file=sys.stderr, flush=True)
+
+    def erase(self) -> None:
+        if self.is_terminal:
+            print("\r\x1b[K", end="", file=sys.stderr, flush=True)
+
+
+@dataclass
+class Work:
+    """A crate that is being built: its process, in a folder of its own, and what it says."""
+
+    crate: Crate
+    folder: Path
+    process: subprocess.Popen[bytes]
+    said: IO[bytes]
+    begun: float
+
+    @property
+    def seconds(self) -> float:
+        return time.monotonic() - self.begun
+
+    def keep(self) -> None:
+        """Moves what was built to the crate's own folder, in place of what an earlier call built."""
+        made, out = self.folder / "crates" / self.crate.name / "out", self.crate.folder / "out"
+        old = self.folder / "old"
+        if out.exists():
+            shutil.move(out, old)
+        shutil.move(made, out)
+
+    def end(self) -> None:
+        """Ends the process, with all that it began, and removes its folder."""
+        with contextlib.suppress(ProcessLookupError):
+            os.killpg(self.process.pid, signal.SIGKILL)
+        self.process.wait()
+        self.said.close()
+        shutil.rmtree(self.folder, ignore_errors=True)
+
+
+def link(source: str, to: str) -> None:
+    """A link to a file, or a copy of it where the two places are on different file systems."""
+    try:
+        os.link(source, to)
+    except OSError:
+        shutil.copy2(source, to)
+
+
+def begin(crate: Crate, crates: dict[str, Crate], place: Path, is_urgent: bool) -> Work:
+    """Begins to build a crate. One that is not urgent leaves the processors to those that are."""
+    folder = Path(tempfile.mkdtemp(prefix="dmf-build-", dir=place))
+    names = [*crate.below, crate.name]
+    (folder / "crates.txt").write_text("".join(f"{name}: {' '.join(crates[name].libraries)}\n" for name in names))
+    for name in names:
+        here, there = crates[name].folder, folder / "crates" / name
+        parts = [it.name for it in here.iterdir() if it.name != "out"]
+        parts += ["out"] if name == crate.name else ["out/rlib"]
+        for part in parts:
+            if (here / part).is_dir():
+                shutil.copytree(here / part, there / part, copy_function=link)
+            elif (here / part).is_file():
+                there.mkdir(parents=True, exist_ok=True)
+                link(str(here / part), str(there / part))
+    said = tempfile.TemporaryFile()
+    process = subprocess.Popen(
+        crate.command if is_urgent else ["nice", "-n", "5", *crate.command],
+        cwd=folder / "crates" / crate.name,
+        stdin=subprocess.DEVNULL,
+        stdout=said,
+        stderr=said,
+        start_new_session=True,
+    )
+    return Work(crate, folder, process, said, time.monotonic())
+
+
+class Build:
+    """The build of all crates: which are built, and which are in work."""
+
+    def __init__(self, crates: dict[str, Crate], place: Path, told: Told) -> None:
+        self.crates = crates
+        self.place = place
+        self.told = told
+        self.begun = time.monotonic()
+        self.took: dict[str, float] = {}
+        self.running: list[Work] = []
+
+    def chain(self, crate: Crate, left: dict[str, float]) -> float:
+        """The seconds that are left of a crate and of the longest chain of crates that wait for it."""
+        above = (it for it in self.crates.values() if crate.name in it.libraries)
+        return left[crate.name] + max((self.chain(it, left) for it in above), default=0.0)
+
+    def left(self) -> dict[str, float]:
+        """The seconds that are left of each crate, as the machine of the table takes them."""
+        left = {it.name: 0.0 if it.name in self.took else it.seconds for it in self.crates.values()}
+        for work in self.running:
+            left[work.crate.name] = max(work.crate.seconds - work.seconds / self.pace(), work.crate.seconds / 20)
+        return left
+
+    def pace(self) -> float:
+        """How many times as long this machine takes as that of the table, by the crates that are built."""
+        known = sum(self.crates[name].seconds for name in self.took)
+        return (sum(self.took.values()) + UNKNOWN_SECONDS) / (known + UNKNOWN_SECONDS)
+
+    def rest(self) -> float:
+        """How many seconds the rest is likely to take."""
+        left = self.left()
+        return self.pace() * max((self.chain(it, left) for it in self.crates.values()), default=0.0)
+
+    def ready(self) -> list[Crate]:
+        """The crates that can be begun, the one with the longest chain first."""
+        begun = {*self.took, *(it.crate.name for it in self.running)}
+        ready = [it for it in self.crates.values() if it.name not in begun and all(name in self.took for name in it.below)]
+        left = self.left()
+        return sorted(ready, key=lambda it: -self.chain(it, left))
+
+    def begin_more(self) -> None:
+        """Begins crates as long as there is room. The longest chain has the first turn at the processors."""
+        left = self.left()
+        for crate in self.ready()[: at_once() - len(self.running)]:
+            chains = [self.chain(it.crate, left) for it in self.running]
+            is_urgent = self.chain(crate, left) >= max(chains, default=0.0)
+            self.running.append(begin(crate, self.crates, self.place, is_urgent))
+
+    def take_ended(self) -> None:
+        """Keeps what was built, and fails where a crate did not succeed."""
+        for work in [it for it in self.running if it.process.poll() is not None]:
+            self.running.remove(work)
+            try:
+                if work.process.returncode != 0:
+                    work.said.seek(0)
+                    raise Failure(f"{work.crate.name} is not built\n{work.said.read().decode(errors='replace')}")
+                work.keep()
+                self.took[work.crate.name] = work.seconds
+            finally:
+                work.end()
+            self.tell_built(work.crate, self.took[work.crate.name])
+
+    def tell_built(self, crate: Crate, seconds: float) -> None:
+        if not self.told.is_terminal:
+            count = f"{len(self.took)} of {len(self.crates)}"
+            rest = f"; about {duration(self.rest())} left" if len(self.took) < len(self.crates) else ""
+            self.told.line(f"{count}: {crate.name} is built, after {duration(seconds)}{rest}")
+
+    def tell_status(self) -> None:
+        names = ", ".join(it.crate.name for it in self.running)
+        so_far = duration(time.monotonic() - self.begun)
+        self.told.status(
+            f"{len(self.took)} of {len(self.crates)} built; in work: {names}; {so_far} so far, about {duration(self.rest())} left"
+        )
+
+    def run(self) -> None:
+        try:
+            while len(self.took) < len(self.crates):
+                self.begin_more()
+                self.tell_status()
+                wait_for_one(self.running)
+                self.take_ended()
+        finally:
+            self.told.erase()
+            for work in self.running:
+                work.end()
+
+
+def wait_for_one(running: list[Work]) -> None:
+    """Waits a moment, or until one of the processes has ended."""
+    until = time.monotonic() + 1
+    while time.monotonic() < until and all(it.process.poll() is None for it in running):
+        time.sleep(0.05)
+
+
+@contextlib.contextmanager
+def alone(told: Told) -> Iterator[None]:
+    """Keeps other builds of this repository out. Where one is at work, this one waits for it."""
+    folder = os.open(ROOT / "crates", os.O_RDONLY)
+    try:
+        try:
+            fcntl.flock(folder, fcntl.LOCK_EX | fcntl.LOCK_NB)
+        except BlockingIOError:
+            told.line("another call builds the program; this one waits for it.")
+            fcntl.flock(folder, fcntl.LOCK_EX)
+        yield
+    finally:
+        os.close(folder)
+
+
+def number_of(file: Path) -> int | None:
+    """The number by which the system knows the file; a file that takes its place has another."""
+    return file.stat().st_ino if file.exists() else None
+
+
+def build(told: Told) -> None:
+    """Builds the program, but for what is built already, and gives it the time at which the build began: a source that is edited
+    meanwhile is newer."""
+    program = ROOT / "crates" / PROGRAM / "out" / PROGRAM
+    before = number_of(program)
+    with alone(told):
+        if number_of(program) != before:
+            return  # The call that this one waited for has built it.
+        begun = time.time()
+        if before is not None:
+            told.line("a source has changed since the program was built. What depends on it is proved and built again.")
+        else:
+            told.line("the program is proved and built. This happens once, and takes 7 to 15 minutes on 4 idle processors.")
+        git = ROOT / ".git"
+        place = git if git.is_dir() and os.access(git, os.W_OK) else Path(tempfile.gettempdir())
+        if place == git:
+            for left in git.glob("dmf-build-*"):
+                shutil.rmtree(left, ignore_errors=True)
+        Build(read_crates(), place, told).run()
+        os.utime(program, (begun, begun))
+
+
+def interrupt(_number: int, _frame: FrameType | None) -> NoReturn:
+    raise KeyboardInterrupt
+
+
+def main() -> int:
+    told = Told()
+    for number in signal.SIGINT, signal.SIGTERM, signal.SIGHUP:
+        signal.signal(number, interrupt)
+    try:
+        build(told)
+    except Failure as failure:
+        told.line(str(failure).rstrip("\n"))
+        return FAILED
+    except KeyboardInterrupt:
+        told.line("interrupted; the next call goes on with the crates that are missing.")
+        return INTERRUPTED
+    return 0
+
+
+if __name__ == "__main__":
+    sys.exit(main())
