@@ -1,5 +1,5 @@
-"""Tests tools/dmf-names: what it tells of answers, sessions and transcripts against texts that were worked out by hand, what it says
-of those that do not fit, and how it ends.
+"""Tests tools/dmf-names: what it tells of answers, sessions and transcripts against texts that were worked out by hand, what it
+says of those that do not fit, and how it ends.
 
     python3 tests/names.py    prints what failed, and then 'N passed, M failed'
 """

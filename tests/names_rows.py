@@ -258,7 +258,12 @@ LATER = [
         TOLD,
         "line 8 of the answer: value differs: it is 6 here",
     ),
-    ("solve / cap 1 4", f"{ANSWER} / f 1 2 4", TOLD, "line 5 of the answer: a flow before its value line, or one more than the network has arcs"),
+    (
+        "solve / cap 1 4",
+        f"{ANSWER} / f 1 2 4",
+        TOLD,
+        "line 5 of the answer: a flow before its value line, or one more than the network has arcs",
+    ),
 ]
 TITLES = ["number", "name", "from", "to", "flow", "capacity", "full", "in cut"]
 MILL, HILL, OLD = (1, "Mill Lane", "Quarry", "Hill"), (2, "", "Hill", "Site"), (3, "Old Road", "Quarry", "Site")
