@@ -1,5 +1,7 @@
 """What tools/dmf-names does while its answer comes, how it ends, and where it is put."""
 
+from __future__ import annotations
+
 import contextlib
 import os
 import select
@@ -8,14 +10,18 @@ import signal
 import subprocess
 import tempfile
 import time
+from collections.abc import Iterator
+from typing import IO
 
 from names_run import SECONDS, TOOL, put
 
 PIPE = subprocess.PIPE
+# What is wrong with a case, or nothing where it is as it should be.
+Wrong = Iterator["str | bool"]
 
 
 @contextlib.contextmanager
-def running(*words, **streams):
+def running(*words: str, **streams: int | IO[bytes]) -> Iterator[subprocess.Popen[bytes]]:
     tool = subprocess.Popen([TOOL, *words], stdin=PIPE, stdout=streams.get("stdout", PIPE), stderr=PIPE, bufsize=0)
     try:
         yield tool
@@ -27,7 +33,7 @@ def running(*words, **streams):
                 stream.close()
 
 
-def read_until(pipe, wanted):
+def read_until(pipe: IO[bytes], wanted: bytes) -> bytes:
     """What comes until this has come, or for so many seconds at most."""
     told = b""
     end = time.time() + SECONDS
@@ -39,7 +45,7 @@ def read_until(pipe, wanted):
     return told
 
 
-def wrong_live(problem):
+def wrong_live(problem: str) -> Wrong:
     """Over pipes: each reply is told when it is whole, a cut without a next line, and commands are read as they are written."""
     with tempfile.TemporaryDirectory() as folder:
         put(f"{folder}/problem", problem)
@@ -72,7 +78,7 @@ def wrong_live(problem):
             yield tool.wait(SECONDS) != 0 and f"a live session: {tool.stderr.read()}"
 
 
-def wrong_ends(problem):
+def wrong_ends(problem: str) -> Wrong:
     """At Ctrl-C it ends with 130, where nobody reads on by the signal of that, and each time without a word."""
     with tempfile.TemporaryDirectory() as folder:
         put(f"{folder}/problem", problem)
@@ -107,7 +113,7 @@ def wrong_ends(problem):
             yield (ran.returncode, b"usage: dmf-names" in ran.stdout + ran.stderr) != (status, True) and f"{words}: {ran}"
 
 
-def wrong_places(problem):
+def wrong_places(problem: str) -> Wrong:
     """It finds its package where `./install` puts both, and by symbolic links. Without the package it says so in one line."""
     with tempfile.TemporaryDirectory() as folder:
         put(f"{folder}/problem", problem)
