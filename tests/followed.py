@@ -204,6 +204,26 @@ def wrong_worked():
         yield not fault_of(case.problem, commands, replies + replies[:1]) and f"{case.name}: with a reply too many"
 
 
+def wrong_odd_replies(random):
+    """Replies of random sessions with a fault put into them, and any commands for them: what does not fit is a fault of the
+    transcript, and nothing else is raised."""
+    for _ in range(600):
+        state = random_cases.network(random, 6)
+        if state.source == state.sink or state.capacity_sum() > texts.LARGEST:
+            continue
+        problem = oracle_problem.problem_text(state)
+        script = random_cases.plain_text(random_cases.command_lines(state, random)[:30])
+        replies, _ = session.run_lines(state, script, random.random() < 0.5, session.Refusals())
+        odd = random_cases.text_of([fields(line) for line in lines(replies)], random, b"cx", 1)
+        commands = random.choice([None, lines_with_ends(script)])
+        try:
+            fault_of(problem, commands, lines_with_ends(odd))
+        except Exception as error:  # noqa: BLE001 - whatever it is, it is reported
+            yield f"{problem!r}, {commands!r}, {odd!r}: {error!r}"
+        else:
+            yield None
+
+
 def lines_with_ends(text):
     pieces = text.split(b"\n")
     return [piece + b"\n" for piece in pieces[:-1]] + [rest for rest in pieces[-1:] if rest]
@@ -211,7 +231,7 @@ def lines_with_ends(text):
 
 def fault_of(problem, commands, replies):
     """The fault of a session, if it has one."""
-    follower = Follower(read_problem(problem), iter(commands))
+    follower = Follower(read_problem(problem), None if commands is None else iter(commands))
     try:
         for line in replies:
             follower.take(line)
@@ -223,7 +243,8 @@ def fault_of(problem, commands, replies):
 
 def main(words):
     random = Random(int(words[0]) if words else 1990)
-    return tell([*wrong_rows(), *wrong_problems(random), *wrong_sessions(random), *wrong_worked()])
+    said = [*wrong_rows(), *wrong_problems(random), *wrong_sessions(random), *wrong_worked(), *wrong_odd_replies(random)]
+    return tell(said)
 
 
 sys.exit(main(sys.argv[1:]))

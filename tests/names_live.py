@@ -102,7 +102,7 @@ def wrong_ends(problem):
             ran = subprocess.run([TOOL, *words], cwd=folder, input=b"c undo value 0\n", capture_output=True, timeout=SECONDS)
             is_told = ran.returncode == 1 and ran.stderr.startswith(f"dmf-names: cannot read {told}: ".encode())
             yield not (is_told and ran.stderr.count(b"\n") == 1) and f"{words}: {ran}"
-        for words, status in ([], 2), (["--wash", "problem"], 2), (["--help"], 0):
+        for words, status in ([], 2), (["--wash", "problem"], 2), (["-"], 2), (["--help"], 0):
             ran = subprocess.run([TOOL, *words], cwd=folder, input=b"", capture_output=True, timeout=SECONDS)
             yield (ran.returncode, b"usage: dmf-names" in ran.stdout + ran.stderr) != (status, True) and f"{words}: {ran}"
 

@@ -37,7 +37,7 @@ def names_of(problem, commands, answer, *words):
             # What was written long ago is not waited for.
             os.utime(f"{folder}/commands", (0, 0))
             given = ["--commands", "commands"]
-        environment = {**os.environ, "LC_ALL": "C", "PYTHONIOENCODING": "ascii", "PYTHONUTF8": "0"}
+        environment = {**os.environ, "LC_ALL": "C", "PYTHONIOENCODING": "ascii", "PYTHONUTF8": "0", "PYTHONCOERCECLOCALE": "0"}
         ran = subprocess.run(
             [TOOL, "problem", *given, *words],
             cwd=folder,

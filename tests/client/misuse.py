@@ -7,7 +7,7 @@ import threading
 import time
 import unittest
 import unittest.mock
-from collections.abc import Callable
+from collections.abc import Callable, Iterator
 from typing import Any
 
 from shared import answering, dmf, pipes
@@ -51,6 +51,31 @@ class Bounds(unittest.TestCase):
         for bound in 0, 1, 1_000_000:
             with pipes(history=bound) as network:
                 self.assertEqual(network.solve().value, 5)
+
+
+class Graph:
+    """What stands in for a graph of networkx, with two edges of which the second has no capacity."""
+
+    def __init__(self, is_multigraph: bool) -> None:
+        self.is_multigraph = lambda: is_multigraph
+        self.is_directed = lambda: True
+
+    def __iter__(self) -> Iterator[str]:
+        return iter("abc")
+
+    def edges(self, data: bool, keys: bool = False) -> list[tuple[Any, ...]]:
+        key = ("old",) if keys else ()
+        return [("a", "b", *key, {"capacity": 3}), ("b", "c", *key, {"room": 2})]
+
+
+class Graphs(unittest.TestCase):
+    def test_an_edge_without_capacity(self) -> None:
+        for graph, edge in (Graph(False), "('b', 'c')"), (Graph(True), "('b', 'c', 'old')"):
+            with self.assertRaises(dmf.NoCapacity) as caught:
+                dmf.from_networkx(graph, "a", "c")
+            self.assertEqual(str(caught.exception), f"no capacity: the edge {edge} has no attribute 'capacity'")
+            with self.assertRaisesRegex(dmf.NoCapacity, r"the edge \('a', 'b'.* has no attribute 'room'$"):
+                dmf.from_networkx(graph, "a", "c", capacity="room")
 
 
 class Copies(unittest.TestCase):

@@ -83,6 +83,11 @@ class OddNames(unittest.TestCase):
             self.assertEqual((again.nodes, again.arcs[1].key), ([1, 2, "7"], "8"))
             self.assertEqual(again.problem(), network.problem())
 
+    def test_what_is_equal_to_its_number_comes_back_as_a_text(self) -> None:
+        for node in True, 1.0:
+            with dmf.Network([(node, "b", 1)], node, "b") as network, self.back(network) as again:
+                self.assertEqual(again.nodes, [str(node), "b"])
+
     def test_the_tools_read_them(self) -> None:
         names: list[Hashable] = ["", "two  blanks", "a\rb", '"', "\x1b[31m", 5]
         with dmf.Network([("a", name, 1) for name in names], "a", names[0]) as network:
