@@ -78,6 +78,8 @@ PROBLEMS: list[tuple[Case, str]] = [
     (Case("from;to;litres, a second, at most\nA;B;3\n"), ARC),
     (Case("A,B,3,,,\n , ,\n,,,\n"), ARC),
     (Case("A,B,3\n", ("--source", "A", "--sink", "B")), ARC),
+    (Case("-A,B,3\n", ("--", "-A", "B")), ARC.replace("1 A", "1 -A")),
+    (Case("-A,--,3\n", ("--table", "/dev/stdin", "--", "-A", "--")), ARC.replace("1 A", "1 -A").replace("2 B", "2 --")),
     (Case("", ("--table", "t.csv", "A", "B"), {"t.csv": "A,B,3\n"}), ARC),
     (Case("A,B,3\n".encode("utf-16"), ("A", "B", "--encoding", "utf-16")), ARC),
     (Case(TITLES + 'A,B b,3\nA,B b,"4"\n', ("A", "B b")), NAMED.replace("c arc 2 the long way\n", "")),
