@@ -21,6 +21,7 @@ class Case:
 LARGEST = 2**64 - 1
 TITLES = "from,to,cap\n"
 HINT = " (if these are titles, name the columns: --tail, --head and --capacity)"
+MARKED = ": decimals stand behind a point, and thousands have no mark"
 # One arc from A to B of capacity 3.
 ARC = "c node 1 A\nc node 2 B\np max 2 1\nn 1 s\nn 2 t\na 1 2 3\n"
 # Two arcs, the second with a name.
@@ -172,7 +173,8 @@ FAULTS: list[tuple[Case, str]] = [
     (Case("\n , \n"), "the table is empty"),
     (Case(TITLES), "the table has titles, and no row below them"),
     (Case("A,Z,30.5\n"), at(1, f"the capacity '30.5' is no whole number; --scale 10?{HINT}")),
-    (Case("A,Z,1 000\n"), at(1, f"the capacity '1 000' is no whole number{HINT}")),
+    (Case("A,Z,1 000\n"), at(1, f"the capacity '1 000' is no whole number{MARKED}{HINT}")),
+    (Case("von;nach;max\nA;Z;3,5\n", ("--scale", "10", "A", "Z")), at(2, f"the capacity '3,5' is no whole number{MARKED}")),
     (Case('A,Z,"30,"\n'), at(1, f"the capacity '30,' is no whole number{HINT}")),
     (Case("A,Z,-3\n"), at(1, f"the capacity '-3' is below 0{HINT}")),
     (Case("A,Z,\n"), at(1, "no capacity")),
