@@ -1,5 +1,8 @@
 //! What is told on standard error, where that is a terminal, of how a run or its words failed. Nothing depends on it, and where
 //! it cannot be told, nothing is.
+ghost use Rattle.std.specs.Prelude.{◌≡◌, ◌≢◌, Err, IsTrue};
+ghost use Rattle.dmf_text.specs.Problem.{problem_of, out_of_memory};
+
 use crate::part::Shown;
 use crate::place::Place;
 use crate::problem::problem_advice;
@@ -149,7 +152,9 @@ pub fn text_of(rt: &HostRuntime, origin: Origin<'_>, most: u64) -> Option<Vec<u8
 }
 
 /// Whether the problem text has this fault as its first.
-fn has_fault(rt: &HostRuntime, text: &[u8], fault: ProblemFault) -> bool {
+fn has_fault(rt: &HostRuntime, text: &[u8], fault: ProblemFault) -> bool
+    ensures { IsTrue result → fault ≢ out_of_memory → problem_of text.now ≡ Err fault }
+{
     matches!(read_problem(rt.alloc(), text), Err(found) if found == fault)
 }
 

@@ -1,4 +1,7 @@
 //! Which field of a line a fault is about.
+ghost use Rattle.std.specs.Prelude.{◌≡◌, ◌↔◌, ◌≤◌, Err, IfSome, IsTrue};
+ghost use Rattle.dmf_text.specs.Number.{number_of};
+
 use dmf_text::{Fields, NumberFault, number};
 
 /// A field of a line, by its place, counted from 1.
@@ -25,7 +28,9 @@ impl Places {
         }
     }
 
-    fn have(self, place: usize) -> bool {
+    fn have(self, place: usize) -> bool
+        ensures { IsTrue result ↔ ((self.first ≤ place) × (place ≤ self.last)) }
+    {
         self.first <= place && place <= self.last
     }
 }
@@ -52,7 +57,9 @@ pub fn count(line: &[u8]) -> u64 {
 }
 
 /// The first field at these places that has this fault.
-pub fn first_fault<'a>(line: &'a [u8], places: Places, fault: NumberFault) -> Option<Placed<'a>> {
+pub fn first_fault<'a>(line: &'a [u8], places: Places, fault: NumberFault) -> Option<Placed<'a>>
+    ensures { IfSome result (λ placed. (number_of placed.field.now ≡ Err fault) × (places.first ≤ placed.place) × (placed.place ≤ places.last)) }
+{
     let mut place = 0usize;
     for field in Fields::new(line) {
         place = place.saturating_add(1);
