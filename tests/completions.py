@@ -77,12 +77,13 @@ def tool_cases(tool):
     yield f"{tool} -", set(options), {PROBLEM}
     yield f"{tool} --h", {it for it in options if it.startswith("--h")}, {PROBLEM}
     yield f"{tool} < a", {PROBLEM}, set()
+    with_value = next(option for option, value in options.items() if value)
+    yield f"{tool} {with_value} 7 -", {"--help"}, {PROBLEM}
     takes_files = "PROBLEM" in listed("positional arguments", text)
     yield f"{tool} a", *(({PROBLEM}, set()) if takes_files else (set(), {PROBLEM}))
     for option, value in options.items():
         if value:
             yield f"{tool} {option} a", *(({PROBLEM}, set()) if value == "FILE" else (set(), {PROBLEM}))
-            yield f"{tool} {option} 7 -", {"--help"}, {PROBLEM}
 
 
 class Terminal:

@@ -1,18 +1,20 @@
-"""Tests the reader of texts and the follower of sessions that the tools in Python stand on: against rows that were worked out by hand,
-and on random texts and sessions against the second implementation, which keeps whole states.
+"""Tests the reader of texts and the follower of sessions that the tools in Python stand on: against rows that were worked out by
+hand, and on random texts and sessions against the second implementation, which keeps whole states.
 
     python3 tests/followed.py [SEED]    prints what failed, and then 'N passed, M failed'
 """
 
 import sys
+from collections.abc import Callable, Iterable, Iterator
 from dataclasses import dataclass
 from random import Random
+from typing import Any
 
 sys.path.insert(0, "clients/python")
 
 import random_cases
 from built import tell
-from dmf.replies import Cut, Printed, Solution
+from dmf.replies import Cut, Event, Printed, Solution
 from dmf.text import Fault, TextFault, display, fields, lines, number, read_names, read_problem
 from dmf.transcript import Follower, TranscriptFault
 from oracle import session, texts
@@ -22,7 +24,7 @@ from worked_once import ONCE
 from worked_sessions import HISTORIES, SESSIONS
 
 # Bytes that end no line and part no fields, whatever Unicode or a terminal takes them for: CR, VT, FF, FS, NEL and LS.
-ODD_ENDS = [b"\r", b"\x0b", b"\x0c", b"\x1c", b"\x1d", b"\x1e", b"\x85", "\x85".encode(), "\u2028".encode(), "\u2029".encode(), b"\0"]
+ODD_ENDS = [b"\r", b"\x0b", b"\x0c", b"\x1c", b"\x1d", b"\x1e", b"\x85", b"\0", *map(str.encode, "\x85\u2028\u2029")]
 LINES = {
     b"": [],
     b"\n": [b""],
@@ -41,6 +43,8 @@ FIELDS = {
     b"\ta  b\t c ": [b"a", b"b", b"c"],
     **{b"a" + odd + b"b c": [b"a" + odd + b"b", b"c"] for odd in ODD_ENDS},
 }
+# What is wrong with a case, or nothing where it is as it should be.
+Wrong = Iterator["str | bool | None"]
 NOT, LARGE = "not a number", "number too large"
 NUMBERS = {
     b"0": 0,
@@ -67,7 +71,8 @@ NAMES = {
     b"c node 1 a\r": ({1: "a\r"}, {}),
     b"c node 1 \xc3\xa4\xff\n": ({1: "ä\ufffd"}, {}),
     # Comments of another form.
-    b"cnode 1 a\nc nodes 1 a\nc node x a\nc node 1x a\nc node 1\nc node 1 \t\nc node\nc Node 1 a\nx c node 1 a\nc c node 1 a\n": ({}, {}),
+    b"cnode 1 a\nc nodes 1 a\nc node x a\nc node 1x a\nc node 1\nc node 1 \t\nc node\nc Node 1 a\n": ({}, {}),
+    b"x c node 1 a\nc c node 1 a\n": ({}, {}),
     b"c node -1 a\nc node 1\r\nc node 1\r a\nc node \xc2\xb2 a\nc node " + b"9" * 5000 + b" a\nc node 1": ({}, {}),
     # A name ends at the line feed alone, and no other byte begins a line.
     **{b"c old" + odd + b"c node 1 a\n": ({}, {}) for odd in ODD_ENDS},
@@ -83,7 +88,7 @@ SHOWN = {
 }
 
 
-def outcome(function, *words):
+def outcome(function: Callable[..., Any], *words: bytes) -> Any:
     """What a function gives, or the text of its fault."""
     try:
         return function(*words)
@@ -91,24 +96,24 @@ def outcome(function, *words):
         return str(fault)
 
 
-def wrong_rows():
+def wrong_rows() -> Wrong:
     for function, rows in (lines, LINES), (fields, FIELDS), (number, NUMBERS), (read_names, NAMES), (display, SHOWN):
         for row, wanted in rows.items():
             got = outcome(function, row)
             yield got != wanted and f"{function.__name__} of {row[:60]!r}: {got!r}, and not {wanted!r}"
 
 
-def read(text):
+def read(text: bytes) -> tuple[Any, ...]:
     problem = read_problem(text)
     return problem.node_count, problem.source, problem.sink, problem.arcs
 
 
-def read_by_oracle(text):
+def read_by_oracle(text: bytes) -> tuple[Any, ...]:
     state = oracle_problem.read_problem(text)
     return state.nodes, state.source, state.sink, [arc[:3] for arc in state.arcs]
 
 
-def wrong_problems(random):
+def wrong_problems(random: Random) -> Wrong:
     """Problems that were worked out by hand, right ones and faulty ones, and random ones."""
     for case, wanted in ONCE:
         if b"solve" in case.words:
@@ -127,10 +132,10 @@ class Told:
     """What was told of the reply to one command, and what the second implementation has there."""
 
     follower: Follower
-    events: list
+    events: list[Event]
     state: State
 
-    def wrong(self):
+    def wrong(self) -> str | None:
         timeline, state = self.follower.timeline, self.state
         if not self.follower.is_known:
             return "the network is not known"
@@ -140,7 +145,7 @@ class Told:
             return f"the value is {timeline.value}, and the sum of the capacities {timeline.capacity_sum}"
         return next(filter(None, map(self.wrong_event, self.events)), None)
 
-    def wrong_event(self, event):
+    def wrong_event(self, event: Event) -> str | bool | None:
         numbers = [at for at, arc in enumerate(self.state.arcs, 1) if not arc.is_closed]
         if isinstance(event, Solution):
             told = event.is_told, event.value, list(event.numbers), list(event.flows)
@@ -154,7 +159,7 @@ class Told:
         return None
 
 
-def followed(state, commands, want_cut, bound, is_given):
+def followed(state: State, commands: list[bytes], want_cut: bool, bound: int, is_given: bool) -> str | bool:
     """Follows a session, and judges what is known after each command. Every reply is told whole before the next one begins."""
     held = session.Session(state, want_cut, bound)
     follower = Follower(read_problem(oracle_problem.problem_text(state)), iter(commands) if is_given else None)
@@ -173,10 +178,10 @@ def followed(state, commands, want_cut, bound, is_given):
             return f"{whole} replies were told whole at {line!r}"
         if wrong := Told(follower, events, held.present()).wrong():
             return f"{line!r}: {wrong}"
-    return follower.end() and "the end tells more"
+    return "the end tells more" if follower.end() else ""
 
 
-def wrong_sessions(random):
+def wrong_sessions(random: Random) -> Wrong:
     """Random sessions, whose commands are given, or stand among the replies as a terminal shows them."""
     for _ in range(300):
         state = random_cases.network(random, 12)
@@ -192,7 +197,7 @@ def wrong_sessions(random):
             yield wrong and f"{b''.join(commands)!r}: {wrong}"
 
 
-def wrong_worked():
+def wrong_worked() -> Wrong:
     """Sessions that were worked out by hand fit their commands, and do not fit once a command or a reply is left out."""
     for case, wanted in SESSIONS + HISTORIES:
         commands, replies = lines_with_ends(case.input), lines_with_ends(wanted.written)
@@ -203,14 +208,34 @@ def wrong_worked():
         yield not fault_of(case.problem, commands, replies + replies[:1]) and f"{case.name}: with a reply too many"
 
 
-def lines_with_ends(text):
+def wrong_odd_replies(random: Random) -> Wrong:
+    """Replies of random sessions with a fault put into them, and any commands for them: what does not fit is a fault of the
+    transcript, and nothing else is raised."""
+    for _ in range(600):
+        state = random_cases.network(random, 6)
+        if state.source == state.sink or state.capacity_sum() > texts.LARGEST:
+            continue
+        problem = oracle_problem.problem_text(state)
+        script = random_cases.plain_text(random_cases.command_lines(state, random)[:30])
+        replies, _ = session.run_lines(state, script, random.random() < 0.5, session.Refusals())
+        odd = random_cases.text_of([fields(line) for line in lines(replies)], random, b"cx", 1)
+        commands = random.choice([None, lines_with_ends(script)])
+        try:
+            fault_of(problem, commands, lines_with_ends(odd))
+        except Exception as error:  # noqa: BLE001 - whatever it is, it is reported
+            yield f"{problem!r}, {commands!r}, {odd!r}: {error!r}"
+        else:
+            yield None
+
+
+def lines_with_ends(text: bytes) -> list[bytes]:
     pieces = text.split(b"\n")
     return [piece + b"\n" for piece in pieces[:-1]] + [rest for rest in pieces[-1:] if rest]
 
 
-def fault_of(problem, commands, replies):
+def fault_of(problem: bytes, commands: Iterable[bytes] | None, replies: list[bytes]) -> str | None:
     """The fault of a session, if it has one."""
-    follower = Follower(read_problem(problem), iter(commands))
+    follower = Follower(read_problem(problem), None if commands is None else iter(commands))
     try:
         for line in replies:
             follower.take(line)
@@ -220,9 +245,10 @@ def fault_of(problem, commands, replies):
     return None
 
 
-def main(words):
+def main(words: list[str]) -> bool:
     random = Random(int(words[0]) if words else 1990)
-    return tell([*wrong_rows(), *wrong_problems(random), *wrong_sessions(random), *wrong_worked()])
+    said = [*wrong_rows(), *wrong_problems(random), *wrong_sessions(random), *wrong_worked(), *wrong_odd_replies(random)]
+    return tell(said)
 
 
 sys.exit(main(sys.argv[1:]))

@@ -20,13 +20,14 @@ stand_in() {
 }
 
 # Calls the script, which a link leads to, from another folder and with no other variable than PATH, and judges it: the case's
-# name, the status, what is written and what is told. The words come last.
+# name, the status, what is written and what is told, without times. The words come last.
 ln -s "$root/install" "$work/linked"
 call() {
     local name=$1 wanted=$2 out=$3 err=$4 status
     shift 4
-    (cd "$work" && env -i PATH="$root/bin:/usr/bin:/bin" timeout 60 ./linked "$@") >"$work/out" 2>"$work/err" </dev/null
+    (cd "$work" && env -i PATH="$root/bin:/usr/bin:/bin" timeout 60 ./linked "$@") >"$work/out" 2>"$work/told" </dev/null
     status=$?
+    sed 's/, after [0-9]* s$//' "$work/told" >"$work/err"
     judge "$name" "$status" "$wanted" "$out" "$err"
 }
 
@@ -74,7 +75,8 @@ told() {
 putting="$(told "$prefix")
 "
 first="$first_call
-dmf: 1 of 1: dmf
+"
+built="dmf: 1 of 1: dmf is built
 "
 
 # Building.
@@ -83,10 +85,11 @@ stand_in <<'END'
 echo "no proof"
 exit 1
 END
-call "a program that is not built" 1 "" "${first}no proof
+call "a program that is not built" 1 "" "${first}dmf: dmf is not built
+no proof
 install: the program could not be built; nothing was put
 " --prefix "$prefix"
-same "nothing is put without a program" "$(ls "$prefix" 2>&1 | head -c 3)" "ls:"
+same "nothing is put without a program" "$([ -e "$prefix" ] || echo nothing)" nothing
 stand_in <<'END'
 #!/bin/sh
 mkdir -p out
@@ -96,7 +99,7 @@ END
 mkdir -p "$prefix/share/man/man7" "$prefix/bin"
 echo other >"$prefix/bin/other"
 before=$(tree "$prefix")
-call "the first call" 0 "$putting" "$first" --prefix "a place/"
+call "the first call" 0 "$putting" "$first$built" --prefix "a place/"
 
 # What is put.
 same "the program is put" "$("$prefix/bin/dmf")" "dmf 1"
@@ -120,8 +123,7 @@ echo 2 >"$root/crates/dmf/src/version"
 touch -d '1 hour' "$root/crates/dmf/src"
 call "an upgrade" 0 "$putting" \
     "dmf: a source has changed since the program was built. What depends on it is proved and built again.
-dmf: 1 of 1: dmf
-" --prefix "$prefix"
+$built" --prefix "$prefix"
 same "the newer program is put" "$("$prefix/bin/dmf")" "dmf 2"
 same "the older program is whole" "$(sh <&3)" "dmf 1"
 exec 3<&-
@@ -131,7 +133,7 @@ touch -r "$root/install" "$root/crates/dmf/src"
 rm "$prefix/share/man/man1/dmf.1"
 (cd "$work" && "$root/install" --remove --prefix "$prefix") >"$work/out" 2>"$work/err"
 judge "removing, where a file is not there" "$?" 0 "$(
-    lines removed "$prefix" | LC_ALL=C sort -r | sed 's/^removed \(.*man1\)/not there: \1/'
+    lines removed "$prefix" | LC_ALL=C sort -r | sed 's|^removed \(.*man1/dmf.1\)|not there: \1|'
     echo "removed $prefix/share/dmf/installed"
 )"$'\n' ""
 same "what others put stays" "$(tree "$prefix")" "$before"

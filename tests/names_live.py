@@ -1,5 +1,7 @@
 """What tools/dmf-names does while its answer comes, how it ends, and where it is put."""
 
+from __future__ import annotations
+
 import contextlib
 import os
 import select
@@ -8,14 +10,18 @@ import signal
 import subprocess
 import tempfile
 import time
+from collections.abc import Iterator
+from typing import IO
 
 from names_run import SECONDS, TOOL, put
 
 PIPE = subprocess.PIPE
+# What is wrong with a case, or nothing where it is as it should be.
+Wrong = Iterator["str | bool"]
 
 
 @contextlib.contextmanager
-def running(*words, **streams):
+def running(*words: str, **streams: int | IO[bytes]) -> Iterator[subprocess.Popen[bytes]]:
     tool = subprocess.Popen([TOOL, *words], stdin=PIPE, stdout=streams.get("stdout", PIPE), stderr=PIPE, bufsize=0)
     try:
         yield tool
@@ -27,7 +33,7 @@ def running(*words, **streams):
                 stream.close()
 
 
-def read_until(pipe, wanted):
+def read_until(pipe: IO[bytes], wanted: bytes) -> bytes:
     """What comes until this has come, or for so many seconds at most."""
     told = b""
     end = time.time() + SECONDS
@@ -39,7 +45,7 @@ def read_until(pipe, wanted):
     return told
 
 
-def wrong_live(problem):
+def wrong_live(problem: str) -> Wrong:
     """Over pipes: each reply is told when it is whole, a cut without a next line, and commands are read as they are written."""
     with tempfile.TemporaryDirectory() as folder:
         put(f"{folder}/problem", problem)
@@ -56,7 +62,8 @@ def wrong_live(problem):
         with open(f"{folder}/commands", "wb", buffering=0) as commands, running(
             f"{folder}/problem", "--commands", f"{folder}/commands"
         ) as tool:
-            for command, reply in [(b"cap 1 9\n", b"c cap value 0\n"), (b"undo\n", b"c undo value 0\n"), (b"shut 2\n", b"c shut value 0\n")]:
+            for command in b"cap 1 9\n", b"undo\n", b"shut 2\n":
+                reply = b"c %s value 0\n" % command.split()[0]
                 # The reply may come before the command is written, as of `tee`.
                 tool.stdin.write(reply)
                 time.sleep(0.1)
@@ -71,7 +78,7 @@ def wrong_live(problem):
             yield tool.wait(SECONDS) != 0 and f"a live session: {tool.stderr.read()}"
 
 
-def wrong_ends(problem):
+def wrong_ends(problem: str) -> Wrong:
     """At Ctrl-C it ends with 130, where nobody reads on by the signal of that, and each time without a word."""
     with tempfile.TemporaryDirectory() as folder:
         put(f"{folder}/problem", problem)
@@ -92,19 +99,21 @@ def wrong_ends(problem):
             tool.stdin.write(b"hello\n")
             ended = tool.wait(SECONDS), tool.stderr.read()
             yield ended != (4, b"dmf-names: cannot write standard output: No space left on device\n") and f"a full disk: {ended}"
-        for closed, wanted in (">&-", (4, "cannot write standard output: it is closed")), ("<&-", (1, "cannot read standard input: it is closed")):
-            ran = subprocess.run(f"{TOOL} {folder}/problem {closed}", shell=True, input=b"hello\n", capture_output=True, timeout=SECONDS)
-            yield (ran.returncode, ran.stderr.decode()) != (wanted[0], f"dmf-names: {wanted[1]}\n") and f"{closed}: {ran}"
+        for closed, status, told in (">&-", 4, "write standard output"), ("<&-", 1, "read standard input"):
+            command = f"{TOOL} {folder}/problem {closed}"
+            ran = subprocess.run(command, shell=True, input=b"hello\n", capture_output=True, timeout=SECONDS)
+            ended = ran.returncode, ran.stderr.decode()
+            yield ended != (status, f"dmf-names: cannot {told}: it is closed\n") and f"{closed}: {ran}"
         for words, told in (["missing"], "missing"), (["problem", "--commands", "missing"], "missing"), (["."], "."):
             ran = subprocess.run([TOOL, *words], cwd=folder, input=b"c undo value 0\n", capture_output=True, timeout=SECONDS)
             is_told = ran.returncode == 1 and ran.stderr.startswith(f"dmf-names: cannot read {told}: ".encode())
             yield not (is_told and ran.stderr.count(b"\n") == 1) and f"{words}: {ran}"
-        for words, status in ([], 2), (["--wash", "problem"], 2), (["--help"], 0):
+        for words, status in ([], 2), (["--wash", "problem"], 2), (["-"], 2), (["--help"], 0):
             ran = subprocess.run([TOOL, *words], cwd=folder, input=b"", capture_output=True, timeout=SECONDS)
             yield (ran.returncode, b"usage: dmf-names" in ran.stdout + ran.stderr) != (status, True) and f"{words}: {ran}"
 
 
-def wrong_places(problem):
+def wrong_places(problem: str) -> Wrong:
     """It finds its package where `./install` puts both, and by symbolic links. Without the package it says so in one line."""
     with tempfile.TemporaryDirectory() as folder:
         put(f"{folder}/problem", problem)

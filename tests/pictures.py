@@ -1,5 +1,5 @@
-"""Tests tools/dmf-dot: its texts for Graphviz against texts that were worked out by hand, what it says of faults, and the pictures in
-docs/pictures against freshly made ones, where Graphviz is there.
+"""Tests tools/dmf-dot: its texts for Graphviz against texts that were worked out by hand, what it says of faults, and the pictures
+in docs/pictures against freshly made ones, where Graphviz is there.
 
     python3 tests/pictures.py [--write]    prints what failed, and then 'N passed, M failed'; or makes docs/pictures anew
 """

@@ -1,5 +1,4 @@
-"""What tools/dmf-dot draws of problems, answers and sessions, and what it says of those that it does not draw, as they were worked out
-by hand."""
+"""What tools/dmf-dot draws of problems, answers and sessions, and what it says of those that it does not draw, worked out by hand."""
 
 HEAD = 'digraph dmf {\n  rankdir=LR\n  node [fontname="Helvetica"]\n  edge [fontname="Helvetica", fontsize=11]\n'
 SIDE = 'style="filled", fillcolor="#d3e4f5"'
@@ -109,7 +108,7 @@ SHUT_MILL = f'  3 [label="Mill\\nshut", {UNUSED}]\n'
 SHUT_ARC = f'  1 -> 3 [label="Lower\\nclosed", style="dashed", {UNUSED}]\n'
 SHUT_END = f'  3 -> 4 [label="closed", style="dashed", {UNUSED}]\n'
 AFTER_FLOWS, AFTER_CUT = "the network was changed after these flows", "the network was changed after this cut"
-# What is drawn of a problem, the commands of a session (None where they stand among its replies), what the session wrote, and notes.
+# What is drawn of a session on these ways: its commands (None where they stand among its replies), what it wrote, and notes.
 SESSIONS = {
     "a node is shut and an arc added": (
         "shut 3\nadd 1 4 4\nsolve\nprint cut\n",
@@ -123,7 +122,8 @@ SESSIONS = {
         f"solve\n{WAYS_FLOW}cap 1 9\nc cap value 5\nundo\nc undo value 5\n",
         [],
         f'{ENDS[0]}]\n{ENDS[1]}  3 [label="Mill"]\n{ENDS[2]}  1 -> 2 [label="Upper\\n3/3", penwidth=2.5]\n'
-        '  1 -> 3 [label="Lower\\n2/2", penwidth=2.5]\n  2 -> 4 [label="3/3", penwidth=2.5]\n  3 -> 4 [label="2/2", penwidth=2.5]\n',
+        '  1 -> 3 [label="Lower\\n2/2", penwidth=2.5]\n'
+        '  2 -> 4 [label="3/3", penwidth=2.5]\n  3 -> 4 [label="2/2", penwidth=2.5]\n',
     ),
     "changes after the last solution": (
         None,
@@ -136,7 +136,11 @@ SESSIONS = {
 }
 # What is said of a session that is drawn no picture of: its commands, what it wrote, and the fault.
 SESSION_FAULTS = [
-    (None, "s 7\nf 1 2 7\nc cap value 3\n", "answer: line 3: commands that are not known changed the network; give them by --commands FILE"),
+    (
+        None,
+        "s 7\nf 1 2 7\nc cap value 3\n",
+        "answer: line 3: commands that are not known changed the network; give them by --commands FILE",
+    ),
     ("cap 1 9\nsolve\n", "c cap value 0\ns 9\nf 1 2 8\n", "answer: line 3: value differs: 8 flows out of the source, and not 9"),
     ("close 1\n", "c cap value 0\n", "answer: line 1: this does not answer `close 1`, line 1 of the commands"),
     ("close 1\nundo\n", "c close value 0\n", "commands: line 2: no reply to `undo`"),

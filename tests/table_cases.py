@@ -21,6 +21,7 @@ class Case:
 LARGEST = 2**64 - 1
 TITLES = "from,to,cap\n"
 HINT = " (if these are titles, name the columns: --tail, --head and --capacity)"
+MARKED = ": decimals stand behind a point, and thousands have no mark"
 # One arc from A to B of capacity 3.
 ARC = "c node 1 A\nc node 2 B\np max 2 1\nn 1 s\nn 2 t\na 1 2 3\n"
 # Two arcs, the second with a name.
@@ -78,6 +79,8 @@ PROBLEMS: list[tuple[Case, str]] = [
     (Case("from;to;litres, a second, at most\nA;B;3\n"), ARC),
     (Case("A,B,3,,,\n , ,\n,,,\n"), ARC),
     (Case("A,B,3\n", ("--source", "A", "--sink", "B")), ARC),
+    (Case("-A,B,3\n", ("--", "-A", "B")), ARC.replace("1 A", "1 -A")),
+    (Case("-A,--,3\n", ("--table", "/dev/stdin", "--", "-A", "--")), ARC.replace("1 A", "1 -A").replace("2 B", "2 --")),
     (Case("", ("--table", "t.csv", "A", "B"), {"t.csv": "A,B,3\n"}), ARC),
     (Case("A,B,3\n".encode("utf-16"), ("A", "B", "--encoding", "utf-16")), ARC),
     (Case(TITLES + 'A,B b,3\nA,B b,"4"\n', ("A", "B b")), NAMED.replace("c arc 2 the long way\n", "")),
@@ -170,14 +173,15 @@ FAULTS: list[tuple[Case, str]] = [
     (Case("\n , \n"), "the table is empty"),
     (Case(TITLES), "the table has titles, and no row below them"),
     (Case("A,Z,30.5\n"), at(1, f"the capacity '30.5' is no whole number; --scale 10?{HINT}")),
-    (Case("A,Z,1 000\n"), at(1, f"the capacity '1 000' is no whole number{HINT}")),
+    (Case("A,Z,1 000\n"), at(1, f"the capacity '1 000' is no whole number{MARKED}{HINT}")),
+    (Case("von;nach;max\nA;Z;3,5\n", ("--scale", "10", "A", "Z")), at(2, f"the capacity '3,5' is no whole number{MARKED}")),
     (Case('A,Z,"30,"\n'), at(1, f"the capacity '30,' is no whole number{HINT}")),
     (Case("A,Z,-3\n"), at(1, f"the capacity '-3' is below 0{HINT}")),
     (Case("A,Z,\n"), at(1, "no capacity")),
     (Case("A,Z\n"), at(1, "no capacity: the row has 2 columns")),
     (Case("A,B,\xb2\n"), at(1, f"the capacity '\xb2' is no whole number{HINT}")),
     (Case("A,B,?\nA,B,3\n"), at(1, f"the capacity '?' is no whole number{HINT}")),
-    (Case("A,B,inf\nA,B,3\n"), at(1, "the capacity 'inf' is no whole number")),
+    (Case("A,B,inf\nA,B,3\n"), at(1, f"the capacity 'inf' is no whole number{HINT}")),
     (Case(TITLES + "A,B,3\nA,B,3.5\n"), at(3, "the capacity '3.5' is no whole number; --scale 10?")),
     (Case(TITLES + "A,B,3.55\n", ("--scale", "10", "A", "B")), at(2, "the capacity '3.55' times 10 is no whole number; --scale 100?")),
     (Case(TITLES + "A,B,1e3\n", ("--scale", "10", "A", "B")), at(2, "the capacity '1e3' is no whole number")),
@@ -245,8 +249,14 @@ WARNINGS: list[tuple[Case, list[str]]] = [
     ),
     (
         Case("A,B,3\nA,b,3\nb,B,3\n"),
-        ["names that differ only in case are several places: 'B', 'b'"],
+        ["names that differ only in case, or in what is not seen, are several places: 'B', 'b'"],
     ),
+    (
+        Case("A,B,3\nA,e\u0301,3\ne\u0301,B,3\nA,\xe9\u200b,3\n\xe9\u200b,B,3\n"),
+        ["names that differ only in case, or in what is not seen, are several places: 'e\u0301', '\xe9\\u200b'"],
+    ),
+    # Two files, one behind the other, each with its mark.
+    (Case("\ufeffA,B,3\n\ufeffA,B,3\n"), ["names that differ only in spaces are one place: '\\ufeffA' is 'A'"]),
     (Case("A,B,3\nA,B ,3\n"), ["names that differ only in spaces are one place: 'B ' is 'B'"]),
     (
         Case("from,to,2024\nA,B,3\n"),

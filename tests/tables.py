@@ -184,7 +184,7 @@ def main() -> bool:
         asked += [pool.submit(judge_words, words, err) for words, err in WRONG_WORDS]
         asked += [pool.submit(judge_value, case, value) for case, value in VALUES]
         said = [it.result() for it in asked]
-    return tell([*said, *wrong_random(), *wrong_streams(), *wrong_ends()])
+    return bool(tell([*said, *wrong_random(), *wrong_streams(), *wrong_ends()]))
 
 
 if __name__ == "__main__":

@@ -165,21 +165,23 @@ def link(source: str, to: str) -> None:
         shutil.copy2(source, to)
 
 
+def lay_out(crate: Crate, place: Path, parts: list[str]) -> None:
+    """Puts links to the files of these folders of a crate at a place."""
+    for part in parts:
+        if (crate.folder / part).is_dir():
+            shutil.copytree(crate.folder / part, place / part, copy_function=link)
+
+
 def begin(crate: Crate, crates: dict[str, Crate], place: Path, is_urgent: bool) -> Work:
     """Begins to build a crate. One that is not urgent leaves the processors to those that are."""
     folder = Path(tempfile.mkdtemp(prefix="dmf-build-", dir=place))
     names = [*crate.below, crate.name]
     (folder / "crates.txt").write_text("".join(f"{name}: {' '.join(crates[name].libraries)}\n" for name in names))
     for name in names:
-        here, there = crates[name].folder, folder / "crates" / name
-        parts = [it.name for it in here.iterdir() if it.name != "out"]
-        parts += ["out"] if name == crate.name else ["out/rlib"]
-        for part in parts:
-            if (here / part).is_dir():
-                shutil.copytree(here / part, there / part, copy_function=link)
-            elif (here / part).is_file():
-                there.mkdir(parents=True, exist_ok=True)
-                link(str(here / part), str(there / part))
+        lay_out(crates[name], folder / "crates" / name, ["src", "specs", "proofs"] + ["out/rlib"] * (name != crate.name))
+    # What an earlier call built of the crate is copied, since `rt` may write to it.
+    if (crate.folder / "out").is_dir():
+        shutil.copytree(crate.folder / "out", folder / "crates" / crate.name / "out")
     said = tempfile.TemporaryFile()
     process = subprocess.Popen(
         crate.command if is_urgent else ["nice", "-n", "5", *crate.command],

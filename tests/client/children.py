@@ -2,6 +2,7 @@
 
 import threading
 import unittest
+from collections.abc import Callable
 
 from shared import answering, dmf, pipes, script
 
@@ -11,7 +12,8 @@ class Children(unittest.TestCase):
         """Why the session has ended, which each later call says too."""
         with answering(answer) as network:
             told = []
-            for call in network.solve, network.undo:
+            calls: list[Callable[[], object]] = [network.solve, network.undo]
+            for call in calls:
                 with self.assertRaises(dmf.SessionEnded) as caught:
                     call()
                 told.append(str(caught.exception))

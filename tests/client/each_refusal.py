@@ -5,6 +5,7 @@ import pickle
 import re
 import tempfile
 import unittest
+from collections.abc import Callable
 
 from shared import PIPES, ROOT, answering, dmf, pipes, script
 
@@ -12,25 +13,25 @@ LARGEST = 2**64 - 1
 
 
 class Refusals(unittest.TestCase):
-    def test_texts_are_those_of_the_formats(self):
-        with open(f"{ROOT}/docs/FORMATS.md") as text:
-            page = text.read()
-        problem = re.search(r"^1\. its kind: .*?(?=^Fields|^## )", page, re.MULTILINE | re.DOTALL)[0]
-        session = re.search(r"^\| TEXT \| When \|\n.*?\n\n", page, re.MULTILINE | re.DOTALL)[0]
+    def test_texts_are_those_of_the_formats(self) -> None:
+        with open(f"{ROOT}/docs/FORMATS.md") as file:
+            page = file.read()
+        (problem,) = re.findall(r"^1\. its kind: .*?(?=^Fields|^## Names)", page, re.MULTILINE | re.DOTALL)
+        (session,) = re.findall(r"^\| TEXT \| When \|\n.*?\n\n", page, re.MULTILINE | re.DOTALL)
         for text in dmf.Refused.kinds:
             self.assertIn(text, " ".join((problem + session).split()))
         told = re.findall(r"^\| ([a-z0-9 ,]+) \|", session, re.MULTILINE)
         self.assertGreaterEqual(set(dmf.Refused.kinds), {text for row in told for text in row.split(", ")})
         self.assertEqual(len(dmf.Refused.kinds), 25)
 
-    def refuse(self, kind, call, *arguments):
+    def refuse(self, kind: type[dmf.Error], call: Callable[..., object], *arguments: object) -> str:
         """A call is refused, and changes nothing."""
         with self.assertRaises(dmf.Error) as caught:
             call(*arguments)
         self.assertIs(type(caught.exception), kind)
         return str(caught.exception)
 
-    def test_commands(self):
+    def test_commands(self) -> None:
         with pipes() as network:
             before = network.problem()
             self.assertEqual(self.refuse(dmf.NoSuchArc, network.cap, ("lake", "sea"), 1), "no such arc: ('lake', 'sea')")
@@ -53,7 +54,7 @@ class Refusals(unittest.TestCase):
             self.assertEqual(message, "arc is closed: <Arc 1: 'lake' to 'mill'>")
             self.refuse(dmf.ArcIsClosed, network.close, ("lake", "mill"))
 
-    def test_lines(self):
+    def test_lines(self) -> None:
         """Refusals of lines that no method sends, and of numbers that are judged before they are sent."""
         lines = {
             dmf.UnknownCommand: "wash",
@@ -69,7 +70,7 @@ class Refusals(unittest.TestCase):
                 self.refuse(kind, network._answered, line)
             self.assertEqual(network.solve().value, 5)
 
-    def test_networks(self):
+    def test_networks(self) -> None:
         self.refuse(dmf.SourceAndSinkAreTheSame, dmf.Network, PIPES, "lake", "lake")
         self.refuse(dmf.CountOutOfRange, dmf.Network, [("a", "a", 1)], "a", "a")
         message = self.refuse(dmf.CapacitiesPast64Bits, dmf.Network, [("a", "b", 1), ("b", "a", LARGEST)], "a", "b")
@@ -78,7 +79,7 @@ class Refusals(unittest.TestCase):
         self.assertEqual(message, "not a number: 1.5 in ('a', 'b', 1.5)")
         self.refuse(dmf.NoSuchNode, dmf.Network, PIPES, "lake", "see")
 
-    def test_files(self):
+    def test_files(self) -> None:
         head = "p max 2 1\nn 1 s\nn 2 t\n"
         texts = {
             dmf.ProblemLineExpected: ("c nothing\n", 2),
@@ -111,13 +112,13 @@ class Refusals(unittest.TestCase):
             self.assertRaises(FileNotFoundError, dmf.read, f"{folder}/missing.max")
 
 
-    def test_copies(self):
+    def test_copies(self) -> None:
         """An exception that is copied or sent to another process is the same one."""
         for error in dmf.NoSuchArc("'x'"), dmf.NoMemory(), dmf.Refused.of("too windy", "solve"), dmf.NotAnArc("not an arc: ()"):
             for again in copy.copy(error), pickle.loads(pickle.dumps(error)):
                 self.assertEqual((type(again), str(again), vars(again)), (type(error), str(error), vars(error)))
 
-    def test_tracebacks_name_the_package(self):
+    def test_tracebacks_name_the_package(self) -> None:
         kinds = [kind for kind in vars(dmf).values() if isinstance(kind, type) and issubclass(kind, BaseException)]
         self.assertEqual({kind.__module__ for kind in kinds}, {"dmf"})
         self.assertGreaterEqual(set(kinds), {dmf.Error, dmf.Refused, *dmf.Refused.kinds.values()})
@@ -126,7 +127,7 @@ class Refusals(unittest.TestCase):
 class Answers(unittest.TestCase):
     """What a program answers that stands in for dmf: the problem was read, and then one answer to each command."""
 
-    def test_each_text(self):
+    def test_each_text(self) -> None:
         for text, kind in dmf.Refused.kinds.items():
             with answering(f"case $line in solve) echo 'c refused 2 {text}';; *) echo c undo value 7;; esac") as network:
                 with self.assertRaises(dmf.Refused) as caught:
@@ -135,28 +136,28 @@ class Answers(unittest.TestCase):
                 # The session goes on.
                 self.assertEqual(network.undo(0), 7)
 
-    def test_a_text_that_came_later(self):
+    def test_a_text_that_came_later(self) -> None:
         with answering("echo c refused 2 too windy") as network:
             with self.assertRaisesRegex(dmf.Refused, "^refused: too windy: solve$") as caught:
                 network.solve()
             self.assertEqual((type(caught.exception), caught.exception.text), (dmf.Refused, "too windy"))
 
-    def test_no_answer_that_is_understood(self):
+    def test_no_answer_that_is_understood(self) -> None:
         for answer in "echo hello", "echo s five", "echo c undo", "echo", "echo s 5; echo f 1", "echo c solve value 5":
             with answering(answer) as network:
                 for _ in range(2):
                     self.assertRaisesRegex(dmf.SessionEnded, "`solve` was not understood", network.solve)
 
-    def test_the_answer_to_another_command(self):
+    def test_the_answer_to_another_command(self) -> None:
         with answering("echo c close value 3") as network:
             self.assertRaisesRegex(dmf.SessionEnded, "`undo 1` was not understood", network.undo)
         with script("cat") as program:
             self.assertRaisesRegex(dmf.SessionEnded, "`undo 0` was not understood", pipes, program=program)
 
-    def test_no_memory_for_the_problem(self):
+    def test_no_memory_for_the_problem(self) -> None:
         with script("echo dmf: no memory >&2; exit 5") as program:
             self.assertRaisesRegex(dmf.NoMemory, "^no memory$", pipes, program=program)
 
-    def test_a_problem_is_refused_for_a_reason_that_came_later(self):
+    def test_a_problem_is_refused_for_a_reason_that_came_later(self) -> None:
         with script("echo dmf: line 5: too windy >&2; exit 3") as program:
             self.assertRaisesRegex(dmf.Refused, "^refused: too windy: <Arc 2: 'lake' to 'town'>$", pipes, program=program)

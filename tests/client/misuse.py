@@ -7,13 +7,19 @@ import threading
 import time
 import unittest
 import unittest.mock
-from collections.abc import Callable
+from collections.abc import Callable, Iterator
 from typing import Any
 
 from shared import answering, dmf, pipes
 
 SECONDS = 20
 WANTED = "wanted is (tail, head, capacity) or (tail, head, capacity, key), of which all but the capacity can be hashed"
+
+
+def program_of(network: dmf.Network[Any]) -> str:
+    """The path of the program that a network runs."""
+    words: Any = network._child.process.args
+    return str(words[0])
 
 
 class Rows(unittest.TestCase):
@@ -47,6 +53,31 @@ class Bounds(unittest.TestCase):
                 self.assertEqual(network.solve().value, 5)
 
 
+class Graph:
+    """What stands in for a graph of networkx, with two edges of which the second has no capacity."""
+
+    def __init__(self, is_multigraph: bool) -> None:
+        self.is_multigraph = lambda: is_multigraph
+        self.is_directed = lambda: True
+
+    def __iter__(self) -> Iterator[str]:
+        return iter("abc")
+
+    def edges(self, data: bool, keys: bool = False) -> list[tuple[Any, ...]]:
+        key = ("old",) if keys else ()
+        return [("a", "b", *key, {"capacity": 3}), ("b", "c", *key, {"room": 2})]
+
+
+class Graphs(unittest.TestCase):
+    def test_an_edge_without_capacity(self) -> None:
+        for graph, edge in (Graph(False), "('b', 'c')"), (Graph(True), "('b', 'c', 'old')"):
+            with self.assertRaises(dmf.NoCapacity) as caught:
+                dmf.from_networkx(graph, "a", "c")
+            self.assertEqual(str(caught.exception), f"no capacity: the edge {edge} has no attribute 'capacity'")
+            with self.assertRaisesRegex(dmf.NoCapacity, r"the edge \('a', 'b'.* has no attribute 'room'$"):
+                dmf.from_networkx(graph, "a", "c", capacity="room")
+
+
 class Copies(unittest.TestCase):
     def test_copies(self) -> None:
         calls: list[Callable[[Any], Any]] = [copy.copy, copy.deepcopy, pickle.dumps, lambda network: copy.deepcopy([network])]
@@ -56,12 +87,21 @@ class Copies(unittest.TestCase):
             self.assertEqual(network.solve().value, 5)
 
 
+    def test_copies_of_what_a_network_gives(self) -> None:
+        """A copy of an arc is that arc, so that copies of flows and cuts are equal, and name arcs of the network."""
+        with pipes() as network:
+            plan = network.solve()
+            for again in copy.copy(plan), copy.deepcopy(plan):
+                self.assertEqual((again, again.value, network.capacity(next(iter(again)))), (plan, 5, 3))
+            self.assertEqual(copy.deepcopy(network.cut()), network.cut())
+
+
 class AtOnce(unittest.TestCase):
     def test_a_call_beside_another(self) -> None:
         """Each call is refused while another thread waits for its answer, which comes once the file `go` is there."""
         wait = 'touch "$0.got"; while [ ! -e "$0.go" ]; do sleep 0.01; done; echo c undo value 9'
         with answering(wait) as network:
-            program = network._child.process.args[0]
+            program = program_of(network)
             values: list[int] = []
             thread = threading.Thread(target=lambda: values.append(network.undo(0)), daemon=True)
             thread.start()

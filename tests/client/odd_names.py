@@ -54,7 +54,8 @@ class OddNames(unittest.TestCase):
 
     def test_refused(self) -> None:
         for name in REFUSED:
-            for rows in [(name, "b", 1)], [("a", "b", 1, name), ("a", name, 1)], [("a", "b", 1, name)]:
+            problems: list[list[Any]] = [[(name, "b", 1)], [("a", "b", 1, name), ("a", name, 1)], [("a", "b", 1, name)]]
+            for rows in problems:
                 with dmf.Network(rows, rows[0][0], "b") as network:
                     with self.assertRaises(dmf.NameNotWritable) as caught:
                         network.problem()
@@ -81,6 +82,11 @@ class OddNames(unittest.TestCase):
             self.assertEqual(network.problem(), "c node 3 7\nc arc 2 8\np max 3 2\nn 1 s\nn 3 t\na 1 2 1\na 2 3 1\n")
             self.assertEqual((again.nodes, again.arcs[1].key), ([1, 2, "7"], "8"))
             self.assertEqual(again.problem(), network.problem())
+
+    def test_what_is_equal_to_its_number_comes_back_as_a_text(self) -> None:
+        for node in True, 1.0:
+            with dmf.Network([(node, "b", 1)], node, "b") as network, self.back(network) as again:
+                self.assertEqual(again.nodes, [str(node), "b"])
 
     def test_the_tools_read_them(self) -> None:
         names: list[Hashable] = ["", "two  blanks", "a\rb", '"', "\x1b[31m", 5]

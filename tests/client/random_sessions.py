@@ -1,7 +1,9 @@
 """Random sessions and graphs, compared with the second implementation and with networkx."""
 
 import unittest
+from collections.abc import Callable
 from random import Random
+from typing import Any
 
 from shared import PIPES, dmf
 from oracle.network import is_greatest, smallest_side
@@ -19,12 +21,12 @@ SESSIONS = 150
 
 
 class RandomSessions(unittest.TestCase):
-    def test_sessions(self):
+    def test_sessions(self) -> None:
         for seed in range(SESSIONS):
             with self.subTest(seed=seed):
                 self.hold(Random(f"client {seed}"))
 
-    def hold(self, random):
+    def hold(self, random: Random) -> None:
         state = random_network(random, 20)
         if state.capacity_sum() > LARGEST:
             return
@@ -36,7 +38,7 @@ class RandomSessions(unittest.TestCase):
                 self.step(model, network, random)
                 self.compare(model.present(), network)
 
-    def step(self, model, network, random):
+    def step(self, model: Any, network: dmf.Network[str], random: Random) -> None:
         """One random command to both. They agree, also where it is refused."""
         word = random.choice(["solve", "cap", "cap", "close", "add", "shut", "undo", "undo", "redo", "redo"])
         arc, count = random.randint(1, max(1, len(network._kept.arcs))), random.choice([0, 1, 1, 2, 3])
@@ -45,7 +47,7 @@ class RandomSessions(unittest.TestCase):
         if word in ("cap", "close") and not network._kept.arcs:
             return
         handle = network._kept.arcs[arc - 1] if network._kept.arcs else None
-        numbers, call = {
+        calls: dict[str, tuple[list[int], Callable[[], int]]] = {
             "solve": ([], lambda: network.solve().value),
             "cap": ([arc, amount], lambda: network.cap(handle, amount)),
             "close": ([arc], lambda: network.close(handle)),
@@ -53,7 +55,8 @@ class RandomSessions(unittest.TestCase):
             "undo": ([count], lambda: network.undo(count)),
             "redo": ([count], lambda: network.redo(count)),
             "shut": ([node], lambda: network.shut(f"n{node}")),
-        }[word]
+        }
+        numbers, call = calls[word]
         try:
             model.reply(word, *numbers)
         except Fault as fault:
@@ -63,7 +66,7 @@ class RandomSessions(unittest.TestCase):
         else:
             self.assertEqual(call(), model.present().value())
 
-    def compare(self, state, network):
+    def compare(self, state: Any, network: dmf.Network[str]) -> None:
         opened = state.open_arcs()
         self.assertEqual(list(network.flow().values()), [flow for _, flow in opened])
         self.assertEqual([(arc.tail, arc.head) for arc in network.arcs], [(f"n{arc.tail}", f"n{arc.head}") for arc, _ in opened])
@@ -82,13 +85,13 @@ class RandomSessions(unittest.TestCase):
 
 @unittest.skipUnless(networkx, "networkx is not there, so no network was made from a graph of it")
 class Networkx(unittest.TestCase):
-    def test_worked(self):
+    def test_worked(self) -> None:
         graph = networkx.DiGraph()
         graph.add_weighted_edges_from(PIPES, weight="litres")
         with dmf.from_networkx(graph, "lake", "sea", capacity="litres") as network:
             self.assertEqual((network.solve().value, network.cap(("town", "sea"), 1)), (5, 3))
 
-    def test_undirected(self):
+    def test_undirected(self) -> None:
         graph = networkx.Graph()
         graph.add_edge("a", "b", capacity=3)
         graph.add_edge("c", "b", capacity=2)
@@ -96,14 +99,14 @@ class Networkx(unittest.TestCase):
         with dmf.from_networkx(graph, "a", "c") as network:
             self.assertEqual((network.solve()["b", "c"], len(network.arcs)), (2, 5))
 
-    def test_multigraph(self):
+    def test_multigraph(self) -> None:
         graph = networkx.MultiDiGraph()
         graph.add_edge("a", "b", key="old", capacity=3)
         graph.add_edge("a", "b", key="new", capacity=4)
         with dmf.from_networkx(graph, "a", "b") as network:
             self.assertEqual((network.solve().value, network.close(("a", "b", "old"))), (7, 4))
 
-    def test_refused(self):
+    def test_refused(self) -> None:
         graph = networkx.DiGraph([("a", "b")])
         with self.assertRaises(dmf.NoCapacity) as caught:
             dmf.from_networkx(graph, "a", "b")
@@ -115,7 +118,7 @@ class Networkx(unittest.TestCase):
         graph["a"]["b"]["capacity"] = 5
         self.assertRaises(dmf.NoSuchNode, dmf.from_networkx, graph, "a", "x")
 
-    def test_values(self):
+    def test_values(self) -> None:
         random = Random("networkx")
         for _ in range(20):
             graph = networkx.gnp_random_graph(12, 0.3, seed=random.randrange(10**6), directed=random.random() < 0.5)

@@ -1,5 +1,7 @@
 """Problems' files that `dmf.read` takes: odd lines, paths of all kinds, and what is no regular file."""
 
+from __future__ import annotations
+
 import os
 import subprocess
 import sys
@@ -50,7 +52,7 @@ class Paths(unittest.TestCase):
         self.addCleanup(folder.cleanup)
         self.folder = folder.name
 
-    def hold(self, path: "str | bytes | os.PathLike[str]") -> None:
+    def hold(self, path: str | bytes | Path) -> None:
         with dmf.read(path) as network:
             self.assertEqual((network.nodes, network.solve().value), (["lake", "sea"], 7))
 
@@ -58,7 +60,8 @@ class Paths(unittest.TestCase):
         for name in "plain.max", "-odd.max", "blank name\n.max", "ß.max":
             path = f"{self.folder}/{name}"
             Path(path).write_bytes(TEXT)
-            for form in path, os.fsencode(path), Path(path):
+            forms: list[str | bytes | Path] = [path, os.fsencode(path), Path(path)]
+            for form in forms:
                 self.hold(form)
 
     def test_a_path_that_is_not_utf_8(self) -> None:
@@ -108,7 +111,8 @@ class Paths(unittest.TestCase):
         os.close(read)
 
     def test_no_file(self) -> None:
-        for form in self.folder, os.fsencode(self.folder), Path(self.folder):
+        forms: list[str | bytes | Path] = [self.folder, os.fsencode(self.folder), Path(self.folder)]
+        for form in forms:
             self.assertRaises(IsADirectoryError, dmf.read, form)
         self.assertRaises(FileNotFoundError, dmf.read, f"{self.folder}/missing.max")
         self.assertRaises(dmf.ProblemLineExpected, dmf.read, "/dev/null")

@@ -11,7 +11,7 @@ ROOT = os.path.dirname(os.path.dirname(os.path.dirname(os.path.abspath(__file__)
 CLIENT = f"{ROOT}/clients/python"
 sys.path[1:1] = [CLIENT, f"{ROOT}/tests"]
 
-import dmf  # noqa: E402
+import dmf as dmf  # noqa: E402
 
 # The program that is tested, whichever else is installed.
 BUILT = f"{ROOT}/crates/dmf/out/dmf"

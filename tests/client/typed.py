@@ -1,6 +1,7 @@
 """The package and a caller's file pass `mypy --strict`, and a caller's mistakes do not."""
 
 import os
+import re
 import shutil
 import subprocess
 import unittest
@@ -8,13 +9,21 @@ import unittest
 from shared import CLIENT, ROOT
 
 USER = f"{ROOT}/tests/client/typed_user.py"
+# Each of these is one line of a caller, with the kind of the error that mypy tells of it.
+MISTAKES = {
+    'dmf.Network([("a", "b", "3")], "a", "b")': "list-item",
+    'dmf.Network([("a", "b", 3)], "a", "b").add(1, "b", 2)': "arg-type",
+    'dmf.Network([("a", "b", 3)], "a", "b").cut().side + 1': "operator",
+    'dmf.Network([("a", "b", 3)], "a", "b").solve()["a", "b"].tail': "attr-defined",
+    "network: dmf.Network[list[int]]": "type-var",
+}
 
 
 @unittest.skipUnless(shutil.which("mypy"), "mypy is not there (package mypy), so the types of the client in Python were not checked")
 class Typed(unittest.TestCase):
     def judge(self, *words: str) -> str:
         """What mypy says."""
-        command = ["mypy", "--strict", "--cache-dir=/dev/null", "--no-error-summary", *words]
+        command = ["mypy", "--strict", "--cache-dir=/dev/null", "--no-error-summary", "--show-error-codes", *words]
         ran = subprocess.run(command, env={**os.environ, "MYPYPATH": CLIENT}, capture_output=True, text=True, cwd=ROOT)
         return ran.stdout + ran.stderr
 
@@ -22,13 +31,7 @@ class Typed(unittest.TestCase):
         self.assertEqual(self.judge(f"{CLIENT}/dmf", USER), "")
 
     def test_mistakes(self) -> None:
-        """Each mistake is told, and nothing else."""
-        mistakes = {
-            'dmf.Network([("a", "b", "3")], "a", "b")': "list-item",
-            'dmf.Network([("a", "b", 3)], "a", "b").add(1, "b", 2)': "arg-type",
-            'dmf.Network([("a", "b", 3)], "a", "b").cut().side + 1': "operator",
-            'x: dmf.Network[list[int]]': "type-var",
-        }
-        for mistake, code in mistakes.items():
-            said = self.judge("--show-error-codes", "-c", f"import dmf\n{mistake}")
-            self.assertRegex(said, rf"^<string>:2: error: [^\n]* \[{code}\]\n(<string>:2: note: [^\n]*\n)*$")
+        """Each mistake is told in its line, and nothing else."""
+        said = self.judge("-c", "\n".join(["import dmf", *MISTAKES]))
+        told = re.findall(r"^(.*?):(\d+): error: .*\[(.*)\]$", said, re.MULTILINE)
+        self.assertEqual(told, [("<string>", str(line), code) for line, code in enumerate(MISTAKES.values(), 2)], said)

@@ -40,7 +40,7 @@ dmf.NoSuchArc: no such arc: <Arc 6: 'lake' to 'sea'>
 
 A network is a running `dmf session`. It ends with `end`, with the `with` block that it is made for, when nothing refers to it
 any more, or with the interpreter. The program is the one that the argument `program` names, or the environment variable DMF, or
-`dmf` on the PATH, or else the one of the repository that this package lies in. A network is for one thread at a time: a call
+`dmf` on the PATH, or else the one of the repository or the install that this package lies in. A network is for one thread at a time: a call
 beside another one raises `UsedByTwoThreads`, and does nothing.
 """
 

@@ -24,7 +24,7 @@ PRINTED = (b"problem", b"flow", b"cut")
 
 
 class Command(NamedTuple):
-    """What a line asks for: the command's word, or two words of `print`, and the numbers behind it. `undo` alone has the number 1."""
+    """What a line asks for: the command's word, or two words of `print`, and its numbers. `undo` alone has the number 1."""
 
     word: str
     numbers: tuple[int, ...] = ()

@@ -20,8 +20,10 @@ from typing import IO, Optional, Union
 from .errors import Error, HistoryOutOfRange, Refused, SessionEnded, UsedByTwoProcesses, UsedByTwoThreads, shown
 from .text import display
 
-Path_ = Union[str, bytes, "os.PathLike[str]", "os.PathLike[bytes]"]
-Program = Optional[Path_]
+FilePath = Union[str, bytes, "os.PathLike[str]", "os.PathLike[bytes]"]
+Program = Optional[FilePath]
+# Where this package can lie in a repository, and where `./install` puts it, with the place of the program above that.
+PLACES = {("clients", "python", "dmf"): "dmf", ("share", "dmf", "python", "dmf"): "bin/dmf"}
 # The most changes that a session can be told to keep.
 MOST_KEPT = 1_000_000
 # How long the program may take to end by itself once its input has ended, in seconds.
@@ -191,14 +193,20 @@ def start(path: str, program: Program, words: list[str | bytes]) -> Child:
 
 def _program() -> str:
     """The program, where the caller names none."""
-    return os.environ.get("DMF") or shutil.which("dmf") or _of_repository()
+    return os.environ.get("DMF") or shutil.which("dmf") or _beside()
 
 
 @functools.cache
-def _of_repository() -> str:
-    """The program of the repository that this package lies in. The first call proves and builds it, and tells how far it is."""
+def _beside() -> str:
+    """The program of the repository, or of the install, that this package lies in. In a repository the first call proves and builds
+    it, and tells on standard error how far it is. Raises a FileNotFoundError where there is none, and `SessionEnded` where it
+    cannot be built."""
     package = Path(__file__).resolve().parent
-    if package.parts[-3:] != ("clients", "python", "dmf") or not (script := package.parents[2] / "dmf").is_file():
-        raise FileNotFoundError("there is no program dmf: name it by the argument program, by DMF, or on the PATH")
-    subprocess.run([script, "--version"], stdout=subprocess.DEVNULL, check=True)
-    return str(script)
+    for place, program in PLACES.items():
+        above = Path(*package.parts[: -len(place)])
+        if package.parts[-len(place) :] == place and (above / program).is_file():
+            status = subprocess.run([above / program, "--version"], stdout=subprocess.DEVNULL).returncode
+            if status:
+                raise SessionEnded(f"there is no program: {above / program} {_ended(status)}")
+            return str(above / program)
+    raise FileNotFoundError("there is no program dmf: name it by the argument program, by DMF, or on the PATH")

@@ -143,8 +143,12 @@ class SolutionReading:
         self.arcs = [arcs[at - 1] for at in self.numbers]
         self.flows: list[int] = []
 
+    def is_whole_with(self, more: int) -> bool:
+        """Whether no flow is missing once so many more were read."""
+        return len(self.flows) + more == len(self.arcs)
+
     def is_whole(self) -> bool:
-        return len(self.flows) == len(self.arcs)
+        return self.is_whole_with(0)
 
     def take(self, found: list[bytes]) -> None:
         """Takes in a line of a flow. Raises a `Fault` where it is not that of the next open arc."""

@@ -14,7 +14,7 @@ Other = TypeVar("Other")
 
 class Arc(Generic[Node]):
     """An arc of a network: its handle. `number` is the one that the program knows it by, `tail` and `head` are its ends, and
-    `given_key` is the key that the caller gave it, or None. Each arc is equal to itself alone."""
+    `given_key` is the key that the caller gave it, or None. Each arc is equal to itself alone, so a copy of it is the arc itself."""
 
     __slots__ = "number", "tail", "head", "given_key"
 
@@ -28,6 +28,12 @@ class Arc(Generic[Node]):
     def key(self) -> Hashable:
         """The key that the caller gave, and else the tail and the head."""
         return (self.tail, self.head) if self.given_key is None else self.given_key
+
+    def __copy__(self) -> Arc[Node]:
+        return self
+
+    def __deepcopy__(self, _: object) -> Arc[Node]:
+        return self
 
     def __repr__(self) -> str:
         key = "" if self.given_key is None else f", {shown(self.given_key)}"

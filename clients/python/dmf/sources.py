@@ -10,15 +10,16 @@ from typing import Any
 from .errors import NoCapacity, shown
 from .kept import Kept
 from .network import Network
-from .process import Child, Path_, Program, session_words, start
+from .process import Child, FilePath, Program, session_words, start
 from .solution import Node
 from .text import read_names
 
 
-def read(path: Path_, *, program: Program = None, history: int | None = None) -> Network[int | str]:
+def read(path: FilePath, *, program: Program = None, history: int | None = None) -> Network[int | str]:
     """The network of a problem's file in the DIMACS format, which is read once. Its nodes are the numbers from 1 on; but those
-    that comments `c node 3 Reservoir` name are called by their names, where no other has the same. A comment
-    `c arc 5 Mill Street` gives the key of an arc. `program` and `history` are those of `Network`.
+    that comments `c node 3 Reservoir` name are called by their names, where no other has the same: the two nodes of a place with
+    a limit have one name, so they keep their numbers. A comment `c arc 5 Mill Street` gives the key of an arc. `program` and
+    `history` are those of `Network`.
 
     Raises a `Refused` with the number of the line where the file has a fault, an OSError where it cannot be read, and what
     `Network` raises.

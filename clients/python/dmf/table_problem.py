@@ -23,9 +23,10 @@ from .tables import LARGEST, Table, TableFault, cleaned, shown, whole_number
 
 MOST_NODES = 16_777_216
 MOST_ARCS = 134_217_728
-# How many names a warning tells, and among how many a near one is looked for.
+# How many names a warning tells; among how many a near one is looked for, and how long a name is for which one is.
 MOST_TOLD = 10
 MOST_COMPARED = 20_000
+LONGEST_COMPARED = 200
 TOO_MUCH = f"the capacities are together past {LARGEST}"
 
 
@@ -65,7 +66,9 @@ class Plan:
 
 def near(name: str, places: Iterable[str]) -> str:
     """What a message says of the places whose names are near one that no place has."""
-    folded = {place.casefold(): place for place in islice(places, MOST_COMPARED)}
+    if len(name) > LONGEST_COMPARED:
+        return ""
+    folded = {place.casefold(): place for place in islice(places, MOST_COMPARED) if len(place) <= LONGEST_COMPARED}
     found = difflib.get_close_matches(name.casefold(), folded, n=3)
     return f"; is it {' or '.join(shown(folded[it]) for it in found)}?" if found else ""
 
@@ -213,11 +216,19 @@ def _told(names: Sequence[str]) -> str:
     return ", ".join(map(shown, names[:MOST_TOLD])) + (f" and {rest} more" if rest > 0 else "")
 
 
+def _seen(name: str) -> str:
+    """A name without what can hardly be seen: case, how letters are composed, and characters that show nothing."""
+    if name.isascii():
+        return name.casefold()
+    letters = unicodedata.normalize("NFKC", name).casefold()
+    return "".join(letter for letter in letters if unicodedata.category(letter) != "Cf")
+
+
 def _look_alike(plan: Plan) -> Iterator[list[str]]:
-    """The names of places that differ in case alone, or in how their letters are composed."""
+    """The names of places that look alike."""
     alike: dict[str, list[str]] = {}
     for place in plan.places:
-        alike.setdefault(unicodedata.normalize("NFKC", place).casefold(), []).append(place)
+        alike.setdefault(_seen(place), []).append(place)
     return (names for names in alike.values() if len(names) > 1)
 
 
@@ -240,7 +251,7 @@ def warnings(plan: Plan) -> Iterator[str]:
             told = [f"{shown(other)} is {shown(name)}" for name, other in table.respelled.items()]
             yield f"names that differ only in spaces are one place: {', '.join(told[:MOST_TOLD])}"
     for names in islice(_look_alike(plan), MOST_TOLD):
-        yield f"names that differ only in case are several places: {_told(names)}"
+        yield f"names that differ only in case, or in what is not seen, are several places: {_told(names)}"
     rows = [record.places for record in plan.arcs.records if record.places[0] != record.places[1]]
     left, entered = {tail for tail, _ in rows}, {head for _, head in rows}
     if plan.both_ways:

@@ -33,6 +33,7 @@ MARKS = {
 }
 
 _DECIMAL = re.compile(r"([0-9]*)(?:\.([0-9]*))?")
+_MARKED = re.compile(r"[0-9]+(?:[\s.,'\u2019][0-9]+)+")
 
 
 class TableFault(Exception):
@@ -106,12 +107,13 @@ class Table:
         """Refuses a first row that was taken for titles, where it has the name of a place."""
         if self.heading and any(cleaned(cell) in places for cell in self.heading.cells[: len(self.form.places)]):
             cell = self.heading.cells[self.form.columns[self.form.amount]]
-            raise self.fault(f"the {self.form.amount} {shown(cell)} is no whole number", self.heading.line)
+            raise self.fault(f"the {self.form.amount} {shown(cell)} is no whole number{self.form.hint}", self.heading.line)
 
 
 def cleaned(text: str) -> str:
-    """A text without white space around it, and with one space for each run of white space in it."""
-    return " ".join(text.split())
+    """A text without white space around it, and with one space for each run of white space in it. A mark of the order of bytes, as
+    each of several files may begin with, is white space too."""
+    return " ".join(text.replace("\ufeff", " ").split())
 
 
 def shown(text: str) -> str:
@@ -183,10 +185,13 @@ def delimiter_of(text: str, width: int) -> str:
 def whole_number(text: str, scale: Optional[Decimal] = None) -> int:
     """The number of digits, or with a scale the decimal number times it, from 0 to 2^64 - 1. Raises a ValueError that says what the
     text is: `is no whole number`."""
+    if scale is None and len(text) < LONGEST_NUMBER and text.isascii() and text.isdigit():
+        return int(text)
     found = _DECIMAL.fullmatch(text)
     if not found or not (found[1] or found[2]):
         is_negative = text[:1] in "-\u2212" and text[1:2].isdigit()
-        raise ValueError("is below 0" if is_negative else "is no whole number")
+        hint = ": decimals stand behind a point, and thousands have no mark" if _MARKED.fullmatch(text) else ""
+        raise ValueError("is below 0" if is_negative else f"is no whole number{hint}")
     whole, fraction = found[1].lstrip("0"), found[2] or ""
     hint = f"; --scale {10 ** len(fraction)}?" if 0 < len(fraction) < LONGEST_NUMBER else ""
     if found[2] is not None and scale is None:
@@ -244,6 +249,8 @@ class _Reader:
         self.columns = columns
         self.scale = scale
         self.width = width
+        # The name that each cell of a place writes; for each name the first cell that writes it; and see `Table`.
+        self.names: dict[str, str] = {}
         self.spellings: dict[str, str] = {}
         self.respelled: dict[str, str] = {}
 
@@ -278,9 +285,12 @@ class _Reader:
 
     def place(self, row: Row, column: str) -> str:
         """The name of a place. How it is spelled is kept."""
-        name, cell = self.name(row, column), self.cell(row, column)
-        if self.spellings.setdefault(name, cell) != cell:
-            self.respelled[name] = cell if cell != name else self.spellings[name]
+        cell = self.cell(row, column)
+        name = self.names.get(cell)
+        if name is None:
+            name = self.names[cell] = self.name(row, column)
+            if self.spellings.setdefault(name, cell) != cell:
+                self.respelled[name] = cell if cell != name else self.spellings[name]
         return name
 
     def amount(self, row: Row) -> int:

@@ -29,13 +29,12 @@ def run(name: str, main: Callable[[], int]) -> NoReturn:
     """Runs a tool to its end. It ends with what `main` gives, or with the status of a `ToolFault`, which is told in one line. At
     Ctrl-C it ends with 130, and where nobody reads on it ends by the signal of that, as other filters do."""
     signal.signal(signal.SIGPIPE, signal.SIG_DFL)
-    signal.signal(signal.SIGINT, signal.default_int_handler)
+    if signal.getsignal(signal.SIGINT) is not signal.SIG_IGN:
+        signal.signal(signal.SIGINT, lambda *_: os._exit(INTERRUPTED))
     try:
         status = main()
     except SystemExit as end:
         status = end.code if isinstance(end.code, int) else 0
-    except KeyboardInterrupt:
-        os._exit(INTERRUPTED)
     except ToolFault as fault:
         status = fault.status
         _tell(name, fault)
@@ -45,7 +44,7 @@ def run(name: str, main: Callable[[], int]) -> NoReturn:
     except OSError as error:
         status = 4
         _tell(name, cannot("write", "standard output", error))
-    # Nothing is left to be done, and so nothing that an interrupt could break off.
+    # All is written, and nothing is left that could tell more.
     os._exit(status)
 
 

@@ -48,8 +48,8 @@ class TranscriptFault(TextFault):
 
 @dataclass(frozen=True)
 class Pending:
-    """A command that is not answered yet: the text that it stands in and its line there, the line's content, and what it asks for, or
-    why its form has it refused."""
+    """A command that is not answered yet: the text that it stands in, its line there, that line's content, and what it asks for,
+    or why its form has it refused."""
 
     text: str
     line: int
@@ -73,8 +73,9 @@ class Pending:
 
 class Follower:
     """Takes the lines of an answer one after the other. `timeline` has the present network, unless `is_known` is false: then
-    commands that are not known changed it. `is_numbered` is false where a printed problem alone is known of it, in which the arcs may have
-    other numbers. `solution` and `cut` are the last that were told whole."""
+    commands that are not known changed it. `is_numbered` is false where no more than a printed problem is known of it, in which
+    the arcs may have other numbers. `solution` and `cut` are the last ones; the solution is None where its flows were not
+    told, or not on a known network."""
 
     def __init__(self, problem: Problem, commands: Iterator[bytes] | None = None) -> None:
         self.timeline = Timeline(problem)
@@ -86,15 +87,20 @@ class Follower:
         self._command_line = 0
         self._waiting: deque[Pending] = deque()
         self._reading: Reading | None = None
-        # Whether a cut comes with each solve (`--cut`), where that is known; whether the last reply was that of a `solve`, so that its
-        # cut may follow; and whether a cut was taken for one of a solve that may be the reply to `print cut`.
+        # Whether a cut comes with each solve (`--cut`), where that is known; whether the last reply was that of a `solve`, so that
+        # its cut may follow; and whether a cut was taken for one of a solve that may be the reply to `print cut`.
         self._solves_have_cuts: bool | None = None
         self._awaits_cut = self._is_in_doubt = False
 
     def take(self, line: bytes) -> list[Event]:
         """What a line tells, which has its line feed if it was read with one. Raises a `TranscriptFault`."""
         self.line += 1
+        reading = self._reading
         try:
+            if isinstance(reading, SolutionReading) and line.startswith(b"f ") and not reading.is_whole_with(1):
+                # Most lines of a large answer.
+                reading.take(fields(ended(line)))
+                return []
             return list(self._take(ended(line), line))
         except Fault as fault:
             raise self._located(fault) from None
@@ -164,8 +170,8 @@ class Follower:
         return self._waiting[0] if self._waiting else None
 
     def _settle(self, is_answered: Callable[[Pending], bool]) -> Pending | None:
-        """The oldest command that is not answered, where another reply than a cut has come. Whether solves have cuts is known then: a
-        cut in doubt was the reply to `print cut` where one still waits that this reply does not answer."""
+        """The oldest command that is not answered, where another reply than a cut has come. Whether solves have cuts is known
+        then: a cut in doubt was the reply to `print cut` where one still waits that this reply does not answer."""
         if self._awaits_cut and self._solves_have_cuts:
             raise Fault("the cut of this solve is missing")
         if self._awaits_cut:
@@ -181,8 +187,8 @@ class Follower:
         return head
 
     def _asked(self, *words: str) -> Command | None:
-        """The command that a reply answers, one of these words, or None where no commands are known. Raises a `Fault` where the oldest
-        command that is not answered is another one, or is to be refused."""
+        """The command that a reply answers, one of these words, or None where no commands are known. Raises a `Fault` where the
+        oldest command that is not answered is another one, or is to be refused."""
         head = self._settle(lambda head: False) if words != (PRINT_CUT,) else self._head()
         if head is None:
             if self._given is not None:
@@ -243,6 +249,7 @@ class Follower:
         command = self._asked(SOLVE, PRINT_FLOW)
         if not self.is_known:
             self._awaits_cut = command == Command(SOLVE)
+            self.solution = None
             yield Solution(value, is_told=False)
             return
         self._reading = SolutionReading(value, self.timeline.arcs, command)
@@ -300,7 +307,7 @@ class Follower:
         self._reading = None
         told = (reading.numbers, reading.arcs, reading.flows) if is_told else ((), (), ())
         solution = Solution(reading.value, is_told, *told, timeline.serial)
-        self.solution = solution if is_told else self.solution
+        self.solution = solution if is_told else None
         return solution
 
     def _cut(self, reading: CutReading) -> Cut:

@@ -63,7 +63,7 @@ impl State {
         requires two_terminals { source ≢ sink }
         ensures { result ≡ without_arcs nodes source sink }
     {
-        // No other contract of this crate names the constant.
+        // The bound that `at_most_nodes` names.
         prove!(MAX_NODES == 16_777_216);
         State {
             nodes,
