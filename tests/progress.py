@@ -19,7 +19,7 @@ from built import BUILT
 PAUSE = 0.8
 SECONDS = 60
 ERASED = "\r\x1b[K"
-WORD = re.compile(r"dmf: (?:(reading|writing), \d+ MB(?: of \d+ MB)?|(solving), value (\d+), phase (\d+), (\d+) paths)")
+WORD = re.compile(r"dmf: (?:(reading|writing), \d+ MB(?: of \d+ MB)?|(solving), value (\d+)(?: of at most \d+)?, phase (\d+), (\d+) paths)")
 INVITATION = "dmf: reads a problem from the terminal; Ctrl-D ends it (dmf --help says more)\n"
 SMALL = b"p max 2 1\nn 1 s\nn 2 t\na 1 2 3\n"
 SMALL_SOLUTION = b"s 3\nf 1 2 3\n"
@@ -229,6 +229,33 @@ def expect_of_sizes(expect):
     expect("of a pipe it is not known", asked.stderr.startswith(b"dmf: reading, 0 MB\n"))
 
 
+def most_of(problem):
+    """The lesser of what can leave the source and what can enter the sink."""
+    lines = [line.split() for line in problem.splitlines()]
+    ends = {line[2]: line[1] for line in lines if line and line[0] == b"n"}
+    arcs = [line for line in lines if line and line[0] == b"a"]
+    leaving = sum(int(cap) for _, tail, _, cap in arcs if tail == ends[b"s"])
+    return min(leaving, sum(int(cap) for _, _, head, cap in arcs if head == ends[b"t"]))
+
+
+def expect_of_bounds(expect):
+    """What the value cannot pass is told where the problem is a file that is read from its beginning."""
+    with open("long.max", "rb") as file:
+        problem = file.read()
+    with open("long.max", "rb") as file:
+        asked = subprocess.run([BUILT, "solve", "--progress"], stdin=file, capture_output=True)
+    told = set(re.findall(rb"value \d+( of at most \d+)?, phase", asked.stderr))
+    expect("of a file it is told what the value cannot pass", told == {b" of at most %d" % most_of(problem)})
+    asked = subprocess.run([BUILT, "solve", "--progress"], input=problem, capture_output=True)
+    expect("of a pipe it is not", set(re.findall(rb"value \d+( of at most \d+)?, phase", asked.stderr)) == {b""})
+    with open("bounded.max", "wb") as file:
+        file.write(b"c a line before\n" + problem)
+    with open("bounded.max", "rb") as file:
+        os.lseek(file.fileno(), len(b"c a line before\n"), os.SEEK_SET)
+        asked = subprocess.run([BUILT, "solve", "--progress"], stdin=file, capture_output=True)
+    expect("nor of a file that is read from its middle", b"at most" not in asked.stderr and b"value" in asked.stderr)
+
+
 def main():
     said = []
 
@@ -244,6 +271,7 @@ def main():
         expect_of_slow_texts(expect)
         expect_of_asking(expect)
         expect_of_sizes(expect)
+        expect_of_bounds(expect)
         os.chdir("/")
     print(f"{said.count(True)} passed, {said.count(False)} failed")
     return not all(said)

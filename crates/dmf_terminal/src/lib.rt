@@ -2,6 +2,7 @@
 #![tactic(auto)]
 
 mod advice;
+mod bound;
 mod dialogue;
 mod explain;
 mod fields;
@@ -17,6 +18,7 @@ mod refusal;
 mod solution;
 mod typed;
 mod usage;
+mod word;
 
 pub use dialogue::{Dialogue, HeardSink, KeptCommands};
 pub use explain::{

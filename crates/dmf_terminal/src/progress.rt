@@ -3,11 +3,12 @@
 //! told, the run goes on.
 ghost use Rattle.std.specs.Prelude.{◌≡◌};
 
-use crate::explain::{Origin, file_size};
+use crate::bound::value_bound;
+use crate::explain::{Origin, file_size, text_of};
+use crate::word::Word;
 use dmf_solver::Watch;
 use dmf_text::{Failed, Sink, Source};
 use std::cell::Cell;
-use std::fmt;
 use std::io::IsTerminal;
 use std::rt::HostRuntime;
 use std::time::{Duration, Instant};
@@ -21,47 +22,8 @@ const PAUSE: u64 = 250;
 /// So many calls go by for each look at the clock.
 const CALLS: u64 = 64;
 
-const MEGABYTE: u64 = 1_000_000;
-
-/// How far a task is.
-#[derive(Clone, Copy)]
-enum Word {
-    /// So many bytes are read, of so many, where that is known.
-    Reading { bytes: u64, size: Option<u64> },
-    Solving { value: u64, phases: u32, paths: u64 },
-    /// So many bytes are written.
-    Writing { bytes: u64 },
-}
-
-impl fmt::Display for Word {
-    fn fmt<W: fmt::Write>(&self, f: &mut fmt::Formatter<W>) -> fmt::Result {
-        match *self {
-            Word::Reading {
-                bytes,
-                size: Some(size),
-            } => {
-                let (read, whole) = (bytes / MEGABYTE, size / MEGABYTE);
-                write!(f, "dmf: reading, {read} MB of {whole} MB")
-            }
-            Word::Reading { bytes, size: None } => {
-                let read = bytes / MEGABYTE;
-                write!(f, "dmf: reading, {read} MB")
-            }
-            Word::Solving {
-                value,
-                phases,
-                paths,
-            } => write!(
-                f,
-                "dmf: solving, value {value}, phase {phases}, {paths} paths"
-            ),
-            Word::Writing { bytes } => {
-                let written = bytes / MEGABYTE;
-                write!(f, "dmf: writing, {written} MB")
-            }
-        }
-    }
-}
+/// A problem of so many bytes is read again for what its value cannot pass.
+const MOST_AGAIN: u64 = 67_108_864;
 
 /// The line on standard error. What it tells of is a task: to read a text, to solve, or to write an answer.
 #[derive(Drop)]
@@ -74,6 +36,9 @@ pub struct Progress<'a> {
     /// When the next word may come.
     due: Cell<Option<Instant>>,
     is_shown: Cell<bool>,
+    /// How many bytes standard input had, until it is read again for what the value cannot pass.
+    whole: Cell<Option<u64>>,
+    most: Cell<Option<u64>>,
     /// Whether a task has begun that has not ended.
     is_busy: Cell<bool>,
 }
@@ -96,6 +61,8 @@ impl<'a> Progress<'a> {
             patience,
             due: Cell::new(None),
             is_shown: Cell::new(false),
+            whole: Cell::new(None),
+            most: Cell::new(None),
             is_busy: Cell::new(false),
         }
     }
@@ -104,6 +71,14 @@ impl<'a> Progress<'a> {
     fn size_of(&self, origin: Origin<'_>) -> Option<u64> {
         self.patience?;
         file_size(self.rt, origin)
+    }
+
+    /// What the value cannot pass, where the problem on standard input can be read again.
+    fn most(&self) -> Option<u64> {
+        if let Some(bytes) = self.whole.take() {
+            self.most.set(most_of_input(self.rt, bytes));
+        }
+        self.most.get()
     }
 
     /// Begins a task, unless one goes on. Whether it is a new one.
@@ -153,6 +128,16 @@ impl<'a> Progress<'a> {
     }
 }
 
+/// What the value of the problem on standard input cannot pass, if that is a file of just so many bytes, and not too large a one.
+fn most_of_input(rt: &HostRuntime, bytes: u64) -> Option<u64> {
+    let text = text_of(rt, Origin::Input, MOST_AGAIN)?;
+    if text.len() as u64 == bytes {
+        Some(value_bound(&text))
+    } else {
+        None
+    }
+}
+
 /// The time that it is so many milliseconds later, if the clock tells.
 fn after(rt: &HostRuntime, wait: u64) -> Option<Instant> {
     Instant::now(rt)
@@ -169,6 +154,7 @@ pub struct WatchedSource<'a, S> {
     bytes: u64,
     /// How many bytes there are, where that is known.
     size: Option<u64>,
+    is_input: bool,
 }
 
 impl<'a, S: Source> WatchedSource<'a, S> {
@@ -180,6 +166,7 @@ impl<'a, S: Source> WatchedSource<'a, S> {
             is_told: true,
             bytes: 0,
             size: progress.size_of(Origin::File(path)),
+            is_input: false,
         }
     }
 
@@ -191,6 +178,16 @@ impl<'a, S: Source> WatchedSource<'a, S> {
             is_told: !progress.rt.stdin().is_terminal(),
             bytes: 0,
             size: progress.size_of(Origin::Input),
+            is_input: true,
+        }
+    }
+}
+
+impl<S> WatchedSource<'_, S> {
+    /// The text was read to its end.
+    fn end_text(&self) {
+        if self.is_input {
+            self.progress.whole.set(Some(self.bytes));
         }
     }
 }
@@ -207,7 +204,9 @@ impl<S: Source> Source for WatchedSource<'_, S> {
         self.progress.begin();
         let given = self.source.read(buffer)?;
         self.bytes = self.bytes.saturating_add(given as u64);
-        if given > 0 && self.progress.is_due() {
+        if given == 0 {
+            self.end_text();
+        } else if self.progress.is_due() {
             self.progress.tell(Word::Reading {
                 bytes: self.bytes,
                 size: self.size,
@@ -274,6 +273,7 @@ impl Watch for WatchedSolve<'_> {
         if (is_new_phase || self.paths % CALLS == 1) && self.progress.is_due() {
             self.progress.tell(Word::Solving {
                 value,
+                most: self.progress.most(),
                 phases: self.phases,
                 paths: self.paths,
             });

@@ -1,0 +1,65 @@
+//! How far a run is, in words.
+use std::fmt;
+
+const MEGABYTE: u64 = 1_000_000;
+
+/// How far a task is.
+#[derive(Clone, Copy)]
+pub enum Word {
+    /// So many bytes are read, of so many, where that is known.
+    Reading {
+        bytes: u64,
+        size: Option<u64>,
+    },
+    /// The value so far, what it cannot pass, where that is known, and by what it was found.
+    Solving {
+        value: u64,
+        most: Option<u64>,
+        phases: u32,
+        paths: u64,
+    },
+    /// So many bytes are written.
+    Writing {
+        bytes: u64,
+    },
+}
+
+impl fmt::Display for Word {
+    fn fmt<W: fmt::Write>(&self, f: &mut fmt::Formatter<W>) -> fmt::Result {
+        match *self {
+            Word::Reading {
+                bytes,
+                size: Some(size),
+            } => {
+                let (read, whole) = (bytes / MEGABYTE, size / MEGABYTE);
+                write!(f, "dmf: reading, {read} MB of {whole} MB")
+            }
+            Word::Reading { bytes, size: None } => {
+                let read = bytes / MEGABYTE;
+                write!(f, "dmf: reading, {read} MB")
+            }
+            Word::Solving {
+                value,
+                most: Some(most),
+                phases,
+                paths,
+            } => write!(
+                f,
+                "dmf: solving, value {value} of at most {most}, phase {phases}, {paths} paths"
+            ),
+            Word::Solving {
+                value,
+                most: None,
+                phases,
+                paths,
+            } => write!(
+                f,
+                "dmf: solving, value {value}, phase {phases}, {paths} paths"
+            ),
+            Word::Writing { bytes } => {
+                let written = bytes / MEGABYTE;
+                write!(f, "dmf: writing, {written} MB")
+            }
+        }
+    }
+}
