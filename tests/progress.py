@@ -12,6 +12,7 @@ import tempfile
 import termios
 import threading
 import time
+from collections.abc import Callable
 
 from built import BUILT
 
@@ -43,16 +44,16 @@ def feed(pipe, text):
 class Terminal:
     """A terminal, and what it gets. What is typed there is not shown."""
 
-    def __init__(self):
+    def __init__(self) -> None:
         self.own, self.end = pty.openpty()
         modes = termios.tcgetattr(self.end)
         modes[3] &= ~termios.ECHO
         termios.tcsetattr(self.end, termios.TCSANOW, modes)
-        self.pieces = []
+        self.pieces: list[bytes] = []
         self.reader = threading.Thread(target=self.drain)
         self.reader.start()
 
-    def drain(self):
+    def drain(self) -> None:
         while True:
             try:
                 piece = os.read(self.own, 65536)
@@ -62,10 +63,10 @@ class Terminal:
                 return
             self.pieces.append(piece)
 
-    def told(self):
+    def told(self) -> str:
         return b"".join(self.pieces).decode().replace("\r\n", "\n")
 
-    def wait_for(self, holds):
+    def wait_for(self, holds: Callable[[str], bool]) -> bool:
         """Waits until something holds of what it got. Whether it came to that."""
         until = time.monotonic() + SECONDS
         while time.monotonic() < until:
@@ -74,7 +75,7 @@ class Terminal:
             time.sleep(0.05)
         return False
 
-    def close(self):
+    def close(self) -> str:
         """What it got in all."""
         os.close(self.end)
         self.reader.join()
@@ -101,7 +102,7 @@ def on_terminal(words, text, both, wait):
     return status, answer, terminal.close()
 
 
-def typed(words, lines):
+def typed(words: list[str], lines: list[bytes]) -> tuple[int, str]:
     """Runs the program with all its standard streams on a terminal, at which each line is typed after a pause. Gives its status and
     what the terminal got."""
     terminal = Terminal()

@@ -167,9 +167,16 @@ def expect_of_a_changed_problem(expect: Expect) -> None:
 
 def expect_of_typing(expect: Expect) -> None:
     lines = NETWORK.splitlines(keepends=True)
-    for words in ([], ["solve"]):
+    calls: list[list[str]] = [[], ["solve"]]
+    for words in calls:
         status, shown = typed(words, [b"".join(lines)])
         expect(f"a problem that is typed, {words}: {shown}", (status, shown) == (0, INVITATION + SOLVED))
+    terminal = Terminal()
+    running = subprocess.Popen([BUILT], stdin=terminal.end, stdout=subprocess.PIPE, stderr=subprocess.PIPE)
+    os.write(terminal.own, NETWORK + b"\x04")
+    out, told = running.communicate(timeout=SECONDS)
+    terminal.close()
+    expect(f"only standard input is a terminal: {told!r}", (out.decode(), told) == (SOLVED, b""))
 
 
 def expect_of_help(expect: Expect) -> None:

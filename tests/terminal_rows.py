@@ -236,6 +236,8 @@ PROBLEMS = [
     problem("neither of them", b"p max 2 0\n", "line 2: source or sink missing"),
     problem("a number past all", capacity(b"18446744073709551616"), "line 4: number too large", ", field 4: '18446744073709551616' is past 18446744073709551615, the largest number"),
     problem("control characters", capacity(b"\x1b[2J\x07"), "line 4: not a number", f", field 4: '\\x1b[2J\\x07' is {BOUNDS}"),
+    problem("a control character past ASCII", capacity("1\u009b2J".encode()), "line 4: not a number", f", field 4: '1\\x9b2J' is {BOUNDS}; write digits alone"),
+    problem("no UTF-8", capacity(b"1\xff"), "line 4: not a number", f", field 4: '1\ufffd' is {BOUNDS}; write digits alone"),
     problem("a long field", capacity(b"y" * 70), "line 4: not a number", f", field 4: '{'y' * 60}..' is {BOUNDS}"),
 ]
 

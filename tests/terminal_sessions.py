@@ -119,6 +119,8 @@ WORDS = [
 OPENING = [
     Words("session none.max", 4, "none.max: No such file or directory (os error 2)\n"),
     Words("check none.max", 4, "none.max: No such file or directory (os error 2)\n"),
+    Words("session a\x1b[2Jb.max", 4, "a\\x1b[2Jb.max: No such file or directory (os error 2)\n"),
+    Words("check " + "n" * 70, 4, "n" * 60 + "..: No such file or directory (os error 2)\n"),
     Words("session folder", 4, "folder is a folder\n"),
     Words("check folder", 4, "folder is a folder\n"),
 ]
