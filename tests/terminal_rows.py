@@ -83,6 +83,7 @@ OTHER_PROBLEM = "dmf solves maximum flow, p max NODES ARCS"
 FIRSTS = "these begin with c, p, n or a"
 TABLE = "nodes go by number (tools/dmf-problem makes a problem of a table with names)"
 CAPACITY = "an arc has three numbers, from, to, capacity (a SRC DST CAP, 4 fields)"
+COMMENTED = "an arc has three numbers, from, to, capacity (4 fields), and a comment a line of its own"
 ARC_COUNT = "its second number is the number of a lines"
 LARGEST = b"18446744073709551615"
 HALF = b"9223372036854775807"
@@ -120,14 +121,14 @@ PROBLEMS = [
     ),
     solved("cHello", b"cHello\n" + TEXT),
     solved("capacity foo", b"capacity foo\n" + TEXT),
-    problem("a comment behind an arc", capacity(b"5 c main"), "line 4: wrong number of fields", f": {CAPACITY}; found 6 fields"),
+    problem("a comment behind an arc", capacity(b"5 c main"), "line 4: wrong number of fields", f": {COMMENTED}; found 6 fields"),
     problem("# hello", b"# hello\n" + TEXT, "line 1: unknown line", ", field 1: '#' begins no line of a problem: a comment begins with c"),
     problem("% hello", b"%% hello\n" + TEXT, "line 1: unknown line", ", field 1: '%%' begins no line of a problem: a comment begins with c"),
     problem("p MAX", TEXT.replace(b"max", b"MAX"), "line 1: not a max problem", ", field 2: 'MAX': lower case: max"),
     problem("P max", TEXT.replace(b"p", b"P"), "line 1: unknown line", ", field 1: 'P': lower case: p"),
     problem("p maxflow", TEXT.replace(b"max", b"maxflow"), "line 1: not a max problem", f", field 2: 'maxflow': {OTHER_PROBLEM}"),
     problem("n 1 S", TEXT.replace(b"s", b"S"), "line 2: neither source nor sink", ", field 3: 'S': lower case: s"),
-    problem("n s 1", TEXT.replace(b"1 s", b"s 1"), "line 2: not a number", f", field 2: 's' is {BOUNDS}; {TABLE}"),
+    problem("n s 1", TEXT.replace(b"1 s", b"s 1"), "line 2: not a number", f", field 2: 's' is {BOUNDS}; the number stands before the letter, as in n 1 s"),
     problem("inf", capacity(b"inf"), "line 4: not a number", f", field 4: 'inf' is {BOUNDS}; there is no infinite capacity: write a large number"),
     problem("-1", capacity(b"-1"), "line 4: not a number", f", field 4: '-1' is {BOUNDS}; numbers have no sign (for no limit write a large number)"),
     problem("1e9", capacity(b"1e9"), "line 4: not a number", f", field 4: '1e9' is {BOUNDS}; write digits alone"),

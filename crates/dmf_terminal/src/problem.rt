@@ -35,7 +35,7 @@ fn line_advice<'a>(kind: ProblemFaultKind, front: Front, line: Option<&'a [u8]>)
         ProblemFaultKind::UnknownLine => unknown_line(front, line),
         ProblemFaultKind::NotMax => not_max(line),
         ProblemFaultKind::FieldCount => field_count(line),
-        ProblemFaultKind::NotANumber => not_a_number(line, ON_NAMES),
+        ProblemFaultKind::NotANumber => wrong_number(line),
         ProblemFaultKind::TooLarge => too_large(line),
         ProblemFaultKind::CountOutOfRange => count_out_of_range(line),
         ProblemFaultKind::NodeOutOfRange => node_out_of_range(front, line),
@@ -57,6 +57,22 @@ fn line_advice<'a>(kind: ProblemFaultKind, front: Front, line: Option<&'a [u8]>)
             "the sum of all capacities passes 2^64 - 1 here: write a smaller number for \"no limit\"",
         ),
         ProblemFaultKind::NoMemory => Advice::saying("a request for memory was refused"),
+    }
+}
+
+fn wrong_number<'a>(line: Option<&'a [u8]>) -> Advice<'a> {
+    let on_names = match line {
+        Some(line) => way_with_names(line),
+        None => ON_NAMES,
+    };
+    not_a_number(line, on_names)
+}
+
+/// What to write in place of a word that stands for a node.
+fn way_with_names<'a>(line: &[u8]) -> &'a str {
+    match (field_at(line, 1), field_at(line, 2)) {
+        (Some(b"n"), Some(b"s" | b"t")) => "; the number stands before the letter, as in n 1 s",
+        _ => ON_NAMES,
     }
 }
 
@@ -124,12 +140,22 @@ fn field_count<'a>(line: Option<&'a [u8]>) -> Advice<'a> {
         );
     }
     let form = match field_at(line, 1) {
-        Some(b"a") => "an arc has three numbers, from, to, capacity (a SRC DST CAP, 4 fields)",
+        Some(b"a") => arc_form(line),
         Some(b"n") => "a terminal has a number and a letter (n ID s or n ID t, 3 fields)",
         Some(b"p") => "the problem line has two numbers (p max NODES ARCS, 4 fields)",
         _ => FORMS,
     };
     Advice::of_line(found(form, count(line)))
+}
+
+/// What an arc line has. A comment may stand behind this one.
+fn arc_form<'a>(line: &[u8]) -> &'a str {
+    match field_at(line, 5) {
+        Some([b'c' | b'#' | b'%' | b'/', ..]) => {
+            "an arc has three numbers, from, to, capacity (4 fields), and a comment a line of its own"
+        }
+        _ => "an arc has three numbers, from, to, capacity (a SRC DST CAP, 4 fields)",
+    }
 }
 
 /// The form that was expected, and how many fields there are.
