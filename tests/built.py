@@ -2,6 +2,7 @@
 the program is `./dmf --version`."""
 
 import os
+import signal
 import subprocess
 import tempfile
 from concurrent.futures import ProcessPoolExecutor
@@ -67,6 +68,11 @@ def put_problem(case):
 def wanted(case, refusals=None):
     """How the second implementation ends, in the same folder."""
     return program.run(case.words, case.input, refusals)
+
+
+def heed_interrupts() -> None:
+    """Has a child heed Ctrl-C, before it begins: where a script runs in the background, as those of `./test` do, it would not."""
+    signal.signal(signal.SIGINT, signal.SIG_DFL)
 
 
 def enter_folder(folder):

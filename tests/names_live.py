@@ -13,6 +13,7 @@ import time
 from collections.abc import Iterator
 from typing import IO
 
+from built import heed_interrupts
 from names_run import SECONDS, TOOL, put
 
 PIPE = subprocess.PIPE
@@ -22,7 +23,8 @@ Wrong = Iterator["str | bool"]
 
 @contextlib.contextmanager
 def running(*words: str, **streams: int | IO[bytes]) -> Iterator[subprocess.Popen[bytes]]:
-    tool = subprocess.Popen([TOOL, *words], stdin=PIPE, stdout=streams.get("stdout", PIPE), stderr=PIPE, bufsize=0)
+    out = streams.get("stdout", PIPE)
+    tool = subprocess.Popen([TOOL, *words], stdin=PIPE, stdout=out, stderr=PIPE, bufsize=0, preexec_fn=heed_interrupts)
     try:
         yield tool
     finally:

@@ -14,7 +14,7 @@ import sys
 import tempfile
 import time
 
-from built import tell
+from built import heed_interrupts, tell
 from pictures_rows import CHAIN, DRAWN, FAULTS, HEAD, LINE, LITERAL, SESSION_FAULTS, SESSIONS, WAYS
 
 # What writes the problem of each picture. What is drawn is its solution with the cut.
@@ -115,7 +115,10 @@ def wrong_ends():
             os.close(reader)
             tool = os.path.abspath("tools/dmf-dot")
             out = writer if closed else subprocess.DEVNULL
-            ran = subprocess.Popen([tool, "problem", "-"], cwd=folder, stdin=subprocess.PIPE, stdout=out, stderr=subprocess.PIPE)
+            pipe = subprocess.PIPE
+            ran = subprocess.Popen(
+                [tool, "problem", "-"], cwd=folder, stdin=pipe, stdout=out, stderr=pipe, preexec_fn=heed_interrupts
+            )
             os.close(writer)
             ran.stdin.write(b"s 7\n")
             ran.stdin.flush()

@@ -21,7 +21,7 @@ from itertools import product
 from pathlib import Path
 from typing import Optional
 
-from built import tell
+from built import heed_interrupts, tell
 from oracle import program
 from table_cases import FAULTS, PROBLEMS, VALUES, WARNINGS, WRONG_WORDS, Case
 
@@ -147,7 +147,8 @@ def wrong_streams() -> Iterator[Optional[str]]:
 
 def wrong_ends() -> Iterator[Optional[str]]:
     """What is wrong where it is interrupted, and where nobody reads on."""
-    waiting = subprocess.Popen([TOOL, "A", "B"], stdin=subprocess.PIPE, stdout=subprocess.PIPE, stderr=subprocess.PIPE)
+    pipe = subprocess.PIPE
+    waiting = subprocess.Popen([TOOL, "A", "B"], stdin=pipe, stdout=pipe, stderr=pipe, preexec_fn=heed_interrupts)
     assert waiting.stdin and waiting.stdout
     waiting.stdin.write(b"A,B,3\n")
     waiting.stdin.flush()

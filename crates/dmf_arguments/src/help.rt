@@ -21,6 +21,11 @@ pub const CHECK_USAGE: &str = "dmf check PROBLEM <SOLUTION";
 pub const NOTES: &str = "Example:
   dmf solve --cut <network.max
 
+Tools for networks with names, each with a --help of its own:
+  dmf-problem  makes a problem of a table of arcs
+  dmf-names    tells by names what dmf writes
+  dmf-dot      draws a problem and its answers for Graphviz
+
 Status:
   0  all is well
   1  a command was refused, or the checked flow is not the greatest
