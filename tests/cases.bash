@@ -86,7 +86,7 @@ make_library() {
 }
 
 # What ./dmf tells where there is no program yet, which the tests of first calls look for; a stand-in for rt then builds it.
-first_call="dmf: the program is proved and built. This happens once, and takes 7 to 15 minutes on 4 idle processors."
+first_call="dmf: the program is proved and built. This happens once, and takes some 10 minutes on 4 idle processors."
 
 # What `dmf solve` writes of examples/a.max.
 solution_a=$'s 5\nf 1 2 3\nf 1 3 2\nf 2 3 1\nf 2 4 2\nf 3 4 3\n'

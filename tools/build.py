@@ -36,10 +36,11 @@ PROGRAM = "dmf"
 FAILED, INTERRUPTED = 70, 130
 # What one crate may take of memory, in GiB, when it is proved.
 MEMORY = 3.5
-# The seconds that each crate took alone on four processors of 2.5 GHz: they say which is begun first, and how long the rest takes.
+# The seconds that each crate took in a first call on four idle processors of 2.5 GHz, side by side: they say which is begun first, and
+# how long the rest takes.
 SECONDS = {
-    "dmf_arguments": 71, "dmf_node": 5, "dmf_path": 162, "dmf_state": 67, "dmf_solver": 124, "dmf_net": 8, "dmf_text": 93,
-    "dmf_history": 50, "dmf_session": 94, "dmf_runs": 138, "dmf_run": 8, "dmf_terminal": 60, "dmf": 187,
+    "dmf_node": 3, "dmf_arguments": 60, "dmf_state": 63, "dmf_history": 37, "dmf_path": 140, "dmf_text": 90, "dmf_solver": 71,
+    "dmf_net": 24, "dmf_session": 80, "dmf_terminal": 162, "dmf_runs": 94, "dmf_run": 43, "dmf": 108,
 }  # fmt: skip
 UNKNOWN_SECONDS = 60
 
@@ -321,7 +322,7 @@ def build(told: Told) -> None:
         if before is not None:
             told.line("a source has changed since the program was built. What depends on it is proved and built again.")
         else:
-            told.line("the program is proved and built. This happens once, and takes 7 to 15 minutes on 4 idle processors.")
+            told.line("the program is proved and built. This happens once, and takes some 10 minutes on 4 idle processors.")
         git = ROOT / ".git"
         place = git if git.is_dir() and os.access(git, os.W_OK) else Path(tempfile.gettempdir())
         if place == git:
