@@ -338,8 +338,10 @@ def interrupt(_number: int, _frame: FrameType | None) -> NoReturn:
 
 def main() -> int:
     told = Told()
-    for number in signal.SIGINT, signal.SIGTERM, signal.SIGHUP:
+    for number in signal.SIGINT, signal.SIGTERM:
         signal.signal(number, interrupt)
+    if signal.getsignal(signal.SIGHUP) is not signal.SIG_IGN:  # as under nohup
+        signal.signal(signal.SIGHUP, interrupt)
     try:
         build(told)
     except Failure as failure:
