@@ -7,9 +7,10 @@ mod explain;
 mod fault;
 mod words;
 
-use dmf_run::{
-    Arguments, EngineFault, MAX_BYTES, MAX_HISTORY, Mode, SolveReply, Status, WordsFault,
-    read_arguments, run_check, run_session_watched, run_solve_watched, status_of,
+use dmf_arguments::{Arguments, MAX_HISTORY, Mode, WordsFault, read_arguments};
+use dmf_runs::{
+    EngineFault, MAX_BYTES, SolveReply, Status, run_check, run_session_watched, run_solve_watched,
+    status_of,
 };
 use dmf_session::MAX_BOUND;
 use dmf_terminal::{
