@@ -10,7 +10,9 @@ use std::alloc::{AllocError, Global};
 /// What flows out of a node and into it.
 #[derive(Clone, Copy, Debug)]
 pub struct NodeFlow {
+    /// The sum of the flows on the arcs that have the node as their tail.
     pub leaving: u64,
+    /// The sum of the flows on the arcs that have the node as their head.
     pub entering: u64,
 }
 
