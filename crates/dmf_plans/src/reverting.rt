@@ -78,7 +78,7 @@ fn solve_by(
     ensures kept { IfOk result (IsResidualOf state.new) }
 {
     let wanted = plan_solve(alloc, state)?;
-    let (edit, solved) = kept.plan_solve(alloc, state, &mut Unwatched)?;
+    let (edit, _, solved) = kept.plan_solve(alloc, state, false, &mut Unwatched)?;
     assert!(rt; edit == wanted);
     apply(state, &edit)?;
     let back = solved.follow_back(state, &edit);

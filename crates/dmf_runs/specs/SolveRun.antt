@@ -6,7 +6,7 @@ use Rattle.std.specs.Io.KnownBytes.{Consumes}
 use Rattle.dmf_state.specs.NetworkState.{NetworkState}
 use Rattle.dmf_solver.specs.Change.{Solve, Becomes}
 use Rattle.dmf_state.specs.Side.{CutSide}
-use Rattle.dmf_session.specs.Step.{IsSideWanted}
+use Rattle.dmf_solver.specs.Planning.{IsSideWanted}
 use Rattle.dmf_text.specs.Writing.{Writes}
 use Rattle.dmf_runs.specs.declared.fault.Status.{Status}
 use Rattle.dmf_runs.specs.declared.fault.Status.TheVariants.{Well}

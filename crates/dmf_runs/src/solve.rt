@@ -1,8 +1,7 @@
 //! A problem is solved, from bytes to bytes.
 ghost use Rattle.std.specs.Prelude.{IfOk};
 ghost use Rattle.dmf_solver.specs.Change.{Solve, Becomes};
-ghost use Rattle.dmf_state.specs.Edit.{applied, Fits};
-ghost use Rattle.dmf_session.specs.Step.{IsSideWanted};
+ghost use Rattle.dmf_solver.specs.Planning.{IsSideWanted};
 ghost use Rattle.dmf_runs.specs.Streams.{reader_of, writer_of};
 ghost use Rattle.dmf_runs.specs.SolveRun.{RunsSolve};
 ghost use Rattle.dmf_runs.specs.Laws.{WrittenIsOptimal};
@@ -11,8 +10,8 @@ use crate::fault::{EngineFault, Status};
 use crate::laws::written_is_optimal;
 use crate::problem::read_state;
 use crate::reply::put_solved;
-use dmf_solver::{PlanFault, Unwatched, Watch, plan_solve_watched, plan_solve_with_side_watched};
-use dmf_state::{Edit, NoMemory, Side, State};
+use dmf_solver::{Unwatched, Watch, plan_solve_watched};
+use dmf_state::{NoMemory, Side, State};
 use dmf_text::{Sink, Source};
 use std::alloc::Global;
 
@@ -76,27 +75,9 @@ fn solve<V: Watch>(
     ensures becomes { IfOk result (λ solved. Becomes state Solve solved.state) }
     ensures side { IfOk result (λ solved. IsSideWanted want_cut solved.state.network solved.side) }
 {
-    let Ok((edit, side)) = plan(alloc, &state, want_cut, watch) else {
+    let Ok((edit, side)) = plan_solve_watched(alloc, &state, want_cut, watch) else {
         return Err(NoMemory);
     };
     state.apply(&edit)?;
     Ok(Solved { state, side })
-}
-
-/// The edit that solves the state, and the smallest side of its network, where it is wanted.
-fn plan<V: Watch>(
-    alloc: Global,
-    state: &State,
-    want_cut: bool,
-    watch: &mut V,
-) -> Result<(Edit, Option<Side>), PlanFault>
-    ensures fits { IfOk result (λ planned. Fits planned.0 state.now) }
-    ensures becomes { IfOk result (λ planned. Becomes state.now Solve (applied planned.0 state.now)) }
-    ensures side { IfOk result (λ planned. IsSideWanted want_cut state.now.network planned.1) }
-{
-    if want_cut {
-        let (edit, side) = plan_solve_with_side_watched(alloc, state, watch)?;
-        return Ok((edit, Some(side)));
-    }
-    Ok((plan_solve_watched(alloc, state, watch)?, None))
 }

@@ -3,6 +3,7 @@ use Rattle.std.proofs.Common.{ℕ, ◌≡◌, ◌≢◌, ◌+◌, ◌<◌, ◌�
 use Rattle.std.proofs.lemmas.Bool.{leb-true}
 use Rattle.std.proofs.lemmas.List.{length_push, length-take-le, length-drop}
 use Rattle.std.proofs.lemmas.List.Elements.{All-take, All-push, All-drop}
+use Rattle.dmf_solver.specs.Planning.{IsSideWanted}
 use Rattle.dmf_state.specs.declared.fault.ArcFault.{ArcFault}
 use Rattle.dmf_state.specs.declared.fault.ArcFault.TheVariants as arc
 use Rattle.dmf_solver.specs.declared.fault.PlanFault.{PlanFault}
@@ -21,7 +22,7 @@ use Rattle.dmf_session.specs.declared.command.Reply.TheVariants.{Value, Added, S
 use Rattle.dmf_session.specs.declared.command.Refusal.{Refusal}
 use Rattle.dmf_session.specs.declared.command.Refusal.TheVariants.{NothingToUndo, NothingToRedo, NotGreatest, NoMemory}
 use Rattle.dmf_history.specs.Timeline.{Timeline, IsPresent, future_of, extended, forgotten, appended, back, forward}
-use Rattle.dmf_session.specs.Step.{Steps, Changes, IsChanged, IsRefused, IsMoved, IsSolved, IsSideWanted, refusal_of, value_of}
+use Rattle.dmf_session.specs.Step.{Steps, Changes, IsChanged, IsRefused, IsMoved, IsSolved, refusal_of, value_of}
 use Rattle.dmf_session.specs.Laws.{HasStates, Answered, HasAnswer}
 use Rattle.dmf_history.proofs.Appending.{within_bound-keeps}
 use Rattle.dmf_session.proofs.Changed.{some-present}

@@ -3,6 +3,7 @@ use Rattle.std.proofs.Common.{◌≡◌, length, Bool, true, false, Option, Some
 use Rattle.std.specs.Bool.{MatchBool}
 use Rattle.std.specs.Option.{MatchOption}
 use Rattle.dmf_solver.specs.declared.fault.PlanFault.{PlanFault}
+use Rattle.dmf_solver.specs.Planning.{IsSideWanted}
 use Rattle.dmf_state.specs.Network.{Network}
 use Rattle.dmf_state.specs.NetworkState.{NetworkState, IsState}
 use Rattle.dmf_solver.specs.Greatest.{IsGreatest, IsSurpassed}
@@ -15,7 +16,7 @@ use Rattle.dmf_session.specs.declared.command.Reply.TheVariants.{Value, Added, S
 use Rattle.dmf_session.specs.declared.command.Refusal.{Refusal}
 use Rattle.dmf_session.specs.declared.command.Refusal.TheVariants.{NothingToUndo, NothingToRedo, NotGreatest}
 use Rattle.dmf_history.specs.Timeline.{Timeline, IsPresent, future_of, appended, back, forward}
-use Rattle.dmf_session.specs.Step.{Changes, IsChanged, IsRefused, IsMoved, IsSolved, IsSideWanted, TellsCut, refusal_of, value_of}
+use Rattle.dmf_session.specs.Step.{Changes, IsChanged, IsRefused, IsMoved, IsSolved, TellsCut, refusal_of, value_of}
 use Rattle.dmf_session.specs.Laws.{HasStates, HasOneAnswer}
 use Rattle.dmf_session.proofs.Optimal.{not-surpassed}
 use Rattle.dmf_history.proofs.Appending.{one-present}

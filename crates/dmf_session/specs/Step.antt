@@ -1,12 +1,12 @@
 -- What a command makes of a timeline, and what it answers.
 -- Public: a public contract says no more than this.
-use Rattle.std.specs.Prelude.{ℕ, ◌≡◌, ◌+◌, ◌<◌, ◌≤◌, length, nat_abs, nat_le, Bool, true, false, Option, Some, None, Result, Ok, Err, MatchOption, MatchBool}
+use Rattle.std.specs.Prelude.{ℕ, ◌≡◌, ◌+◌, ◌<◌, ◌≤◌, length, nat_abs, nat_le, Bool, Option, None, Result, Ok, Err, MatchOption, MatchBool}
 use Rattle.dmf_solver.specs.declared.fault.PlanFault.{PlanFault}
 use Rattle.dmf_solver.specs.declared.fault.PlanFault.TheVariants as plan
 use Rattle.dmf_solver.specs.declared.fault.CutFault.{CutFault}
 use Rattle.dmf_solver.specs.declared.fault.CutFault.TheVariants as cut
+use Rattle.dmf_solver.specs.Planning.{IsSideWanted}
 use Rattle.dmf_state.specs.Flow.{flow_value}
-use Rattle.dmf_state.specs.Network.{Network}
 use Rattle.dmf_state.specs.NetworkState.{NetworkState}
 use Rattle.dmf_solver.specs.Greatest.{IsGreatest, IsSurpassed}
 use Rattle.dmf_state.specs.Side.{CutSide, IsSmallestSide}
@@ -62,13 +62,6 @@ pub record IsMoved (moved : Timeline) (result : Result Reply Refusal) (u : Timel
   pub present : IsPresent moved state
   pub told : result ≡ Ok (Value (value_of state))
   pub moves : u ≡ moved
-
--- The smallest side of the network, where it is wanted, and else none.
-abbrev pub IsSideWanted : Bool → Network → Option CutSide → Type 0
-IsSideWanted true n (Some side) = IsSmallestSide n side
-IsSideWanted true n None = ⊥
-IsSideWanted false n (Some side) = ⊥
-IsSideWanted false n None = Unit {0}
 
 -- Solving, which is never refused: what it becomes is appended. The reply has the smallest side of its network, where it is
 -- wanted.

@@ -1,13 +1,9 @@
-ghost use Rattle.std.specs.Prelude.{◌≡◌, ◌≤◌, ◌↔◌, Bool, Some, Err, IfOk, IsOkUnless, MatchResult, OnOk, OnErr};
+ghost use Rattle.std.specs.Prelude.{◌≡◌, ◌≤◌, ◌↔◌, Bool, Some, Err, IfOk, OnOk, OnErr};
 ghost use Rattle.dmf_session.specs.declared.command.Command.TheVariants.{Cap, Add, Close, Shut, Solve, Undo, Redo, PrintCut};
 ghost use Rattle.dmf_history.specs.declared.history.RedoFault.TheVariants as redo;
 ghost use Rattle.dmf_history.specs.Timeline.{IsTimeline, IsPresent, future_of, back, forward, FitsPresent, Appends, AddsArcs};
-ghost use Rattle.dmf_session.specs.Step.{Answers, IsSideWanted};
+ghost use Rattle.dmf_session.specs.Step.{Answers};
 ghost use Rattle.dmf_session.specs.Kept.{KeepsPresent, KeepsApplied};
-ghost use Rattle.dmf_solver.specs.ResidualNetwork.{IsResidualOf};
-ghost use Rattle.dmf_state.specs.Edit.{applied};
-ghost use Rattle.dmf_solver.specs.Planning.{PlansSolve};
-ghost use Rattle.dmf_solver.specs.Told.{TellsSolve, MayTellSolve};
 ghost use Rattle.dmf_session.specs.Optimal.{HasOptimalPresent};
 ghost use Rattle.dmf_session.specs.Telling.{TellsStep};
 
@@ -16,10 +12,9 @@ use crate::kept::{kept_after, kept_before};
 use crate::laws::greatest_is_optimal;
 use dmf_history::{History, RedoFault};
 use dmf_solver::{
-    PlanFault, ResidualNetwork, Unwatched, Watch, plan_add, plan_cap, plan_close, plan_shut,
-    smallest_side,
+    ResidualNetwork, Unwatched, Watch, plan_add, plan_cap, plan_close, plan_shut, smallest_side,
 };
-use dmf_state::{Edit, NoMemory, Side, State};
+use dmf_state::{Edit, NoMemory, State};
 use std::alloc::Global;
 use std::marker::Model;
 
@@ -193,7 +188,7 @@ impl<H: History> Session<H> {
     {
         greatest_is_optimal();
         let network = self.take_network(alloc)?;
-        let (edit, side, solved) = plan_wanted(network, alloc, self.present(), want_cut, watch)?;
+        let (edit, side, solved) = network.plan_solve(alloc, self.present(), want_cut, watch)?;
         self.append(edit, Some(solved))?;
         Ok(Reply::Solution(side))
     }
@@ -304,32 +299,5 @@ impl<H: History> Session<H> {
             let _ = self.history.undo();
             self.kept = kept;
         }
-    }
-}
-
-/// Plans a solve of the state along its residual network, with the smallest side where it is wanted, and gives the network
-/// of the solved state.
-fn plan_wanted<W: Watch>(
-    network: ResidualNetwork,
-    alloc: Global,
-    state: &State,
-    want_cut: bool,
-    watch: &mut W,
-) -> Result<(Edit, Option<Side>, ResidualNetwork), PlanFault>
-    requires { IsResidualOf state.now network }
-    ensures refused { IsOkUnless result PlanFault.NoMemory }
-    ensures edit { IfOk result (λ planned. PlansSolve state.now planned.0) }
-    ensures side { IfOk result (λ planned. IsSideWanted want_cut state.now.network planned.1) }
-    ensures kept { IfOk result (λ planned. IsResidualOf (applied planned.0 state.now) planned.2) }
-    ensures told { MatchResult result
-        (λ planned. TellsSolve state.now (applied planned.0 state.now).flows (W.told watch.old) (W.told watch.new))
-        (λ _. MayTellSolve state.now (W.told watch.old) (W.told watch.new)) }
-{
-    if want_cut {
-        let (edit, side, solved) = network.plan_solve_with_side(alloc, state, watch)?;
-        Ok((edit, Some(side), solved))
-    } else {
-        let (edit, solved) = network.plan_solve(alloc, state, watch)?;
-        Ok((edit, None, solved))
     }
 }

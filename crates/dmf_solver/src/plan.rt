@@ -1,4 +1,4 @@
-ghost use Rattle.std.specs.Prelude.{◌≡◌, ◌≢◌, ◌-◌, ◌≤◌, Err, IfOk, IsOkUnless, MatchOption, MatchResult, pos};
+ghost use Rattle.std.specs.Prelude.{◌≡◌, ◌≢◌, ◌-◌, ◌≤◌, Err, IfOk, IfSome, IsOkUnless, MatchOption, MatchResult, pos};
 ghost use Rattle.std.specs.Result.{result_err};
 ghost use Rattle.dmf_solver.specs.Change.{Cap, Close, Add, Shut, Solve, arc_refusal, change_fault, Becomes, IsEditOf};
 ghost use Rattle.dmf_state.specs.Cut.{HasCutOf};
@@ -8,15 +8,14 @@ ghost use Rattle.dmf_state.specs.Edit.{applied, shut_arcs, Fits, IsOpenWith, Lis
 ghost use Rattle.dmf_state.specs.Flow.{flow_on, flow_on_all, flow_value};
 ghost use Rattle.dmf_solver.specs.Greatest.{IsGreatest};
 ghost use Rattle.dmf_solver.specs.Pairs.{IsSolved, reached_flows};
-ghost use Rattle.dmf_solver.specs.Planning.{PlansSolve};
-ghost use Rattle.dmf_state.specs.Side.{IsSmallestSide};
+ghost use Rattle.dmf_solver.specs.Planning.{PlansSolve, IsSideWanted};
 ghost use Rattle.dmf_solver.specs.Told.{TellsSolve, MayTellSolve};
 
 use crate::drain::drain;
 use crate::fault::PlanFault;
 use crate::residual::residual_search;
 use crate::shut::{open_arcs_at, shutting_moves};
-use crate::side::solved_side;
+use crate::side::wanted_side;
 use crate::solve::{Solved, solve};
 use crate::solved_moves::{into_flows, list_differences};
 use crate::watch::{Unwatched, Watch};
@@ -135,56 +134,31 @@ pub fn plan_solve(alloc: Global, state: &State) -> Result<Edit, PlanFault>
     ensures greatest { IfOk result (λ edit. IsGreatest state.now.network (applied edit state.now).flows) }
     ensures cut { IfOk result (λ edit. HasCutOf state.now.network (flow_value state.now.network (applied edit state.now).flows)) }
 {
-    plan_solve_watched(alloc, state, &mut Unwatched)
+    let (edit, _) = plan_solve_watched(alloc, state, false, &mut Unwatched)?;
+    Ok(edit)
 }
 
-/// Plans the same greatest flow, and tells the watch of each path on the way.
+/// Plans the same greatest flow, and tells the watch of each path on the way; where it is wanted, also the smallest side of the
+/// network, which does not change by it. One search finds both.
+///
+/// Takes memory for the side too; where it is refused, the answer is [`PlanFault::NoMemory`].
 pub fn plan_solve_watched<W: Watch>(
     alloc: Global,
     state: &State,
+    want_side: bool,
     watch: &mut W,
-) -> Result<Edit, PlanFault>
-    ensures refused { IsOkUnless result PlanFault.NoMemory }
-    ensures edit { IfOk result (PlansSolve state.now) }
-    ensures told { MatchResult result
-        (λ edit. TellsSolve state.now (applied edit state.now).flows (W.told watch.old) (W.told watch.new))
-        (λ _. MayTellSolve state.now (W.told watch.old) (W.told watch.new)) }
-{
-    let search = residual_search(alloc, state)?;
-    let solved = solve(search, state, &mut Vec::new(alloc), watch);
-    solve_edit(alloc, state, solved)
-}
-
-/// Plans the same greatest flow, and tells the smallest side of the network, which does not change by it. One search finds
-/// both.
-///
-/// Takes memory for the side too; where it is refused, the answer is [`PlanFault::NoMemory`].
-pub fn plan_solve_with_side(alloc: Global, state: &State) -> Result<(Edit, Side), PlanFault>
+) -> Result<(Edit, Option<Side>), PlanFault>
     ensures refused { IsOkUnless result PlanFault.NoMemory }
     ensures edit { IfOk result (λ planned. PlansSolve state.now planned.0) }
-    ensures side { IfOk result (λ planned. IsSmallestSide state.now.network planned.1) }
-    ensures value { IfOk result (λ planned. pos planned.1.capacity ≡ flow_value state.now.network (applied planned.0 state.now).flows) }
-{
-    plan_solve_with_side_watched(alloc, state, &mut Unwatched)
-}
-
-/// Plans the same, and tells the watch of each path on the way.
-pub fn plan_solve_with_side_watched<W: Watch>(
-    alloc: Global,
-    state: &State,
-    watch: &mut W,
-) -> Result<(Edit, Side), PlanFault>
-    ensures refused { IsOkUnless result PlanFault.NoMemory }
-    ensures edit { IfOk result (λ planned. PlansSolve state.now planned.0) }
-    ensures side { IfOk result (λ planned. IsSmallestSide state.now.network planned.1) }
-    ensures value { IfOk result (λ planned. pos planned.1.capacity ≡ flow_value state.now.network (applied planned.0 state.now).flows) }
+    ensures side { IfOk result (λ planned. IsSideWanted want_side state.now.network planned.1) }
+    ensures value { IfOk result (λ planned. IfSome planned.1 (λ side. pos side.capacity ≡ flow_value state.now.network (applied planned.0 state.now).flows)) }
     ensures told { MatchResult result
         (λ planned. TellsSolve state.now (applied planned.0 state.now).flows (W.told watch.old) (W.told watch.new))
         (λ _. MayTellSolve state.now (W.told watch.old) (W.told watch.new)) }
 {
     let search = residual_search(alloc, state)?;
     let solved = solve(search, state, &mut Vec::new(alloc), watch);
-    let side = solved_side(alloc, state, &solved)?;
+    let side = wanted_side(alloc, state, &solved, want_side)?;
     let edit = solve_edit(alloc, state, solved)?;
     Ok((edit, side))
 }

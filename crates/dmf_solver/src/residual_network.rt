@@ -3,7 +3,7 @@ ghost use Rattle.dmf_state.specs.Direction.{edited_along, FitsAlong};
 ghost use Rattle.dmf_state.specs.Edit.{applied, AddsArc, Fits};
 ghost use Rattle.dmf_state.specs.Flow.{flow_value};
 ghost use Rattle.dmf_solver.specs.Greatest.{IsGreatest, IsSurpassed};
-ghost use Rattle.dmf_solver.specs.Planning.{PlansSolve};
+ghost use Rattle.dmf_solver.specs.Planning.{PlansSolve, IsSideWanted};
 ghost use Rattle.dmf_solver.specs.ResidualNetwork.{IsResidualOf};
 ghost use Rattle.dmf_state.specs.Revert.{reverted, Stands};
 ghost use Rattle.dmf_state.specs.Side.{IsSmallestSide};
@@ -12,7 +12,7 @@ ghost use Rattle.dmf_solver.specs.Told.{TellsSolve, MayTellSolve};
 use crate::fault::{CutFault, PlanFault};
 use crate::following::{moves_of, put_capacities, put_flows};
 use crate::residual::residual_search;
-use crate::side::{side_along, solved_side};
+use crate::side::{side_along, wanted_side};
 use crate::solve::{Solved, solve};
 use crate::solved_moves::list_reached;
 use crate::watch::Watch;
@@ -45,45 +45,23 @@ impl ResidualNetwork {
         Ok(ResidualNetwork { search })
     }
 
-    /// Plans what [`plan_solve`](crate::plan_solve) plans, and gives the links as they are once it is applied. The watch is
-    /// told of each path on the way.
+    /// Plans what [`plan_solve`](crate::plan_solve) plans, where it is wanted with the smallest side of the network, and gives the
+    /// links as they are once it is applied. The watch is told of each path on the way.
     ///
-    /// Takes memory for the moves, and for a mark a node; where it is refused, the answer is [`PlanFault::NoMemory`].
+    /// Takes memory for the moves, for a mark a node, and for the side, with marks and numbers while it is looked for; where it is
+    /// refused, the answer is [`PlanFault::NoMemory`].
     pub fn plan_solve<W: Watch>(
         self,
         alloc: Global,
         state: &State,
+        want_side: bool,
         watch: &mut W,
-    ) -> Result<(Edit, ResidualNetwork), PlanFault>
+    ) -> Result<(Edit, Option<Side>, ResidualNetwork), PlanFault>
         requires { IsResidualOf state.now self }
         ensures refused { IsOkUnless result PlanFault.NoMemory }
         ensures edit { IfOk result (λ planned. PlansSolve state.now planned.0) }
-        ensures kept { IfOk result (λ planned. IsResidualOf (applied planned.0 state.now) planned.1) }
-        ensures told { MatchResult result
-            (λ planned. TellsSolve state.now (applied planned.0 state.now).flows (W.told watch.old) (W.told watch.new))
-            (λ _. MayTellSolve state.now (W.told watch.old) (W.told watch.new)) }
-    {
-        let mut passed = vec![in alloc; false; state.nodes() as usize + 1]?;
-        let Solved { search, .. } = solve(self.search, state, &mut passed, watch);
-        let moves = list_reached(alloc, state, &search, &passed)?;
-        Ok((Edit::Solve { moves }, ResidualNetwork { search }))
-    }
-
-    /// Plans the same, and tells the smallest side of the network, which does not change by it.
-    ///
-    /// Takes memory for the side too, and for marks and numbers while it is looked for; where it is refused, the answer is
-    /// [`PlanFault::NoMemory`].
-    pub fn plan_solve_with_side<W: Watch>(
-        self,
-        alloc: Global,
-        state: &State,
-        watch: &mut W,
-    ) -> Result<(Edit, Side, ResidualNetwork), PlanFault>
-        requires { IsResidualOf state.now self }
-        ensures refused { IsOkUnless result PlanFault.NoMemory }
-        ensures edit { IfOk result (λ planned. PlansSolve state.now planned.0) }
-        ensures side { IfOk result (λ planned. IsSmallestSide state.now.network planned.1) }
-        ensures value { IfOk result (λ planned. pos planned.1.capacity ≡ flow_value state.now.network (applied planned.0 state.now).flows) }
+        ensures side { IfOk result (λ planned. IsSideWanted want_side state.now.network planned.1) }
+        ensures value { IfOk result (λ planned. IfSome planned.1 (λ side. pos side.capacity ≡ flow_value state.now.network (applied planned.0 state.now).flows)) }
         ensures kept { IfOk result (λ planned. IsResidualOf (applied planned.0 state.now) planned.2) }
         ensures told { MatchResult result
             (λ planned. TellsSolve state.now (applied planned.0 state.now).flows (W.told watch.old) (W.told watch.new))
@@ -91,7 +69,7 @@ impl ResidualNetwork {
     {
         let mut passed = vec![in alloc; false; state.nodes() as usize + 1]?;
         let solved = solve(self.search, state, &mut passed, watch);
-        let side = solved_side(alloc, state, &solved)?;
+        let side = wanted_side(alloc, state, &solved, want_side)?;
         let Solved { search, .. } = solved;
         let moves = list_reached(alloc, state, &search, &passed)?;
         Ok((Edit::Solve { moves }, side, ResidualNetwork { search }))

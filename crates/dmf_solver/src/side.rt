@@ -1,11 +1,12 @@
-ghost use Rattle.std.specs.Prelude.{◌≡◌, ◌-◌, ◌≤◌, ◌↔◌, ℕ, false, length, pos, IfErr, IfOk, IsTrue, OnOk, ◌^◌};
+ghost use Rattle.std.specs.Prelude.{◌≡◌, ◌-◌, ◌≤◌, ◌↔◌, ℕ, false, length, pos, IfErr, IfOk, IfSome, IsTrue, OnOk, ◌^◌};
 ghost use Rattle.std.specs.List.{slice_index_or};
 ghost use Rattle.std.specs.List.Sorted.{IsStrictlyIncreasing};
 ghost use Rattle.dmf_node.specs.Node.{IsNode};
 ghost use Rattle.dmf_state.specs.Flow.{flow_value};
 ghost use Rattle.dmf_solver.specs.Greatest.{IsGreatest, IsSurpassed};
 ghost use Rattle.dmf_state.specs.Side.{has_node, IsSmallestSide};
-ghost use Rattle.dmf_solver.specs.Pairs.{IsReachedSide, IsSolved};
+ghost use Rattle.dmf_solver.specs.Pairs.{IsReachedSide, IsSolved, reached_flows};
+ghost use Rattle.dmf_solver.specs.Planning.{IsSideWanted};
 ghost use Rattle.dmf_state.specs.Edit.{applied, Fits};
 ghost use Rattle.dmf_solver.specs.ResidualNetwork.{IsResidualOf};
 
@@ -61,13 +62,22 @@ pub fn side_after(alloc: Global, state: &State, edit: &Edit) -> Result<Side, Cut
     smallest_side(alloc, &after)
 }
 
-/// The smallest side of the state's network, once it is solved.
-pub fn solved_side(alloc: Global, state: &State, solved: &Solved) -> Result<Side, AllocError>
+/// The smallest side of the state's network, once it is solved, where it is wanted.
+pub fn wanted_side(
+    alloc: Global,
+    state: &State,
+    solved: &Solved,
+    want_side: bool,
+) -> Result<Option<Side>, AllocError>
     requires { IsSolved state.now solved.now.search solved.now.value }
-    ensures side { IfOk result (λ side. IsSmallestSide state.now.network side) }
-    ensures value { IfOk result (λ side. side.capacity ≡ solved.now.value) }
+    ensures side { IfOk result (λ side. IsSideWanted want_side state.now.network side) }
+    ensures value { IfOk result (λ side. IfSome side (λ side. pos side.capacity ≡ flow_value state.now.network (reached_flows state.now solved.now.search))) }
 {
-    reached_side(alloc, &solved.search, solved.value)
+    if want_side {
+        let side = reached_side(alloc, &solved.search, solved.value)?;
+        return Ok(Some(side));
+    }
+    Ok(None)
 }
 
 /// The nodes to which paths of a search lead, with this capacity.

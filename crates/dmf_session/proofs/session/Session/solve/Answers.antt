@@ -1,6 +1,6 @@
 use Rattle.std.proofs.Common.{inr, sym, subst, refl}
 use Rattle.dmf_state.specs.Edit.{applied}
-use Rattle.dmf_session.specs.Step.{IsSideWanted}
+use Rattle.dmf_solver.specs.Planning.{IsSideWanted}
 use Rattle.dmf_history.proofs.Appending.{appends-applied}
 use Rattle.dmf_session.specs.declared.command.Reply.TheVariants.{Solution}
 use Rattle.dmf_session.proofs.Optimal.{planned-optimal}

@@ -1,0 +1,15 @@
+use Rattle.std.proofs.Common.{ap, pos, ◌∙◌}
+use Rattle.dmf_solver.specs.Pairs.{reached_flows}
+use Rattle.dmf_solver.proofs.SmallestSide.{IsSmallestSide-by_search}
+use Rattle.dmf_solver.proofs.side.wanted_side.Goals as goal
+
+pub returns-then-want_side-clause-side : goal.returns-then-want_side-clause-side
+returns-then-want_side-clause-side c =
+    let s = c.args.state.now in
+    let solved = c.args.solved.now in
+    let is = c.requires in
+    rw c.if-want_side.true
+    (IsSmallestSide-by_search s.network (reached_flows s solved.search) solved.search solved.value c.in_ok-side.side is.state.network is.state.flow is.solves.no_path is.search_is is.value_is c.in_ok-side.ensures)
+
+pub returns-then-want_side-clause-value : goal.returns-then-want_side-clause-value
+returns-then-want_side-clause-value c = ap pos c.in_ok-side.ensures.capacity_is ∙ c.requires.value_is
