@@ -4,7 +4,7 @@ ghost use Rattle.dmf_state.specs.Edit.{Fits};
 use crate::moves::{listed, shuttings};
 use crate::networks::{example, solved_example};
 use dmf_solver::{
-    Unwatched, is_greatest, plan_shut, plan_solve, plan_solve_watched, side_after, smallest_side,
+    is_greatest, plan_shut, plan_solve, plan_solve_with_side, side_after, smallest_side,
 };
 use dmf_state::{Edit, Side, State};
 use std::alloc::Global;
@@ -25,10 +25,7 @@ fn solves(alloc: Global, state: &State, edit: &Edit, side: &Side) -> Result<bool
 fn the_smallest_side_is_told_before_the_solve(rt: HostRuntime) -> Result<(), Fail> {
     let alloc = rt.alloc();
     let state = example(alloc)?;
-    let (edit, side) = plan_solve_watched(alloc, &state, true, &mut Unwatched)?;
-    let Some(side) = side else {
-        return Err(Fail::from("no side was told"));
-    };
+    let (edit, side) = plan_solve_with_side(alloc, &state)?;
     assert!(rt; solves(alloc, &state, &edit, &side)?);
     assert!(rt; side.ids().eq([1]));
     assert!(rt; side.capacity() == 5);

@@ -6,7 +6,9 @@ pub use laws::{
     change_has_one_outcome, change_has_outcome, flow_is_greatest_or_surpassed, max_flow_min_cut,
     network_has_one_smallest_side, network_has_smallest_side, solved_is_greatest,
 };
-pub use plan::{plan_add, plan_cap, plan_close, plan_shut, plan_solve, plan_solve_watched};
+pub use plan::{
+    plan_add, plan_cap, plan_close, plan_shut, plan_solve, plan_solve_watched, plan_solve_with_side,
+};
 pub use residual_network::ResidualNetwork;
 pub use side::{side_after, smallest_side};
 pub use solve::is_greatest;

@@ -9,6 +9,7 @@ ghost use Rattle.dmf_state.specs.Flow.{flow_on, flow_on_all, flow_value};
 ghost use Rattle.dmf_solver.specs.Greatest.{IsGreatest};
 ghost use Rattle.dmf_solver.specs.Pairs.{IsSolved, reached_flows};
 ghost use Rattle.dmf_solver.specs.Planning.{PlansSolve, IsSideWanted};
+ghost use Rattle.dmf_state.specs.Side.{IsSmallestSide};
 ghost use Rattle.dmf_solver.specs.Told.{TellsSolve, MayTellSolve};
 
 use crate::drain::drain;
@@ -136,6 +137,20 @@ pub fn plan_solve(alloc: Global, state: &State) -> Result<Edit, PlanFault>
 {
     let (edit, _) = plan_solve_watched(alloc, state, false, &mut Unwatched)?;
     Ok(edit)
+}
+
+/// Plans the same greatest flow, and gives the smallest side of the network, which does not change by it. One search finds
+/// both.
+///
+/// Takes memory for the side too; where it is refused, the answer is [`PlanFault::NoMemory`].
+pub fn plan_solve_with_side(alloc: Global, state: &State) -> Result<(Edit, Side), PlanFault>
+    ensures refused { IsOkUnless result PlanFault.NoMemory }
+    ensures edit { IfOk result (λ planned. PlansSolve state.now planned.0) }
+    ensures side { IfOk result (λ planned. IsSmallestSide state.now.network planned.1) }
+    ensures value { IfOk result (λ planned. pos planned.1.capacity ≡ flow_value state.now.network (applied planned.0 state.now).flows) }
+{
+    let (edit, side) = plan_solve_watched(alloc, state, true, &mut Unwatched)?;
+    Ok((edit, side.unwrap()))
 }
 
 /// Plans the same greatest flow, and tells the watch of each path on the way; where it is wanted, also the smallest side of the
