@@ -1,7 +1,6 @@
 -- Links by node: the links of a node lie side by side, in the order of their ranks. A link is known by its place.
 -- Private: only contracts inside the crate and proofs use this.
 use Rattle.std.specs.Prelude.{ℕ, ◌≡◌, ◌≢◌, ◌+◌, ◌^◌, ◌<◌, ◌≤◌, ◌⊎◌, ◌==◌, nat_lt, if◌then◌else◌, List, length, map, slice_index, Option, Some, None}
-use Rattle.dmf_path.specs.declared.links.LinkTable.{LinkTable}
 use Rattle.dmf_path.specs.declared.pair.Pair.{Pair}
 use Rattle.dmf_node.specs.Node.{IsNode}
 
@@ -12,10 +11,6 @@ pub record Links : Type 0 where
   pub first : List ℕ
   pub heads : List ℕ
   pub partners : List ℕ
-
--- the links of a table
-abbrev pub links_of : LinkTable → Links
-links_of t = record { nodes = t.nodes; first = t.first.items; heads = t.heads.items; partners = t.partners.items }
 
 -- the node from which the link at place `p` leads: that to which its opposite leads
 abbrev pub tail_of : Links → ℕ → ℕ

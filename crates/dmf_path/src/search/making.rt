@@ -2,13 +2,15 @@
 ghost use Rattle.std.specs.Prelude.{◌≡◌, ◌≢◌, ◌^◌, ◌≤◌, IfOk};
 ghost use Rattle.dmf_node.specs.Node.{IsNode};
 ghost use Rattle.dmf_path.specs.Pair.{ArePairs};
-ghost use Rattle.dmf_path.specs.Links.{AreBuilt, links_of};
+ghost use Rattle.dmf_path.specs.Links.{AreBuilt};
+ghost use Rattle.dmf_path.specs.LinkTable.{links_of};
 
-use crate::links::{LinkTable, build, opposite_flags};
+use crate::links::{build, opposite_flags};
 use crate::listed::list_pairs;
 use crate::pair::Pairs;
 use crate::places::Places;
 use crate::search::Search;
+use crate::table::LinkTable;
 use crate::trail::Trail;
 use std::alloc::{AllocError, Global};
 

@@ -2,7 +2,7 @@
 use Rattle.std.proofs.Common.{◌≡◌, get_or, ap, sym, ◌∙◌, arith, Some}
 use Rattle.std.specs.Option.{option_map}
 use Rattle.dmf_path.specs.declared.pair.Pair.{Pair}
-use Rattle.dmf_path.specs.Links.{links_of}
+use Rattle.dmf_path.specs.LinkTable.{links_of}
 use Rattle.dmf_path.specs.Held.{way_of, rooms_with}
 use Rattle.dmf_path.proofs.Opposite.{opposite-is, opposite-within}
 use Rattle.dmf_path.proofs.PairRead.{index-within, place-within, no-pair, its-pair}

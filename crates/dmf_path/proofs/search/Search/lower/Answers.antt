@@ -2,7 +2,8 @@
 use Rattle.std.proofs.Common.{◌≡◌, get_or, ap, ◌∙◌, arith, vec_capacity}
 use Rattle.std.specs.Vec.{with_items}
 use Rattle.std.proofs.lemmas.List.{with_items_is}
-use Rattle.dmf_path.specs.Links.{links_of, pairs_at}
+use Rattle.dmf_path.specs.Links.{pairs_at}
+use Rattle.dmf_path.specs.LinkTable.{links_of}
 use Rattle.dmf_path.specs.Held.{way_of, rooms_with}
 use Rattle.dmf_path.specs.Search.{with_pairs, lowered_along}
 use Rattle.dmf_path.specs.Searching.{IsSearch, searched}

@@ -1,6 +1,7 @@
 -- What a search keeps at first, and that callers see the pairs of which it was made.
 use Rattle.std.proofs.Common.{◌≡◌, ◌+◌, take, replicate, ap, ◌∙◌, arith, rules}
-use Rattle.dmf_path.specs.Links.{AreBuilt, links_of}
+use Rattle.dmf_path.specs.Links.{AreBuilt}
+use Rattle.dmf_path.specs.LinkTable.{links_of}
 use Rattle.dmf_path.specs.Held.{rooms_with}
 use Rattle.dmf_path.specs.Searching.{searched}
 use Rattle.dmf_path.proofs.Settling.{settled-none}

@@ -3,7 +3,8 @@ use Rattle.std.proofs.Common.{◌≡◌, ◌<◌, true, length, get_or, refl, ap
 use Rattle.std.specs.Vec.{vec_capacity}
 use Rattle.std.proofs.lemmas.List.{with_items_is, length-map}
 use Rattle.dmf_path.specs.declared.search.Search.TheInside.{Inside}
-use Rattle.dmf_path.specs.Links.{links_of, pair_at, no_place}
+use Rattle.dmf_path.specs.Links.{pair_at, no_place}
+use Rattle.dmf_path.specs.LinkTable.{links_of}
 use Rattle.dmf_path.specs.Held.{Way, way_of, rooms_with}
 use Rattle.dmf_path.specs.Search.{Searched, with_pairs, with_rooms}
 use Rattle.dmf_path.specs.Searching.{IsSearch, searched}
@@ -80,9 +81,6 @@ returns-in_default c =
     (rooms_with-fresh l x.takes_back x.places x.rooms.items x.flags.items x.labels.items x.current.items (way_of x.trail) _ _ x.rooms.items a.is) refl refl
     ∙ sym (unset-searched l x.places x.rooms.items x.trail.start x.trail.goal x.takes_back c.args.k c.args.along c.args.against (index at) none)
     ∙ ap (λ (s : Searched). with_pairs s (with_rooms s.pairs c.args.k c.args.along c.args.against)) a.same
-
-pub set_pair-requires-clause-links : goal.set_pair-requires-clause-links
-set_pair-requires-clause-links c = (anew (goal.at.set_pair-requires-clause-links c).Joined-not-self).is.links
 
 pub set_pair-requires-clause-rooms : goal.set_pair-requires-clause-rooms
 set_pair-requires-clause-rooms c = rw c.deref_mut-2.ensures.value (anew (goal.at.set_pair-requires-clause-rooms c).Joined-not-self).is.holding.rooms_are

@@ -1,6 +1,7 @@
 -- The links of the listed pairs, with the places of all, are those of all pairs.
 use Rattle.std.proofs.Common.{map, Some}
-use Rattle.dmf_path.specs.Links.{AreBuilt, links_of}
+use Rattle.dmf_path.specs.Links.{AreBuilt}
+use Rattle.dmf_path.specs.LinkTable.{links_of}
 use Rattle.dmf_path.proofs.Spread.{ArePairs-listed, IsSpread, is-spread}
 use Rattle.dmf_path.proofs.search.making.link.Goals as goal
 use Rattle.dmf_path.proofs.search.making.link.Goals.{After-len}
