@@ -3,6 +3,7 @@ pub mod Path
 pub mod Steps
 pub mod Pair
 pub mod Links
+pub mod LinkTable
 pub mod Building
 pub mod Listed
 pub mod Labels

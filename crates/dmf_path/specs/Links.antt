@@ -1,8 +1,6 @@
 -- Links by node: the links of a node lie side by side, in the order of their ranks. A link is known by its place.
 -- Private: only contracts inside the crate and proofs use this.
 use Rattle.std.specs.Prelude.{ℕ, ◌≡◌, ◌≢◌, ◌+◌, ◌^◌, ◌<◌, ◌≤◌, ◌⊎◌, ◌==◌, nat_lt, if◌then◌else◌, List, length, map, slice_index, Option, Some, None}
-use Rattle.dmf_path.specs.declared.links.LinkTable.{LinkTable}
-use Rattle.dmf_path.specs.declared.links.Built.{Built}
 use Rattle.dmf_path.specs.declared.pair.Pair.{Pair}
 use Rattle.dmf_node.specs.Node.{IsNode}
 
@@ -13,10 +11,6 @@ pub record Links : Type 0 where
   pub first : List ℕ
   pub heads : List ℕ
   pub partners : List ℕ
-
--- the links of a table
-abbrev pub links_of : LinkTable → Links
-links_of t = record { nodes = t.nodes; first = t.first.items; heads = t.heads.items; partners = t.partners.items }
 
 -- the node from which the link at place `p` leads: that to which its opposite leads
 abbrev pub tail_of : Links → ℕ → ℕ
@@ -50,6 +44,11 @@ pub record AreLinks (l : Links) : Type 0 where
 -- what stands for the place of a pair that has none
 abbrev pub no_place : ℕ
 no_place = 4294967295
+
+-- It is the place of the pair at index `k`.
+pub record IsPlaceOf (places : List ℕ) (k place : ℕ) : Type 0 where
+  pub is : place ≡ slice_index places k
+  pub there : place ≢ no_place
 
 -- The link at place `p` is one of the two of the pair at index `k`, whose link along lies at its place.
 abbrev pub IsOf : Links → List ℕ → ℕ → ℕ → Type 0
@@ -96,9 +95,9 @@ AreFlags l rooms flags = (length flags ≡ length l.heads)
     × ((p : ℕ) → p < length l.heads → slice_index flags p ≡ open_flag (slice_index rooms (slice_index l.partners p)))
 
 -- Of these pairs between so many nodes links are made, with their places and rooms.
-pub record AreBuilt (nodes : ℕ) (pairs : List (Option Pair)) (b : Built) : Type 0 where
-  pub nodes_are : b.table.nodes ≡ nodes
-  pub links : AreLinks (links_of b.table)
-  pub places : ArePlaces (links_of b.table) b.places.items
-  pub rooms : AreRooms (links_of b.table) b.rooms.items
-  pub pairs_are : pairs_at (links_of b.table) b.places.items b.rooms.items ≡ pairs
+pub record AreBuilt (nodes : ℕ) (pairs : List (Option Pair)) (l : Links) (places rooms : List ℕ) : Type 0 where
+  pub nodes_are : l.nodes ≡ nodes
+  pub links : AreLinks l
+  pub places_are : ArePlaces l places
+  pub rooms_are : AreRooms l rooms
+  pub pairs_are : pairs_at l places rooms ≡ pairs

@@ -1,11 +1,11 @@
 //! Labels: how far the nodes are from a root, over open links.
 ghost use Rattle.std.specs.Prelude.{◌≡◌, ◌≢◌, ℕ, ◌+◌, ◌++◌, ◌≤◌, ◌<◌, ◌^◌, List, None, length, replicate, slice_index, vec_capacity};
 ghost use Rattle.dmf_node.specs.Node.{IsNode};
-ghost use Rattle.dmf_path.specs.Links.{AreLinks, links_of};
+ghost use Rattle.dmf_path.specs.LinkTable.{links_of};
 ghost use Rattle.dmf_path.specs.Labels.{AreLabels, AreQueued, Spreads, no_label, unlabelled_count};
 
-use crate::links::LinkTable;
 use crate::open::OpenLinks;
+use crate::table::LinkTable;
 
 /// What stands for the label of a node that has none.
 pub const NO_LABEL: u32 = u32::MAX;
@@ -20,7 +20,6 @@ pub fn label_nodes<O: OpenLinks>(
     labels: &mut [u32],
     queue: &mut Vec<u32>,
 ) -> u64
-    requires links { AreLinks (links_of table.now) }
     requires one_flag_each { length (O.flags opens.now) ≡ length table.now.heads.items }
     requires clean { labels.old ≡ replicate (table.now.nodes + 1) no_label }
     requires queue_capacity { table.now.nodes + 1 ≤ vec_capacity queue.old }
@@ -42,7 +41,6 @@ pub fn label_most<O: OpenLinks>(
     labels: &mut [u32],
     queue: &mut Vec<u32>,
 ) -> Option<u64>
-    requires links { AreLinks (links_of table.now) }
     requires one_flag_each { length (O.flags opens.now) ≡ length table.now.heads.items }
     requires clean { labels.old ≡ replicate (table.now.nodes + 1) no_label }
     requires queue_capacity { table.now.nodes + 1 ≤ vec_capacity queue.old }

@@ -19,5 +19,6 @@ mod reach;
 mod release;
 mod room;
 mod search;
+mod table;
 mod trail;
 mod walk;

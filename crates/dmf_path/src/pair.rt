@@ -35,4 +35,9 @@ pub trait Pairs {
     {
         true
     }
+
+    /// Whether so few pairs are there that it is worth while to list them first.
+    fn are_few(&self) -> bool {
+        false
+    }
 }

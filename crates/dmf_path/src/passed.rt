@@ -1,11 +1,11 @@
 //! Which nodes paths have led through.
 ghost use Rattle.std.specs.Prelude.{◌≡◌, ℕ, true, false, ◌<◌, length};
-ghost use Rattle.dmf_path.specs.Links.{AreLinks, links_of};
+ghost use Rattle.dmf_path.specs.LinkTable.{links_of};
 ghost use Rattle.dmf_path.specs.Held.{slot_at};
 ghost use Rattle.dmf_path.specs.Passed.{is_passed};
 ghost use Rattle.dmf_path.specs.Passing.{HasMarks};
 
-use crate::links::LinkTable;
+use crate::table::LinkTable;
 use crate::trail::Slot;
 
 /// Whether a node is marked. One without a mark of its own counts as marked.
@@ -20,7 +20,6 @@ pub fn is_passed(passed: &[bool], node: u32) -> bool
 
 /// Marks the ends of these links. Where there are no marks nothing is looked at.
 pub fn mark_ends(table: &LinkTable, slots: &[Slot], passed: &mut [bool])
-    requires links { AreLinks (links_of table.now) }
     requires places { (i : ℕ) → i < length slots.now → (slot_at slots.now i).place < length table.now.heads.items }
     ensures more { (v : ℕ) → is_passed passed.new v ≡ false → is_passed passed.old v ≡ false }
     ensures marked { (i : ℕ) → i < length slots.now → HasMarks (links_of table.now) passed.new (slot_at slots.now i).place }

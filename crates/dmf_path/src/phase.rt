@@ -1,15 +1,16 @@
 //! The search for the next path: the walk goes on, or the nodes are labelled anew and it begins again.
 ghost use Rattle.std.specs.Prelude.{◌≡◌, ◌≢◌, ℕ, List, ◌+◌, ◌≤◌, true, false, [], length, take, replicate, slice_index, slice_set, vec_capacity};
 ghost use Rattle.dmf_node.specs.Node.{IsNode};
-ghost use Rattle.dmf_path.specs.Links.{AreLinks, AreRooms, AreFlags, links_of};
+ghost use Rattle.dmf_path.specs.Links.{AreRooms, AreFlags};
+ghost use Rattle.dmf_path.specs.LinkTable.{links_of};
 ghost use Rattle.dmf_path.specs.Labels.{no_label};
 ghost use Rattle.dmf_path.specs.Walk.{AreValid, IsWalk, end_of};
 ghost use Rattle.dmf_path.specs.Held.{way_of, places_of, walked_slots, rest_slots, rooms_with, with_slots, CanPut, put_each};
 ghost use Rattle.dmf_path.specs.Searching.{IsHolding, IsUnderWay, IsSeparated};
 
 use crate::label::{NO_LABEL, clear, clear_queued, label_most, label_nodes};
-use crate::links::LinkTable;
 use crate::open::{Flagged, Roomy};
+use crate::table::LinkTable;
 use crate::trail::{Trail, free_slots, settle};
 use crate::walk::walk;
 
@@ -25,7 +26,6 @@ pub fn find(
     flags: &mut [u8],
     trail: &mut Trail,
 ) -> bool
-    requires links { AreLinks (links_of table.now) }
     requires one_label_each { length labels.old ≡ table.now.nodes + 1 }
     requires start_label { slice_index labels.old trail.old.start ≤ table.now.nodes }
     requires holding { IsHolding (links_of table.now) (way_of trail.old) rooms.old flags.old }
@@ -74,7 +74,6 @@ fn relabel(
     queue: &mut Vec<u32>,
     trail: &mut Trail,
 ) -> bool
-    requires links { AreLinks (links_of table.now) }
     requires rooms { AreRooms (links_of table.now) rooms.now }
     requires flags { AreFlags (links_of table.now) rooms.now flags.now }
     requires one_label_each { length labels.old ≡ table.now.nodes + 1 }
@@ -120,7 +119,6 @@ fn is_enclosed(
     labels: &mut [u32],
     queue: &mut Vec<u32>,
 ) -> bool
-    requires links { AreLinks (links_of table.now) }
     requires rooms { AreRooms (links_of table.now) rooms.now }
     requires clean { labels.old ≡ replicate (table.now.nodes + 1) no_label }
     requires start { IsNode table.now.nodes trail.now.start }
@@ -150,7 +148,6 @@ pub fn begin_anew(
     current: &mut [u32],
     trail: &mut Trail,
 )
-    requires links { AreLinks (links_of table.now) }
     requires rooms { AreRooms (links_of table.now) rooms.old }
     requires flags { AreFlags (links_of table.now) rooms.old flags.old }
     requires one_label_each { length labels.old ≡ table.now.nodes + 1 }
@@ -179,7 +176,6 @@ pub fn begin_anew(
 /// Makes the first link of each node its current one, and gives the start a label that nothing falls to, which ends the next
 /// walk at once.
 fn make_fresh(table: &LinkTable, labels: &mut [u32], current: &mut [u32], trail: &mut Trail)
-    requires links { AreLinks (links_of table.now) }
     requires one_label_each { length labels.old ≡ table.now.nodes + 1 }
     requires one_current_each { length current.old ≡ table.now.nodes + 1 }
     requires start { IsNode table.now.nodes trail.old.start }

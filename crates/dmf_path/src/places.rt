@@ -1,6 +1,6 @@
 //! The places of the links along of pairs, kept for each pair, or for those alone that are listed.
-ghost use Rattle.std.specs.Prelude.{◌≡◌, ℕ, ◌^◌, ◌<◌, ◌≤◌, length, slice_index};
-ghost use Rattle.dmf_path.specs.Links.{no_place};
+ghost use Rattle.std.specs.Prelude.{◌≡◌, ℕ, ◌^◌, ◌<◌, ◌≤◌, length, slice_index, MatchOption};
+ghost use Rattle.dmf_path.specs.Links.{no_place, IsPlaceOf};
 ghost use Rattle.dmf_path.specs.Search.{Covers, indices_of};
 ghost use Rattle.dmf_path.specs.Listed.{place_beside, spread};
 
@@ -119,8 +119,28 @@ impl Places {
         }
     }
 
-    /// The place of the pair at index `k`, or [`NO_PLACE`]. Where `k` is number `i` of the listed indices, it is found at once.
-    pub fn place(&self, k: usize, i: usize) -> u32
+    /// The place of the pair at index `k`, if it has one.
+    pub fn place_of(&self, k: usize) -> Option<u32>
+        requires { k < length self.now }
+        ensures { MatchOption result (slice_index self.now k ≡ no_place) (IsPlaceOf self.now k) }
+    {
+        self.place_near(k, k)
+    }
+
+    /// The same, and where `k` is number `i` of the listed indices, it is found at once.
+    pub fn place_near(&self, k: usize, i: usize) -> Option<u32>
+        requires { k < length self.now }
+        ensures { MatchOption result (slice_index self.now k ≡ no_place) (IsPlaceOf self.now k) }
+    {
+        let place = self.place(k, i);
+        if place == NO_PLACE {
+            return None;
+        }
+        Some(place)
+    }
+
+    /// That place, or [`NO_PLACE`].
+    fn place(&self, k: usize, i: usize) -> u32
         requires { k < length self.now }
         ensures { result ≡ slice_index self.now k }
     {

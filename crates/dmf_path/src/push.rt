@@ -1,9 +1,11 @@
 //! Pushing along a link.
 ghost use Rattle.std.specs.Prelude.{◌≡◌, ◌+◌, ◌^◌, ◌≤◌, ◌<◌, length, slice_index, slice_set};
-ghost use Rattle.dmf_path.specs.Links.{AreLinks, AreRooms, AreFlags, links_of, open_flag};
+ghost use Rattle.dmf_path.specs.Links.{AreRooms, AreFlags, open_flag};
+ghost use Rattle.dmf_path.specs.LinkTable.{links_of};
 ghost use Rattle.dmf_path.specs.Walk.{pushed_once, rooms_set};
 
-use crate::links::{LinkTable, open_flag};
+use crate::links::open_flag;
+use crate::table::LinkTable;
 
 /// Pushes an amount along one link.
 pub fn push_once(
@@ -14,7 +16,6 @@ pub fn push_once(
     rooms: &mut [u64],
     flags: &mut [u8],
 )
-    requires links { AreLinks (links_of table.now) }
     requires rooms { AreRooms (links_of table.now) rooms.old }
     requires flags { AreFlags (links_of table.now) rooms.old flags.old }
     requires within { place < length table.now.heads.items }
@@ -44,7 +45,6 @@ pub fn set_pair(
     rooms: &mut [u64],
     flags: &mut [u8],
 )
-    requires links { AreLinks (links_of table.now) }
     requires rooms { AreRooms (links_of table.now) rooms.old }
     requires flags { AreFlags (links_of table.now) rooms.old flags.old }
     requires within { place < length table.now.heads.items }

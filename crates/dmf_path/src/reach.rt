@@ -1,14 +1,15 @@
 //! What paths reach: the labels from the start, once what is held is put on, and which nodes have one.
 ghost use Rattle.std.specs.Prelude.{◌≡◌, ℕ, List, drop, length, map, IfOk};
 ghost use Rattle.dmf_node.specs.Node.{IsNode};
-ghost use Rattle.dmf_path.specs.Links.{AreLinks, links_of, open_flag};
+ghost use Rattle.dmf_path.specs.Links.{open_flag};
+ghost use Rattle.dmf_path.specs.LinkTable.{links_of};
 ghost use Rattle.dmf_path.specs.Labels.{AreLabels, is_label};
 ghost use Rattle.dmf_path.specs.Held.{way_of, rooms_with};
 ghost use Rattle.dmf_path.specs.Searching.{IsHolding, IsUnderWay};
 
 use crate::label::{NO_LABEL, label_nodes};
-use crate::links::LinkTable;
 use crate::open::Roomy;
+use crate::table::LinkTable;
 use crate::trail::{Trail, put_on_rooms};
 use std::alloc::{AllocError, Global};
 
@@ -22,7 +23,6 @@ pub fn labels_from_start(
     flags: &[u8],
     trail: &Trail,
 ) -> Result<Vec<u32>, AllocError>
-    requires links { AreLinks (links_of table.now) }
     requires start { IsNode table.now.nodes trail.now.start }
     requires holding { IsHolding (links_of table.now) (way_of trail.now) rooms.now flags.now }
     requires under_way { (labels : List ℕ) × (after : List ℕ) × (current : List ℕ) × IsUnderWay (links_of table.now) labels after current (way_of trail.now) }
@@ -45,7 +45,6 @@ fn labels_over(
     rooms: &[u64],
     root: u32,
 ) -> Result<Vec<u32>, AllocError>
-    requires links { AreLinks (links_of table.now) }
     requires one_room_each { length rooms.now ≡ length table.now.heads.items }
     requires root { IsNode table.now.nodes root }
     ensures { IfOk result (λ labels. AreLabels (links_of table.now) (map open_flag rooms.now) root 0 labels.items) }

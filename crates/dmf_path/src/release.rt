@@ -1,11 +1,12 @@
 //! Nothing is held for a link any more, so that its room can be changed.
 ghost use Rattle.std.specs.Prelude.{◌≡◌, ℕ, List, ◌+◌, ◌<◌, ◌==◌, length, slice_index, vec_capacity};
 ghost use Rattle.dmf_node.specs.Node.{IsNode};
-ghost use Rattle.dmf_path.specs.Links.{AreLinks, links_of, tail_of};
+ghost use Rattle.dmf_path.specs.Links.{tail_of};
+ghost use Rattle.dmf_path.specs.LinkTable.{links_of};
 ghost use Rattle.dmf_path.specs.Held.{way_of, places_of, filled_slots, rooms_with, IsOff};
 ghost use Rattle.dmf_path.specs.Searching.{IsHolding, IsUnderWay};
 
-use crate::links::LinkTable;
+use crate::table::LinkTable;
 use crate::trail::{Trail, settle};
 
 /// Sees to it that nothing is held for the link at a place, and that nothing is to be given to it. All links leave where
@@ -19,7 +20,6 @@ pub fn release(
     flags: &mut [u8],
     trail: &mut Trail,
 )
-    requires links { AreLinks (links_of table.now) }
     requires one_label_each { length labels.now ≡ table.now.nodes + 1 }
     requires place { place < length table.now.heads.items }
     requires start { IsNode table.now.nodes trail.old.start }
@@ -44,7 +44,6 @@ pub fn release(
 
 /// Whether the link at a place leads to a node whose label is less by one.
 fn falls(table: &LinkTable, labels: &[u32], place: u32) -> bool
-    requires links { AreLinks (links_of table.now) }
     requires one_label_each { length labels.now ≡ table.now.nodes + 1 }
     requires place { place < length table.now.heads.items }
     ensures { result ≡ (slice_index labels.now (slice_index table.now.heads.items place) + 1

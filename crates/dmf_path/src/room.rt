@@ -1,9 +1,10 @@
 //! The room of one link, once what is held is put on.
 ghost use Rattle.std.specs.Prelude.{◌≡◌, ◌≤◌, ◌<◌, length, slice_index};
-ghost use Rattle.dmf_path.specs.Links.{AreLinks, AreRooms, links_of};
+ghost use Rattle.dmf_path.specs.Links.{AreRooms};
+ghost use Rattle.dmf_path.specs.LinkTable.{links_of};
 ghost use Rattle.dmf_path.specs.Held.{way_of, filled_slots, rooms_with, HaveLeft, held_for, held_in};
 
-use crate::links::LinkTable;
+use crate::table::LinkTable;
 use crate::trail::{Slot, Trail, room_left};
 
 /// The room of a link, once what is held is put on.
@@ -14,7 +15,6 @@ pub fn settled_room(
     trail: &Trail,
     place: u32,
 ) -> u64
-    requires links { AreLinks (links_of table.now) }
     requires rooms { AreRooms (links_of table.now) rooms.now }
     requires order { trail.now.walked ≤ trail.now.rest }
     requires within { trail.now.rest ≤ length trail.now.slots.items }

@@ -6,7 +6,6 @@ ghost use Rattle.dmf_path.specs.Pair.{steps_of};
 ghost use Rattle.dmf_path.specs.Passed.{Passes};
 ghost use Rattle.dmf_path.specs.Search.{Augments, Covers, HasAlong, indices_of, pair_number, along_at, against_at, aimed, lowered_along, with_rooms, with_pairs};
 
-use crate::links::{LinkTable, NO_PLACE};
 use crate::passed::mark_ends;
 use crate::phase::{begin_anew, find};
 use crate::places::{Indices, Places};
@@ -14,6 +13,7 @@ use crate::push::{push_once, set_pair};
 use crate::reach::{labelled, labels_from_start};
 use crate::release::release;
 use crate::room::settled_room;
+use crate::table::LinkTable;
 use crate::trail::{Trail, bottleneck, settle, split_path};
 use std::alloc::{AllocError, Global};
 use std::marker::Model;
@@ -51,7 +51,7 @@ pub struct Search {
 
 impl Model for Search {
     ghost use Rattle.std.specs.Prelude.{vec_capacity};
-    ghost use Rattle.dmf_path.specs.Links.{links_of};
+    ghost use Rattle.dmf_path.specs.LinkTable.{links_of};
     ghost use Rattle.dmf_path.specs.Held.{way_of, rooms_with};
     ghost use Rattle.dmf_path.specs.Search.{Searched};
     ghost use Rattle.dmf_path.specs.Searching.{searched, IsSearch};
@@ -108,10 +108,7 @@ impl Search {
         requires { k < length self.now.pairs }
         ensures { result ≡ against_at self.now.pairs k }
     {
-        let place = self.places.place(k, k);
-        if place == NO_PLACE {
-            return None;
-        }
+        let place = self.places.place_of(k)?;
         let partner = self.table.partners[place as usize];
         let against = settled_room(
             &self.table,
@@ -137,10 +134,7 @@ impl Search {
         requires { k < length self.now.pairs }
         ensures { result ≡ along_at self.now.pairs k }
     {
-        let place = self.places.place(k, i);
-        if place == NO_PLACE {
-            return None;
-        }
+        let place = self.places.place_near(k, i)?;
         let along = settled_room(
             &self.table,
             self.takes_back,
@@ -163,7 +157,7 @@ impl Search {
         requires { HasAlong self.old.pairs k amount }
         ensures { self.new ≡ with_pairs self.old (lowered_along self.old.pairs k amount) }
     {
-        let place = self.places.place(k, k);
+        let place = self.places.place_of(k).unwrap();
         release(
             &self.table,
             self.takes_back,
@@ -237,10 +231,9 @@ impl Search {
             );
             self.is_fresh = true;
         }
-        let place = self.places.place(k, k);
-        if place == NO_PLACE {
+        let Some(place) = self.places.place_of(k) else {
             return;
-        }
+        };
         set_pair(
             &self.table,
             place,

@@ -1,10 +1,11 @@
 //! The trail: a slot for each link of a path, in which what is sent along the link is held until it leaves.
 ghost use Rattle.std.specs.Prelude.{◌≡◌, ◌≢◌, ℕ, true, [], ◌+◌, ◌-◌, ◌≤◌, ◌<◌, length, take, drop, vec_capacity};
-ghost use Rattle.dmf_path.specs.Links.{AreLinks, AreRooms, AreFlags, links_of};
+ghost use Rattle.dmf_path.specs.Links.{AreRooms, AreFlags};
+ghost use Rattle.dmf_path.specs.LinkTable.{links_of};
 ghost use Rattle.dmf_path.specs.Held.{room_left, least_left, put_once, put_each, CanPut, IsSlot, MakesWay, way_of, IsSplit, walked_slots, rest_slots, filled_slots, slot_at, entered, stepped_back, emptied, with_slots};
 
-use crate::links::LinkTable;
 use crate::push::push_once;
+use crate::table::LinkTable;
 
 /// A link of a path. Its room is as it was when it came into the slot: what was sent since is held.
 #[derive(Clone, Copy)]
@@ -63,7 +64,6 @@ pub fn put_each_on(
     rooms: &mut [u64],
     flags: &mut [u8],
 )
-    requires links { AreLinks (links_of table.now) }
     requires rooms { AreRooms (links_of table.now) rooms.old }
     requires flags { AreFlags (links_of table.now) rooms.old flags.old }
     requires can { CanPut (links_of table.now) takes_back sent slots.now rooms.old }
@@ -85,7 +85,6 @@ pub fn put_on(
     rooms: &mut [u64],
     flags: &mut [u8],
 )
-    requires links { AreLinks (links_of table.now) }
     requires rooms { AreRooms (links_of table.now) rooms.old }
     requires flags { AreFlags (links_of table.now) rooms.old flags.old }
     requires slot { IsSlot (links_of table.now) sent rooms.old slot }
@@ -105,7 +104,6 @@ pub fn make_way(
     flags: &mut [u8],
     trail: &mut Trail,
 )
-    requires links { AreLinks (links_of table.now) }
     requires rooms { AreRooms (links_of table.now) rooms.old }
     requires flags { AreFlags (links_of table.now) rooms.old flags.old }
     requires order { trail.old.walked ≤ trail.old.rest }
@@ -146,7 +144,6 @@ pub fn step_back(
     flags: &mut [u8],
     trail: &mut Trail,
 ) -> u32
-    requires links { AreLinks (links_of table.now) }
     requires rooms { AreRooms (links_of table.now) rooms.old }
     requires flags { AreFlags (links_of table.now) rooms.old flags.old }
     requires some { 0 < trail.old.walked }
@@ -174,7 +171,6 @@ pub fn settle(
     flags: &mut [u8],
     trail: &mut Trail,
 )
-    requires links { AreLinks (links_of table.now) }
     requires rooms { AreRooms (links_of table.now) rooms.old }
     requires flags { AreFlags (links_of table.now) rooms.old flags.old }
     requires order { trail.old.walked ≤ trail.old.rest }
@@ -203,7 +199,6 @@ pub fn put_on_rooms(
     flags: &mut [u8],
     trail: &Trail,
 )
-    requires links { AreLinks (links_of table.now) }
     requires rooms { AreRooms (links_of table.now) rooms.old }
     requires flags { AreFlags (links_of table.now) rooms.old flags.old }
     requires order { trail.now.walked ≤ trail.now.rest }
@@ -240,7 +235,6 @@ pub fn split_path(
     flags: &mut [u8],
     trail: &mut Trail,
 )
-    requires links { AreLinks (links_of table.now) }
     requires rooms { AreRooms (links_of table.now) rooms.old }
     requires flags { AreFlags (links_of table.now) rooms.old flags.old }
     requires can { (first behind : ℕ) → first < behind → behind ≤ length trail.old.slots.items →

@@ -1,12 +1,12 @@
 //! The walk from the start to the goal, along admissible links.
 ghost use Rattle.std.specs.Prelude.{◌≡◌, ◌≢◌, ℕ, true, false, List, ◌+◌, ◌-◌, ◌≤◌, ◌<◌, length, slice_index, vec_capacity};
 ghost use Rattle.dmf_node.specs.Node.{IsNode};
-ghost use Rattle.dmf_path.specs.Links.{AreLinks, links_of};
+ghost use Rattle.dmf_path.specs.LinkTable.{links_of};
 ghost use Rattle.dmf_path.specs.Walk.{IsWalk, end_of};
 ghost use Rattle.dmf_path.specs.Held.{way_of, places_of, walked_slots, rooms_with, slot_at};
 ghost use Rattle.dmf_path.specs.Searching.{IsHolding, IsUnderWay};
 
-use crate::links::LinkTable;
+use crate::table::LinkTable;
 use crate::trail::{Trail, enter, make_way, step_back};
 
 /// Goes on from where the trail ends, until it leads from the start to where the end of the last path begins, or no walk
@@ -21,7 +21,6 @@ pub fn walk(
     flags: &mut [u8],
     trail: &mut Trail,
 ) -> bool
-    requires links { AreLinks (links_of table.now) }
     requires one_label_each { length labels.now ≡ table.now.nodes + 1 }
     requires label { slice_index labels.now trail.old.start ≤ table.now.nodes }
     requires start { IsNode table.now.nodes trail.old.start }

@@ -40,6 +40,10 @@ impl Pairs for CarryingPairs<'_> {
             None => true,
         }
     }
+
+    fn are_few(&self) -> bool {
+        true
+    }
 }
 
 /// The pair of a link from a node to another that carries so much.

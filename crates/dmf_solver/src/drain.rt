@@ -53,7 +53,7 @@ pub fn carrying_search(alloc: Global, state: &State) -> Result<Search, AllocErro
     ensures flows { IfOk result (λ search. flows_read Along state.now.flows search.pairs ≡ state.now.flows) }
 {
     let pairs = CarryingPairs { state };
-    Search::new_sparse(
+    Search::new(
         alloc,
         state.nodes(),
         &pairs,

@@ -2,20 +2,30 @@
 ghost use Rattle.std.specs.Prelude.{◌≡◌, ◌≢◌, ◌^◌, ◌≤◌, IfOk};
 ghost use Rattle.dmf_node.specs.Node.{IsNode};
 ghost use Rattle.dmf_path.specs.Pair.{ArePairs};
-ghost use Rattle.dmf_path.specs.Links.{AreLinks, AreRooms, ArePlaces, links_of};
-ghost use Rattle.dmf_path.specs.Searching.{searched};
+ghost use Rattle.dmf_path.specs.Links.{AreBuilt};
+ghost use Rattle.dmf_path.specs.LinkTable.{links_of};
 
-use crate::links::{LinkTable, build, opposite_flags};
+use crate::links::{build, opposite_flags};
 use crate::listed::list_pairs;
 use crate::pair::Pairs;
 use crate::places::Places;
 use crate::search::Search;
+use crate::table::LinkTable;
 use crate::trail::Trail;
 use std::alloc::{AllocError, Global};
 
+/// Links with their rooms, and the places of the pairs of which they were made.
+#[derive(Drop)]
+struct Linked {
+    table: LinkTable,
+    rooms: Vec<u64>,
+    places: Places,
+}
+
 impl Search {
     /// A search over these pairs, between so many nodes. What is pushed along one link of a pair can be pushed back along
-    /// the other where `takes_back` says so. Takes memory for two links a pair, and for some numbers a node.
+    /// the other where `takes_back` says so. Takes memory for two links a pair, and for some numbers a node. Where few pairs are
+    /// there, they are listed first, and the others are not asked for again; that takes memory for the list too.
     pub fn new<P: Pairs>(
         alloc: Global,
         nodes: u32,
@@ -37,74 +47,11 @@ impl Search {
           takes_back = takes_back;
         }) }
     {
-        let built = build(alloc, nodes, pairs)?;
-        let places = Places::each(built.places);
-        Search::over(
-            alloc,
-            built.table,
-            built.rooms,
+        let Linked {
+            table,
+            rooms,
             places,
-            start,
-            goal,
-            takes_back,
-        )
-    }
-
-    /// The same search, for pairs of which few are there: these are listed first, and the others are not asked for again. Takes
-    /// memory for the list too.
-    pub fn new_sparse<P: Pairs>(
-        alloc: Global,
-        nodes: u32,
-        pairs: &P,
-        start: u32,
-        goal: u32,
-        takes_back: bool,
-    ) -> Result<Search, AllocError>
-        requires nodes { nodes ≤ 2 ^ 24 }
-        requires pairs { ArePairs nodes (P.pairs pairs.now) }
-        requires start { IsNode nodes start }
-        requires goal { IsNode nodes goal }
-        requires apart { start ≢ goal }
-        ensures { IfOk result (λ search. search ≡ record {
-          nodes = nodes;
-          pairs = P.pairs pairs.now;
-          start = start;
-          goal = goal;
-          takes_back = takes_back;
-        }) }
-    {
-        let listed = list_pairs(alloc, pairs)?;
-        let built = build(alloc, nodes, &listed)?;
-        let places = Places::listed(listed.indices, built.places, pairs.len());
-        Search::over(
-            alloc,
-            built.table,
-            built.rooms,
-            places,
-            start,
-            goal,
-            takes_back,
-        )
-    }
-
-    /// A search over links, whose pairs have these places.
-    fn over(
-        alloc: Global,
-        table: LinkTable,
-        rooms: Vec<u64>,
-        places: Places,
-        start: u32,
-        goal: u32,
-        takes_back: bool,
-    ) -> Result<Search, AllocError>
-        requires links { AreLinks (links_of table) }
-        requires rooms { AreRooms (links_of table) rooms.items }
-        requires places { ArePlaces (links_of table) places }
-        requires start { IsNode table.nodes start }
-        requires goal { IsNode table.nodes goal }
-        requires apart { start ≢ goal }
-        ensures { IfOk result (λ search. search ≡ searched (links_of table) places rooms.items start goal takes_back) }
-    {
+        } = link(alloc, nodes, pairs)?;
         let nodes = table.nodes as usize;
         let flags = opposite_flags(alloc, &table, &rooms)?;
         let current = Vec::from_slice(alloc, &table.first[..nodes + 1])?;
@@ -130,4 +77,27 @@ impl Search {
             is_fresh: true,
         })
     }
+}
+
+/// Makes links of pairs, or of the list of those that are there.
+fn link<P: Pairs>(alloc: Global, nodes: u32, pairs: &P) -> Result<Linked, AllocError>
+    requires nodes { nodes ≤ 2 ^ 24 }
+    requires pairs { ArePairs nodes (P.pairs pairs.now) }
+    ensures { IfOk result (λ linked. AreBuilt nodes (P.pairs pairs.now) (links_of linked.table) linked.places linked.rooms.items) }
+{
+    if pairs.are_few() {
+        let listed = list_pairs(alloc, pairs)?;
+        let built = build(alloc, nodes, &listed)?;
+        return Ok(Linked {
+            table: built.table,
+            rooms: built.rooms,
+            places: Places::listed(listed.indices, built.places, pairs.len()),
+        });
+    }
+    let built = build(alloc, nodes, pairs)?;
+    Ok(Linked {
+        table: built.table,
+        rooms: built.rooms,
+        places: Places::each(built.places),
+    })
 }

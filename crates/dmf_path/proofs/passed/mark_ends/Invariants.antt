@@ -1,5 +1,5 @@
 use Rattle.std.proofs.Common.{◌≡◌, ℕ, false, ◌<◌}
-use Rattle.dmf_path.specs.Links.{links_of}
+use Rattle.dmf_path.specs.LinkTable.{links_of}
 use Rattle.dmf_path.specs.Held.{slot_at}
 use Rattle.dmf_path.specs.Passed.{is_passed}
 use Rattle.dmf_path.specs.Passing.{HasMarks}

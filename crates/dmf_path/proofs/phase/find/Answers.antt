@@ -1,6 +1,6 @@
 -- The walk, and what follows where it finds nothing: nothing is held, the nodes are labelled anew, and it walks again.
 use Rattle.std.proofs.Common.{◌≡◌, get_or, ap, sym, ◌∙◌, subst, arith}
-use Rattle.dmf_path.specs.Links.{links_of}
+use Rattle.dmf_path.specs.LinkTable.{links_of}
 use Rattle.dmf_path.specs.Walk.{AreValid, IsWalk}
 use Rattle.dmf_path.specs.Held.{Way, way_of, rooms_with}
 use Rattle.dmf_path.specs.Searching.{IsHolding, IsUnderWay, IsSeparated}
@@ -10,13 +10,13 @@ use Rattle.dmf_path.proofs.phase.find.Goals as goal
 pub settle-requires-clause-rest : goal.settle-requires-clause-rest
 settle-requires-clause-rest c =
     let l = links_of c.args.table.now in
-    let settles = can-settle l c.args.takes_back _ _ _ (way_of c.walk.new.trail) c.walk.new.rooms c.walk.new.flags c.requires.links (rw c.walk.ensures.start c.requires.start) c.walk.ensures.under_way c.walk.ensures.holding in
+    let settles = can-settle l c.args.takes_back _ _ _ (way_of c.walk.new.trail) c.walk.new.rooms c.walk.new.flags c.args.table.now.are (rw c.walk.ensures.start c.requires.start) c.walk.ensures.under_way c.walk.ensures.holding in
     settles.rest
 
 pub walk-requires-then-relabel-clause-under_way : goal.walk-requires-then-relabel-clause-under_way
 walk-requires-then-relabel-clause-under_way c =
     let l = links_of c.args.table.now in
-    let settles = can-settle l c.args.takes_back _ _ _ (way_of c.walk.new.trail) c.walk.new.rooms c.walk.new.flags c.requires.links (rw c.walk.ensures.start c.requires.start) c.walk.ensures.under_way c.walk.ensures.holding in
+    let settles = can-settle l c.args.takes_back _ _ _ (way_of c.walk.new.trail) c.walk.new.rooms c.walk.new.flags c.args.table.now.are (rw c.walk.ensures.start c.requires.start) c.walk.ensures.under_way c.walk.ensures.holding in
     let now : c.settle.new.rooms ≡ rooms_with l c.args.takes_back (way_of c.args.trail.now) c.args.rooms.now = c.settle.ensures.rooms ∙ sym settles.same ∙ c.walk.ensures.same in
     let freed : rooms_with l c.args.takes_back (way_of c.relabel.new.trail) c.settle.new.rooms ≡ c.settle.new.rooms =
     ap (λ (w : Way). rooms_with l c.args.takes_back w c.settle.new.rooms) c.relabel.ensures.way ∙ rooms_with-free l c.args.takes_back (way_of c.settle.new.trail) c.relabel.new.trail.slots.items c.settle.new.rooms in
@@ -27,7 +27,7 @@ walk-requires-then-relabel-clause-under_way c =
 pub returns-then-relabel-clause-same : goal.returns-then-relabel-clause-same
 returns-then-relabel-clause-same c =
     let l = links_of c.args.table.now in
-    let settles = can-settle l c.args.takes_back _ _ _ (way_of c.walk.new.trail) c.walk.new.rooms c.walk.new.flags c.requires.links (rw c.walk.ensures.start c.requires.start) c.walk.ensures.under_way c.walk.ensures.holding in
+    let settles = can-settle l c.args.takes_back _ _ _ (way_of c.walk.new.trail) c.walk.new.rooms c.walk.new.flags c.args.table.now.are (rw c.walk.ensures.start c.requires.start) c.walk.ensures.under_way c.walk.ensures.holding in
     let now : c.settle.new.rooms ≡ rooms_with l c.args.takes_back (way_of c.args.trail.now) c.args.rooms.now = c.settle.ensures.rooms ∙ sym settles.same ∙ c.walk.ensures.same in
     let freed : rooms_with l c.args.takes_back (way_of c.relabel.new.trail) c.settle.new.rooms ≡ c.settle.new.rooms =
     ap (λ (w : Way). rooms_with l c.args.takes_back w c.settle.new.rooms) c.relabel.ensures.way ∙ rooms_with-free l c.args.takes_back (way_of c.settle.new.trail) c.relabel.new.trail.slots.items c.settle.new.rooms in
@@ -36,7 +36,7 @@ returns-then-relabel-clause-same c =
 pub returns-then-relabel-clause-valid : goal.returns-then-relabel-clause-valid
 returns-then-relabel-clause-valid c =
     let l = links_of c.args.table.now in
-    let settles = can-settle l c.args.takes_back _ _ _ (way_of c.walk.new.trail) c.walk.new.rooms c.walk.new.flags c.requires.links (rw c.walk.ensures.start c.requires.start) c.walk.ensures.under_way c.walk.ensures.holding in
+    let settles = can-settle l c.args.takes_back _ _ _ (way_of c.walk.new.trail) c.walk.new.rooms c.walk.new.flags c.args.table.now.are (rw c.walk.ensures.start c.requires.start) c.walk.ensures.under_way c.walk.ensures.holding in
     let now : c.settle.new.rooms ≡ rooms_with l c.args.takes_back (way_of c.args.trail.now) c.args.rooms.now = c.settle.ensures.rooms ∙ sym settles.same ∙ c.walk.ensures.same in
     let start : c.settle.new.trail.start ≡ c.args.trail.now.start = ap (λ (w : Way). w.start) c.settle.ensures.way ∙ c.walk.ensures.start in
     subst (λ rs. AreValid l c.relabel.new.labels rs (get_or c.relabel.new.labels c.args.trail.now.start 0)) now
@@ -45,7 +45,7 @@ returns-then-relabel-clause-valid c =
 pub returns-then-relabel-clause-under_way : goal.returns-then-relabel-clause-under_way
 returns-then-relabel-clause-under_way c =
     let l = links_of c.args.table.now in
-    let settles = can-settle l c.args.takes_back _ _ _ (way_of c.walk.new.trail) c.walk.new.rooms c.walk.new.flags c.requires.links (rw c.walk.ensures.start c.requires.start) c.walk.ensures.under_way c.walk.ensures.holding in
+    let settles = can-settle l c.args.takes_back _ _ _ (way_of c.walk.new.trail) c.walk.new.rooms c.walk.new.flags c.args.table.now.are (rw c.walk.ensures.start c.requires.start) c.walk.ensures.under_way c.walk.ensures.holding in
     let now : c.settle.new.rooms ≡ rooms_with l c.args.takes_back (way_of c.args.trail.now) c.args.rooms.now = c.settle.ensures.rooms ∙ sym settles.same ∙ c.walk.ensures.same in
     let freed : rooms_with l c.args.takes_back (way_of c.relabel.new.trail) c.settle.new.rooms ≡ c.settle.new.rooms =
     ap (λ (w : Way). rooms_with l c.args.takes_back w c.settle.new.rooms) c.relabel.ensures.way ∙ rooms_with-free l c.args.takes_back (way_of c.settle.new.trail) c.relabel.new.trail.slots.items c.settle.new.rooms in
@@ -54,7 +54,7 @@ returns-then-relabel-clause-under_way c =
 pub returns-then-relabel-clause-none : goal.returns-then-relabel-clause-none
 returns-then-relabel-clause-none c =
     let l = links_of c.args.table.now in
-    let settles = can-settle l c.args.takes_back _ _ _ (way_of c.walk.new.trail) c.walk.new.rooms c.walk.new.flags c.requires.links (rw c.walk.ensures.start c.requires.start) c.walk.ensures.under_way c.walk.ensures.holding in
+    let settles = can-settle l c.args.takes_back _ _ _ (way_of c.walk.new.trail) c.walk.new.rooms c.walk.new.flags c.args.table.now.are (rw c.walk.ensures.start c.requires.start) c.walk.ensures.under_way c.walk.ensures.holding in
     let freed : rooms_with l c.args.takes_back (way_of c.relabel.new.trail) c.settle.new.rooms ≡ c.settle.new.rooms =
     ap (λ (w : Way). rooms_with l c.args.takes_back w c.settle.new.rooms) c.relabel.ensures.way ∙ rooms_with-free l c.args.takes_back (way_of c.settle.new.trail) c.relabel.new.trail.slots.items c.settle.new.rooms in
     λ no.
@@ -66,7 +66,7 @@ returns-then-relabel-clause-none c =
 pub returns-clause-same : goal.returns-clause-same
 returns-clause-same c =
     let l = links_of c.args.table.now in
-    let settles = can-settle l c.args.takes_back _ _ _ (way_of c.walk.new.trail) c.walk.new.rooms c.walk.new.flags c.requires.links (rw c.walk.ensures.start c.requires.start) c.walk.ensures.under_way c.walk.ensures.holding in
+    let settles = can-settle l c.args.takes_back _ _ _ (way_of c.walk.new.trail) c.walk.new.rooms c.walk.new.flags c.args.table.now.are (rw c.walk.ensures.start c.requires.start) c.walk.ensures.under_way c.walk.ensures.holding in
     let now : c.settle.new.rooms ≡ rooms_with l c.args.takes_back (way_of c.args.trail.now) c.args.rooms.now = c.settle.ensures.rooms ∙ sym settles.same ∙ c.walk.ensures.same in
     let freed : rooms_with l c.args.takes_back (way_of c.relabel.new.trail) c.settle.new.rooms ≡ c.settle.new.rooms =
     ap (λ (w : Way). rooms_with l c.args.takes_back w c.settle.new.rooms) c.relabel.ensures.way ∙ rooms_with-free l c.args.takes_back (way_of c.settle.new.trail) c.relabel.new.trail.slots.items c.settle.new.rooms in
@@ -75,7 +75,7 @@ returns-clause-same c =
 pub returns-clause-valid : goal.returns-clause-valid
 returns-clause-valid c =
     let l = links_of c.args.table.now in
-    let settles = can-settle l c.args.takes_back _ _ _ (way_of c.walk.new.trail) c.walk.new.rooms c.walk.new.flags c.requires.links (rw c.walk.ensures.start c.requires.start) c.walk.ensures.under_way c.walk.ensures.holding in
+    let settles = can-settle l c.args.takes_back _ _ _ (way_of c.walk.new.trail) c.walk.new.rooms c.walk.new.flags c.args.table.now.are (rw c.walk.ensures.start c.requires.start) c.walk.ensures.under_way c.walk.ensures.holding in
     let now : c.settle.new.rooms ≡ rooms_with l c.args.takes_back (way_of c.args.trail.now) c.args.rooms.now = c.settle.ensures.rooms ∙ sym settles.same ∙ c.walk.ensures.same in
     let start : c.settle.new.trail.start ≡ c.args.trail.now.start = ap (λ (w : Way). w.start) c.settle.ensures.way ∙ c.walk.ensures.start in
     subst (λ rs. AreValid l c.relabel.new.labels rs (get_or c.relabel.new.labels c.args.trail.now.start 0)) now
@@ -84,7 +84,7 @@ returns-clause-valid c =
 pub returns-clause-under_way : goal.returns-clause-under_way
 returns-clause-under_way c =
     let l = links_of c.args.table.now in
-    let settles = can-settle l c.args.takes_back _ _ _ (way_of c.walk.new.trail) c.walk.new.rooms c.walk.new.flags c.requires.links (rw c.walk.ensures.start c.requires.start) c.walk.ensures.under_way c.walk.ensures.holding in
+    let settles = can-settle l c.args.takes_back _ _ _ (way_of c.walk.new.trail) c.walk.new.rooms c.walk.new.flags c.args.table.now.are (rw c.walk.ensures.start c.requires.start) c.walk.ensures.under_way c.walk.ensures.holding in
     let now : c.settle.new.rooms ≡ rooms_with l c.args.takes_back (way_of c.args.trail.now) c.args.rooms.now = c.settle.ensures.rooms ∙ sym settles.same ∙ c.walk.ensures.same in
     let way : IsUnderWay l c.relabel.new.labels c.settle.new.rooms c.relabel.new.current (way_of c.relabel.new.trail) =
     subst (λ (w : Way). IsUnderWay l c.relabel.new.labels c.settle.new.rooms c.relabel.new.current w) (sym c.relabel.ensures.way) c.relabel.ensures.under_way in
@@ -93,7 +93,7 @@ returns-clause-under_way c =
 pub returns-clause-none : goal.returns-clause-none
 returns-clause-none c =
     let l = links_of c.args.table.now in
-    let settles = can-settle l c.args.takes_back _ _ _ (way_of c.walk.new.trail) c.walk.new.rooms c.walk.new.flags c.requires.links (rw c.walk.ensures.start c.requires.start) c.walk.ensures.under_way c.walk.ensures.holding in
+    let settles = can-settle l c.args.takes_back _ _ _ (way_of c.walk.new.trail) c.walk.new.rooms c.walk.new.flags c.args.table.now.are (rw c.walk.ensures.start c.requires.start) c.walk.ensures.under_way c.walk.ensures.holding in
     let now : c.settle.new.rooms ≡ rooms_with l c.args.takes_back (way_of c.args.trail.now) c.args.rooms.now = c.settle.ensures.rooms ∙ sym settles.same ∙ c.walk.ensures.same in
     let start : c.settle.new.trail.start ≡ c.args.trail.now.start = ap (λ (w : Way). w.start) c.settle.ensures.way ∙ c.walk.ensures.start in
     λ no.

@@ -1,6 +1,7 @@
 use Rattle.std.proofs.Common.{◌≡◌, ◌≢◌, true, None, map, refl, ap, sym, ◌∙◌}
 use Rattle.std.specs.Option.{is_some}
-use Rattle.dmf_path.specs.Links.{links_of, open_flag}
+use Rattle.dmf_path.specs.Links.{open_flag}
+use Rattle.dmf_path.specs.LinkTable.{links_of}
 use Rattle.dmf_path.proofs.Reaching.{AreOpen-map, separated-labelled}
 use Rattle.dmf_path.proofs.phase.is_enclosed.Goals as goal
 
@@ -10,5 +11,5 @@ returns-then-labels-goal-clause-separated c ended =
     let rooms = c.args.rooms.now in
     let there : is_some c.label_most-looked.result ≡ true = sym c.is_some.ensures ∙ c.if-is_some.true in
     let found : c.label_most-looked.result ≢ None = λ none. let no = ap (λ looked. is_some looked) none in absurd (cc) in
-    separated-labelled l rooms (map open_flag rooms) c.label_most-looked.new.labels c.args.trail.now.start c.args.trail.now.goal c.requires.links
+    separated-labelled l rooms (map open_flag rooms) c.label_most-looked.new.labels c.args.trail.now.start c.args.trail.now.goal c.args.table.now.are
     (AreOpen-map l rooms (map open_flag rooms) c.requires.rooms refl) (c.label_most-looked.ensures.labels found) c.if-labels-goal.true

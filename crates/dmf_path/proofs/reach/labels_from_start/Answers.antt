@@ -1,6 +1,6 @@
 use Rattle.std.proofs.Common.{◌≡◌, sym, ◌∙◌}
 use Rattle.std.proofs.lemmas.List.{with_items_is}
-use Rattle.dmf_path.specs.Links.{links_of}
+use Rattle.dmf_path.specs.LinkTable.{links_of}
 use Rattle.dmf_path.specs.Held.{way_of, rooms_with}
 use Rattle.dmf_path.proofs.Settling.{can-settle}
 use Rattle.dmf_path.proofs.SettledRoom.{rooms_with-empty}
@@ -13,21 +13,21 @@ returns-then-is_empty c =
 pub put_on_rooms-requires-clause-walked : goal.put_on_rooms-requires-clause-walked
 put_on_rooms-requires-clause-walked c =
     let u = c.requires.under_way in
-    let settles = can-settle (links_of c.args.table.now) c.args.takes_back u.0 u.1 u.2 (way_of c.args.trail.now) c.args.rooms.now c.args.flags.now c.requires.links c.requires.start u.3 c.requires.holding in
+    let settles = can-settle (links_of c.args.table.now) c.args.takes_back u.0 u.1 u.2 (way_of c.args.trail.now) c.args.rooms.now c.args.flags.now c.args.table.now.are c.requires.start u.3 c.requires.holding in
     let read : c.deref_mut.result.now ≡ c.args.rooms.now = c.deref_mut.ensures.value ∙ c.in_ok-settled.ensures.items in
     rw read settles.walked
 
 pub put_on_rooms-requires-clause-rest : goal.put_on_rooms-requires-clause-rest
 put_on_rooms-requires-clause-rest c =
     let u = c.requires.under_way in
-    let settles = can-settle (links_of c.args.table.now) c.args.takes_back u.0 u.1 u.2 (way_of c.args.trail.now) c.args.rooms.now c.args.flags.now c.requires.links c.requires.start u.3 c.requires.holding in
+    let settles = can-settle (links_of c.args.table.now) c.args.takes_back u.0 u.1 u.2 (way_of c.args.trail.now) c.args.rooms.now c.args.flags.now c.args.table.now.are c.requires.start u.3 c.requires.holding in
     let read : c.deref_mut.result.now ≡ c.args.rooms.now = c.deref_mut.ensures.value ∙ c.in_ok-settled.ensures.items in
     rw read settles.rest
 
 pub returns : goal.returns
 returns c =
     let u = c.requires.under_way in
-    let settles = can-settle (links_of c.args.table.now) c.args.takes_back u.0 u.1 u.2 (way_of c.args.trail.now) c.args.rooms.now c.args.flags.now c.requires.links c.requires.start u.3 c.requires.holding in
+    let settles = can-settle (links_of c.args.table.now) c.args.takes_back u.0 u.1 u.2 (way_of c.args.trail.now) c.args.rooms.now c.args.flags.now c.args.table.now.are c.requires.start u.3 c.requires.holding in
     let read : c.deref_mut.result.now ≡ c.args.rooms.now = c.deref_mut.ensures.value ∙ c.in_ok-settled.ensures.items in
     let put = rw read at c.put_on_rooms.ensures.rooms in
     let rooms : c.deref.result.now ≡ rooms_with (links_of c.args.table.now) c.args.takes_back (way_of c.args.trail.now) c.args.rooms.now =

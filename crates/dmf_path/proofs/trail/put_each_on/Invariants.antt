@@ -1,5 +1,5 @@
 use Rattle.std.proofs.Common.{drop}
-use Rattle.dmf_path.specs.Links.{links_of}
+use Rattle.dmf_path.specs.LinkTable.{links_of}
 use Rattle.dmf_path.specs.Held.{put_each}
 use Rattle.dmf_path.proofs.Leaving.{IsPutting}
 use Rattle.dmf_path.proofs.trail.put_each_on.Given as goal

@@ -1,5 +1,5 @@
 use Rattle.std.proofs.Common.{◌≡◌, vec_capacity}
-use Rattle.dmf_path.specs.Links.{links_of}
+use Rattle.dmf_path.specs.LinkTable.{links_of}
 use Rattle.dmf_path.specs.Held.{way_of, rooms_with}
 use Rattle.dmf_path.proofs.WalkingTurn.{work_left}
 use Rattle.dmf_path.proofs.WayTurn.{IsOnWay}

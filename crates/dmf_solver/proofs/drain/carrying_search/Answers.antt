@@ -6,8 +6,8 @@ use Rattle.dmf_solver.proofs.CarryingPairs.{ArePairs-carrying}
 use Rattle.dmf_solver.proofs.DrainingSearch.{carries-first, carries-read, IsCarryingSearch-from}
 use Rattle.dmf_solver.proofs.drain.carrying_search.Goals as goal
 
-pub new_sparse-requires-clause-pairs : goal.new_sparse-requires-clause-pairs
-new_sparse-requires-clause-pairs c =
+pub new-requires-clause-pairs : goal.new-requires-clause-pairs
+new-requires-clause-pairs c =
     let s = c.args.state.now in
     let state = c.nodes.ensures.state in
     let long = AllZip-long _ s.network.arcs s.flows state.flow.within in
@@ -16,15 +16,15 @@ new_sparse-requires-clause-pairs c =
 pub returns-clause-carrying : goal.returns-clause-carrying
 returns-clause-carrying c =
     let s = c.args.state.now in
-    IfOk-weaker c.new_sparse.result _ _ (λ (search : Searched) is.
+    IfOk-weaker c.new.result _ _ (λ (search : Searched) is.
     IsCarryingSearch-from s s.flows s.flows search
     (carries-first s search c.nodes.ensures.state (ap (λ (x : Searched). x.nodes) is ∙ c.nodes.ensures.value) (ap (λ (x : Searched). x.pairs) is) (ap (λ (x : Searched). x.takes_back) is)))
-    c.new_sparse.ensures
+    c.new.ensures
 
 pub returns-clause-flows : goal.returns-clause-flows
 returns-clause-flows c =
     let s = c.args.state.now in
-    IfOk-weaker c.new_sparse.result _ _ (λ (search : Searched) is.
+    IfOk-weaker c.new.result _ _ (λ (search : Searched) is.
     carries-read s s.flows s.flows search
     (carries-first s search c.nodes.ensures.state (ap (λ (x : Searched). x.nodes) is ∙ c.nodes.ensures.value) (ap (λ (x : Searched). x.pairs) is) (ap (λ (x : Searched). x.takes_back) is)))
-    c.new_sparse.ensures
+    c.new.ensures

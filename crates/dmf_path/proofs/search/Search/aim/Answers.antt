@@ -1,7 +1,7 @@
 -- All links leave, and the search begins anew between other nodes.
 use Rattle.std.proofs.Common.{[], ap, sym, ◌∙◌}
 use Rattle.std.proofs.lemmas.List.{with_items_is}
-use Rattle.dmf_path.specs.Links.{links_of}
+use Rattle.dmf_path.specs.LinkTable.{links_of}
 use Rattle.dmf_path.specs.Held.{Way, way_of, rooms_with}
 use Rattle.dmf_path.proofs.Settling.{search-settles, rooms_with-free}
 use Rattle.dmf_path.proofs.SearchTurns.{IsSearch-anew, between, same-searched}

@@ -3,7 +3,8 @@ use Rattle.std.proofs.Common.{◌≡◌, ◌+◌, ◌%◌, ◌^◌, false, List,
 use Rattle.std.specs.Vec.{with_items}
 use Rattle.std.proofs.lemmas.List.{with_items_is}
 use Rattle.dmf_path.specs.declared.trail.Slot.{Slot}
-use Rattle.dmf_path.specs.Links.{links_of, pairs_at}
+use Rattle.dmf_path.specs.Links.{pairs_at}
+use Rattle.dmf_path.specs.LinkTable.{links_of}
 use Rattle.dmf_path.specs.Held.{way_of, least_left, settled, rooms_with, IsSplit}
 use Rattle.dmf_path.specs.Search.{Searched, pair_number}
 use Rattle.dmf_path.specs.Passed.{KeepsUnpassed}
@@ -75,8 +76,8 @@ can c =
 read : (c : After-split_path-arg-2-1) → c.deref_mut-5.result.now ≡ c.find-found.new.rooms
 read c = c.deref_mut-5.ensures.value ∙ with_items_is c.self.inside.rooms c.find-found.new.rooms (c.find-found.auto.rooms ∙ c.deref_mut-3.ensures.len)
 
-pub mark_ends-requires-clause-places : goal.mark_ends-requires-clause-places
-mark_ends-requires-clause-places c =
+pub mark_ends-requires : goal.mark_ends-requires
+mark_ends-requires c =
     let l = links_of c.self.inside.table in
     let w = way_of c.find-found.new.trail in
     let is =
@@ -86,7 +87,7 @@ mark_ends-requires-clause-places c =
     c.find-found.ensures.start c.find-found.ensures.goal c.find-found.ensures.queue_capacity c.find-found.ensures.slots_capacity in
     let least : c.bottleneck-amount.result ≡ least_left w.sent c.args.limit w.slots = rw c.deref.ensures.value at c.bottleneck-amount.ensures in
     let can = can-augment l c.self.inside.takes_back c.self.inside.places c.find-found.new.rooms c.find-found.new.flags c.find-found.new.labels c.find-found.new.current w _ _ c.args.limit c.bottleneck-amount.result is (c.find-found.ensures.found c.if-not-found.false) least in
-    rw c.deref-2.ensures.value (λ i inside. slot-within l c.find-found.new.labels _ _ w.slots i can.descends inside)
+    record { places = rw c.deref-2.ensures.value (λ i inside. slot-within l c.find-found.new.labels _ _ w.slots i can.descends inside) }
 
 pub split_path-requires-clause-rooms : goal.split_path-requires-clause-rooms
 split_path-requires-clause-rooms c =

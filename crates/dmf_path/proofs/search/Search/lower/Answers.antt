@@ -2,21 +2,34 @@
 use Rattle.std.proofs.Common.{◌≡◌, get_or, ap, ◌∙◌, arith, vec_capacity}
 use Rattle.std.specs.Vec.{with_items}
 use Rattle.std.proofs.lemmas.List.{with_items_is}
-use Rattle.dmf_path.specs.Links.{links_of, pairs_at}
+use Rattle.dmf_path.specs.Links.{pairs_at}
+use Rattle.dmf_path.specs.LinkTable.{links_of}
 use Rattle.dmf_path.specs.Held.{way_of, rooms_with}
 use Rattle.dmf_path.specs.Search.{with_pairs, lowered_along}
 use Rattle.dmf_path.specs.Searching.{IsSearch, searched}
 use Rattle.dmf_path.proofs.Lowered.{HasPlace, HasPlace-along}
+use Rattle.dmf_path.proofs.PairRead.{has-place}
 use Rattle.dmf_path.proofs.Released.{is-lowered}
 use Rattle.dmf_path.proofs.search.Search.lower.Goals as goal
-use Rattle.dmf_path.proofs.search.Search.lower.Goals.{After-deref_mut-4, After-self-4-1}
+use Rattle.dmf_path.proofs.search.Search.lower.Goals.{After-unwrap-place, After-deref_mut-4, After-self-4-1}
 
-pub place-place-requires : goal.place-place-requires
-place-place-requires c =
+pub place_of-requires : goal.place_of-requires
+place_of-requires c =
     let of = c.self.inside in
     let l = links_of of.table in
     let along = rw (← c.self.view_is) at c.requires in
     (HasPlace-along l of.places (rooms_with l of.takes_back (way_of of.trail) of.rooms.items) c.args.k c.args.amount c.self.invariant.places_are along).index
+
+-- The place of the pair's link along is read.
+place : (c : After-unwrap-place) → c.unwrap-place.result ≡ get_or c.self.inside.places c.args.k 0
+place c = (rw c.unwrap-place.ensures at c.place_of.ensures).is
+
+pub unwrap-place-requires : goal.unwrap-place-requires
+unwrap-place-requires c =
+    let of = c.self.inside in
+    let along = rw (← c.self.view_is) at c.requires in
+    has-place _ of.places c.args.k c.place_of.ensures
+    (HasPlace-along (links_of of.table) of.places (rooms_with (links_of of.table) of.takes_back (way_of of.trail) of.rooms.items) c.args.k c.args.amount c.self.invariant.places_are along).there
 
 pub release-requires-clause-place : goal.release-requires-clause-place
 release-requires-clause-place c =
@@ -24,17 +37,14 @@ release-requires-clause-place c =
     let l = links_of of.table in
     let along = rw (← c.self.view_is) at c.requires in
     let has = HasPlace-along l of.places (rooms_with l of.takes_back (way_of of.trail) of.rooms.items) c.args.k c.args.amount c.self.invariant.places_are along in
-    omega (arith, c.place-place.ensures, has.within)
+    let read = place (goal.at.release-requires-clause-place c).After-unwrap-place in
+    omega (arith, read, has.within)
 
--- The pair's link along has a place,
+-- It is a place,
 has : (c : After-deref_mut-4) → HasPlace (links_of c.self.inside.table) c.self.inside.places (rooms_with (links_of c.self.inside.table) c.self.inside.takes_back (way_of c.self.inside.trail) c.self.inside.rooms.items) c.args.k c.args.amount
 has c =
     let along = rw (← c.self.view_is) at c.requires in
     HasPlace-along (links_of c.self.inside.table) c.self.inside.places (rooms_with (links_of c.self.inside.table) c.self.inside.takes_back (way_of c.self.inside.trail) c.self.inside.rooms.items) c.args.k c.args.amount c.self.invariant.places_are along
-
--- which is read,
-place : (c : After-deref_mut-4) → c.place-place.result ≡ get_or c.self.inside.places c.args.k 0
-place c = c.place-place.ensures
 
 -- as are the rooms once it is released.
 read : (c : After-deref_mut-4) → c.deref_mut-3.result.now ≡ c.release.new.rooms
@@ -51,7 +61,7 @@ push_once-requires-clause-flags c =
 pub push_once-requires-clause-within : goal.push_once-requires-clause-within
 push_once-requires-clause-within c =
     let at = (goal.at.push_once-requires-clause-within c).After-deref_mut-4 in
-    omega (arith, place at, (has at).within)
+    omega (arith, place (goal.at.After-deref_mut-4 at).After-unwrap-place, (has at).within)
 
 pub push_once-requires-clause-room : goal.push_once-requires-clause-room
 push_once-requires-clause-room c =
@@ -59,9 +69,9 @@ push_once-requires-clause-room c =
     omega (
       arith,
       (has at).enough,
-      ap (λ rs. get_or rs c.place-place.result 0) (read at),
+      ap (λ rs. get_or rs c.unwrap-place.result 0) (read at),
       rw c.deref_mut.ensures.value at c.release.ensures.room,
-      ap (λ p. get_or (rooms_with (links_of c.self.inside.table) c.self.inside.takes_back (way_of c.self.inside.trail) c.self.inside.rooms.items) p 0) (place at),
+      ap (λ p. get_or (rooms_with (links_of c.self.inside.table) c.self.inside.takes_back (way_of c.self.inside.trail) c.self.inside.rooms.items) p 0) (place (goal.at.After-deref_mut-4 at).After-unwrap-place),
     )
 
 -- what the search keeps then, and what callers see of it
@@ -73,8 +83,8 @@ lowered c =
     let at = (goal.at.After-self-4-1 c).After-deref_mut-4 in
     let i = c.self.invariant in
     let along = rw (← c.self.view_is) at c.requires in
-    is-lowered (links_of c.self.inside.table) c.self.inside.takes_back c.self.inside.places c.self.inside.rooms.items c.self.inside.flags.items c.self.inside.labels.items c.self.inside.current.items (way_of c.self.inside.trail) (vec_capacity c.self.inside.queue) (vec_capacity c.self.inside.trail.slots) c.args.k c.place-place.result c.args.amount
-    (way_of c.release.new.trail) c.release.new.rooms c.release.new.flags c.push_once.new.rooms c.push_once.new.flags (vec_capacity c.release.new.trail.slots) i along (place at)
+    is-lowered (links_of c.self.inside.table) c.self.inside.takes_back c.self.inside.places c.self.inside.rooms.items c.self.inside.flags.items c.self.inside.labels.items c.self.inside.current.items (way_of c.self.inside.trail) (vec_capacity c.self.inside.queue) (vec_capacity c.self.inside.trail.slots) c.args.k c.unwrap-place.result c.args.amount
+    (way_of c.release.new.trail) c.release.new.rooms c.release.new.flags c.push_once.new.rooms c.push_once.new.flags (vec_capacity c.release.new.trail.slots) i along (place (goal.at.After-deref_mut-4 at).After-unwrap-place)
     c.release.ensures.holding (rw c.deref_mut.ensures.value at c.release.ensures.same) ((rw c.deref.ensures.value at c.release.ensures.under_way) _ _ i.under_way)
     c.release.ensures.off (rw c.deref_mut.ensures.value at c.release.ensures.room) c.release.ensures.start c.release.ensures.goal c.release.ensures.slots_capacity
     (rw (read at) at c.push_once.ensures.rooms) c.push_once.ensures.sums c.push_once.ensures.flags

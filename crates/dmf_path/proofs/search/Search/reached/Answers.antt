@@ -1,6 +1,7 @@
 use Rattle.std.proofs.Common.{map, drop, ◌∙◌, ap, refl}
 use Rattle.std.proofs.lemmas.Result.{IfOk-weaker}
-use Rattle.dmf_path.specs.Links.{links_of, open_flag}
+use Rattle.dmf_path.specs.Links.{open_flag}
+use Rattle.dmf_path.specs.LinkTable.{links_of}
 use Rattle.dmf_path.specs.Labels.{AreLabels, is_label}
 use Rattle.dmf_path.specs.Held.{way_of, filled_slots, rooms_with}
 use Rattle.dmf_path.proofs.Marks.{marks-reached}

@@ -3,12 +3,14 @@ use Rattle.std.proofs.Common.{◌≡◌, ◌<◌, true, length, get_or, refl, ap
 use Rattle.std.specs.Vec.{vec_capacity}
 use Rattle.std.proofs.lemmas.List.{with_items_is, length-map}
 use Rattle.dmf_path.specs.declared.search.Search.TheInside.{Inside}
-use Rattle.dmf_path.specs.Links.{links_of, pair_at, no_place}
+use Rattle.dmf_path.specs.Links.{pair_at, no_place}
+use Rattle.dmf_path.specs.LinkTable.{links_of}
 use Rattle.dmf_path.specs.Held.{Way, way_of, rooms_with}
 use Rattle.dmf_path.specs.Search.{Searched, with_pairs, with_rooms}
 use Rattle.dmf_path.specs.Searching.{IsSearch, searched}
 use Rattle.dmf_path.proofs.Settling.{search-settles}
 use Rattle.dmf_path.proofs.SearchTurns.{IsSearch-anew, IsSearch-set, rooms_with-fresh, same-searched}
+use Rattle.dmf_path.proofs.PairRead.{place-within}
 use Rattle.dmf_path.proofs.RoomsSet.{set-searched, unset-searched}
 use Rattle.dmf_path.proofs.search.Search.set_rooms.Goals.{Joined-not-self, then-not-self, else-not-self}
 use Rattle.dmf_path.proofs.search.Search.set_rooms.Goals as goal
@@ -68,20 +70,17 @@ index c =
 pub invariant_of-self : goal.invariant_of-self
 invariant_of-self c = let a = anew (goal.at.invariant_of-self c).Joined-not-self in rw a.marked a.is
 
-pub returns-then-place : goal.returns-then-place
-returns-then-place c =
-    let at = (goal.at.returns-then-place c).Joined-not-self in
+pub returns-in_default : goal.returns-in_default
+returns-in_default c =
+    let at = (goal.at.returns-in_default c).Joined-not-self in
     let a = anew at in
     let x = c.if-not-self.self-inside in
     let l = links_of x.table in
-    let none : get_or x.places c.args.k 0 ≡ no_place = sym c.place-place.ensures ∙ c.if-place.true in
+    let none : get_or x.places c.args.k 0 ≡ no_place = c.in_default.ensures in
     same-searched l x.places _ _ x.trail.start x.trail.start x.trail.goal x.trail.goal x.takes_back
     (rooms_with-fresh l x.takes_back x.places x.rooms.items x.flags.items x.labels.items x.current.items (way_of x.trail) _ _ x.rooms.items a.is) refl refl
     ∙ sym (unset-searched l x.places x.rooms.items x.trail.start x.trail.goal x.takes_back c.args.k c.args.along c.args.against (index at) none)
     ∙ ap (λ (s : Searched). with_pairs s (with_rooms s.pairs c.args.k c.args.along c.args.against)) a.same
-
-pub set_pair-requires-clause-links : goal.set_pair-requires-clause-links
-set_pair-requires-clause-links c = (anew (goal.at.set_pair-requires-clause-links c).Joined-not-self).is.links
 
 pub set_pair-requires-clause-rooms : goal.set_pair-requires-clause-rooms
 set_pair-requires-clause-rooms c = rw c.deref_mut-2.ensures.value (anew (goal.at.set_pair-requires-clause-rooms c).Joined-not-self).is.holding.rooms_are
@@ -92,9 +91,7 @@ set_pair-requires-clause-flags c = rw (c.deref_mut-2.ensures.value, c.deref_mut-
 pub set_pair-requires-clause-within : goal.set_pair-requires-clause-within
 set_pair-requires-clause-within c =
     let at = (goal.at.set_pair-requires-clause-within c).Joined-not-self in
-    let place = c.place-place.ensures in
-    let within = (anew at).is.places_are.within c.args.k (index at) (λ none. c.if-place.false (place ∙ none)) in
-    omega (arith, place, within)
+    place-within (links_of c.if-not-self.self-inside.table) c.if-not-self.self-inside.places c.args.k c.in-Some.place (anew at).is.places_are (index at) c.in-Some.ensures
 
 pub invariant_of-self-2 : goal.invariant_of-self-2
 invariant_of-self-2 c =
@@ -111,11 +108,11 @@ returns c =
     let a = anew at in
     let x = c.if-not-self.self-inside in
     let l = links_of x.table in
-    let place = c.place-place.ensures in
+    let of = c.in-Some.ensures in
     let rooms = with_items_is x.rooms c.set_pair.new.rooms (c.set_pair.auto.rooms ∙ c.deref_mut-2.ensures.len) in
-    let made = rw (c.deref_mut-2.ensures.value, place) at c.set_pair.ensures.rooms in
+    let made = rw (c.deref_mut-2.ensures.value, of.is) at c.set_pair.ensures.rooms in
     rw rooms
     (same-searched l x.places _ _ x.trail.start x.trail.start x.trail.goal x.trail.goal x.takes_back
     (rooms_with-fresh l x.takes_back x.places x.rooms.items x.flags.items x.labels.items x.current.items (way_of x.trail) _ _ c.set_pair.new.rooms a.is ∙ made) refl refl
-    ∙ set-searched l x.places x.rooms.items x.trail.start x.trail.goal x.takes_back c.args.k c.args.along c.args.against a.is.links a.is.places_are a.is.holding.rooms_are.0 (index at) (λ none. c.if-place.false (place ∙ none))
+    ∙ set-searched l x.places x.rooms.items x.trail.start x.trail.goal x.takes_back c.args.k c.args.along c.args.against a.is.links a.is.places_are a.is.holding.rooms_are.0 (index at) (λ none. of.there (of.is ∙ none))
     ∙ ap (λ (s : Searched). with_pairs s (with_rooms s.pairs c.args.k c.args.along c.args.against)) a.same)
