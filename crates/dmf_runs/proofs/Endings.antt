@@ -14,7 +14,7 @@ use Rattle.dmf_runs.specs.declared.fault.EngineFault.{EngineFault}
 use Rattle.dmf_runs.specs.declared.fault.EngineFault.TheVariants as fault
 use Rattle.dmf_runs.specs.declared.input.Next.TheVariants.{Line, Last}
 use Rattle.dmf_runs.specs.declared.reply.SolveReply.{SolveReply}
-use Rattle.dmf_runs.specs.Streams.{Writer}
+use Rattle.dmf_text.specs.Streams.{Writer}
 use Rattle.dmf_runs.specs.Pending.{Pending}
 use Rattle.dmf_runs.specs.KeptLine.{Kept, Means}
 use Rattle.dmf_runs.specs.Line.{HasNoLineFeed, with_line_feeds, line_meaning}

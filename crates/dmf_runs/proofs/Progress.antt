@@ -12,7 +12,8 @@ use Rattle.dmf_session.specs.Step.{Answers}
 use Rattle.dmf_history.specs.Timeline.{Timeline}
 use Rattle.dmf_runs.specs.declared.input.Next.TheVariants.{Line}
 use Rattle.dmf_runs.specs.declared.reply.SolveReply.{SolveReply}
-use Rattle.dmf_runs.specs.Streams.{Writer, Streams}
+use Rattle.dmf_text.specs.Streams.{Writer}
+use Rattle.dmf_runs.specs.Streams.{Streams}
 use Rattle.dmf_runs.specs.KeptLine.{Kept, Means}
 use Rattle.dmf_runs.specs.Line.{HasNoLineFeed, with_line_feeds, line_meaning}
 use Rattle.dmf_runs.specs.Run.{LineRuns, Runs}

@@ -4,7 +4,7 @@ use Rattle.std.specs.List.{slice_range}
 use Rattle.std.specs.Io.KnownBytes.{prepend_known, Consumes}
 use Rattle.std.proofs.KnownBytes.{Consumes-trans}
 use Rattle.std.proofs.lemmas.List.{drop_more, length-append, append-nil}
-use Rattle.dmf_runs.specs.Streams.{Reader}
+use Rattle.dmf_text.specs.Streams.{Reader}
 use Rattle.dmf_runs.specs.Pending.{Pending}
 use Rattle.dmf_runs.specs.Input.{InputState, input_over, Takes, left}
 

@@ -14,7 +14,7 @@ use Rattle.dmf_runs.specs.declared.fault.Status.{Status}
 use Rattle.dmf_runs.specs.declared.fault.Status.TheVariants.{Well, NotGreatest}
 use Rattle.dmf_runs.specs.declared.fault.EngineFault.{EngineFault}
 use Rattle.dmf_runs.specs.declared.fault.EngineFault.TheVariants as fault
-use Rattle.dmf_runs.specs.Streams.{Reader, Writer}
+use Rattle.dmf_text.specs.Streams.{Reader, Writer}
 use Rattle.dmf_runs.specs.Session.{Reads, ReadsProblem}
 
 -- ---- what is told of a flow
@@ -67,7 +67,7 @@ pub record WritesVerdict (run : Checked) (result : Result Status EngineFault) : 
   pub solution : ReadsSolution state run.solution_old run.solution_new run.solution_text (Ok solved)
   pub greatest : Bool
   pub verdict : IsVerdict solved greatest
-  pub writes : Writes (λ w. w.contents) (λ w. w.has_failed) run.old run.new result (verdict_text solved greatest)
+  pub writes : Writes run.old run.new result (verdict_text solved greatest)
   pub status : IfOk result (λ status. status ≡ verdict_status greatest)
 
 -- Reading the problem gave this fault. Nothing was read of the solution, and nothing was written.

@@ -6,7 +6,7 @@ use Rattle.dmf_runs.specs.declared.input.Next.{Next}
 use Rattle.dmf_runs.specs.declared.input.Next.TheVariants.{Line, Last, End}
 use Rattle.dmf_runs.specs.declared.fault.EngineFault.{EngineFault}
 use Rattle.dmf_runs.specs.declared.fault.EngineFault.TheVariants as fault
-use Rattle.dmf_runs.specs.Streams.{Reader}
+use Rattle.dmf_text.specs.Streams.{Reader}
 use Rattle.dmf_runs.specs.Pending.{Pending}
 use Rattle.dmf_runs.specs.Line.{HasNoLineFeed}
 use Rattle.dmf_runs.specs.KeptLine.{Kept, IsKept}

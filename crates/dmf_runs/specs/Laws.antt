@@ -12,7 +12,7 @@ use Rattle.dmf_session.specs.Step.{Steps, Answers}
 use Rattle.dmf_session.specs.Optimal.{IsOptimal, HasOptimalPresent}
 use Rattle.dmf_runs.specs.declared.fault.Status.{Status}
 use Rattle.dmf_runs.specs.declared.fault.EngineFault.{EngineFault}
-use Rattle.dmf_runs.specs.Streams.{Reader, Writer}
+use Rattle.dmf_text.specs.Streams.{Reader, Writer}
 use Rattle.dmf_runs.specs.Run.{Answering, Runs}
 use Rattle.dmf_runs.specs.Outcome.{RunsAll, line_count}
 use Rattle.dmf_runs.specs.SolveRun.{WritesSolved}

@@ -10,7 +10,8 @@ use Rattle.dmf_runs.specs.declared.fault.Status.{Status}
 use Rattle.dmf_runs.specs.declared.fault.EngineFault.{EngineFault}
 use Rattle.dmf_runs.specs.declared.fault.EngineFault.TheVariants as fault
 use Rattle.dmf_runs.specs.declared.reply.SolveReply.{SolveReply}
-use Rattle.dmf_runs.specs.Streams.{Reader, Streams}
+use Rattle.dmf_text.specs.Streams.{Reader}
+use Rattle.dmf_runs.specs.Streams.{Streams}
 use Rattle.dmf_runs.specs.Outcome.{RunsCommandsWith, solutions}
 
 -- This text was given, it is the whole of what the reader had left, and it is within the limit.

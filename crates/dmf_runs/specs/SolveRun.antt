@@ -13,7 +13,7 @@ use Rattle.dmf_runs.specs.declared.fault.Status.TheVariants.{Well}
 use Rattle.dmf_runs.specs.declared.fault.EngineFault.{EngineFault}
 use Rattle.dmf_runs.specs.declared.fault.EngineFault.TheVariants as fault
 use Rattle.dmf_runs.specs.Run.{solved_text}
-use Rattle.dmf_runs.specs.Streams.{Reader, Writer}
+use Rattle.dmf_text.specs.Streams.{Reader, Writer}
 use Rattle.dmf_runs.specs.Session.{ReadsProblem}
 
 -- The text stands for a state. The solution of what solving makes of it was written, and where one is wanted the smallest cut
@@ -25,7 +25,7 @@ pub record WritesSolved (want_cut : Bool) (from to : Reader) (old new : Writer) 
   pub becomes : Becomes state Solve solved
   pub side : Option CutSide
   pub side_is : IsSideWanted want_cut solved.network side
-  pub writes : Writes (λ w. w.contents) (λ w. w.has_failed) old new result (solved_text solved side)
+  pub writes : Writes old new result (solved_text solved side)
 
 -- What a run answers that solves a problem, of whose text this much was given; no answer but these is given. At every
 -- fault but that of the writer nothing was written.

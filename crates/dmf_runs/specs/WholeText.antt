@@ -3,7 +3,7 @@
 use Rattle.std.specs.Prelude.{ℕ, ◌≡◌, List, true, Result, Ok, Err}
 use Rattle.dmf_runs.specs.declared.fault.EngineFault.{EngineFault}
 use Rattle.dmf_runs.specs.declared.fault.EngineFault.TheVariants as fault
-use Rattle.dmf_runs.specs.Streams.{Reader}
+use Rattle.dmf_text.specs.Streams.{Reader}
 use Rattle.dmf_runs.specs.Session.{GaveWhole, GaveTooMuch}
 
 -- what reading a whole text gives, of which this much was given; no answer but these is given

@@ -2,6 +2,7 @@
 -- Private: only contracts inside the crate and proofs use this.
 use Rattle.std.specs.Prelude.{ℕ, ◌≡◌, List, Bool, true, false, Option, Result, IfOk}
 use Rattle.dmf_text.specs.declared.writer.WriteFault.{WriteFault}
+use Rattle.dmf_text.specs.Streams.{Writer}
 use Rattle.dmf_text.specs.Writing.{Writes}
 use Rattle.dmf_session.specs.declared.command.Command.{Command}
 use Rattle.dmf_session.specs.declared.command.Refusal.{Refusal}
@@ -18,7 +19,7 @@ is_refusal Refused = true
 
 -- Carrying out one line, which means this, wrote its text or, where the writer failed, a front of it; on success it
 -- is answered whether the line was refused.
-abbrev pub WritesLine : {S : Type 0} → SolveReply → (S → Option (List ℕ)) → (S → Bool) → S → S → ℕ → Timeline → Result (Option Command) Refusal → Timeline → Result Answer WriteFault → Type 0
-WritesLine wanted contents has_failed old new number t meaning u result =
+abbrev pub WritesLine : SolveReply → Writer → Writer → ℕ → Timeline → Result (Option Command) Refusal → Timeline → Result Answer WriteFault → Type 0
+WritesLine wanted old new number t meaning u result =
     (text : List ℕ) × (refused : Bool) × LineRuns wanted.brief (Answers wanted.cut) number t meaning text refused u
-    × Writes contents has_failed old new result text × IfOk result (λ answer. is_refusal answer ≡ refused)
+    × Writes old new result text × IfOk result (λ answer. is_refusal answer ≡ refused)

@@ -2,7 +2,6 @@
 ghost use Rattle.std.specs.Prelude.{◌≡◌, ◌≤◌, ℕ, List, length, codes, if◌then◌else◌, IfOk};
 ghost use Rattle.std.specs.Io.KnownBytes.{Consumes};
 ghost use Rattle.dmf_text.specs.Writing.{Writes};
-ghost use Rattle.dmf_runs.specs.Streams.{reader_of, writer_of};
 ghost use Rattle.dmf_runs.specs.CheckRun.{IsVerdict, verdict_line, verdict_text, verdict_status, ReadsSolution, RunsCheck};
 
 use crate::fault::{EngineFault, Status};
@@ -29,10 +28,8 @@ pub fn run_check<P: Source, C: Source, W: Sink>(
     out: &mut W,
 ) -> Result<Status, EngineFault>
     ensures { RunsCheck
-        (reader_of P.remaining P.has_failed problem.old) (reader_of P.remaining P.has_failed problem.new)
-        (reader_of C.remaining C.has_failed solution.old) (reader_of C.remaining C.has_failed solution.new)
-        (writer_of W.contents W.has_failed out.old) (writer_of W.contents W.has_failed out.new)
-        result }
+        (P.left problem.old) (P.left problem.new) (C.left solution.old) (C.left solution.new)
+        (W.written out.old) (W.written out.new) result }
 {
     let state = read_state(alloc, problem)?;
     let solved = read_solved(alloc, state, solution)?;
@@ -43,9 +40,9 @@ pub fn run_check<P: Source, C: Source, W: Sink>(
 
 /// Reads a solution text of a state's network, and judges it. The state is let go then.
 fn read_solved<C: Source>(alloc: Global, state: State, source: &mut C) -> Result<State, EngineFault>
-    ensures { (text : List ℕ) × Consumes (C.remaining source.old) (C.remaining source.new) text
+    ensures { (text : List ℕ) × Consumes (C.left source.old).known (C.left source.new).known text
         × ReadsSolution state
-        (reader_of C.remaining C.has_failed source.old) (reader_of C.remaining C.has_failed source.new)
+        (C.left source.old) (C.left source.new)
         text result }
 {
     let text = read_all(alloc, source)?;
@@ -67,7 +64,7 @@ fn verdict_of(alloc: Global, state: &State) -> Result<bool, NoMemory>
 
 /// Writes whether the state's flow is greatest, and flushes it.
 fn put_verdict<W: Sink>(state: &State, greatest: bool, out: &mut W) -> Result<(), WriteFault>
-    ensures { Writes W.contents W.has_failed out.old out.new result (verdict_text state.now greatest) }
+    ensures { Writes (W.written out.old) (W.written out.new) result (verdict_text state.now greatest) }
 {
     put_line(&verdict_line(greatest, state.value()), out)
 }

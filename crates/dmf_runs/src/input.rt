@@ -1,6 +1,5 @@
 //! Lines, taken from a reader that gives its bytes in any pieces.
 ghost use Rattle.std.specs.Prelude.{◌≡◌, []};
-ghost use Rattle.dmf_runs.specs.Streams.{reader_of};
 ghost use Rattle.dmf_runs.specs.Input.{input_over, Fills, GivesByte, GivesLine, GivesEnd};
 
 use crate::fault::EngineFault;
@@ -35,7 +34,6 @@ pub struct Input {
 
 impl Model for Input {
     ghost use Rattle.std.specs.Prelude.{slice_range, ◌≤◌, ◌^◌};
-    ghost use Rattle.dmf_runs.specs.Streams.{reader_of};
     ghost use Rattle.dmf_runs.specs.Pending.{Pending};
 
     ghost Value = { Pending };
@@ -61,8 +59,8 @@ impl Input {
     /// Reads the next piece, where no byte is pending. At the end of the input none is pending afterwards.
     fn fill<C: Source>(&mut self, source: &mut C) -> Result<(), EngineFault>
         ensures { Fills
-            (input_over self.old (reader_of C.remaining C.has_failed source.old))
-            (input_over self.new (reader_of C.remaining C.has_failed source.new))
+            (input_over self.old (C.left source.old))
+            (input_over self.new (C.left source.new))
             result }
     {
         if self.start < self.end {
@@ -80,8 +78,8 @@ impl Input {
     /// Takes the next byte, if there is one.
     fn next_byte<C: Source>(&mut self, source: &mut C) -> Result<Option<u8>, EngineFault>
         ensures { GivesByte
-            (input_over self.old (reader_of C.remaining C.has_failed source.old))
-            (input_over self.new (reader_of C.remaining C.has_failed source.new))
+            (input_over self.old (C.left source.old))
+            (input_over self.new (C.left source.new))
             result }
     {
         self.fill(source)?;
@@ -104,8 +102,8 @@ impl Input {
         line: &mut KeptLine,
     ) -> Result<Next, EngineFault>
         ensures { GivesLine
-            (input_over self.old (reader_of C.remaining C.has_failed source.old))
-            (input_over self.new (reader_of C.remaining C.has_failed source.new))
+            (input_over self.old (C.left source.old))
+            (input_over self.new (C.left source.new))
             line.new result }
     {
         line.clear();
@@ -124,8 +122,8 @@ impl Input {
     /// Refuses any further byte.
     pub fn expect_end<C: Source>(&mut self, source: &mut C) -> Result<(), EngineFault>
         ensures { GivesEnd
-            (input_over self.old (reader_of C.remaining C.has_failed source.old))
-            (input_over self.new (reader_of C.remaining C.has_failed source.new))
+            (input_over self.old (C.left source.old))
+            (input_over self.new (C.left source.new))
             result }
     {
         match self.next_byte(source)? {

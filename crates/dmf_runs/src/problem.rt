@@ -2,7 +2,6 @@
 ghost use Rattle.std.specs.Prelude.{List, ℕ};
 ghost use Rattle.std.specs.Io.KnownBytes.{Consumes};
 ghost use Rattle.dmf_runs.specs.Session.{ReadsProblem};
-ghost use Rattle.dmf_runs.specs.Streams.{reader_of};
 
 use crate::fault::EngineFault;
 use crate::whole_text::read_all;
@@ -12,8 +11,8 @@ use std::alloc::Global;
 
 /// Reads a problem text, and judges it.
 pub fn read_state<P: Source>(alloc: Global, source: &mut P) -> Result<State, EngineFault>
-    ensures { (text : List ℕ) × Consumes (P.remaining source.old) (P.remaining source.new) text
-        × ReadsProblem (reader_of P.remaining P.has_failed source.old) (reader_of P.remaining P.has_failed source.new)
+    ensures { (text : List ℕ) × Consumes (P.left source.old).known (P.left source.new).known text
+        × ReadsProblem (P.left source.old) (P.left source.new)
         text result }
 {
     let text = read_all(alloc, source)?;

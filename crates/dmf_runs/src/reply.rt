@@ -45,7 +45,7 @@ impl Answer {
 
 /// Tells that a line was refused.
 pub fn refuse<W: Sink>(number: u32, refusal: &Refusal, out: &mut W) -> Result<Answer, WriteFault>
-    ensures text { Writes W.contents W.has_failed out.old out.new result (run.refused_text number refusal.now) }
+    ensures text { Writes (W.written out.old) (W.written out.new) result (run.refused_text number refusal.now) }
     ensures refused { IfOk result (λ answer. is_refusal answer ≡ true) }
 {
     put_line(&refused_line(number, refusal), out)?;
@@ -54,35 +54,35 @@ pub fn refuse<W: Sink>(number: u32, refusal: &Refusal, out: &mut W) -> Result<An
 
 /// Writes a line, and flushes it.
 pub fn put_line<W: Sink>(line: &LineBuffer, out: &mut W) -> Result<(), WriteFault>
-    ensures { Writes W.contents W.has_failed out.old out.new result line.now }
+    ensures { Writes (W.written out.old) (W.written out.new) result line.now }
 {
     put_all(out, line.as_bytes())?;
     flush(out)
 }
 
 fn put_problem<W: Sink>(state: &State, out: &mut W) -> Result<(), WriteFault>
-    ensures { Writes W.contents W.has_failed out.old out.new result (problem_text state.now.network) }
+    ensures { Writes (W.written out.old) (W.written out.new) result (problem_text state.now.network) }
 {
     write_problem(state, out)?;
     flush(out)
 }
 
 fn put_solution<W: Sink>(state: &State, out: &mut W) -> Result<(), WriteFault>
-    ensures { Writes W.contents W.has_failed out.old out.new result (solution_text state.now) }
+    ensures { Writes (W.written out.old) (W.written out.new) result (solution_text state.now) }
 {
     write_solution(state, out)?;
     flush(out)
 }
 
 fn put_cut<W: Sink>(side: &Side, out: &mut W) -> Result<(), WriteFault>
-    ensures { Writes W.contents W.has_failed out.old out.new result (cut_text side.now) }
+    ensures { Writes (W.written out.old) (W.written out.new) result (cut_text side.now) }
 {
     write_cut(side, out)?;
     flush(out)
 }
 
 fn put_solution_and_cut<W: Sink>(state: &State, side: &Side, out: &mut W) -> Result<(), WriteFault>
-    ensures { Writes W.contents W.has_failed out.old out.new result (solution_text state.now ++ cut_text side.now) }
+    ensures { Writes (W.written out.old) (W.written out.new) result (solution_text state.now ++ cut_text side.now) }
 {
     write_solution(state, out)?;
     put_cut(side, out)
@@ -94,7 +94,7 @@ pub fn put_solved<W: Sink>(
     side: &Option<Side>,
     out: &mut W,
 ) -> Result<(), WriteFault>
-    ensures { Writes W.contents W.has_failed out.old out.new result (run.solved_text state.now side.now) }
+    ensures { Writes (W.written out.old) (W.written out.new) result (run.solved_text state.now side.now) }
 {
     match side {
         None => put_solution(state, out),
@@ -103,7 +103,7 @@ pub fn put_solved<W: Sink>(
 }
 
 fn put_line_and_cut<W: Sink>(line: &LineBuffer, side: &Side, out: &mut W) -> Result<(), WriteFault>
-    ensures { Writes W.contents W.has_failed out.old out.new result (line.now ++ cut_text side.now) }
+    ensures { Writes (W.written out.old) (W.written out.new) result (line.now ++ cut_text side.now) }
 {
     put_all(out, line.as_bytes())?;
     put_cut(side, out)
@@ -111,7 +111,7 @@ fn put_line_and_cut<W: Sink>(line: &LineBuffer, side: &Side, out: &mut W) -> Res
 
 /// Writes the value of a solve, and this cut after it, if there is one, and flushes them.
 pub fn put_brief<W: Sink>(value: u64, side: &Option<Side>, out: &mut W) -> Result<(), WriteFault>
-    ensures { Writes W.contents W.has_failed out.old out.new result (run.brief_text value side.now) }
+    ensures { Writes (W.written out.old) (W.written out.new) result (run.brief_text value side.now) }
 {
     let line = value_line(Command::Solve, value);
     match side {
@@ -127,7 +127,7 @@ fn put_solve<W: Sink>(
     brief: bool,
     out: &mut W,
 ) -> Result<(), WriteFault>
-    ensures { Writes W.contents W.has_failed out.old out.new result (run.solve_text brief state.now side.now) }
+    ensures { Writes (W.written out.old) (W.written out.new) result (run.solve_text brief state.now side.now) }
 {
     if brief {
         put_brief(state.value(), side, out)
@@ -138,7 +138,7 @@ fn put_solve<W: Sink>(
 
 /// Passes on what was written.
 fn flush<W: Sink>(out: &mut W) -> Result<(), WriteFault>
-    ensures { Writes W.contents W.has_failed out.old out.new result [] }
+    ensures { Writes (W.written out.old) (W.written out.new) result [] }
 {
     let Ok(()) = out.flush() else {
         return Err(WriteFault);
@@ -166,7 +166,7 @@ pub fn show<W: Sink>(
     brief: bool,
     out: &mut W,
 ) -> Result<(), WriteFault>
-    ensures { Writes W.contents W.has_failed out.old out.new result
+    ensures { Writes (W.written out.old) (W.written out.new) result
         (run.reply_text brief command reply.now present.now) }
 {
     match reply {

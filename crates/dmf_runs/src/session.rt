@@ -1,6 +1,6 @@
 //! A session from bytes to bytes.
 ghost use Rattle.std.specs.Prelude.{◌≡◌, ◌≤◌, IsOk, None, Ok, Some, length};
-ghost use Rattle.dmf_runs.specs.Streams.{reader_of, writer_of, streams_of};
+ghost use Rattle.dmf_runs.specs.Streams.{streams_of};
 ghost use Rattle.dmf_runs.specs.Outcome.{RunsCommands, RunsCommandsWith, solutions, status_if};
 ghost use Rattle.dmf_runs.specs.Session.{RunsSession, RunsSessionWith};
 ghost use Rattle.dmf_runs.specs.WrittenLine.{WritesLine};
@@ -37,9 +37,7 @@ pub fn run_commands<H: History + Drop, C: Source, W: Sink>(
     requires at_first { (H.timeline session).place ≡ 0 }
     requires one_state { length (H.timeline session).states ≡ 1 }
     ensures { RunsCommands want_cut (H.timeline session)
-        (streams_of (reader_of C.remaining C.has_failed commands.old) (writer_of W.contents W.has_failed out.old))
-        (streams_of (reader_of C.remaining C.has_failed commands.new) (writer_of W.contents W.has_failed out.new))
-        result }
+        (streams_of (C.left commands.old) (W.written out.old)) (streams_of (C.left commands.new) (W.written out.new)) result }
 {
     run_commands_watched(
         alloc,
@@ -63,9 +61,7 @@ pub fn run_commands_watched<H: History + Drop, C: Source, W: Sink, V: Watch>(
     requires at_first { (H.timeline session).place ≡ 0 }
     requires one_state { length (H.timeline session).states ≡ 1 }
     ensures { RunsCommandsWith wanted (H.timeline session)
-        (streams_of (reader_of C.remaining C.has_failed commands.old) (writer_of W.contents W.has_failed out.old))
-        (streams_of (reader_of C.remaining C.has_failed commands.new) (writer_of W.contents W.has_failed out.new))
-        result }
+        (streams_of (C.left commands.old) (W.written out.old)) (streams_of (C.left commands.new) (W.written out.new)) result }
 {
     let mut session = session;
     run_lines(alloc, &mut session, commands, out, wanted, watch)
@@ -83,9 +79,7 @@ fn run_lines<H: History, C: Source, W: Sink, V: Watch>(
     requires at_first { (H.timeline session.old).place ≡ 0 }
     requires one_state { length (H.timeline session.old).states ≡ 1 }
     ensures { RunsCommandsWith wanted (H.timeline session.old)
-        (streams_of (reader_of C.remaining C.has_failed commands.old) (writer_of W.contents W.has_failed out.old))
-        (streams_of (reader_of C.remaining C.has_failed commands.new) (writer_of W.contents W.has_failed out.new))
-        result }
+        (streams_of (C.left commands.old) (W.written out.old)) (streams_of (C.left commands.new) (W.written out.new)) result }
 {
     let mut input = Input::new();
     let mut line = KeptLine::new();
@@ -119,11 +113,8 @@ pub fn run_session<P: Source, C: Source, W: Sink>(
     out: &mut W,
     want_cut: bool,
 ) -> Result<Status, EngineFault>
-    ensures { RunsSession want_cut 1000000
-        (reader_of P.remaining P.has_failed problem.old) (reader_of P.remaining P.has_failed problem.new)
-        (streams_of (reader_of C.remaining C.has_failed commands.old) (writer_of W.contents W.has_failed out.old))
-        (streams_of (reader_of C.remaining C.has_failed commands.new) (writer_of W.contents W.has_failed out.new))
-        result }
+    ensures { RunsSession want_cut 1000000 (P.left problem.old) (P.left problem.new)
+        (streams_of (C.left commands.old) (W.written out.old)) (streams_of (C.left commands.new) (W.written out.new)) result }
 {
     run_session_bounded(alloc, problem, commands, out, want_cut, MAX_BOUND)
 }
@@ -142,11 +133,8 @@ pub fn run_session_bounded<P: Source, C: Source, W: Sink>(
     bound: u32,
 ) -> Result<Status, EngineFault>
     requires { bound ≤ 1000000 }
-    ensures { RunsSession want_cut bound
-        (reader_of P.remaining P.has_failed problem.old) (reader_of P.remaining P.has_failed problem.new)
-        (streams_of (reader_of C.remaining C.has_failed commands.old) (writer_of W.contents W.has_failed out.old))
-        (streams_of (reader_of C.remaining C.has_failed commands.new) (writer_of W.contents W.has_failed out.new))
-        result }
+    ensures { RunsSession want_cut bound (P.left problem.old) (P.left problem.new)
+        (streams_of (C.left commands.old) (W.written out.old)) (streams_of (C.left commands.new) (W.written out.new)) result }
 {
     run_session_watched(
         alloc,
@@ -170,11 +158,8 @@ pub fn run_session_watched<P: Source, C: Source, W: Sink, V: Watch>(
     watch: &mut V,
 ) -> Result<Status, EngineFault>
     requires { bound ≤ 1000000 }
-    ensures { RunsSessionWith wanted bound
-        (reader_of P.remaining P.has_failed problem.old) (reader_of P.remaining P.has_failed problem.new)
-        (streams_of (reader_of C.remaining C.has_failed commands.old) (writer_of W.contents W.has_failed out.old))
-        (streams_of (reader_of C.remaining C.has_failed commands.new) (writer_of W.contents W.has_failed out.new))
-        result }
+    ensures { RunsSessionWith wanted bound (P.left problem.old) (P.left problem.new)
+        (streams_of (C.left commands.old) (W.written out.old)) (streams_of (C.left commands.new) (W.written out.new)) result }
 {
     let state = read_state(alloc, problem)?;
     let history = DeltaHistory::with_bound(alloc, state, bound);
@@ -211,7 +196,7 @@ fn answer<H: History, W: Sink, V: Watch>(
     wanted: SolveReply,
     watch: &mut V,
 ) -> Result<Answer, WriteFault>
-    ensures line { WritesLine wanted W.contents W.has_failed out.old out.new number
+    ensures line { WritesLine wanted (W.written out.old) (W.written out.new) number
         (H.timeline session.old) meaning (H.timeline session.new) result }
     ensures silent { meaning ≡ Ok None → (out.new ≡ out.old) × IsOk result }
 {
@@ -231,7 +216,7 @@ fn answer_command<H: History, W: Sink, V: Watch>(
     wanted: SolveReply,
     watch: &mut V,
 ) -> Result<Answer, WriteFault>
-    ensures { WritesLine wanted W.contents W.has_failed out.old out.new number
+    ensures { WritesLine wanted (W.written out.old) (W.written out.new) number
         (H.timeline session.old) (Ok (Some command)) (H.timeline session.new) result }
 {
     match session.step_watched(alloc, command, wanted.cut, watch) {

@@ -2,7 +2,6 @@
 ghost use Rattle.std.specs.Prelude.{IfOk};
 ghost use Rattle.dmf_solver.specs.Change.{Solve, Becomes};
 ghost use Rattle.dmf_solver.specs.Planning.{IsSideWanted};
-ghost use Rattle.dmf_runs.specs.Streams.{reader_of, writer_of};
 ghost use Rattle.dmf_runs.specs.SolveRun.{RunsSolve};
 ghost use Rattle.dmf_runs.specs.Laws.{WrittenIsOptimal};
 
@@ -27,9 +26,7 @@ pub fn run_solve<P: Source, W: Sink>(
     out: &mut W,
     want_cut: bool,
 ) -> Result<Status, EngineFault>
-    ensures run { RunsSolve want_cut
-        (reader_of P.remaining P.has_failed problem.old) (reader_of P.remaining P.has_failed problem.new)
-        (writer_of W.contents W.has_failed out.old) (writer_of W.contents W.has_failed out.new)
+    ensures run { RunsSolve want_cut (P.left problem.old) (P.left problem.new) (W.written out.old) (W.written out.new)
         result }
     ensures optimal { WrittenIsOptimal }
 {
@@ -44,9 +41,7 @@ pub fn run_solve_watched<P: Source, W: Sink, V: Watch>(
     want_cut: bool,
     watch: &mut V,
 ) -> Result<Status, EngineFault>
-    ensures run { RunsSolve want_cut
-        (reader_of P.remaining P.has_failed problem.old) (reader_of P.remaining P.has_failed problem.new)
-        (writer_of W.contents W.has_failed out.old) (writer_of W.contents W.has_failed out.new)
+    ensures run { RunsSolve want_cut (P.left problem.old) (P.left problem.new) (W.written out.old) (W.written out.new)
         result }
     ensures optimal { WrittenIsOptimal }
 {

@@ -1,7 +1,6 @@
 //! A text, read whole before it is judged.
 ghost use Rattle.std.specs.Prelude.{◌<◌, List, ℕ, vec_len, Ok, Err, IfOk, MatchResult};
 ghost use Rattle.std.specs.Io.KnownBytes.{Consumes};
-ghost use Rattle.dmf_runs.specs.Streams.{reader_of};
 ghost use Rattle.dmf_runs.specs.WholeText.{ReadsText};
 
 use crate::fault::EngineFault;
@@ -13,9 +12,9 @@ const PIECE: usize = 65536;
 
 /// Reads a whole text, of at most [`MAX_BYTES`] bytes. The memory for a read is taken before the first.
 pub fn read_all<P: Source>(alloc: Global, source: &mut P) -> Result<Vec<u8>, EngineFault>
-    ensures { (text : List ℕ) × Consumes (P.remaining source.old) (P.remaining source.new) text
-        × (let from = reader_of P.remaining P.has_failed source.old in
-        let to = reader_of P.remaining P.has_failed source.new in
+    ensures { (text : List ℕ) × Consumes (P.left source.old).known (P.left source.new).known text
+        × (let from = P.left source.old in
+        let to = P.left source.new in
         MatchResult result (λ whole. ReadsText from to text (Ok whole.items)) (λ fault. ReadsText from to text (Err fault))) }
 {
     let mut buffer = buffer(alloc)?;

@@ -122,9 +122,7 @@ impl<'a, S: Source> KeptCommands<'a, S> {
 }
 
 impl<S: Source> Source for KeptCommands<'_, S> {
-    ghost remaining = { λ s. S.remaining s.source };
-
-    ghost has_failed = { λ s. S.has_failed s.source };
+    ghost left = { λ s. S.left s.source };
 
     fn read(&mut self, buffer: &mut [u8]) -> Result<usize, Failed> {
         let given = self.source.read(buffer)?;
@@ -147,9 +145,7 @@ impl<'a, W: Sink> HeardSink<'a, W> {
 }
 
 impl<W: Sink> Sink for HeardSink<'_, W> {
-    ghost contents = { λ s. W.contents s.sink };
-
-    ghost has_failed = { λ s. W.has_failed s.sink };
+    ghost written = { λ s. W.written s.sink };
 
     fn put(&mut self, bytes: &[u8]) -> Result<usize, Failed> {
         self.dialogue.hear(bytes);

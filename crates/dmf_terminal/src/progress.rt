@@ -193,9 +193,7 @@ impl<S> WatchedSource<'_, S> {
 }
 
 impl<S: Source> Source for WatchedSource<'_, S> {
-    ghost remaining = { λ s. S.remaining s.source };
-
-    ghost has_failed = { λ s. S.has_failed s.source };
+    ghost left = { λ s. S.left s.source };
 
     fn read(&mut self, buffer: &mut [u8]) -> Result<usize, Failed> {
         if !self.is_told {
@@ -230,9 +228,7 @@ impl<'a, S: Source> WatchedCommands<'a, S> {
 }
 
 impl<S: Source> Source for WatchedCommands<'_, S> {
-    ghost remaining = { λ s. S.remaining s.source };
-
-    ghost has_failed = { λ s. S.has_failed s.source };
+    ghost left = { λ s. S.left s.source };
 
     fn read(&mut self, buffer: &mut [u8]) -> Result<usize, Failed> {
         self.progress.end();
@@ -305,9 +301,7 @@ impl<'a, W: Sink> WatchedSink<'a, W> {
 }
 
 impl<W: Sink> Sink for WatchedSink<'_, W> {
-    ghost contents = { λ s. W.contents s.sink };
-
-    ghost has_failed = { λ s. W.has_failed s.sink };
+    ghost written = { λ s. W.written s.sink };
 
     fn put(&mut self, bytes: &[u8]) -> Result<usize, Failed> {
         if self.puts == 0 {

@@ -1,6 +1,7 @@
 //! What texts are read from.
-ghost use Rattle.std.specs.Prelude.{◌≡◌, ℕ, ◌≤◌, ◌||◌, List, length, Bool, false, Option, None, Ok, IfOk, IsErr, MatchResult, is_err};
+ghost use Rattle.std.specs.Prelude.{◌≡◌, ◌≤◌, ◌||◌, length, false, Ok, IfOk, IsErr, MatchResult, is_err};
 ghost use Rattle.std.specs.Io.KnownBytes.{ReadConsumes};
+ghost use Rattle.dmf_text.specs.Streams.{Reader};
 
 use std::io;
 use std::io::Read;
@@ -13,18 +14,15 @@ pub struct Failed;
 
 /// A reader of bytes.
 pub trait Source {
-    // The bytes that reads will give from here on, where they are known.
-    ghost remaining: { Self → Option (List ℕ) } = { λ _. None };
-
-    // The mark: whether a read has failed.
-    ghost has_failed: { Self → Bool };
+    // What is left: the bytes that reads will give from here on, where they are known, and the mark, whether a read has failed.
+    ghost left: { Self → Reader };
 
     /// Reads some bytes into the front of the buffer, and answers how many. No bytes into a buffer of some length is the end.
     /// `Failed` takes no byte.
     fn read(&mut self, buffer: &mut [u8]) -> Result<usize, Failed>
         ensures bound { IfOk result (λ n. n ≤ length buffer.new) }
-        ensures bytes { ReadConsumes (remaining self.old) (remaining self.new) result buffer.new }
-        ensures mark { has_failed self.new ≡ (is_err result || has_failed self.old) };
+        ensures bytes { ReadConsumes (left self.old).known (left self.new).known result buffer.new }
+        ensures mark { (left self.new).has_failed ≡ (is_err result || (left self.old).has_failed) };
 }
 
 /// One of std's readers as a source. Each of its errors is `Failed`, one of kind `Interrupted` too.
@@ -37,8 +35,8 @@ pub struct StdSource<R> {
 impl<R: Read> StdSource<R> {
     /// A source of what the reader has left. It takes no memory.
     pub fn new(reader: R) -> StdSource<R>
-        ensures bytes { ⟦<StdSource<R> as Source>⟧.remaining result ≡ R.remaining reader }
-        ensures mark { ⟦<StdSource<R> as Source>⟧.has_failed result ≡ false }
+        ensures bytes { (⟦<StdSource<R> as Source>⟧.left result).known ≡ R.remaining reader }
+        ensures mark { (⟦<StdSource<R> as Source>⟧.left result).has_failed ≡ false }
     {
         StdSource {
             reader,
@@ -48,9 +46,7 @@ impl<R: Read> StdSource<R> {
 }
 
 impl<R: Read> Source for StdSource<R> {
-    ghost remaining = { λ s. R.remaining s.reader };
-
-    ghost has_failed = { λ s. s.failed };
+    ghost left = { λ s. record { known = R.remaining s.reader; has_failed = s.failed } };
 
     fn read(&mut self, buffer: &mut [u8]) -> Result<usize, Failed> {
         let given = without_reason(self.reader.read(buffer));

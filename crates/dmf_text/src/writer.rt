@@ -1,6 +1,7 @@
 //! What texts are written to.
-ghost use Rattle.std.specs.Prelude.{◌≡◌, ◌≢◌, ◌↔◌, ◌⊎◌, ℕ, ◌≤◌, ◌<◌, ◌||◌, List, [], length, Bool, false, Option, None, Ok, IfOk, IsErr, is_err};
+ghost use Rattle.std.specs.Prelude.{◌≡◌, ◌≢◌, ◌↔◌, ◌⊎◌, ◌≤◌, ◌<◌, ◌||◌, [], length, false, Ok, IfOk, IsErr, is_err};
 ghost use Rattle.std.specs.Io.KnownBytes.{Keeps, WriteAppends};
+ghost use Rattle.dmf_text.specs.Streams.{Writer};
 ghost use Rattle.dmf_text.specs.Writing.{Writes};
 
 use super::reader::{Failed, without_reason};
@@ -15,24 +16,21 @@ pub struct WriteFault;
 
 /// A writer of bytes.
 pub trait Sink {
-    // The bytes that the writer holds, where they are known.
-    ghost contents: { Self → Option (List ℕ) } = { λ _. None };
-
-    // The mark: whether a call has failed.
-    ghost has_failed: { Self → Bool };
+    // What was written: the bytes that the writer holds, where they are known, and the mark, whether a call has failed.
+    ghost written: { Self → Writer };
 
     /// Writes a front of the bytes, and answers its length, which is 0 only where there are no bytes.
     /// `Failed` takes no byte.
     fn put(&mut self, bytes: &[u8]) -> Result<usize, Failed>
         ensures bound { IfOk result (λ n. n ≤ length bytes.now) }
         ensures some { IfOk result (λ n. 0 < length bytes.now → 0 < n) }
-        ensures bytes { WriteAppends (contents self.old) (contents self.new) result bytes.now }
-        ensures mark { has_failed self.new ≡ (is_err result || has_failed self.old) };
+        ensures bytes { WriteAppends (written self.old).contents (written self.new).contents result bytes.now }
+        ensures mark { (written self.new).has_failed ≡ (is_err result || (written self.old).has_failed) };
 
     /// Passes on what was written so far.
     fn flush(&mut self) -> Result<(), Failed>
-        ensures bytes { Keeps (contents self.old) (contents self.new) }
-        ensures mark { has_failed self.new ≡ (is_err result || has_failed self.old) };
+        ensures bytes { Keeps (written self.old).contents (written self.new).contents }
+        ensures mark { (written self.new).has_failed ≡ (is_err result || (written self.old).has_failed) };
 }
 
 /// One of std's writers as a sink. Each of its errors is `Failed`, one of kind `Interrupted` too, and so is a write
@@ -46,8 +44,8 @@ pub struct StdSink<W> {
 impl<W: Write> StdSink<W> {
     /// A sink into the writer. It takes no memory.
     pub fn new(writer: W) -> StdSink<W>
-        ensures bytes { ⟦<StdSink<W> as Sink>⟧.contents result ≡ W.contents writer }
-        ensures mark { ⟦<StdSink<W> as Sink>⟧.has_failed result ≡ false }
+        ensures bytes { (⟦<StdSink<W> as Sink>⟧.written result).contents ≡ W.contents writer }
+        ensures mark { (⟦<StdSink<W> as Sink>⟧.written result).has_failed ≡ false }
     {
         StdSink {
             writer,
@@ -57,9 +55,7 @@ impl<W: Write> StdSink<W> {
 }
 
 impl<W: Write> Sink for StdSink<W> {
-    ghost contents = { λ s. W.contents s.writer };
-
-    ghost has_failed = { λ s. s.failed };
+    ghost written = { λ s. record { contents = W.contents s.writer; has_failed = s.failed } };
 
     fn put(&mut self, bytes: &[u8]) -> Result<usize, Failed> {
         let taken = taken(self.writer.write(bytes), bytes);
@@ -87,7 +83,7 @@ fn taken(answer: io::Result<usize>, bytes: &[u8]) -> Result<usize, Failed>
 
 /// Writes the whole text, by as many puts as it takes. It takes no memory and does not flush.
 pub fn put_all<W: Sink>(out: &mut W, text: &[u8]) -> Result<(), WriteFault>
-    ensures { Writes W.contents W.has_failed out.old out.new result text.now }
+    ensures { Writes (W.written out.old) (W.written out.new) result text.now }
 {
     let mut rest = text;
     while !rest.is_empty() {

@@ -17,7 +17,7 @@ use dmf_state::{Arc, Side, SideIds, State};
 ///
 /// Read again, the text gives the network of the open arcs, with no flow on it.
 pub fn write_problem<W: Sink>(state: &State, out: &mut W) -> Result<(), WriteFault>
-    ensures written { Writes W.contents W.has_failed out.old out.new result (problem_text state.now.network) }
+    ensures written { Writes (W.written out.old) (W.written out.new) result (problem_text state.now.network) }
     ensures stands { problem_of (problem_text state.now.network) ≡ Ok (idle_state (open_network state.now.network)) }
 {
     put_problem(state, out)
@@ -26,7 +26,7 @@ pub fn write_problem<W: Sink>(state: &State, out: &mut W) -> Result<(), WriteFau
 /// Writes the solution of a state: the value of its flow, and then the flow on each open arc in order, those without flow
 /// too. Each line is put at once. It takes no memory and does not flush.
 pub fn write_solution<W: Sink>(state: &State, out: &mut W) -> Result<(), WriteFault>
-    ensures written { Writes W.contents W.has_failed out.old out.new result (solution_text state.now) }
+    ensures written { Writes (W.written out.old) (W.written out.new) result (solution_text state.now) }
 {
     put_line(&[Text(b"s"), Number(state.value())], out)?;
     put_flows(state, out)
@@ -35,14 +35,14 @@ pub fn write_solution<W: Sink>(state: &State, out: &mut W) -> Result<(), WriteFa
 /// Writes a cut: its capacity, and then the nodes of its side, ascending. Each line is put at once. It takes no memory and
 /// does not flush.
 pub fn write_cut<W: Sink>(side: &Side, out: &mut W) -> Result<(), WriteFault>
-    ensures written { Writes W.contents W.has_failed out.old out.new result (cut_text side.now) }
+    ensures written { Writes (W.written out.old) (W.written out.new) result (cut_text side.now) }
 {
     put_line(&[Text(b"c"), Text(b"cut"), Number(side.capacity())], out)?;
     put_nodes(side.ids(), out)
 }
 
 fn put_problem<W: Sink>(state: &State, out: &mut W) -> Result<(), WriteFault>
-    ensures written { Writes W.contents W.has_failed out.old out.new result (problem_text state.now.network) }
+    ensures written { Writes (W.written out.old) (W.written out.new) result (problem_text state.now.network) }
     ensures state { IsState state.now }
 {
     let (nodes, arcs) = (u64::from(state.nodes()), u64::from(state.open_count()));
@@ -58,13 +58,13 @@ fn put_problem<W: Sink>(state: &State, out: &mut W) -> Result<(), WriteFault>
 // Writes the node line of a terminal.
 fn put_terminal<W: Sink>(node: u32, letter: &[u8], out: &mut W) -> Result<(), WriteFault>
     requires { length letter.now ≤ 1 }
-    ensures { Writes W.contents W.has_failed out.old out.new result (written_line (codes "n" ∷ decimal node ∷ letter.now ∷ [])) }
+    ensures { Writes (W.written out.old) (W.written out.new) result (written_line (codes "n" ∷ decimal node ∷ letter.now ∷ [])) }
 {
     put_line(&[Text(b"n"), Number(u64::from(node)), Text(letter)], out)
 }
 
 fn put_arcs<W: Sink>(arcs: &[Arc], out: &mut W) -> Result<(), WriteFault>
-    ensures { Writes W.contents W.has_failed out.old out.new result (arcs_text arcs.now) }
+    ensures { Writes (W.written out.old) (W.written out.new) result (arcs_text arcs.now) }
 {
     for arc in arcs {
         put_arc(b"a", arc, arc.cap, out)?;
@@ -74,7 +74,7 @@ fn put_arcs<W: Sink>(arcs: &[Arc], out: &mut W) -> Result<(), WriteFault>
 
 // Writes the line of each open arc with its flow.
 fn put_flows<W: Sink>(state: &State, out: &mut W) -> Result<(), WriteFault>
-    ensures { Writes W.contents W.has_failed out.old out.new result (flows_text (zip state.now.network.arcs state.now.flows)) }
+    ensures { Writes (W.written out.old) (W.written out.new) result (flows_text (zip state.now.network.arcs state.now.flows)) }
 {
     let arcs = state.arcs();
     for i in 0..arcs.len() {
@@ -86,7 +86,7 @@ fn put_flows<W: Sink>(state: &State, out: &mut W) -> Result<(), WriteFault>
 // Writes an arc's line, unless it is closed.
 fn put_arc<W: Sink>(letter: &[u8], arc: &Arc, has: u64, out: &mut W) -> Result<(), WriteFault>
     requires { length letter.now ≤ 1 }
-    ensures { Writes W.contents W.has_failed out.old out.new result
+    ensures { Writes (W.written out.old) (W.written out.new) result
         (if not arc.now.closed then written_line (letter.now ∷ decimal arc.now.tail ∷ decimal arc.now.head ∷ decimal has ∷ []) else []) }
 {
     if arc.closed {
@@ -101,7 +101,7 @@ fn put_arc<W: Sink>(letter: &[u8], arc: &Arc, has: u64, out: &mut W) -> Result<(
 
 // Writes a line for each node of a side.
 fn put_nodes<W: Sink>(ids: SideIds, out: &mut W) -> Result<(), WriteFault>
-    ensures { Writes W.contents W.has_failed out.old out.new result (nodes_text ids.entry) }
+    ensures { Writes (W.written out.old) (W.written out.new) result (nodes_text ids.entry) }
 {
     for id in ids {
         put_line(&[Text(b"c"), Text(b"side"), Number(u64::from(id))], out)?;
@@ -113,7 +113,7 @@ fn put_nodes<W: Sink>(ids: SideIds, out: &mut W) -> Result<(), WriteFault>
 #[inline(always)]
 fn put_line<W: Sink>(fields: &[LineField<'_>], out: &mut W) -> Result<(), WriteFault>
     requires { most_line_bytes fields.now < 80 }
-    ensures { Writes W.contents W.has_failed out.old out.new result (written_line (map field_bytes fields.now)) }
+    ensures { Writes (W.written out.old) (W.written out.new) result (written_line (map field_bytes fields.now)) }
 {
     put_all(out, line_of(fields).as_bytes())
 }

@@ -7,7 +7,7 @@ use Rattle.dmf_text.specs.declared.fault.ProblemFaultKind.TheVariants.{NoMemory}
 use Rattle.dmf_text.specs.Problem.{problem_of, out_of_memory}
 use Rattle.dmf_runs.specs.declared.fault.EngineFault.{EngineFault}
 use Rattle.dmf_runs.specs.declared.fault.EngineFault.TheVariants as fault
-use Rattle.dmf_runs.specs.Streams.{Reader, reader_of}
+use Rattle.dmf_text.specs.Streams.{Reader}
 use Rattle.dmf_runs.specs.Session.{ReadsProblem}
 use Rattle.dmf_runs.specs.WholeText.{ReadsText}
 use Rattle.dmf_runs.proofs.problem.read_state.Goals as goal
@@ -33,7 +33,7 @@ judged-fault f text other (inr told) = sym told
 pub returns-in_err-text : goal.returns-in_err-text
 returns-in_err-text g c =
     let failed = err_from_is_err_and c.from_residual.result c.from_residual.ensures.1 in
-    let reader = reader_of g.P.Source.remaining g.P.Source.has_failed in
+    let reader = g.P.Source.left in
     let read = c.in_err-text.ensures in
     rw (failed.1, failed.2) (read.0, read.1, unread (reader c.args.source.now) (reader c.read_all.new.source) read.0 c.in_err-text.field-0.0 read.2)
 

@@ -5,5 +5,5 @@ use Rattle.dmf_runs.proofs.reply.put_line.Goals as goal
 
 pub returns : goal.returns
 returns g c =
-    let put = subst (λ text. Appends (g.W.Sink.contents c.args.out.now) (g.W.Sink.contents c.put_all.new.out) text) c.as_bytes.ensures c.in_ok-put_all.ensures.0 in
-    Writes-flushed g.W.Sink.contents g.W.Sink.has_failed _ c.put_all.new.out _ _ _ put c.in_ok-put_all.ensures.1 c.flush.ensures
+    let put = subst (λ text. Appends (g.W.Sink.written c.args.out.now).contents (g.W.Sink.written c.put_all.new.out).contents text) c.as_bytes.ensures c.in_ok-put_all.ensures.0 in
+    Writes-flushed _ (g.W.Sink.written c.put_all.new.out) _ _ _ put c.in_ok-put_all.ensures.1 c.flush.ensures

@@ -15,4 +15,4 @@ returns-in_err-put_all g c =
 pub returns : goal.returns
 returns g c =
     let put = rw c.as_bytes.ensures at c.in_ok-put_all.ensures in
-    Writes-more g.W.Sink.contents g.W.Sink.has_failed _ c.put_all.new.out _ _ _ _ put.0 put.1 c.put_cut.ensures
+    Writes-more _ (g.W.Sink.written c.put_all.new.out) _ _ _ _ put.0 put.1 c.put_cut.ensures

@@ -13,4 +13,4 @@ returns-in_err-write_solution g c =
     rw failed.1 (put.0, put.1 ++ more, ap (λ text. text ++ more) put.2 ∙ append_assoc put.0 put.1 more, put.3, put.4)
 
 pub returns : goal.returns
-returns g c = Writes-more g.W.Sink.contents g.W.Sink.has_failed _ c.write_solution.new.out _ _ _ _ c.in_ok-write_solution.ensures.written.0 c.in_ok-write_solution.ensures.written.1 c.put_cut.ensures
+returns g c = Writes-more _ (g.W.Sink.written c.write_solution.new.out) _ _ _ _ c.in_ok-write_solution.ensures.written.0 c.in_ok-write_solution.ensures.written.1 c.put_cut.ensures

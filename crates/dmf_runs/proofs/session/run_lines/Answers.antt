@@ -2,7 +2,6 @@ use Rattle.std.proofs.Common.{◌≡◌, ◌+◌, [], Err, refl, sym, ap, ◌∙
 use Rattle.std.proofs.lemmas.Bool.{false≢true}
 use Rattle.std.proofs.lemmas.Result.{err_from_is_err_and}
 use Rattle.dmf_session.specs.Step.{Answers}
-use Rattle.dmf_runs.specs.Streams.{reader_of, writer_of}
 use Rattle.dmf_runs.specs.Input.{input_over}
 use Rattle.dmf_runs.specs.Run.{LineRuns}
 use Rattle.dmf_runs.specs.Outcome.{RunsCommandsWith}
@@ -12,9 +11,9 @@ use Rattle.dmf_runs.proofs.session.run_lines.Goals as goal
 
 pub loop-number-init : goal.loop-number-init
 loop-number-init g c =
-    let reader = reader_of g.C.Source.remaining g.C.Source.has_failed c.args.commands.now in
+    let reader = g.C.Source.left c.args.commands.now in
     let input = input_over (record { bytes = []; count = 0 }) reader in
-    let held = writer_of g.W.Sink.contents g.W.Sink.has_failed c.args.out.now in
+    let held = g.W.Sink.written c.args.out.now in
     let t = g.H.History.timeline c.args.session.now in
     subst (λ pending. Progress c.args.wanted t input (input_over pending reader) held held 1 t false) (sym c.new-input.ensures)
     (Progress-none c.args.wanted t input held (record { none_pending = refl; none_taken = refl }))
@@ -22,11 +21,11 @@ loop-number-init g c =
 pub returns-in_err-next_line : goal.returns-in_err-next_line
 returns-in_err-next_line g c =
     let failed = err_from_is_err_and c.from_residual.result c.from_residual.ensures.1 in
-    let then = input_over c.next_line.new.self (reader_of g.C.Source.remaining g.C.Source.has_failed c.next_line.new.source) in
+    let then = input_over c.next_line.new.self (g.C.Source.left c.next_line.new.source) in
     let t = g.H.History.timeline c.args.session.now in
-    let before = input_over (record { bytes = []; count = 0 }) (reader_of g.C.Source.remaining g.C.Source.has_failed c.args.commands.now) in
-    let held = writer_of g.W.Sink.contents g.W.Sink.has_failed c.args.out.now in
-    let holds = writer_of g.W.Sink.contents g.W.Sink.has_failed c.loop-number.out in
+    let before = input_over (record { bytes = []; count = 0 }) (g.C.Source.left c.args.commands.now) in
+    let held = g.W.Sink.written c.args.out.now in
+    let holds = g.W.Sink.written c.loop-number.out in
     subst (λ result. RunsCommandsWith c.args.wanted t (streams before held) (streams then holds) result) (sym (failed.1 ∙ ap Err failed.2))
     (RunsCommands-refused c.args.wanted t before _ then held holds c.loop-number.number _ _ c.in_err-next_line.field-0.0 c.next_line.new.line (omega arith) c.loop-number.invariant c.in_err-next_line.ensures)
 
@@ -35,11 +34,11 @@ returns-in_err-answer-in-Line g c =
     let failed = err_from_is_err_and c.from_residual-in_err-answer-in-Line.result c.from_residual-in_err-answer-in-Line.ensures.1 in
     let gave = rw c.in-Line.is at c.in_ok-next_line.ensures in
     let told = c.in_err-answer-in-Line.ensures.line in
-    let before = input_over (record { bytes = []; count = 0 }) (reader_of g.C.Source.remaining g.C.Source.has_failed c.args.commands.now) in
-    let then = input_over c.next_line.new.self (reader_of g.C.Source.remaining g.C.Source.has_failed c.next_line.new.source) in
-    let held = writer_of g.W.Sink.contents g.W.Sink.has_failed c.args.out.now in
-    let holds = writer_of g.W.Sink.contents g.W.Sink.has_failed c.loop-number.out in
-    let next = writer_of g.W.Sink.contents g.W.Sink.has_failed c.answer.new.out in
+    let before = input_over (record { bytes = []; count = 0 }) (g.C.Source.left c.args.commands.now) in
+    let then = input_over c.next_line.new.self (g.C.Source.left c.next_line.new.source) in
+    let held = g.W.Sink.written c.args.out.now in
+    let holds = g.W.Sink.written c.loop-number.out in
+    let next = g.W.Sink.written c.answer.new.out in
     let meaning = c.meaning_of-meaning.result in
     let broken : Broken c.args.wanted (g.H.History.timeline c.loop-number.session) meaning c.loop-number.number holds next (g.H.History.timeline c.answer.new.session) =
     record { text = told.0; refused = told.1; runs = told.2; replies = λ none. false≢true (c.in_err-answer-in-Line.ensures.silent none).1; front = told.3.0; rest = told.3.1; text_is = told.3.2; appends = told.3.3; writer = told.3.4 } in
@@ -51,11 +50,11 @@ returns-in_err-answer-in-Last g c =
     let failed = err_from_is_err_and c.from_residual-in_err-answer-in-Last.result c.from_residual-in_err-answer-in-Last.ensures.1 in
     let gave = rw c.in-Last.is at c.in_ok-next_line.ensures in
     let told = c.in_err-answer-in-Last.ensures.line in
-    let before = input_over (record { bytes = []; count = 0 }) (reader_of g.C.Source.remaining g.C.Source.has_failed c.args.commands.now) in
-    let then = input_over c.next_line.new.self (reader_of g.C.Source.remaining g.C.Source.has_failed c.next_line.new.source) in
-    let held = writer_of g.W.Sink.contents g.W.Sink.has_failed c.args.out.now in
-    let holds = writer_of g.W.Sink.contents g.W.Sink.has_failed c.loop-number.out in
-    let next = writer_of g.W.Sink.contents g.W.Sink.has_failed c.answer-in-Last.new.out in
+    let before = input_over (record { bytes = []; count = 0 }) (g.C.Source.left c.args.commands.now) in
+    let then = input_over c.next_line.new.self (g.C.Source.left c.next_line.new.source) in
+    let held = g.W.Sink.written c.args.out.now in
+    let holds = g.W.Sink.written c.loop-number.out in
+    let next = g.W.Sink.written c.answer-in-Last.new.out in
     let meaning = c.meaning_of-meaning-in-Last.result in
     let broken : Broken c.args.wanted (g.H.History.timeline c.loop-number.session) meaning c.loop-number.number holds next (g.H.History.timeline c.answer-in-Last.new.session) =
     record { text = told.0; refused = told.1; runs = told.2; replies = λ none. false≢true (c.in_err-answer-in-Last.ensures.silent none).1; front = told.3.0; rest = told.3.1; text_is = told.3.2; appends = told.3.3; writer = told.3.4 } in
@@ -66,9 +65,9 @@ pub returns-in-Last : goal.returns-in-Last
 returns-in-Last g c =
     let gave = rw c.in-Last.is at c.in_ok-next_line.ensures in
     let told = c.in_ok-answer-in-Last.ensures.line in
-    let then = input_over c.next_line.new.self (reader_of g.C.Source.remaining g.C.Source.has_failed c.next_line.new.source) in
-    let holds = writer_of g.W.Sink.contents g.W.Sink.has_failed c.loop-number.out in
-    let next = writer_of g.W.Sink.contents g.W.Sink.has_failed c.answer-in-Last.new.out in
+    let then = input_over c.next_line.new.self (g.C.Source.left c.next_line.new.source) in
+    let holds = g.W.Sink.written c.loop-number.out in
+    let next = g.W.Sink.written c.answer-in-Last.new.out in
     let u = g.H.History.timeline c.loop-number.session in
     let v = g.H.History.timeline c.answer-in-Last.new.session in
     let carried : Carried c.args.wanted u c.meaning_of-meaning-in-Last.result c.loop-number.number holds next c.is_refusal-is_refused-in-Last.result v =
@@ -84,9 +83,9 @@ pub loop-number-preserved : goal.loop-number-preserved
 loop-number-preserved g c =
     let gave = rw c.in-Line.is at c.in_ok-next_line.ensures in
     let told = c.in_ok-answer-in-Line.ensures.line in
-    let then = input_over c.next_line.new.self (reader_of g.C.Source.remaining g.C.Source.has_failed c.next_line.new.source) in
-    let holds = writer_of g.W.Sink.contents g.W.Sink.has_failed c.loop-number.out in
-    let next = writer_of g.W.Sink.contents g.W.Sink.has_failed c.answer.new.out in
+    let then = input_over c.next_line.new.self (g.C.Source.left c.next_line.new.source) in
+    let holds = g.W.Sink.written c.loop-number.out in
+    let next = g.W.Sink.written c.answer.new.out in
     let u = g.H.History.timeline c.loop-number.session in
     let v = g.H.History.timeline c.answer.new.session in
     let carried : Carried c.args.wanted u c.meaning_of-meaning.result c.loop-number.number holds next c.is_refusal-is_refused.result v =
@@ -96,13 +95,13 @@ loop-number-preserved g c =
 pub returns-in_err-expect_end : goal.returns-in_err-expect_end
 returns-in_err-expect_end g c =
     let failed = err_from_is_err_and c.from_residual-in_err-expect_end.result c.from_residual-in_err-expect_end.ensures.1 in
-    let then = input_over c.expect_end.new.self (reader_of g.C.Source.remaining g.C.Source.has_failed c.expect_end.new.source) in
+    let then = input_over c.expect_end.new.self (g.C.Source.left c.expect_end.new.source) in
     let last : c.loop-number.number ≡ 1000000 + 1 = omega arith in
     let t = g.H.History.timeline c.args.session.now in
-    let before = input_over (record { bytes = []; count = 0 }) (reader_of g.C.Source.remaining g.C.Source.has_failed c.args.commands.now) in
-    let held = writer_of g.W.Sink.contents g.W.Sink.has_failed c.args.out.now in
-    let holds = writer_of g.W.Sink.contents g.W.Sink.has_failed c.loop-number.out in
-    let now = input_over c.loop-number.input (reader_of g.C.Source.remaining g.C.Source.has_failed c.loop-number.commands) in
+    let before = input_over (record { bytes = []; count = 0 }) (g.C.Source.left c.args.commands.now) in
+    let held = g.W.Sink.written c.args.out.now in
+    let holds = g.W.Sink.written c.loop-number.out in
+    let now = input_over c.loop-number.input (g.C.Source.left c.loop-number.commands) in
     let u = g.H.History.timeline c.loop-number.session in
     let p = subst (λ n. Progress c.args.wanted t before now held holds n u c.loop-number.is_refused) last c.loop-number.invariant in
     subst (λ result. RunsCommandsWith c.args.wanted t (streams before held) (streams then holds) result) (sym (failed.1 ∙ ap Err failed.2))

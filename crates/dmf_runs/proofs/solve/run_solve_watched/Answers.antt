@@ -4,15 +4,14 @@ use Rattle.dmf_text.specs.Writing.{Writes}
 use Rattle.dmf_runs.specs.declared.fault.Status.{Status}
 use Rattle.dmf_runs.specs.declared.fault.EngineFault.{EngineFault}
 use Rattle.dmf_runs.specs.Run.{solved_text}
-use Rattle.dmf_runs.specs.Streams.{reader_of, writer_of}
 use Rattle.dmf_runs.specs.SolveRun.{WritesSolved}
 use Rattle.dmf_runs.proofs.solve.run_solve_watched.Given.{Over}
 use Rattle.dmf_runs.proofs.solve.run_solve_watched.Goals as goal
 use Rattle.dmf_runs.proofs.solve.run_solve_watched.Goals.{After-put_solved}
 
 -- the solution was written, or a front of it
-writes-solved : (g : Over) (c : After-put_solved g) (result : Result Status EngineFault) → Writes g.W.Sink.contents g.W.Sink.has_failed c.args.out.now c.put_solved.new.out result (solved_text c.in_ok-solved.solved.state c.in_ok-solved.solved.side)
-    → WritesSolved c.args.want_cut (reader_of g.P.Source.remaining g.P.Source.has_failed c.args.problem.now) (reader_of g.P.Source.remaining g.P.Source.has_failed c.read_state.new.source) (writer_of g.W.Sink.contents g.W.Sink.has_failed c.args.out.now) (writer_of g.W.Sink.contents g.W.Sink.has_failed c.put_solved.new.out) c.in_ok-state.ensures.0 result
+writes-solved : (g : Over) (c : After-put_solved g) (result : Result Status EngineFault) → Writes (g.W.Sink.written c.args.out.now) (g.W.Sink.written c.put_solved.new.out) result (solved_text c.in_ok-solved.solved.state c.in_ok-solved.solved.side)
+    → WritesSolved c.args.want_cut (g.P.Source.left c.args.problem.now) (g.P.Source.left c.read_state.new.source) (g.W.Sink.written c.args.out.now) (g.W.Sink.written c.put_solved.new.out) c.in_ok-state.ensures.0 result
 writes-solved g c result writes = record {
   state = c.in_ok-state.state;
   problem = c.in_ok-state.ensures.2;

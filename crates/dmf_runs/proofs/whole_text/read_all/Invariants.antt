@@ -5,11 +5,10 @@ use Rattle.dmf_runs.proofs.whole_text.read_all.Given as goal
 -- what was given is in the vector, and each turn gave some
 abbrev pub invariant-loop : goal.invariant-loop
 invariant-loop g l =
-    let known = g.P.Source.remaining in
-    let mark = g.P.Source.has_failed in
+    let reader = g.P.Source.left in
     record {
-      consumes : Consumes (known l.fn.source) (known l.source) l.text.items;
-      mark : mark l.source ≡ mark l.fn.source;
+      consumes : Consumes (reader l.fn.source).known (reader l.source).known l.text.items;
+      mark : (reader l.source).has_failed ≡ (reader l.fn.source).has_failed;
       some : l.counter ≤ length l.text.items;
       within : length l.text.items ≤ 2 ^ 30;
     }

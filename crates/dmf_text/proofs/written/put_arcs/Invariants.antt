@@ -5,6 +5,6 @@ use Rattle.dmf_text.proofs.written.put_arcs.Given as goal
 
 abbrev pub invariant-loop-arc : goal.invariant-loop-arc
 invariant-loop-arc g l = record {
-  held : Appends (g.W.Sink.contents l.initial.out) (g.W.Sink.contents l.out) (arcs_text (take l.arc-index l.arcs));
-  mark : g.W.Sink.has_failed l.out ≡ g.W.Sink.has_failed l.initial.out;
+  held : Appends (g.W.Sink.written l.initial.out).contents (g.W.Sink.written l.out).contents (arcs_text (take l.arc-index l.arcs));
+  mark : (g.W.Sink.written l.out).has_failed ≡ (g.W.Sink.written l.initial.out).has_failed;
 }

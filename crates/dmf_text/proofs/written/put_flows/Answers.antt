@@ -34,10 +34,10 @@ returns-in_err-put_arc g c =
     let line = flow-line arcs c.args.state.now.flows i c.flow.result d each c.loop-i-test.true c.flow.ensures in
     let long = zip-long arcs c.args.state.now.flows each in
     let below : i < length pairs = omega (arith, long, c.loop-i-test.true) in
-    let put_front = subst (λ text. PutsFront g.W.Sink.contents g.W.Sink.has_failed c.loop-i.out c.put_arc.new.out text) (sym line) c.in_err-put_arc.ensures in
+    let put_front = subst (λ text. PutsFront (g.W.Sink.written c.loop-i.out) (g.W.Sink.written c.put_arc.new.out) text) (sym line) c.in_err-put_arc.ensures in
     rw (failed.1, sym c.arcs-arcs.ensures.value, kept-split is_open_flow flow_fields pairs i (d, 0) below)
-    (front-after g.W.Sink.contents g.W.Sink.has_failed _ c.loop-i.out _ (flows_text (take i pairs)) _ c.loop-i.invariant.held
-    (front-of g.W.Sink.contents g.W.Sink.has_failed _ _ (flows_text (get_or pairs i (d, 0) ∷ [])) (flows_text (drop (suc i) pairs)) put_front))
+    (front-after (g.W.Sink.written c.args.out.now) (g.W.Sink.written c.loop-i.out) _ (flows_text (take i pairs)) _ c.loop-i.invariant.held
+    (front-of (g.W.Sink.written c.loop-i.out) _ (flows_text (get_or pairs i (d, 0) ∷ [])) (flows_text (drop (suc i) pairs)) put_front))
 
 pub loop-i-preserved : goal.loop-i-preserved
 loop-i-preserved g c =
@@ -50,7 +50,7 @@ loop-i-preserved g c =
     let line = flow-line arcs c.args.state.now.flows i c.flow.result d each c.loop-i-test.true c.flow.ensures in
     let long = zip-long arcs c.args.state.now.flows each in
     let below : i < length pairs = omega (arith, long, c.loop-i-test.true) in
-    let put = subst (λ text. Appends (g.W.Sink.contents c.loop-i.out) (g.W.Sink.contents c.put_arc.new.out) text) (sym line) c.in_ok-put_arc.ensures.0 in
+    let put = subst (λ text. Appends (g.W.Sink.written c.loop-i.out).contents (g.W.Sink.written c.put_arc.new.out).contents text) (sym line) c.in_ok-put_arc.ensures.0 in
     record {
       held = rw (kept-more is_open_flow flow_fields pairs i (d, 0) below) (Appends-trans _ _ _ _ _ c.loop-i.invariant.held put);
       mark = c.in_ok-put_arc.ensures.1 ∙ c.loop-i.invariant.mark;
@@ -63,4 +63,4 @@ returns g c =
     let long = zip-long arcs c.args.state.now.flows (one_each g (goal.at.returns g c).After-arcs-arcs) in
     let all : take c.loop-i.i pairs ≡ pairs = take_all c.loop-i.i pairs (omega (arith, long, c.loop-i-test.false)) in
     rw (sym c.arcs-arcs.ensures.value)
-    (subst (λ ps. Appends (g.W.Sink.contents c.args.out.now) (g.W.Sink.contents c.loop-i.out) (flows_text ps)) all c.loop-i.invariant.held, c.loop-i.invariant.mark)
+    (subst (λ ps. Appends (g.W.Sink.written c.args.out.now).contents (g.W.Sink.written c.loop-i.out).contents (flows_text ps)) all c.loop-i.invariant.held, c.loop-i.invariant.mark)

@@ -7,6 +7,6 @@ use Rattle.dmf_text.proofs.written.put_nodes.Given as goal
 abbrev pub invariant-loop-id : goal.invariant-loop-id
 invariant-loop-id g l = record {
   given : l.yielded ++ l.id-iterator ≡ l.fn.ids;
-  held : Appends (g.W.Sink.contents l.initial.out) (g.W.Sink.contents l.out) (nodes_text l.yielded);
-  mark : g.W.Sink.has_failed l.out ≡ g.W.Sink.has_failed l.initial.out;
+  held : Appends (g.W.Sink.written l.initial.out).contents (g.W.Sink.written l.out).contents (nodes_text l.yielded);
+  mark : (g.W.Sink.written l.out).has_failed ≡ (g.W.Sink.written l.initial.out).has_failed;
 }

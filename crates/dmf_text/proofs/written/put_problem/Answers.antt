@@ -38,27 +38,27 @@ pub returns-in_err-put_line-clause-written : goal.returns-in_err-put_line-clause
 returns-in_err-put_line-clause-written g c =
     let at = goal.at.returns-in_err-put_line-clause-written g c in
     let failed = err_from_is_err_and c.from_residual.result c.from_residual.ensures.1 in
-    first-failed g.W.Sink.contents g.W.Sink.has_failed _ _ _ _ _ _ _ failed.1 (first g at.After-put_line) c.in_err-put_line.ensures
+    first-failed _ _ _ _ _ _ _ failed.1 (first g at.After-put_line) c.in_err-put_line.ensures
 
 pub returns-in_err-put_terminal-clause-written : goal.returns-in_err-put_terminal-clause-written
 returns-in_err-put_terminal-clause-written g c =
     let at = goal.at.returns-in_err-put_terminal-clause-written g c in
     let failed = err_from_is_err_and c.from_residual-in_err-put_terminal.result c.from_residual-in_err-put_terminal.ensures.1 in
-    first-put g.W.Sink.contents g.W.Sink.has_failed _ c.put_line.new.out _ _ _ _ _ (first g at.After-put_line) c.in_ok-put_line.ensures
-    (first-failed g.W.Sink.contents g.W.Sink.has_failed _ _ _ _ _ _ _ failed.1 (second g at.After-put_terminal) c.in_err-put_terminal.ensures)
+    first-put _ (g.W.Sink.written c.put_line.new.out) _ _ _ _ _ (first g at.After-put_line) c.in_ok-put_line.ensures
+    (first-failed _ _ _ _ _ _ _ failed.1 (second g at.After-put_terminal) c.in_err-put_terminal.ensures)
 
 pub returns-in_err-put_terminal-2-clause-written : goal.returns-in_err-put_terminal-2-clause-written
 returns-in_err-put_terminal-2-clause-written g c =
     let at = goal.at.returns-in_err-put_terminal-2-clause-written g c in
     let failed = err_from_is_err_and c.from_residual-in_err-put_terminal-2.result c.from_residual-in_err-put_terminal-2.ensures.1 in
-    first-put g.W.Sink.contents g.W.Sink.has_failed _ c.put_line.new.out _ _ _ _ _ (first g at.After-put_line) c.in_ok-put_line.ensures
-    (first-put g.W.Sink.contents g.W.Sink.has_failed _ c.put_terminal.new.out _ _ _ _ _ (second g at.After-put_terminal) c.in_ok-put_terminal.ensures
-    (first-failed g.W.Sink.contents g.W.Sink.has_failed _ _ _ _ _ _ _ failed.1 (third g at.After-put_terminal-2) c.in_err-put_terminal-2.ensures))
+    first-put _ (g.W.Sink.written c.put_line.new.out) _ _ _ _ _ (first g at.After-put_line) c.in_ok-put_line.ensures
+    (first-put _ (g.W.Sink.written c.put_terminal.new.out) _ _ _ _ _ (second g at.After-put_terminal) c.in_ok-put_terminal.ensures
+    (first-failed _ _ _ _ _ _ _ failed.1 (third g at.After-put_terminal-2) c.in_err-put_terminal-2.ensures))
 
 pub returns-clause-written : goal.returns-clause-written
 returns-clause-written g c =
     let at = goal.at.returns-clause-written g c in
-    first-put g.W.Sink.contents g.W.Sink.has_failed _ c.put_line.new.out _ _ _ _ _ (first g at.After-put_line) c.in_ok-put_line.ensures
-    (first-put g.W.Sink.contents g.W.Sink.has_failed _ c.put_terminal.new.out _ _ _ _ _ (second g at.After-put_terminal) c.in_ok-put_terminal.ensures
-    (first-put g.W.Sink.contents g.W.Sink.has_failed _ c.put_terminal-2.new.out _ _ _ _ _ (third g at.After-put_terminal-2) c.in_ok-put_terminal-2.ensures
-    (subst (λ arcs. Writes g.W.Sink.contents g.W.Sink.has_failed c.put_terminal-2.new.out c.put_arcs.new.out c.put_arcs.result (arcs_text arcs)) c.arcs.ensures.value c.put_arcs.ensures)))
+    first-put _ (g.W.Sink.written c.put_line.new.out) _ _ _ _ _ (first g at.After-put_line) c.in_ok-put_line.ensures
+    (first-put _ (g.W.Sink.written c.put_terminal.new.out) _ _ _ _ _ (second g at.After-put_terminal) c.in_ok-put_terminal.ensures
+    (first-put _ (g.W.Sink.written c.put_terminal-2.new.out) _ _ _ _ _ (third g at.After-put_terminal-2) c.in_ok-put_terminal-2.ensures
+    (subst (λ arcs. Writes (g.W.Sink.written c.put_terminal-2.new.out) (g.W.Sink.written c.put_arcs.new.out) c.put_arcs.result (arcs_text arcs)) c.arcs.ensures.value c.put_arcs.ensures)))

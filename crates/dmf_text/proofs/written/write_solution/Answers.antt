@@ -19,13 +19,13 @@ pub returns-in_err-put_line : goal.returns-in_err-put_line
 returns-in_err-put_line g c =
     let failed = err_from_is_err_and c.from_residual.result c.from_residual.ensures.1 in
     record {
-      written = first-failed g.W.Sink.contents g.W.Sink.has_failed _ _ _ _ _ _ _ failed.1
+      written = first-failed _ _ _ _ _ _ _ failed.1
           (first g (goal.at.returns-in_err-put_line g c).After-put_line) c.in_err-put_line.ensures;
     }
 
 pub returns : goal.returns
 returns g c = record {
-  written = first-put g.W.Sink.contents g.W.Sink.has_failed _ c.put_line.new.out _ _ _ _ _
+  written = first-put _ (g.W.Sink.written c.put_line.new.out) _ _ _ _ _
       (first g (goal.at.returns g c).After-put_line) c.in_ok-put_line.ensures
       c.put_flows.ensures;
 }

@@ -8,6 +8,6 @@ pub returns-in_default : goal.returns-in_default
 returns-in_default g c =
     let a = c.self.inside in
     let none = nothing-pending a.piece a.start a.end c.if-self.false in
-    let remaining = g.C.Source.remaining in
-    let read = Consumes-kept _ _ (remaining c.read.new.self) [] (Consumes-nil (remaining c.args.source.now)) (rw c.in_default.is at c.read.ensures.bytes) in
+    let left = g.C.Source.left in
+    let read = Consumes-kept _ _ (left c.read.new.self).known [] (Consumes-nil (left c.args.source.now).known) (rw c.in_default.is at c.read.ensures.bytes) in
     (rw (sym c.self.view_is) (Takes-read _ _ _ _ none (refl {a = a.count}) read), record { none_pending = refl; mark = rw c.in_default.is at c.read.ensures.mark })

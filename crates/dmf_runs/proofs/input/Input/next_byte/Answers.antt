@@ -2,14 +2,13 @@ use Rattle.std.proofs.Common.{◌+◌, ◌∷◌, [], get_or, arith, subst, sym}
 use Rattle.std.specs.List.{slice_range}
 use Rattle.std.specs.Io.KnownBytes.{prepend_known, Consumes}
 use Rattle.dmf_runs.specs.contracts.input.Input.{the_view}
-use Rattle.dmf_runs.specs.Streams.{reader_of}
 use Rattle.dmf_runs.specs.Input.{input_over, Takes}
 use Rattle.dmf_runs.proofs.TakingLemmas.{Takes-trans, Consumes-pending, pending-more}
 use Rattle.dmf_runs.proofs.input.Input.next_byte.Goals as goal
 
 pub returns : goal.returns
 returns g c =
-    let reader = reader_of g.C.Source.remaining g.C.Source.has_failed c.fill.new.source in
+    let reader = g.C.Source.left c.fill.new.source in
     let a = c.self.inside in
     let byte = get_or a.piece a.start 0 in
     let rest = slice_range a.piece (a.start + 1) a.end in

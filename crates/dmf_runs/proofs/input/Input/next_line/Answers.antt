@@ -1,14 +1,13 @@
 use Rattle.std.proofs.Common.{◌≡◌, ◌<◌, ◌∷◌, [], ◌++◌, length, subst, sym, ◌∙◌, ℕ}
 use Rattle.std.proofs.lemmas.Bool.{false≢true}
 use Rattle.std.proofs.lemmas.List.Elements.{All-push}
-use Rattle.dmf_runs.specs.Streams.{reader_of}
 use Rattle.dmf_runs.specs.Input.{input_over, Takes}
 use Rattle.dmf_runs.proofs.TakingLemmas.{Takes-trans, Takes-nil, some-length}
 use Rattle.dmf_runs.proofs.input.Input.next_line.Goals as goal
 
 pub returns-then-byte-eq10 : goal.returns-then-byte-eq10
 returns-then-byte-eq10 g c =
-    let reader = reader_of g.C.Source.remaining g.C.Source.has_failed in
+    let reader = g.C.Source.left in
     let so_far = c.loop-byte.invariant in
     let gave = rw c.in-Some.is at c.in_ok-byte.ensures in
     let all = Takes-trans _ _ _ so_far.0 (c.in-Some.byte ∷ []) so_far.3 gave.0 in (

@@ -1,18 +1,16 @@
 use Rattle.std.proofs.Common.{◌≡◌, ◌-◌, ℕ, List}
 use Rattle.dmf_runs.specs.Line.{HasNoLineFeed}
 use Rattle.dmf_runs.specs.KeptLine.{IsKept}
-use Rattle.dmf_runs.specs.Streams.{reader_of}
 use Rattle.dmf_runs.specs.Input.{input_over, Takes}
 use Rattle.dmf_runs.proofs.input.Input.next_line.Given as goal
 
 -- the bytes taken so far are no line feed, and the line has what is kept of them
 abbrev pub invariant-loop-byte : goal.invariant-loop-byte
 invariant-loop-byte g l =
-    let mark = g.C.Source.has_failed in
-    let reader = reader_of g.C.Source.remaining mark in
+    let reader = g.C.Source.left in
     (line : List ℕ) × HasNoLineFeed line × IsKept l.line line
     × Takes (input_over l.fn.self (reader l.fn.source)) (input_over l.self (reader l.source)) line
-    × (mark l.source ≡ mark l.fn.source)
+    × ((reader l.source).has_failed ≡ (reader l.fn.source).has_failed)
 
 abbrev pub decreases-loop-byte : goal.decreases-loop-byte
 decreases-loop-byte g l = 1073741824 - l.self.count
