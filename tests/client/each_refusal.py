@@ -143,7 +143,7 @@ class Answers(unittest.TestCase):
             self.assertEqual((type(caught.exception), caught.exception.text), (dmf.Refused, "too windy"))
 
     def test_no_answer_that_is_understood(self) -> None:
-        for answer in "echo hello", "echo s five", "echo c undo", "echo", "echo s 5; echo f 1", "echo c solve value 5":
+        for answer in "echo hello", "echo s five", "echo c undo", "echo", "echo s 5; for i in 1 2 3 4 5; do echo g 1; done", "echo c solve value 5":
             with answering(answer) as network:
                 for _ in range(2):
                     self.assertRaisesRegex(dmf.SessionEnded, "`solve` was not understood", network.solve)

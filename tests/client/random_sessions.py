@@ -41,12 +41,12 @@ class RandomSessions(unittest.TestCase):
     def step(self, model: Any, network: dmf.Network[str], random: Random) -> None:
         """One random command to both. They agree, also where it is refused."""
         word = random.choice(["solve", "cap", "cap", "close", "add", "shut", "undo", "undo", "redo", "redo"])
-        arc, count = random.randint(1, max(1, len(network._kept.arcs))), random.choice([0, 1, 1, 2, 3])
+        arc, count = random.randint(1, max(1, len(network._kept.capacities))), random.choice([0, 1, 1, 2, 3])
         tail, head, node = (random.randint(1, model.present().nodes) for _ in range(3))
         amount = random.choice([0, 1, 2, 5, 9, 2**63])
-        if word in ("cap", "close") and not network._kept.arcs:
+        if word in ("cap", "close") and not network._kept.capacities:
             return
-        handle = network._kept.arcs[arc - 1] if network._kept.arcs else None
+        handle = network._kept.handle(arc) if network._kept.capacities else None
         calls: dict[str, tuple[list[int], Callable[[], int]]] = {
             "solve": ([], lambda: network.solve().value),
             "cap": ([arc, amount], lambda: network.cap(handle, amount)),

@@ -50,6 +50,7 @@ from .errors import (
     AmbiguousArc,
     ArcBeforeSourceAndSink,
     ArcIsClosed,
+    ArcIsOpen,
     CapacitiesPast64Bits,
     CountOutOfRange,
     Error,
@@ -83,15 +84,17 @@ from .errors import (
     UsedByTwoThreads,
     WrongNumberOfFields,
 )
+from .arcs import Arc
 from .network import Network, Row
-from .solution import Arc, Cut, Solution
-from .sources import from_networkx, read
+from .solution import Cut, Solution
+from .sources import from_networkx, from_scipy, read
 
 __all__ = [
     "AmbiguousArc",
     "Arc",
     "ArcBeforeSourceAndSink",
     "ArcIsClosed",
+    "ArcIsOpen",
     "CapacitiesPast64Bits",
     "CountOutOfRange",
     "Cut",
@@ -129,6 +132,7 @@ __all__ = [
     "UsedByTwoThreads",
     "WrongNumberOfFields",
     "from_networkx",
+    "from_scipy",
     "read",
 ]
 
