@@ -17,6 +17,8 @@ from .errors import AmbiguousArc, NoSuchArc, SessionEnded, shown
 Node = TypeVar("Node", bound=Hashable)
 # The types of the columns: numbers of nodes, and capacities and flows.
 NODES, AMOUNTS = "I", "Q"
+# How many questions about the arcs at nodes are answered by a look at all arcs, before an index of them is made.
+MOST_MISSED = 20
 
 
 class Owner(Protocol):
@@ -113,6 +115,7 @@ class Columns(Generic[Node]):
         self.tails = tails
         self.heads = heads
         self.keys = keys
+        self._missed = 0
 
     def __len__(self) -> int:
         return len(self.tails)
@@ -152,13 +155,14 @@ class Columns(Generic[Node]):
         """The arcs in the order of their tails, and of their heads; and at which place those of each node begin."""
         return _grouped(self.tails, len(self.numbers)), _grouped(self.heads, len(self.numbers))
 
-    def index_nodes(self) -> None:
-        """Makes the index of the arcs at each node, where many questions follow."""
-        self._at_nodes
+    def _is_indexed(self) -> bool:
+        """Whether the index of the arcs at each node is there. It is made when it has been missed some times."""
+        self._missed += 1
+        return self._missed > MOST_MISSED
 
     def at(self, node: int) -> list[int]:
         """The numbers of the arcs at a node, in their order."""
-        if "_at_nodes" in self.__dict__:
+        if self._is_indexed():
             return sorted({number for order, begins in self._at_nodes for number in order[begins[node] : begins[node + 1]]})
         here = node.__eq__
         return sorted({number for ends in (self.tails, self.heads) for number in compress(count(1), map(here, ends))})
@@ -168,7 +172,7 @@ class Columns(Generic[Node]):
         inside = bytearray(len(self.numbers) + 1)
         for node in side:
             inside[node] = 1
-        if "_at_nodes" in self.__dict__:
+        if self._is_indexed():
             if 2 * len(side) <= len(self.numbers):
                 order, begins = self._at_nodes[0]
                 arcs = (number for node in side for number in order[begins[node] : begins[node + 1]])

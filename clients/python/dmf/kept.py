@@ -180,9 +180,8 @@ class Kept(Generic[Node]):
             self._done.append(change)
             if change.added:
                 arc, capacity = change.added
-                self.added.append(arc)
+                self.put_added(arc)
                 self.capacities.append(capacity)
-                self._added_index.put(arc)
             self._put((number, after) for number, _, after in change.capacities)
         self.place += count
         self._opened = None
@@ -222,8 +221,12 @@ class Kept(Generic[Node]):
         """The same arcs as they are now, without changes. Handles of these name the arcs of the copy too."""
         copy = Kept(self.columns, self.capacities[:], self.source, self.sink, self.most)
         copy.closed = set(self.closed)
-        copy.origin = self.opened()
+        copy.origin = self.origin or self.opened()
         for arc in self.added:
-            copy.added.append(Arc(arc.number, arc.tail, arc.head, arc.given_key, None))
-            copy._added_index.put(copy.added[-1])
+            copy.put_added(Arc(arc.number, arc.tail, arc.head, arc.given_key))
         return copy
+
+    def put_added(self, arc: Arc[Node]) -> None:
+        """Takes in an arc that was added before, whose capacity is there."""
+        self.added.append(arc)
+        self._added_index.put(arc)

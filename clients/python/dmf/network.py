@@ -232,15 +232,9 @@ class Network(Generic[Node]):
         """Makes the flow a greatest one, going on from the present flow, and returns it. That is a change, which `undo` takes
         back."""
         with self._child.alone():
-            self._kept.judge_change()
-            self._part()
-            with self._child.exchange("solve"):
-                self._value, text = self._solution("solve")
-            self._present = self._told = None
+            self._changed("solve")
             self._kept.note(Change())
-            flows = self._flows()
-            flows.settle(lambda: text)
-            return Solution(flows)
+            return Solution(self._flows())
 
     def flow(self) -> Solution[Node]:
         """The present flow."""
@@ -402,19 +396,17 @@ class Network(Generic[Node]):
         self._kept.judge_change()
         return self._stepped(line, at)
 
-    def _solution(self, line: str) -> tuple[int, bytes]:
-        """The value and the text of the solution that is answered to a command."""
-        begin = self._child.lines(1)
-        value = int(self._begun(begin.split(), line, [b"s"])[1])
-        count = self._kept.open_count
-        text = begin + self._child.lines(count)
-        if text.count(b"\nf ") != count:
-            raise ValueError
-        return value, text
-
     def _asked_flow(self) -> bytes:
+        """The text of the present flow."""
         with self._child.exchange("print flow"):
-            return self._solution("print flow")[1]
+            begin = self._child.lines(1)
+            count = self._kept.open_count
+            if int(self._begun(begin.split(), "print flow", [b"s"])[1]) != self._value:
+                raise ValueError
+            text = begin + self._child.lines(count)
+            if text.count(b"\nf ") != count:
+                raise ValueError
+            return text
 
     def _flows(self) -> Flows[Node]:
         """The present flow, of which the program has told nothing but the value so far, where nobody asked."""

@@ -241,8 +241,9 @@ def bound(history: int | None) -> int:
 
 
 def session_words(most: int) -> list[str | bytes]:
-    """The words that ask for a session in which so many changes can be undone."""
-    return ["session"] if most == MOST_KEPT else ["session", "--history", str(most)]
+    """The words that ask for a session in which so many changes can be undone, and a solve is answered by its value alone."""
+    words: list[str | bytes] = ["session", "--brief"]
+    return words if most == MOST_KEPT else [*words, "--history", str(most)]
 
 
 def start(path: str, program: Program, words: list[str | bytes]) -> Child:
