@@ -10,7 +10,7 @@ import unittest
 from shared import ROOT, dmf
 
 MODULES = ["by_hand", "each_refusal", "misuse", "odd_names", "reading", "children", "ends", "typed", "random_sessions"]
-MODULES += ["tried", "columns", "sweeps", "packaged", "sweep_tool"]
+MODULES += ["tried", "columns", "sweeps", "packaged", "sweep_tool", "example"]
 
 
 class Result(unittest.TestResult):
