@@ -215,7 +215,7 @@ class Executors(unittest.TestCase):
         with pipes() as network:
             network.solve()
             wanted = [result.value for result in dmf.sweep(network, cases, jobs=1)]
-            with distributed.LocalCluster(n_workers=2, threads_per_worker=1, dashboard_address=None) as cluster:
+            with distributed.LocalCluster(n_workers=2, threads_per_worker=1, dashboard_address=None, silence_logs=50) as cluster:
                 with distributed.Client(cluster) as client:
                     values = []
                     workers = [worker.pid for worker in cluster.workers.values()]
