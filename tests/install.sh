@@ -48,7 +48,7 @@ tree() {
 # What stands in a line for each file: the word before it, and the folder.
 lines() {
     local file name
-    for file in dmf dmf-problem dmf-names dmf-dot; do
+    for file in dmf dmf-problem dmf-names dmf-dot dmf-sweep; do
         echo "$1 $2/bin/$file"
     done
     for file in docs/*.1; do
@@ -57,7 +57,7 @@ lines() {
     for file in clients/python/dmf/*.py clients/python/dmf/py.typed; do
         echo "$1 $2/share/dmf/python/${file#clients/python/}"
     done
-    for name in dmf dmf-problem dmf-names dmf-dot; do
+    for name in dmf dmf-problem dmf-names dmf-dot dmf-sweep; do
         echo "$1 $2/share/bash-completion/completions/$name"
         echo "$1 $2/share/fish/vendor_completions.d/$name.fish"
     done
@@ -370,7 +370,7 @@ tool_completions() {
 for pair in bash=bash-completion/completions/dmf zsh=zsh/site-functions/_dmf fish=fish/vendor_completions.d/dmf.fish; do
     if command -v "${pair%%=*}" >/dev/null; then
         count_script "$home/tests/completions.py" "${pair%%=*}" "$work/real/share/${pair#*=}"
-        for tool in dmf-problem dmf-names dmf-dot; do
+        for tool in dmf-problem dmf-names dmf-dot dmf-sweep; do
             count_script "$home/tests/completions.py" "${pair%%=*}" "$(tool_completions "$tool" "${pair%%=*}")" "$tool"
         done
     else

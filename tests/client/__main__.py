@@ -10,6 +10,7 @@ import unittest
 from shared import ROOT, dmf
 
 MODULES = ["by_hand", "each_refusal", "misuse", "odd_names", "reading", "children", "ends", "typed", "random_sessions"]
+MODULES += ["tried", "columns", "sweeps", "packaged", "sweep_tool", "example"]
 
 
 class Result(unittest.TestResult):
@@ -25,6 +26,8 @@ def main() -> int:
     """Runs the examples of the client and of README.md, and the tests of this folder. Names what failed and what was skipped."""
     suite = unittest.defaultTestLoader.loadTestsFromNames(MODULES)
     suite.addTests(doctest.DocTestSuite(dmf))
+    suite.addTests(doctest.DocTestSuite(dmf.sweeping, vars(dmf).copy()))
+    suite.addTests(doctest.DocTestSuite(dmf.solution, vars(dmf).copy()))
     suite.addTests(doctest.DocFileSuite(f"{ROOT}/README.md", module_relative=False))
     result = Result()
     suite.run(result)

@@ -143,10 +143,24 @@ class Answers(unittest.TestCase):
             self.assertEqual((type(caught.exception), caught.exception.text), (dmf.Refused, "too windy"))
 
     def test_no_answer_that_is_understood(self) -> None:
-        for answer in "echo hello", "echo s five", "echo c undo", "echo", "echo s 5; echo f 1", "echo c solve value 5":
+        for answer in "echo hello", "echo s 5", "echo c undo value 5", "echo", "echo c solve value five", "echo c solve":
             with answering(answer) as network:
                 for _ in range(2):
                     self.assertRaisesRegex(dmf.SessionEnded, "`solve` was not understood", network.solve)
+
+    def test_no_flow_that_is_understood(self) -> None:
+        """The flows are asked for when one is looked at."""
+        five = "for flow in 1 2 3 4 5; do echo"
+        for flows in "echo hello", "echo s 6", "echo s five", f"echo s 5; {five} g 1 2 $flow; done":
+            with answering(f"case $line in solve) echo c solve value 5;; *) {flows};; esac") as network:
+                plan = network.solve()
+                self.assertEqual((plan.value, len(plan)), (5, 5))
+                for _ in range(2):
+                    self.assertRaisesRegex(dmf.SessionEnded, "`print flow` was not understood", lambda: list(plan.values()))
+        for line in "f 1 2", "f 1 2 x", "f 1 2 -1", "f 1 2 99999999999999999999", "f 1 2 3 4":
+            with answering(f"case $line in solve) echo c solve value 5;; *) echo s 5; {five} {line}; done;; esac") as network:
+                plan = network.solve()
+                self.assertRaisesRegex(dmf.SessionEnded, "was not understood: it told no flow", lambda: list(plan.values()))
 
     def test_the_answer_to_another_command(self) -> None:
         with answering("echo c close value 3") as network:

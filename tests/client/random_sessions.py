@@ -8,10 +8,14 @@ from typing import Any
 from shared import PIPES, dmf
 from oracle.network import is_greatest, smallest_side
 from oracle.problem import problem_text
-from oracle.session import Session
+from oracle.session import Session, SolveReply
 from oracle.texts import LARGEST, Fault
 from random_cases import network as random_network
 
+try:
+    import numpy
+except ImportError:
+    numpy = None
 try:
     import networkx
 except ImportError:
@@ -30,23 +34,65 @@ class RandomSessions(unittest.TestCase):
         state = random_network(random, 20)
         if state.capacity_sum() > LARGEST:
             return
-        model = Session(state, False)
+        model = Session(state, SolveReply(False, True))
         rows = [(f"n{arc.tail}", f"n{arc.head}", arc.cap) for arc in state.arcs]
         nodes = [f"n{node}" for node in range(1, state.nodes + 1)]
         with dmf.Network(rows, f"n{state.source}", f"n{state.sink}", nodes=nodes) as network:
+            plans: list[tuple[dmf.Solution[str], list[int], int]] = []
             for _ in range(random.choice([3, 10, 30])):
+                if random.random() < 0.2:
+                    self.try_out(model, network, random)
                 self.step(model, network, random)
-                self.compare(model.present(), network)
+                state = model.present()
+                if random.random() < 0.5:
+                    # It is looked at when the network is another one, or has ended.
+                    plans.append((network.flow(), [flow for _, flow in state.open_arcs()], state.value()))
+                if random.random() < 0.7:
+                    self.compare(state, network)
+        for plan, flows, value in plans:
+            self.assertEqual((list(plan.values()), plan.value, len(plan)), (flows, value, len(flows)))
+            if numpy:
+                self.assertEqual(plan.array().tolist(), flows)
+
+    def try_out(self, model: Any, network: dmf.Network[str], random: Random) -> None:
+        """Steps that are tried out, on the network alone, with an error at the end or none. All is then as it was."""
+        text, plan, value = network.problem(), network.flow(), network.value
+        try:
+            with network.try_out():
+                for _ in range(random.randrange(6)):
+                    arcs = network.arcs
+                    steps: list[Callable[[], object]] = [network.solve, network.undo, network.redo, lambda: network.shut("n2")]
+                    steps += [lambda: network.add("n1", "n2", 3), lambda: network.undo(2)]
+                    if arcs:
+                        steps += [lambda: network.close(random.choice(arcs)), lambda: network.cap(random.choice(arcs), 1)]
+                    try:
+                        random.choice(steps)()
+                    except dmf.Refused:
+                        if random.random() < 0.3:
+                            raise
+                if random.random() < 0.3:
+                    raise ZeroDivisionError
+        except (dmf.Refused, ZeroDivisionError):
+            pass
+        self.assertEqual((network.problem(), network.flow(), network.value), (text, plan, value))
+        # A change drops what can be made again, which is the network's alone.
+        if network.arcs:
+            arc = network.arcs[0]
+            network.cap(arc, arc.capacity)
+            model.reply("cap", arc.number, arc.capacity)
+        else:
+            network.solve()
+            model.reply("solve")
 
     def step(self, model: Any, network: dmf.Network[str], random: Random) -> None:
         """One random command to both. They agree, also where it is refused."""
         word = random.choice(["solve", "cap", "cap", "close", "add", "shut", "undo", "undo", "redo", "redo"])
-        arc, count = random.randint(1, max(1, len(network._kept.arcs))), random.choice([0, 1, 1, 2, 3])
+        arc, count = random.randint(1, max(1, len(network._kept.capacities))), random.choice([0, 1, 1, 2, 3])
         tail, head, node = (random.randint(1, model.present().nodes) for _ in range(3))
         amount = random.choice([0, 1, 2, 5, 9, 2**63])
-        if word in ("cap", "close") and not network._kept.arcs:
+        if word in ("cap", "close") and not network._kept.capacities:
             return
-        handle = network._kept.arcs[arc - 1] if network._kept.arcs else None
+        handle = network._kept.handle(arc) if network._kept.capacities else None
         calls: dict[str, tuple[list[int], Callable[[], int]]] = {
             "solve": ([], lambda: network.solve().value),
             "cap": ([arc, amount], lambda: network.cap(handle, amount)),

@@ -28,7 +28,7 @@ class Typed(unittest.TestCase):
         return ran.stdout + ran.stderr
 
     def test_the_package_and_a_caller(self) -> None:
-        self.assertEqual(self.judge(f"{CLIENT}/dmf", USER), "")
+        self.assertEqual(self.judge(f"{CLIENT}/dmf", f"{CLIENT}/build_wheel.py", USER), "")
 
     def test_mistakes(self) -> None:
         """Each mistake is told in its line, and nothing else."""

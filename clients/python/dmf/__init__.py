@@ -50,6 +50,7 @@ from .errors import (
     AmbiguousArc,
     ArcBeforeSourceAndSink,
     ArcIsClosed,
+    ArcIsOpen,
     CapacitiesPast64Bits,
     CountOutOfRange,
     Error,
@@ -83,15 +84,21 @@ from .errors import (
     UsedByTwoThreads,
     WrongNumberOfFields,
 )
+from .arcs import Arc
 from .network import Network, Row
-from .solution import Arc, Cut, Solution
-from .sources import from_networkx, read
+from .solution import Cut, Solution
+from .sources import from_networkx, from_scipy, read
+from .sweeping import SweepResult, each_arc_closed, each_capacity_raised, each_node_shut, each_pair_added, sweep
+
+# The version of the program that this package comes with.
+__version__ = "0.1.0"
 
 __all__ = [
     "AmbiguousArc",
     "Arc",
     "ArcBeforeSourceAndSink",
     "ArcIsClosed",
+    "ArcIsOpen",
     "CapacitiesPast64Bits",
     "CountOutOfRange",
     "Cut",
@@ -120,6 +127,7 @@ __all__ = [
     "Solution",
     "SourceAndSinkAreTheSame",
     "SourceOrSinkMissing",
+    "SweepResult",
     "TerminalNamedTwice",
     "TooFewArcs",
     "TooManyArcs",
@@ -128,10 +136,18 @@ __all__ = [
     "UsedByTwoProcesses",
     "UsedByTwoThreads",
     "WrongNumberOfFields",
+    "__version__",
+    "each_arc_closed",
+    "each_capacity_raised",
+    "each_node_shut",
+    "each_pair_added",
     "from_networkx",
+    "from_scipy",
     "read",
+    "sweep",
 ]
 
 # A traceback names an exception as its caller does: dmf.NoSuchArc.
 for _name in __all__:
-    globals()[_name].__module__ = __name__
+    if isinstance(globals()[_name], type):
+        globals()[_name].__module__ = __name__

@@ -26,6 +26,10 @@ class AmbiguousArc(Error, LookupError):
     """Several open arcs have this key, or these ends. Each has a handle, by which it can be named."""
 
 
+class ArcIsOpen(Error, ValueError):
+    """An arc was to be opened that is open. Nothing was added."""
+
+
 class NotAnArc(Error, ValueError):
     """A row of arcs is neither (tail, head, capacity) nor (tail, head, capacity, key), or something in it cannot be hashed."""
 

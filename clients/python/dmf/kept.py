@@ -3,16 +3,19 @@
 from __future__ import annotations
 
 import operator
+from array import array
+from collections import deque
 from collections.abc import Hashable, Iterable
 from dataclasses import dataclass, field
 from typing import Any, Generic, SupportsIndex, Union
 
-from .errors import ArcIsClosed, NoSuchArc, NoSuchNode, NotAnArc, NotANumber, NumberTooLarge, shown
-from .solution import Arc, Keyed, Node
+from .arcs import AMOUNTS, NODES, Added, Arc, Columns, Handles, Node, OpenArcs, one_of
+from .errors import ArcIsClosed, HistoryOutOfRange, NoSuchArc, NoSuchNode, NotAnArc, NotANumber, NothingToUndo, NumberTooLarge, shown
 from .text import LARGEST
 
 # A whole number, which may also come as a float without a fraction.
 Whole = Union[SupportsIndex, float]
+WANTED = "wanted is (tail, head, capacity) or (tail, head, capacity, key), of which all but the capacity can be hashed"
 
 
 def whole(number: Any, at: object) -> int:
@@ -29,6 +32,34 @@ def whole(number: Any, at: object) -> int:
     return taken
 
 
+def columns_of(rows: Iterable[Any], nodes: Iterable[Node]) -> tuple[Columns[Node], array[int]]:
+    """The columns of rows of arcs, and their capacities. Raises `NotAnArc`, `NotANumber` and `NumberTooLarge`."""
+    numbers: dict[Node, int] = {}
+    for node in nodes:
+        numbers.setdefault(node, len(numbers) + 1)
+    tails, heads, capacities = array(NODES), array(NODES), array(AMOUNTS)
+    keys: dict[int, Hashable] = {}
+    number_of = numbers.setdefault
+    for row in rows:
+        try:
+            if len(row) == 3:
+                tail, head, capacity = row
+            else:
+                tail, head, capacity, key = row
+                hash(key)
+                if key is not None:
+                    keys[len(tails) + 1] = key
+            tails.append(number_of(tail, len(numbers) + 1))
+            heads.append(number_of(head, len(numbers) + 1))
+        except (TypeError, ValueError):
+            raise NotAnArc(f"not an arc: {shown(row)}: {WANTED}") from None
+        try:
+            capacities.append(capacity)
+        except (TypeError, OverflowError):
+            capacities.append(whole(capacity, row))
+    return Columns(numbers, tails, heads, keys), capacities
+
+
 @dataclass(frozen=True)
 class Change(Generic[Node]):
     """What a change did to capacities: each arc's number with its capacity before and after; and the arc that it added. A closed
@@ -39,97 +70,163 @@ class Change(Generic[Node]):
 
 
 class Kept(Generic[Node]):
-    """The nodes of a network with their numbers, from 1 on; its arcs with their capacities, None where one is closed; and the
-    changes, with the place of the present state among them."""
+    """The arcs of a network with the capacities that they have, or had when they were closed; which are closed; those that were
+    added; and the changes that can be undone and made again, of which there are never more than `most`."""
 
-    def __init__(self, rows: Iterable[Any], source: Node, sink: Node, nodes: Iterable[Node]) -> None:
-        """Raises `NotAnArc`, `NotANumber`, `NumberTooLarge`, and `NoSuchNode` where the source or the sink is no node."""
-        self.numbers: dict[Node, int] = {}
-        self.arcs: list[Arc[Node]] = []
-        self.capacities: list[int | None] = []
-        self._keyed: Keyed[Node] | None = None
-        self._changes: list[Change[Node]] = []
-        self._place = 0
-        for node in nodes:
-            self.numbers.setdefault(node, len(self.numbers) + 1)
-        for row in rows:
-            self._put(row)
+    def __init__(self, columns: Columns[Node], capacities: array[int], source: Node, sink: Node, most: int) -> None:
+        """Raises `NoSuchNode` where the source or the sink is no node."""
+        self.columns = columns
+        self.handles = Handles(columns)
+        self.capacities = capacities
+        self.closed: set[int] = set()
+        self.added: list[Arc[Node]] = []
+        # The arcs of the network that this one was copied of, whose handles name the arcs here too.
+        self.origin: OpenArcs[Node] | None = None
+        self.most = most
+        # How many changes led to the present state, also those that are forgotten, and how many of them may not be undone now.
+        self.place = 0
+        self.floor: int | None = None
+        self._added_index: Added[Node] = Added()
+        self._done: deque[Change[Node]] = deque(maxlen=most)
+        self._undone: list[Change[Node]] = []
+        self._opened: OpenArcs[Node] | None = None
         for node in source, sink:
             self.number(node)
         self.source = source
         self.sink = sink
 
-    def _put(self, row: Any) -> None:
-        """Takes in a row of arcs."""
-        try:
-            tail, head, capacity, key = row if len(row) == 4 else (*row, None)
-            hash(key)
-            for node in tail, head:
-                self.numbers.setdefault(node, len(self.numbers) + 1)
-        except (TypeError, ValueError):
-            wanted = "wanted is (tail, head, capacity) or (tail, head, capacity, key), of which all but the capacity can be hashed"
-            raise NotAnArc(f"not an arc: {shown(row)}: {wanted}") from None
-        self.arcs.append(Arc(len(self.arcs) + 1, tail, head, key))
-        self.capacities.append(whole(capacity, row))
-
     def number(self, node: Node) -> int:
         """The number of a node. Raises `NoSuchNode`."""
-        if node not in self.numbers:
+        if node not in self.columns.numbers:
             raise NoSuchNode(shown(node))
-        return self.numbers[node]
+        return self.columns.numbers[node]
 
-    def opened(self) -> list[Arc[Node]]:
-        """The open arcs in their order."""
-        return [arc for arc, capacity in zip(self.arcs, self.capacities) if capacity is not None]
+    @property
+    def arc_count(self) -> int:
+        """How many arcs there are, closed ones counted."""
+        return len(self.capacities)
+
+    @property
+    def open_count(self) -> int:
+        return len(self.capacities) - len(self.closed)
+
+    def opened(self) -> OpenArcs[Node]:
+        """The open arcs as they are now."""
+        if self._opened is None:
+            self._opened = OpenArcs(self.handles, tuple(self.added), self.closed)
+        return self._opened
+
+    def handle(self, number: int) -> Arc[Node]:
+        """The handle of a number that is there."""
+        return self.handles.of(number) if number <= len(self.columns) else self.added[number - len(self.columns) - 1]
 
     def arc(self, key: Hashable) -> Arc[Node]:
         """The arc of a handle, a key or a pair of ends. Raises `NoSuchArc` and `AmbiguousArc`."""
         if isinstance(key, Arc):
-            if self.arcs[key.number - 1 : key.number] != [key]:
-                raise NoSuchArc(repr(key))
-            return key
-        self._keyed = self._keyed or Keyed(self.arcs)
-        return self._keyed.find(key, lambda arc: self.capacities[arc.number - 1] is not None)
+            if self.has(key):
+                return key
+            if self.origin and self.origin.has(key) and key.number <= self.arc_count:
+                return self.handle(key.number)
+            raise NoSuchArc(repr(key))
+        named = self.columns.named(key)
+        added = self._added_index.named(key)
+        found = [number for number in named if number not in self.closed]
+        opened = [arc for arc in added if arc.number not in self.closed]
+        if not found and not opened and (named or added):
+            return added[-1] if added else self.handles.of(named[-1])
+        return one_of([*map(self.handles.of, found), *opened], key)
+
+    def has(self, arc: Arc[Any]) -> bool:
+        """Whether a handle is that of an arc here, open or closed."""
+        if arc.number <= len(self.columns):
+            return self.handles.has(arc)
+        place = arc.number - len(self.columns) - 1
+        return self.added[place : place + 1] == [arc]
+
+    def at(self, node: Node) -> list[Arc[Node]]:
+        """The open arcs at a node, in their order."""
+        numbers = [number for number in self.columns.at(self.columns.numbers[node]) if number not in self.closed]
+        added = (arc for arc in self.added if node in (arc.tail, arc.head) and arc.number not in self.closed)
+        return [*map(self.handles.of, numbers), *added]
+
+    def leaving(self, side: list[int]) -> list[Arc[Node]]:
+        """The open arcs that lead out of a set of nodes, in their order."""
+        numbers = [number for number in self.columns.leaving(side) if number not in self.closed]
+        if not self.added:
+            return list(map(self.handles.of, numbers))
+        names = {self.columns.names[node - 1] for node in side}
+        added = (arc for arc in self.added if arc.tail in names and arc.head not in names and arc.number not in self.closed)
+        return [*map(self.handles.of, numbers), *added]
 
     def capacity(self, arc: Arc[Node]) -> int:
         """The capacity of an open arc. Raises `ArcIsClosed`."""
-        capacity = self.capacities[arc.number - 1]
-        if capacity is None:
+        if arc.number in self.closed:
             raise ArcIsClosed(repr(arc))
-        return capacity
+        return self.capacities[arc.number - 1]
 
     def note_capacities(self, arcs: Iterable[Arc[Node]], after: int | None) -> None:
-        """Notes a change that gave these arcs this capacity, or closed them."""
+        """Notes a change that gave these open arcs this capacity, or closed them."""
         self.note(Change([(arc.number, self.capacities[arc.number - 1], after) for arc in arcs]))
 
     def note(self, change: Change[Node]) -> None:
         """Notes a change that the program made, makes it here, and drops what was undone."""
-        del self._changes[self._place :]
-        self._changes.append(change)
+        self._undone = [change]
         self.redo(1)
 
     def redo(self, count: int) -> None:
         """Makes so many changes again, which are there."""
-        for change in self._changes[self._place : self._place + count]:
-            for number, _, after in change.capacities:
-                self.capacities[number - 1] = after
+        for _ in range(count):
+            change = self._undone.pop()
+            self._done.append(change)
             if change.added:
                 arc, capacity = change.added
-                self.arcs.append(arc)
+                self.put_added(arc)
                 self.capacities.append(capacity)
-                if self._keyed:
-                    self._keyed.put(arc)
-        self._place += count
+            self._put((number, after) for number, _, after in change.capacities)
+        self.place += count
+        self._opened = None
 
     def undo(self, count: int) -> None:
         """Takes so many changes back, which are there."""
         for _ in range(count):
-            self._place -= 1
-            change = self._changes[self._place]
-            for number, before, _ in change.capacities:
-                self.capacities[number - 1] = before
+            change = self._done.pop()
+            self._undone.append(change)
             if change.added:
-                arc = self.arcs.pop()
+                self._added_index.drop(self.added.pop())
                 self.capacities.pop()
-                if self._keyed:
-                    self._keyed.drop(arc)
+            self._put((number, before) for number, before, _ in change.capacities)
+        self.place -= count
+        self._opened = None
+
+    def _put(self, capacities: Iterable[tuple[int, int | None]]) -> None:
+        for number, capacity in capacities:
+            if capacity is None:
+                self.closed.add(number)
+            else:
+                self.closed.discard(number)
+                self.capacities[number - 1] = capacity
+
+    def judge_change(self) -> None:
+        """Raises `HistoryOutOfRange` where one more change could not be taken back at the end of what is tried out."""
+        if self.floor is not None and self.place - self.floor >= self.most:
+            why = f"history out of range: of what is tried out, {self.most} changes can be taken back, and not one more"
+            raise HistoryOutOfRange(why)
+
+    def judge_undo(self, count: int) -> None:
+        """Raises `NothingToUndo` where that would take back what was there before something was tried out."""
+        if self.floor is not None and self.place - count < self.floor:
+            raise NothingToUndo(f"undo {count}, of {self.place - self.floor} changes that are tried out")
+
+    def copy(self) -> Kept[Node]:
+        """The same arcs as they are now, without changes. Handles of these name the arcs of the copy too."""
+        copy = Kept(self.columns, self.capacities[:], self.source, self.sink, self.most)
+        copy.closed = set(self.closed)
+        copy.origin = self.origin or self.opened()
+        for arc in self.added:
+            copy.put_added(Arc(arc.number, arc.tail, arc.head, arc.given_key))
+        return copy
+
+    def put_added(self, arc: Arc[Node]) -> None:
+        """Takes in an arc that was added before, whose capacity is there."""
+        self.added.append(arc)
+        self._added_index.put(arc)

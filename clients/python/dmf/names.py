@@ -3,7 +3,7 @@
 from __future__ import annotations
 
 from collections import Counter
-from collections.abc import Hashable, Mapping
+from collections.abc import Hashable, Iterable, Mapping
 
 from .errors import NameNotWritable, shown
 from .text import ARC, NODE, read_names
@@ -43,3 +43,8 @@ def _judge(kind: str, number: int, name: str) -> None:
     if (node_names if kind == NODE else arc_names) != {number: name}:
         why = "a name in a comment has no line feed, no half of a character, and no blank or carriage return at an end"
         raise NameNotWritable(f"name not writable: that of {kind} {number}, {shown(name)}: {why}")
+
+
+def picture_names(nodes: Iterable[Hashable], keys: Mapping[int, Hashable]) -> tuple[dict[int, str], dict[int, str]]:
+    """The names of nodes and of arcs by their numbers, as a picture shows them."""
+    return {number: str(name) for number, name in enumerate(nodes, 1)}, {place: str(key) for place, key in keys.items()}

@@ -2,15 +2,21 @@
 
 from __future__ import annotations
 
+import contextlib
 import tempfile
-from collections.abc import Hashable, Iterable
-from typing import Generic, NoReturn, Tuple, Union
+import weakref
+from array import array
+from collections.abc import Hashable, Iterable, Iterator
+from typing import Any, Generic, NoReturn, Tuple, Union
 
-from .errors import Refused, shown
-from .kept import Change, Kept, Whole, whole
+from . import arrays
+from .arcs import Arc, Columns, Node, Owner
+from .errors import ArcIsOpen, NoSuchArc, Refused, SessionEnded, shown
+from .kept import Change, Kept, Whole, columns_of, whole
 from .names import comments
-from .process import Child, Program, session_words, start
-from .solution import Arc, Cut, Node, Solution
+from .notebook import MOST_DRAWN, Look, table
+from .process import Child, Program, bound, session_words, start
+from .solution import Cut, Flows, Solution
 from .text import display
 
 # An arc as the caller gives it: its tail, its head, its capacity and, where it has one, its key.
@@ -42,27 +48,97 @@ class Network(Generic[Node]):
         program: Program = None,
         history: int | None = None,
     ) -> None:
-        words = session_words(history)
-        kept = Kept(arcs, source, sink, nodes)
-        with tempfile.NamedTemporaryFile("w", prefix="dmf-", suffix=".max") as file:
-            file.write(f"p max {len(kept.numbers)} {len(kept.arcs)}\n")
-            file.write(f"n {kept.numbers[source]} s\nn {kept.numbers[sink]} t\n")
-            file.writelines(
-                f"a {kept.numbers[arc.tail]} {kept.numbers[arc.head]} {capacity}\n"
-                for arc, capacity in zip(kept.arcs, kept.capacities)
-            )
-            file.flush()
-            try:
-                self._begin(start(file.name, program, words), kept)
-            except Refused as refused:
-                # The lines of the arcs stand behind three others.
-                place = (refused.line or 0) - 4
-                raise Refused.of(refused.text, repr(kept.arcs[place]) if place >= 0 else "") from None
+        most = bound(history)
+        self._make(*columns_of(arcs, nodes), source, sink, program, most)
+
+    @classmethod
+    def from_arrays(
+        cls,
+        tail: Any,
+        head: Any,
+        capacity: Any,
+        *,
+        source: Node,
+        sink: Node,
+        key: Any = None,
+        nodes: Iterable[Node] = (),
+        infinite: Whole | None = None,
+        program: Program = None,
+        history: int | None = None,
+    ) -> Network[Node]:
+        """The network of `zip(tail, head, capacity)`, with `key` as the arcs' keys where that is given. The columns may be lists,
+        arrays of numpy, series of pandas and whatever else has a length; arrays of whole numbers are taken together, which is several
+        times as quick. The nodes of an array are the numbers or texts of Python that stand in it. `infinite` is the capacity of
+        arcs whose capacity is infinite, None or no number. The other arguments are those of `Network`, and it raises the same, with
+        `NotAnArc` where the columns have several lengths."""
+        most = bound(history)
+        made = cls.__new__(cls)
+        made._make(*arrays.columns_of_arrays(tail, head, capacity, key, nodes, infinite), source, sink, program, most)
+        return made
+
+    @classmethod
+    def from_frame(
+        cls,
+        frame: Any,
+        tail: str = "tail",
+        head: str = "head",
+        capacity: str = "capacity",
+        *,
+        source: Node,
+        sink: Node,
+        key: str | None = None,
+        nodes: Iterable[Node] = (),
+        infinite: Whole | None = None,
+        program: Program = None,
+        history: int | None = None,
+    ) -> Network[Node]:
+        """The network of a frame of pandas, or of anything else that gives its columns by their names, with an arc for each row. `key`
+        names the column of the arcs' keys; where a row has none there, its arc has no key. The other arguments are those of
+        `from_arrays`. Raises a KeyError where the frame has no such column."""
+        columns = [frame[column] for column in (tail, head, capacity)]
+        keys = None if key is None else frame[key]
+        return cls.from_arrays(
+            *columns, source=source, sink=sink, key=keys, nodes=nodes, infinite=infinite, program=program, history=history
+        )
+
+    def _make(
+        self, columns: Columns[Node], capacities: array[int], source: Node, sink: Node, program: Program, most: int
+    ) -> None:
+        """Begins the session of a problem."""
+        kept = Kept(columns, capacities, source, sink, most)
+        try:
+            self._begin(_started(kept, program), kept)
+        except Refused as refused:
+            # The lines of the arcs stand behind three others.
+            number = (refused.line or 0) - 3
+            raise Refused.of(refused.text, repr(kept.handle(number)) if number >= 1 else "") from None
 
     def _begin(self, child: Child, kept: Kept[Node]) -> None:
         self._child = child
         self._kept = kept
         self._value = 0
+        # The present flow, while somebody has it or it was told.
+        self._present: weakref.ref[Flows[Node]] | None = None
+        self._told: Flows[Node] | None = None
+        owner: weakref.ref[Owner] = weakref.ref(self)
+        kept.handles.owner = owner
+        for arc in kept.added:
+            arc._owner = owner
+
+    def _copy(self) -> Network[Node]:
+        """Another network of the same arcs as they are now, which names of these name too; nothing flows on it, and no change of it
+        can be undone."""
+        kept = self._kept.copy()
+        program: Any = self._child.process.args
+        return Network._of_copy(kept, program[0])
+
+    @staticmethod
+    def _of_copy(kept: Kept[Node], program: Program) -> Network[Node]:
+        copy: Network[Node] = Network.__new__(Network)
+        copy._begin(_started(kept, program), kept)
+        for number in sorted(kept.closed):
+            copy._answered(f"close {number}")
+        return copy
 
     @property
     def value(self) -> int:
@@ -82,12 +158,12 @@ class Network(Generic[Node]):
     @property
     def nodes(self) -> list[Node]:
         """All nodes: those that `nodes` named, and then the ends of the arcs, in their order."""
-        return list(self._kept.numbers)
+        return list(self._kept.columns.numbers)
 
     @property
     def arcs(self) -> list[Arc[Node]]:
         """The open arcs, in their order."""
-        return self._kept.opened()
+        return list(self._kept.opened())
 
     def arc(self, key: Hashable) -> Arc[Node]:
         """The arc of a key, or of a pair `(tail, head)`. Where several have it, it is the open one. Raises `NoSuchArc` and, where
@@ -106,24 +182,24 @@ class Network(Generic[Node]):
         with self._child.alone():
             found = self._kept.arc(arc)
             room = whole(capacity, found)
-            value = self._answered(f"cap {found.number} {room}", found)
+            value = self._changed(f"cap {found.number} {room}", found)
             self._kept.note_capacities([found], room)
             return value
 
     def close(self, arc: Hashable) -> int:
-        """Closes an arc: nothing may flow on it any more, and only `undo` opens it again. Returns the value of the flow that is
-        left. Raises `ArcIsClosed`, and what `arc` raises."""
+        """Closes an arc: nothing may flow on it any more, and only `undo` opens it again; `open` adds another one in its place. Returns
+        the value of the flow that is left. Raises `ArcIsClosed`, and what `arc` raises."""
         with self._child.alone():
             found = self._kept.arc(arc)
-            value = self._answered(f"close {found.number}", found)
+            value = self._changed(f"close {found.number}", found)
             self._kept.note_capacities([found], None)
             return value
 
     def shut(self, node: Node) -> int:
         """Closes every open arc at a node, as one change. Returns the value of the flow that is left. Raises `NoSuchNode`."""
         with self._child.alone():
-            value = self._answered(f"shut {self._kept.number(node)}", node)
-            self._kept.note_capacities([arc for arc in self.arcs if node in (arc.tail, arc.head)], None)
+            value = self._changed(f"shut {self._kept.number(node)}", node)
+            self._kept.note_capacities(self._kept.at(node), None)
             return value
 
     def add(self, tail: Node, head: Node, capacity: Whole, key: Hashable = None) -> Arc[Node]:
@@ -132,31 +208,48 @@ class Network(Generic[Node]):
         Raises `NoSuchNode`, `CapacitiesPast64Bits`, `TooManyArcs`, `NotANumber` and `NumberTooLarge`."""
         hash(key)
         with self._child.alone():
-            room = whole(capacity, (tail, head))
-            self._answered(f"add {self._kept.number(tail)} {self._kept.number(head)} {room}", (tail, head))
-            arc = Arc(len(self._kept.arcs) + 1, tail, head, key)
-            self._kept.note(Change(added=(arc, room)))
-            return arc
+            return self._add(tail, head, whole(capacity, (tail, head)), key)
+
+    def open(self, arc: Hashable) -> Arc[Node]:
+        """Opens a closed arc: adds it again, with its ends, its key and the capacity that it had when it was closed. To the program that
+        is a new arc with a new number, behind all others, on which nothing flows yet; `undo` takes it away. Returns its handle. The key
+        and the ends name the new arc from now on, while the old handle still names the arc that is closed.
+
+        Raises `ArcIsOpen` where the arc is open, `TooManyArcs`, `CapacitiesPast64Bits`, and what `arc` raises."""
+        with self._child.alone():
+            found = self._kept.arc(arc)
+            if found.number not in self._kept.closed:
+                raise ArcIsOpen(f"arc is open: {found!r}")
+            return self._add(found.tail, found.head, self._kept.capacities[found.number - 1], found.given_key)
+
+    def _add(self, tail: Node, head: Node, room: int, key: Hashable) -> Arc[Node]:
+        self._changed(f"add {self._kept.number(tail)} {self._kept.number(head)} {room}", (tail, head))
+        arc = Arc(self._kept.arc_count + 1, tail, head, key, weakref.ref(self))
+        self._kept.note(Change(added=(arc, room)))
+        return arc
 
     def solve(self) -> Solution[Node]:
         """Makes the flow a greatest one, going on from the present flow, and returns it. That is a change, which `undo` takes
         back."""
         with self._child.alone():
-            solution = self._solution("solve")
+            self._changed("solve")
             self._kept.note(Change())
-            return solution
+            return Solution(self._flows())
 
     def flow(self) -> Solution[Node]:
         """The present flow."""
         with self._child.alone():
-            return self._solution("print flow")
+            if not self._child.end.alive:
+                raise self._child.ended()
+            return Solution(self._flows())
 
     def undo(self, count: int = 1) -> int:
         """Takes back the last changes, all of them or none, `solve` among them. Flows, too, are as they were. Returns the value.
         Raises `NothingToUndo`."""
         with self._child.alone():
             steps = whole(count, "undo")
-            value = self._answered(f"undo {steps}")
+            self._kept.judge_undo(steps)
+            value = self._stepped(f"undo {steps}")
             self._kept.undo(steps)
             return value
 
@@ -164,25 +257,47 @@ class Network(Generic[Node]):
         """Makes the changes again that were taken back last, all of them or none. Returns the value. Raises `NothingToRedo`."""
         with self._child.alone():
             steps = whole(count, "redo")
-            value = self._answered(f"redo {steps}")
+            value = self._stepped(f"redo {steps}")
             self._kept.redo(steps)
             return value
+
+    @contextlib.contextmanager
+    def try_out(self) -> Iterator[Network[Node]]:
+        """A block in which changes are tried out. At its end the network is as it was before, also where the block raises, or undoes
+        and makes again some of its changes; `redo` makes them once more after that.
+
+            with network.try_out():
+                network.close("canal")
+                loss = before - network.solve().value
+
+        Inside the block `undo` takes back no more than what was done in it, and raises `NothingToUndo`. Where `history` bounds the
+        changes that can be undone, a change past so many in one block is refused by `HistoryOutOfRange`. Blocks may stand in
+        blocks."""
+        kept = self._kept
+        with self._child.alone():
+            outer, kept.floor = kept.floor, kept.place
+        try:
+            yield self
+        finally:
+            inner, kept.floor = kept.floor, outer
+            # A session that has ended has nothing to take back.
+            if self._child.end.alive and inner is not None and kept.place > inner:
+                self.undo(kept.place - inner)
 
     def cut(self) -> Cut[Node]:
         """The smallest minimum cut. Raises `FlowIsNotGreatest` where some flow has a larger value than the present one, as before
         `solve`."""
-        # A cut is as long as it is; what is answered to `undo 0`, which changes nothing, stands behind its end.
-        with self._child.alone(), self._child.exchange("print cut\nundo 0"):
-            try:
-                capacity = int(self._reply("print cut", [b"c", b"cut"])[2])
-            except Refused:
-                self._child.line()
-                raise
-            numbers = set()
-            while (fields := self._child.line())[1] == b"side":
-                numbers.add(int(fields[2]))
-            side = frozenset(node for node, number in self._kept.numbers.items() if number in numbers)
-            return Cut(capacity, side, tuple(arc for arc in self.arcs if arc.tail in side and arc.head not in side))
+        with self._child.alone():
+            # A cut is as long as it is; what is answered to `undo 0`, which changes nothing, stands behind its end.
+            with self._child.exchange("print cut\nundo 0"):
+                lines = self._child.lines_before(b"c undo value ").split(b"\n")[:-1]
+                capacity = int(self._begun(lines[0].split(), "print cut", [b"c", b"cut"])[2])
+                side = [int(line[7:]) for line in lines[1:] if line.startswith(b"c side ")]
+                if len(side) != len(lines) - 1:
+                    raise ValueError
+            names = self._kept.columns.names
+            look = self._look(set(side)) if self._kept.open_count <= MOST_DRAWN else None
+            return Cut(capacity, frozenset(names[node - 1] for node in side), tuple(self._kept.leaving(side)), look)
 
     def problem(self, *, names: bool = True) -> str:
         """The problem of the open arcs as a text in the DIMACS format. With `names`, comments before it name nodes and arcs: each
@@ -192,16 +307,34 @@ class Network(Generic[Node]):
         Raises `NameNotWritable` where a name would come back as another one: where it has a line feed or blanks around it, or
         where two nodes are called the same."""
         with self._child.alone():
-            arcs = self.arcs
-            keys = {place: arc.given_key for place, arc in enumerate(arcs, 1) if arc.given_key is not None}
-            named = {number: node for node, number in self._kept.numbers.items()}
-            before = comments(named, keys) if names else ""
+            opened = self._kept.opened()
+            before = ""
+            if names:
+                keys = {place: key for place, key in enumerate(opened.keys(), 1) if key is not None}
+                before = comments(dict(enumerate(self._kept.columns.names, 1)), keys)
             with self._child.exchange("print problem"):
-                lines = [self._reply("print problem", [b"p"])] + [self._child.line() for _ in range(len(arcs) + 2)]
-            return before + "".join(b" ".join(line).decode() + "\n" for line in lines)
+                begin = self._child.lines(1)
+                self._begun(begin.split(), "print problem", [b"p"])
+                return before + (begin + self._child.lines(len(opened) + 2)).decode()
+
+    def to_networkx(self) -> Any:
+        """A MultiDiGraph of networkx with an edge for each open arc. Its key is the arc's number, and its attributes are `capacity`,
+        `flow`, and `key` where one was given. Raises an ImportError where networkx is not there."""
+        graph = arrays.package("networkx", "a graph")
+        flow = self.flow()
+        made = graph.MultiDiGraph()
+        made.add_nodes_from(self.nodes)
+        for (arc, carried), capacity in zip(flow.items(), flow._flows.capacities()):
+            given = {} if arc.given_key is None else {"name": arc.given_key}
+            made.add_edge(arc.tail, arc.head, key=arc.number, capacity=capacity, flow=carried, **given)
+        return made
 
     def end(self) -> None:
         """Ends the session. Nothing can be asked after that."""
+        if self._child.is_owned and self._child.end.alive:
+            with self._child.alone():
+                with contextlib.suppress(SessionEnded):
+                    self._part()
         self._child.close()
 
     def __enter__(self) -> Network[Node]:
@@ -214,12 +347,32 @@ class Network(Generic[Node]):
         raise TypeError("a network cannot be copied or pickled, since it is a running program: make another of its problem")
 
     def __repr__(self) -> str:
-        return f"<Network of {len(self._kept.numbers)} nodes and {len(self._kept.arcs)} arcs, with a flow of value {self._value}>"
+        kept = self._kept
+        return f"<Network of {len(kept.columns.numbers)} nodes and {kept.arc_count} arcs, with a flow of value {self._value}>"
 
-    def _reply(self, line: str, begin: list[bytes], at: object = None) -> list[bytes]:
+    def _repr_svg_(self) -> str | None:
+        if self._kept.open_count > MOST_DRAWN:
+            return None
+        with self._child.alone():
+            look = self._look(set())
+        return look.svg()
+
+    def _repr_html_(self) -> str:
+        flow = self.flow()
+        rows = ((*row, capacity) for row, capacity in zip(flow._rows(), flow._flows.capacities()))
+        return table(repr(self)[1:-1], ("arc", "tail", "head", "flow", "capacity"), len(flow), rows)
+
+    def _look(self, side: set[int]) -> Look:
+        """How the network looks now."""
+        flows = self._flows()
+        flows.settle(self._asked_flow)
+        kept = self._kept
+        ends = kept.number(kept.source), kept.number(kept.sink)
+        return Look(flows.arcs, ends, flows.numbers(), flows.capacities(), side)
+
+    def _begun(self, fields: list[bytes], line: str, begin: list[bytes], at: object = None) -> list[bytes]:
         """The fields of the first line of a reply, which begins with these. Raises a `Refused` that names the line, or the thing that
         it was about, and a ValueError for another reply."""
-        fields = self._child.line()
         if fields[:2] == [b"c", b"refused"]:
             raise Refused.of(display(b" ".join(fields[3:]).decode()), line if at is None else shown(at))
         if fields[: len(begin)] != begin:
@@ -229,16 +382,87 @@ class Network(Generic[Node]):
     def _answered(self, line: str, at: object = None) -> int:
         """The value that is answered to a command."""
         with self._child.exchange(line):
-            self._value = int(self._reply(line, [b"c", line.split()[0].encode()], at)[-1])
+            return int(self._begun(self._child.line(), line, [b"c", line.split()[0].encode()], at)[-1])
+
+    def _stepped(self, line: str, at: object = None) -> int:
+        """The value that is answered to a command that changes the network. Flows that somebody has are taken before."""
+        self._part()
+        self._value = self._answered(line, at)
+        self._present = self._told = None
         return self._value
 
-    def _solution(self, line: str) -> Solution[Node]:
-        """The flow that is answered to a command."""
-        flows = {}
-        with self._child.exchange(line):
-            value = int(self._reply(line, [b"s"])[1])
-            for arc in self.arcs:
-                _, _, _, flow = self._child.line()
-                flows[arc] = int(flow)
-        self._value = value
-        return Solution(value, flows, self._kept.numbers)
+    def _changed(self, line: str, at: object = None) -> int:
+        """As `_stepped`, for a new change."""
+        self._kept.judge_change()
+        return self._stepped(line, at)
+
+    def _asked_flow(self) -> bytes:
+        """The text of the present flow."""
+        with self._child.exchange("print flow"):
+            begin = self._child.lines(1)
+            count = self._kept.open_count
+            if int(self._begun(begin.split(), "print flow", [b"s"])[1]) != self._value:
+                raise ValueError
+            text = begin + self._child.lines(count)
+            if text.count(b"\nf ") != count:
+                raise ValueError
+            return text
+
+    def _flows(self) -> Flows[Node]:
+        """The present flow, of which the program has told nothing but the value so far, where nobody asked."""
+        flows = None if self._present is None else self._present()
+        if flows is None:
+            flows = Flows(self._value, self._kept.opened(), self._kept.capacities, self._ask_flow)
+            self._present = weakref.ref(flows)
+        return flows
+
+    def _ask_flow(self) -> bytes:
+        """The text of the present flow, for someone who looks at it later than it was given."""
+        with self._child.alone():
+            return self._asked_flow()
+
+    def _part(self) -> None:
+        """Lets the present flow take what the program does not tell any more after a change, where somebody has it."""
+        flows = None if self._present is None else self._present()
+        if flows is not None:
+            flows.part(self._asked_flow)
+
+    def capacity_now(self, arc: Arc[Any]) -> int:
+        """The capacity of an open arc, for its handle."""
+        self._judge_arc(arc)
+        return self._kept.capacity(arc)
+
+    def is_open_now(self, arc: Arc[Any]) -> bool:
+        """Whether an arc is open, for its handle."""
+        return self._kept.has(arc) and arc.number not in self._kept.closed
+
+    def flow_now(self, arc: Arc[Any]) -> int:
+        """What flows on an arc, for its handle."""
+        self._judge_arc(arc)
+        if arc.number in self._kept.closed:
+            return 0
+        with self._child.alone():
+            # It is kept until the next change, for the next arc that is asked.
+            self._told = self._flows()
+            self._told.settle(self._asked_flow)
+        return Solution(self._told)[arc]
+
+    def _judge_arc(self, arc: Arc[Any]) -> None:
+        if not self._kept.has(arc):
+            raise NoSuchArc(repr(arc))
+
+
+def _started(kept: Kept[Any], program: Program) -> Child:
+    """A session on the problem of what is kept."""
+    words = session_words(kept.most)
+    columns = kept.columns
+    with tempfile.NamedTemporaryFile("wb", prefix="dmf-", suffix=".max") as file:
+        count = len(columns) + len(kept.added)
+        head = f"p max {len(columns.numbers)} {count}\nn {kept.number(kept.source)} s\nn {kept.number(kept.sink)} t\n"
+        file.write(head.encode())
+        file.writelines(arrays.problem_lines(columns, kept.capacities))
+        for arc in kept.added:
+            line = f"a {kept.number(arc.tail)} {kept.number(arc.head)} {kept.capacities[arc.number - 1]}\n"
+            file.write(line.encode())
+        file.flush()
+        return start(file.name, program, words)

@@ -30,6 +30,8 @@ MOST_KEPT = 1_000_000
 SECONDS = 2
 # How much is shown of what a program told on standard error, in bytes.
 MOST_TOLD = 1 << 16
+# How much is read of an answer at once, in bytes.
+PIECE = 1 << 20
 _TOLD = re.compile(r"dmf: (?:line ([0-9]{1,10}): )?(.*)")
 
 
@@ -52,15 +54,20 @@ class Child:
         self._owner = os.getpid()
         self.end = weakref.finalize(self, _end, self.process, self._told, self._owner)
         self._why_ended = "the session was ended"
+        self._why_broken = ""
         self._lock = threading.Lock()
         assert self.process.stdin and self.process.stdout
-        self._input, self._output = self.process.stdin, self.process.stdout
+        self._input, self._output = self.process.stdin, self.process.stdout.fileno()
+        # What was read and belongs to later lines.
+        self._rest = b""
+        # How many lines were sent.
+        self.line_count = 0
 
     @contextlib.contextmanager
     def alone(self) -> Iterator[None]:
         """Keeps the program, and what is kept beside it, for one caller. Raises `UsedByTwoThreads` where another one has it, and
         `UsedByTwoProcesses` in a process that was forked off."""
-        if os.getpid() != self._owner:
+        if not self.is_owned:
             raise UsedByTwoProcesses("used by two processes at once: a process that was forked off needs a network of its own")
         if not self._lock.acquire(blocking=False):
             raise UsedByTwoThreads("used by two threads at once: each needs a network of its own, or a lock around its calls")
@@ -79,8 +86,9 @@ class Child:
         """Sends lines, and lets the caller read what is answered. Where that is broken off the session ends, since the rest of the
         answer would be taken for that of the next command."""
         if not self.end.alive:
-            raise SessionEnded(self._why_ended)
+            raise self.ended()
         try:
+            self.line_count += 1 + lines.count("\n")
             self._input.write(lines.encode() + b"\n")
             self._input.flush()
             yield
@@ -97,16 +105,67 @@ class Child:
 
     def line(self) -> list[bytes]:
         """The fields of the next line that is answered. Raises an EOFError where none comes."""
-        line = self._output.readline()
-        if not line.endswith(b"\n"):
+        return self.lines(1).split()
+
+    def lines(self, count: int) -> bytes:
+        """The next lines that are answered, so many. Raises an EOFError where they do not come."""
+        pieces, found = [self._rest], self._rest.count(b"\n")
+        while found < count:
+            pieces.append(self._read())
+            found += pieces[-1].count(b"\n")
+        text = b"".join(pieces)
+        end = len(text)
+        if found == count and text.endswith(b"\n"):
+            pass
+        elif count <= found - count:
+            end = 0
+            for _ in range(count):
+                end = text.index(b"\n", end) + 1
+        else:
+            for _ in range(found - count + 1):
+                end = text.rindex(b"\n", 0, end)
+            end += 1
+        self._rest = text[end:]
+        return text[:end]
+
+    def lines_before(self, begin: bytes) -> bytes:
+        """The lines that are answered before the next one that begins so, which is the last of all that is answered."""
+        pieces = [self._rest]
+        last = self._rest
+        while not (last.endswith(b"\n") and last[last.rfind(b"\n", 0, -1) + 1 :].startswith(begin)):
+            pieces.append(self._read())
+            # The last line may have come in parts.
+            last = pieces[-1] if b"\n" in pieces[-1][:-1] else last + pieces[-1]
+        self._rest = b""
+        text = b"".join(pieces)
+        return text[: text.rfind(b"\n", 0, -1) + 1]
+
+    def _read(self) -> bytes:
+        piece = os.read(self._output, PIECE)
+        if not piece:
             raise EOFError
-        return line.split()
+        return piece
+
+    @property
+    def is_owned(self) -> bool:
+        """Whether this is the process that began the program, and none that was forked off."""
+        return os.getpid() == self._owner
+
+    def ended(self) -> SessionEnded:
+        """Why nothing can be asked any more."""
+        return SessionEnded(self._why_ended)
 
     def close(self) -> None:
         """Ends the program, where nobody is asking it. A process that was forked off leaves it alone."""
-        if os.getpid() == self._owner:
+        if self.is_owned:
             with self.alone():
                 self.end()
+
+    def break_off(self, why: str) -> None:
+        """Kills the program for a thread that waits for its answer, or may ask it later: each of its calls raises `SessionEnded`."""
+        if self.end.alive:
+            self._why_broken = why
+            self.process.kill()
 
     def _kill(self, why: str) -> None:
         """Ends the program at once, if it has not ended before."""
@@ -124,7 +183,7 @@ class Child:
         self.end()
         found = _TOLD.fullmatch(told)
         told = "\n".join(map(display, told.split("\n")))
-        self._why_ended = f"dmf {_ended(status)}{': ' if told else ''}{told}"
+        self._why_ended = self._why_broken or f"dmf {_ended(status)}{': ' if told else ''}{told}"
         if found and (found[1] or found[2] in Refused.kinds):
             refused = Refused.of(display(found[2]), f"line {found[1]} of the problem" if found[1] else "")
             refused.line = int(found[1]) if found[1] else None
@@ -168,17 +227,23 @@ def _end(process: subprocess.Popen[bytes], told: IO[bytes], owner: int) -> None:
     told.close()
 
 
-def session_words(history: int | None) -> list[str | bytes]:
-    """The words that ask for a session. Raises `HistoryOutOfRange`."""
+def bound(history: int | None) -> int:
+    """The most changes that can be undone. Raises `HistoryOutOfRange`."""
     if history is None:
-        return ["session"]
+        return MOST_KEPT
     try:
         kept = operator.index(history)
     except TypeError:
         kept = -1
     if not 0 <= kept <= MOST_KEPT:
         raise HistoryOutOfRange(f"history out of range: {shown(history)} is no whole number from 0 to 1,000,000")
-    return ["session", "--history", str(kept)]
+    return kept
+
+
+def session_words(most: int) -> list[str | bytes]:
+    """The words that ask for a session in which so many changes can be undone, and a solve is answered by its value alone."""
+    words: list[str | bytes] = ["session", "--brief"]
+    return words if most == MOST_KEPT else [*words, "--history", str(most)]
 
 
 def start(path: str, program: Program, words: list[str | bytes]) -> Child:

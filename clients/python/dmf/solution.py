@@ -1,79 +1,96 @@
-"""Arcs, and what the program tells of them: solutions and cuts."""
+"""What the program tells of a network: solutions and cuts."""
 
 from __future__ import annotations
 
-from collections.abc import Callable, Container, Hashable, Iterable, Iterator, Mapping
-from dataclasses import dataclass
+from array import array
+from collections.abc import Callable, Hashable, ItemsView, Iterator, Mapping, ValuesView
+from dataclasses import dataclass, field
 from typing import Any, Generic, TypeVar, overload
 
-from .errors import AmbiguousArc, NoSuchArc, NoSuchNode, shown
+from . import arrays
+from .arcs import Arc, Node, OpenArcs
+from .errors import NoSuchArc, NoSuchNode, SessionEnded, shown
+from .notebook import Look, table
 
-Node = TypeVar("Node", bound=Hashable)
 Other = TypeVar("Other")
 
 
-class Arc(Generic[Node]):
-    """An arc of a network: its handle. `number` is the one that the program knows it by, `tail` and `head` are its ends, and
-    `given_key` is the key that the caller gave it, or None. Each arc is equal to itself alone, so a copy of it is the arc itself."""
+class Flows(Generic[Node]):
+    """The flow of one state of a network, which the program is asked for when someone wants to know it, and at the latest before the
+    network changes. The text is kept as the program told it, and read when a flow is looked at."""
 
-    __slots__ = "number", "tail", "head", "given_key"
+    def __init__(self, value: int, arcs: OpenArcs[Node], capacities: array[int], ask: Callable[[], bytes]) -> None:
+        self.value = value
+        self.arcs = arcs
+        # Those of the network, until it changes.
+        self._capacities = capacities
+        self._ask: Callable[[], bytes] | None = ask
+        self._text = b""
+        self._numbers: array[int] | None = None
 
-    def __init__(self, number: int, tail: Node, head: Node, given_key: Hashable) -> None:
-        self.number = number
-        self.tail = tail
-        self.head = head
-        self.given_key = given_key
+    def settle(self, ask: Callable[[], bytes] | None = None) -> None:
+        """Takes the text, where it was not asked for yet. A caller who has the program already gives how it is asked."""
+        own = self._ask
+        if own:
+            text = (ask or own)()
+            # Another thread that changed the network meanwhile took the text before it did so.
+            if self._ask:
+                self._text, self._ask = text, None
 
-    @property
-    def key(self) -> Hashable:
-        """The key that the caller gave, and else the tail and the head."""
-        return (self.tail, self.head) if self.given_key is None else self.given_key
+    def part(self, ask: Callable[[], bytes]) -> None:
+        """Takes all that the network tells no more once it has changed."""
+        self.settle(ask)
+        self._capacities = self._capacities[:]
 
-    def __copy__(self) -> Arc[Node]:
-        return self
+    def text(self) -> bytes:
+        """The text of the solution."""
+        self.settle()
+        return self._text
 
-    def __deepcopy__(self, _: object) -> Arc[Node]:
-        return self
+    def numbers(self) -> array[int]:
+        """What flows on each open arc. Raises `SessionEnded` where the program told something else."""
+        if self._numbers is None:
+            self._numbers = arrays.flows(self.text(), len(self.arcs))
+            if self._numbers is None:
+                raise SessionEnded("what dmf answered was not understood: it told no flow for each open arc")
+            self._text = b""
+        return self._numbers
 
-    def __repr__(self) -> str:
-        key = "" if self.given_key is None else f", {shown(self.given_key)}"
-        return f"<Arc {self.number}: {shown(self.tail)} to {shown(self.head)}{key}>"
+    def capacities(self) -> array[int]:
+        """The capacities of the open arcs."""
+        return self.arcs.chosen(self._capacities)
 
-
-class Keyed(Generic[Node]):
-    """Arcs by their ends, and by the keys that were given."""
-
-    def __init__(self, arcs: Iterable[Arc[Node]]) -> None:
-        self._arcs: dict[Hashable, list[Arc[Node]]] = {}
-        for arc in arcs:
-            self.put(arc)
-
-    def put(self, arc: Arc[Node]) -> None:
-        """Takes in an arc."""
-        for key in _keys(arc):
-            self._arcs.setdefault(key, []).append(arc)
-
-    def drop(self, arc: Arc[Node]) -> None:
-        """Takes out an arc that is there."""
-        for key in _keys(arc):
-            self._arcs[key].remove(arc)
-
-    def find(self, key: Hashable, is_open: Callable[[Arc[Node]], bool]) -> Arc[Node]:
-        """The arc of this key, or of these ends. Where there are several, it is the open one. Raises `NoSuchArc` and, where
-        several are open, `AmbiguousArc`."""
-        found = self._arcs.get(key)
-        if not found:
-            raise NoSuchArc(shown(key))
-        opened = [arc for arc in found if is_open(arc)] if len(found) > 1 else found
-        if len(opened) > 1:
-            some = ", ".join(map(repr, opened[:9])) + ", .." * (len(opened) > 9)
-            raise AmbiguousArc(f"{len(opened)} open arcs have the key or the ends {shown(key)}: {some}")
-        return (opened or found)[-1]
+    def __reduce__(self) -> tuple[Any, ...]:
+        return _settled, (self.value, self.arcs, self._capacities[:], self.numbers())
 
 
-def _keys(arc: Arc[Node]) -> list[Hashable]:
-    ends = arc.tail, arc.head
-    return [ends] if arc.given_key is None or arc.given_key == ends else [ends, arc.given_key]
+def _settled(value: int, arcs: OpenArcs[Any], capacities: array[int], numbers: array[int]) -> Flows[Any]:
+    flows = Flows(value, arcs, capacities, bytes)
+    flows.settle()
+    flows._numbers = numbers
+    return flows
+
+
+class _Values(ValuesView[int]):
+    """The flows in the order of the arcs, for which no arc is looked up."""
+
+    def __init__(self, solution: Solution[Any]) -> None:
+        super().__init__(solution)
+        self._flows = solution._flows
+
+    def __iter__(self) -> Iterator[int]:
+        return iter(self._flows.numbers())
+
+
+class _Items(ItemsView[Arc[Node], int]):
+    """The arcs with their flows, for which no arc is looked up."""
+
+    def __init__(self, solution: Solution[Node]) -> None:
+        super().__init__(solution)
+        self._flows = solution._flows
+
+    def __iter__(self) -> Iterator[tuple[Arc[Node], int]]:
+        return zip(self._flows.arcs, self._flows.numbers())
 
 
 class Solution(Mapping[Arc[Node], int], Generic[Node]):
@@ -86,21 +103,22 @@ class Solution(Mapping[Arc[Node], int], Generic[Node]):
     ...     solution = network.solve()
     >>> solution["pipe"], solution["b", "c"], solution.between("a", "b"), solution.value
     (5, 5, 5, 5)
+
+    The program is asked for the flows when one is looked at, and at the latest before the network changes or ends; so a value alone
+    costs nothing more.
     """
 
-    def __init__(self, value: int, flows: dict[Arc[Node], int], nodes: Container[Node]) -> None:
-        self.value = value
+    def __init__(self, flows: Flows[Node]) -> None:
         self._flows = flows
-        self._nodes = nodes
-        self._keyed: Keyed[Node] | None = None
+
+    @property
+    def value(self) -> int:
+        """What flows from the source to the sink."""
+        return self._flows.value
 
     def __getitem__(self, arc: Hashable) -> int:
-        if isinstance(arc, Arc):
-            if arc not in self._flows:
-                raise NoSuchArc(repr(arc))
-            return self._flows[arc]
-        self._keyed = self._keyed or Keyed(self._flows)
-        return self._flows[self._keyed.find(arc, self._flows.__contains__)]
+        arcs = self._flows.arcs
+        return self._flows.numbers()[arcs.place(arcs.find(arc).number)]
 
     @overload
     def get(self, arc: Hashable, /) -> int | None: ...
@@ -116,27 +134,81 @@ class Solution(Mapping[Arc[Node], int], Generic[Node]):
             return default
 
     def __iter__(self) -> Iterator[Arc[Node]]:
-        return iter(self._flows)
+        return iter(self._flows.arcs)
 
     def __len__(self) -> int:
-        return len(self._flows)
+        return len(self._flows.arcs)
+
+    def __eq__(self, other: object) -> bool:
+        if isinstance(other, Solution) and self._flows.arcs == other._flows.arcs:
+            return self._flows.numbers() == other._flows.numbers()
+        return super().__eq__(other)
+
+    __hash__ = None  # type: ignore[assignment]
+
+    def __copy__(self) -> Solution[Node]:
+        return self
+
+    def __deepcopy__(self, _: object) -> Solution[Node]:
+        return self
+
+    def values(self) -> ValuesView[int]:
+        """The flows, in the order of the arcs."""
+        return _Values(self)
+
+    def items(self) -> ItemsView[Arc[Node], int]:
+        """Each arc with what flows on it."""
+        return _Items(self)
 
     def between(self, tail: Node, head: Node) -> int:
         """What flows on all arcs from one node to another together. Raises `NoSuchNode`."""
+        arcs = self._flows.arcs
         for node in tail, head:
-            if node not in self._nodes:
+            if node not in arcs.columns.numbers:
                 raise NoSuchNode(shown(node))
-        return sum(flow for arc, flow in self._flows.items() if (arc.tail, arc.head) == (tail, head))
+        flows = self._flows.numbers()
+        return sum(flows[arcs.place(number)] for number in arcs.between(tail, head))
+
+    def array(self) -> Any:
+        """The flows as an array of numpy, in the order of the arcs: of whole numbers with a sign in 64 bits, or without one where
+        a flow is 2^63 or more. Raises an ImportError where numpy is not there."""
+        return arrays.flow_array(self._flows.text() if self._flows._numbers is None else self._flows.numbers(), len(self))
+
+    def frame(self) -> Any:
+        """A frame of pandas with a row for each open arc: its number, tail, head and key, what flows on it, and the capacity that it
+        had. Raises an ImportError where pandas or numpy is not there."""
+        return arrays.frame(self._flows.arcs, self.array(), self._flows.capacities())
+
+    def flow_matrix(self) -> Any:
+        """A sparse matrix of scipy: row i and column j have what flows from node i to node j on all arcs together, where the nodes are
+        counted from 0 in the order of `Network.nodes`. Raises an ImportError where scipy or numpy is not there."""
+        return arrays.flow_matrix(self._flows.arcs, self.array())
 
     def __repr__(self) -> str:
         return f"<Solution of value {self.value} on {len(self)} arcs>"
+
+    def _repr_html_(self) -> str:
+        return table(f"value {self.value}", ("arc", "tail", "head", "flow"), len(self), self._rows())
+
+    def _rows(self) -> Iterator[tuple[object, ...]]:
+        for arc, flow in self.items():
+            yield arc.number if arc.given_key is None else arc.given_key, arc.tail, arc.head, flow
 
 
 @dataclass(frozen=True)
 class Cut(Generic[Node]):
     """The smallest minimum cut: `capacity` is what it can carry, `side` the nodes that every minimum cut has on the side of the
-    source, and `arcs` the open arcs that lead out of these, in their order."""
+    source, and `arcs` the open arcs that lead out of these, in their order. In a notebook it shows itself as a picture, where
+    Graphviz is there and the network is not large, and else as a table."""
 
     capacity: int
     side: frozenset[Node]
     arcs: tuple[Arc[Node], ...]
+    _look: Look | None = field(default=None, repr=False, compare=False)
+
+    def _repr_svg_(self) -> str | None:
+        return self._look.svg() if self._look else None
+
+    def _repr_html_(self) -> str:
+        rows = ((arc.number if arc.given_key is None else arc.given_key, arc.tail, arc.head) for arc in self.arcs)
+        return table(f"cut of capacity {self.capacity}", ("arc", "tail", "head"), len(self.arcs), rows)

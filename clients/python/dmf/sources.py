@@ -1,17 +1,18 @@
-"""What networks are made of beside rows of arcs: problems in files, and graphs of networkx."""
+"""What networks are made of beside rows of arcs: problems in files, graphs of networkx, and matrices of scipy."""
 
 from __future__ import annotations
 
 import os
 import tempfile
+from array import array
 from collections import Counter
 from typing import Any
 
-from .errors import NoCapacity, shown
-from .kept import Kept
+from .arcs import AMOUNTS, NODES, Columns, Node
+from .arrays import PIECE, is_missing, no_capacity
+from .kept import Kept, Whole
 from .network import Network
-from .process import Child, FilePath, Program, session_words, start
-from .solution import Node
+from .process import Child, FilePath, Program, bound, session_words, start
 from .text import read_names
 
 
@@ -24,33 +25,40 @@ def read(path: FilePath, *, program: Program = None, history: int | None = None)
     Raises a `Refused` with the number of the line where the file has a fault, an OSError where it cannot be read, and what
     `Network` raises.
     """
-    words = session_words(history)
+    most = bound(history)
     with open(os.fspath(path), "rb") as file:
         text = file.read()
-    node_names, arc_names = read_names(text)
     # The program is given a copy: a pipe is empty now, a file may have changed, and /dev/stdin is another file to the program.
     with tempfile.NamedTemporaryFile(prefix="dmf-", suffix=".max") as copy:
         copy.write(text)
         copy.flush()
-        child = start(copy.name, program, words)
+        child = start(copy.name, program, session_words(most))
+    node_names, arc_names = read_names(text)
+    del text
     network: Network[int | str] = Network.__new__(Network)
-    network._begin(child, _kept(child, node_names, arc_names))
+    network._begin(child, _kept(child, node_names, arc_names, most))
     return network
 
 
-def _kept(child: Child, node_names: dict[int, str], arc_names: dict[int, str]) -> Kept[int | str]:
+def _kept(child: Child, node_names: dict[int, str], arc_names: dict[int, str], most: int) -> Kept[int | str]:
     """What is kept of the problem that a session has read."""
+    tails, heads, capacities = array(NODES), array(NODES), array(AMOUNTS)
     with child.exchange("print problem"):
-        (_, _, node_count, arc_count), source, sink = (child.line() for _ in range(3))
-        lines = [child.line() for _ in range(int(arc_count))]
-    used = Counter(name for number, name in node_names.items() if 1 <= number <= int(node_count))
+        node_count, arc_count = map(int, child.line()[2:])
+        source, sink = (int(child.line()[1]) for _ in range(2))
+        for begin in range(0, arc_count, PIECE):
+            # The letters of the lines are left out, so that numbers alone remain.
+            lines = child.lines(min(PIECE, arc_count - begin)).replace(b"a", b"")
+            numbers = array(AMOUNTS, map(int, lines.split()))
+            tails.extend(iter(numbers[0::3]))
+            heads.extend(iter(numbers[1::3]))
+            capacities.extend(numbers[2::3])
+    used = Counter(name for number, name in node_names.items() if 1 <= number <= node_count)
     named = {number: name for number, name in node_names.items() if used[name] == 1}
-    nodes = [named.get(number, number) for number in range(1, int(node_count) + 1)]
-    rows = (
-        (nodes[int(tail) - 1], nodes[int(head) - 1], int(capacity), arc_names.get(place))
-        for place, (_, tail, head, capacity) in enumerate(lines, 1)
-    )
-    return Kept(rows, nodes[int(source[1]) - 1], nodes[int(sink[1]) - 1], nodes)
+    nodes: dict[int | str, int] = {named.get(number, number): number for number in range(1, node_count + 1)}
+    names = list(nodes)
+    keys: dict[int, Any] = {number: name for number, name in sorted(arc_names.items()) if 1 <= number <= arc_count}
+    return Kept(Columns(nodes, tails, heads, keys), capacities, names[source - 1], names[sink - 1], most)
 
 
 def from_networkx(
@@ -59,21 +67,51 @@ def from_networkx(
     sink: Node,
     capacity: str = "capacity",
     *,
+    infinite: Whole | None = None,
     program: Program = None,
     history: int | None = None,
 ) -> Network[Node]:
     """The network of a graph of networkx: each edge is an arc, or two opposite ones where the graph is undirected, and its
-    attribute `capacity` is the capacity. In a multigraph the key of an arc is `(u, v, k)`. `program` and `history` are those of
-    `Network`.
+    attribute `capacity` is the capacity. In a multigraph the key of an arc is `(u, v, k)`. `infinite` is the capacity of edges that
+    lack the attribute, or whose capacity is infinite, None or no number. `program` and `history` are those of `Network`.
 
-    Raises `NoCapacity` where an edge lacks the attribute, and what `Network` raises.
+    Raises `NoCapacity` where an edge lacks the attribute and there is no `infinite`, and what `Network` raises.
     """
     rows: list[tuple[Any, Any, Any, Any]] = []
     edges = graph.edges(keys=True, data=True) if graph.is_multigraph() else graph.edges(data=True)
     for tail, head, *key, attributes in edges:
-        if capacity not in attributes:
-            raise NoCapacity(f"no capacity: the edge {shown((tail, head, *key))} has no attribute {shown(capacity)}")
-        rows.append((tail, head, attributes[capacity], (tail, head, *key) if key else None))
+        if capacity not in attributes and infinite is None:
+            raise no_capacity((tail, head, *key), capacity)
+        amount = attributes.get(capacity)
+        if infinite is not None and is_missing(amount):
+            amount = infinite
+        rows.append((tail, head, amount, (tail, head, *key) if key else None))
         if not graph.is_directed() and tail != head:
-            rows.append((head, tail, attributes[capacity], (head, tail, *key) if key else None))
+            rows.append((head, tail, amount, (head, tail, *key) if key else None))
     return Network(rows, source, sink, nodes=graph, program=program, history=history)
+
+
+def from_scipy(
+    matrix: Any,
+    source: int,
+    sink: int,
+    *,
+    infinite: Whole | None = None,
+    program: Program = None,
+    history: int | None = None,
+) -> Network[int]:
+    """The network of a sparse matrix of scipy: what is stored in row i and column j is the capacity of an arc from node i to node j,
+    where the nodes are counted from 0. `infinite` is the capacity of arcs whose capacity is infinite or no number. `program` and
+    `history` are those of `Network`, which says what is raised."""
+    entries = matrix.tocoo()
+    return Network.from_arrays(
+        entries.row,
+        entries.col,
+        entries.data,
+        source=source,
+        sink=sink,
+        nodes=range(max(matrix.shape)),
+        infinite=infinite,
+        program=program,
+        history=history,
+    )

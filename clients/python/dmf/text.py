@@ -127,15 +127,25 @@ def namings(text: bytes) -> Iterator[Naming]:
 def read_names(text: bytes) -> tuple[dict[int, str], dict[int, str]]:
     """The names that the comments of a problem text give to nodes and to arcs. Of two names for one the last counts. The rest of
     the text is not judged, and a comment of another form names nothing."""
-    names: dict[str, dict[int, str]] = {NODE: {}, ARC: {}}
-    for _, kind, digits, name in namings(text):
+    node_names: dict[int, str] = {}
+    arc_names: dict[int, str] = {}
+    for kind, digits, name in _names_of(text):
         if not name:
             continue
         try:
-            names[kind][number(digits)] = name
+            (node_names if kind == NODE else arc_names)[number(digits)] = name
         except Fault:
             continue
-    return names[NODE], names[ARC]
+    return node_names, arc_names
+
+
+def _names_of(text: bytes) -> Iterator[tuple[str, bytes, str]]:
+    """What each comment that names says. Where no carriage return is in the text, all of them are found at once, which is quicker."""
+    if b"\r" in text:
+        return ((kind, digits, name) for _, kind, digits, name in namings(text))
+    kinds = {kind.encode(): kind for kind in (NODE, ARC)}
+    found = (match.groups() for match in _NAMING.finditer(b"\n" + text))
+    return ((kinds[kind], digits, str(rest.strip(b" \t"), "utf-8", "replace")) for kind, digits, rest in found)
 
 
 def read_problem(text: bytes) -> Problem:

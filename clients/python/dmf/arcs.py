@@ -1,0 +1,353 @@
+"""The arcs of a network: their columns, the handles by which callers name them, and which of them are open."""
+
+from __future__ import annotations
+
+import functools
+import weakref
+from array import array
+from bisect import bisect_left
+from collections import defaultdict
+from collections.abc import Callable, Hashable, Iterable, Iterator, Sequence
+from itertools import compress, count
+from operator import gt
+from typing import Any, Generic, Protocol, TypeVar
+
+from .errors import AmbiguousArc, NoSuchArc, SessionEnded, shown
+
+Node = TypeVar("Node", bound=Hashable)
+# The types of the columns: numbers of nodes, and capacities and flows.
+NODES, AMOUNTS = "I", "Q"
+# How many questions about the arcs at nodes are answered by a look at all arcs, before an index of them is made.
+MOST_MISSED = 20
+
+
+class Owner(Protocol):
+    """The network of an arc, which tells of the arc as it is now."""
+
+    def capacity_now(self, arc: Arc[Any]) -> int: ...
+
+    def flow_now(self, arc: Arc[Any]) -> int: ...
+
+    def is_open_now(self, arc: Arc[Any]) -> bool: ...
+
+
+class Arc(Generic[Node]):
+    """An arc of a network: its handle. `number` is the one that the program knows it by, `tail` and `head` are its ends, and
+    `given_key` is the key that the caller gave it, or None. `is_open`, `capacity` and `flow` tell how it is now in its network. Each
+    arc is equal to itself alone, so a copy of it is the arc itself. One that was pickled has no network any more."""
+
+    __slots__ = "number", "tail", "head", "given_key", "_owner"
+
+    def __init__(
+        self, number: int, tail: Node, head: Node, given_key: Hashable, owner: weakref.ref[Owner] | None = None
+    ) -> None:
+        self.number = number
+        self.tail = tail
+        self.head = head
+        self.given_key = given_key
+        self._owner = owner
+
+    @property
+    def key(self) -> Hashable:
+        """The key that the caller gave, and else the tail and the head."""
+        return (self.tail, self.head) if self.given_key is None else self.given_key
+
+    @property
+    def is_open(self) -> bool:
+        """Whether the arc is there now, and not closed."""
+        return self._network().is_open_now(self)
+
+    @property
+    def capacity(self) -> int:
+        """Its capacity now. Raises `ArcIsClosed`, and `NoSuchArc` where the change that added it was undone."""
+        return self._network().capacity_now(self)
+
+    @property
+    def flow(self) -> int:
+        """What flows on it now: nothing where it is closed. Raises `NoSuchArc` where the change that added it was undone. The first
+        arc that is asked after a change has the program tell all flows."""
+        return self._network().flow_now(self)
+
+    def _network(self) -> Owner:
+        owner = None if self._owner is None else self._owner()
+        if owner is None:
+            raise SessionEnded(f"the network of {self!r} is not there any more")
+        return owner
+
+    def __copy__(self) -> Arc[Node]:
+        return self
+
+    def __deepcopy__(self, _: object) -> Arc[Node]:
+        return self
+
+    def __reduce__(self) -> tuple[Any, ...]:
+        return Arc, (self.number, self.tail, self.head, self.given_key)
+
+    def __repr__(self) -> str:
+        key = "" if self.given_key is None else f", {shown(self.given_key)}"
+        return f"<Arc {self.number}: {shown(self.tail)} to {shown(self.head)}{key}>"
+
+
+class Index:
+    """Numbers by what names them. Of several with one name the last stands in `_last`, and all of them in `_several`."""
+
+    def __init__(self, names: Callable[[], Iterable[Any]], numbers: Sequence[int]) -> None:
+        self._last: dict[Any, int] = dict(zip(names(), numbers))
+        self._several: dict[Any, list[int]] = defaultdict(list)
+        if len(numbers) > len(self._last):
+            for name, number in zip(names(), numbers):
+                if name in self._several or self._last[name] != number:
+                    self._several[name].append(number)
+
+    def find(self, name: Any) -> list[int]:
+        """The numbers of a name in their order."""
+        if name in self._several:
+            return self._several[name]
+        return [self._last[name]] if name in self._last else []
+
+
+class Columns(Generic[Node]):
+    """The arcs of a problem, column by column: the numbers of their tails and heads, from 1 on, and the keys that were given, by the
+    arcs' numbers. `numbers` has the number of each node, in order. Nothing of it changes."""
+
+    def __init__(self, numbers: dict[Node, int], tails: array[int], heads: array[int], keys: dict[int, Hashable]) -> None:
+        self.numbers = numbers
+        self.tails = tails
+        self.heads = heads
+        self.keys = keys
+        self._missed = 0
+
+    def __len__(self) -> int:
+        return len(self.tails)
+
+    def __reduce__(self) -> tuple[Any, ...]:
+        return Columns, (self.numbers, self.tails, self.heads, self.keys)
+
+    @functools.cached_property
+    def names(self) -> list[Node]:
+        """The nodes in the order of their numbers."""
+        return list(self.numbers)
+
+    @functools.cached_property
+    def _by_ends(self) -> Index:
+        scale = len(self.numbers) + 1
+        return Index(lambda: (tail * scale + head for tail, head in zip(self.tails, self.heads)), range(1, len(self) + 1))
+
+    @functools.cached_property
+    def _by_key(self) -> Index:
+        return Index(self.keys.values, list(self.keys))
+
+    def between(self, tail: int, head: int) -> list[int]:
+        """The numbers of the arcs from one node to another."""
+        return self._by_ends.find(tail * (len(self.numbers) + 1) + head)
+
+    def named(self, key: Hashable) -> list[int]:
+        """The numbers of the arcs of a key, or of a pair of ends, in their order."""
+        found = self._by_key.find(key)
+        if isinstance(key, tuple) and len(key) == 2:
+            tail, head = map(self.numbers.get, key)
+            if tail and head and (pairs := self.between(tail, head)):
+                return sorted({*found, *pairs}) if found else pairs
+        return found
+
+    @functools.cached_property
+    def _at_nodes(self) -> tuple[tuple[array[int], array[int]], tuple[array[int], array[int]]]:
+        """The arcs in the order of their tails, and of their heads; and at which place those of each node begin."""
+        return _grouped(self.tails, len(self.numbers)), _grouped(self.heads, len(self.numbers))
+
+    def _is_indexed(self) -> bool:
+        """Whether the index of the arcs at each node is there. It is made when it has been missed some times."""
+        self._missed += 1
+        return self._missed > MOST_MISSED
+
+    def at(self, node: int) -> list[int]:
+        """The numbers of the arcs at a node, in their order."""
+        if self._is_indexed():
+            return sorted({number for order, begins in self._at_nodes for number in order[begins[node] : begins[node + 1]]})
+        here = node.__eq__
+        return sorted({number for ends in (self.tails, self.heads) for number in compress(count(1), map(here, ends))})
+
+    def leaving(self, side: list[int]) -> list[int]:
+        """The numbers of the arcs that lead out of a set of nodes, in their order."""
+        inside = bytearray(len(self.numbers) + 1)
+        for node in side:
+            inside[node] = 1
+        if self._is_indexed():
+            if 2 * len(side) <= len(self.numbers):
+                order, begins = self._at_nodes[0]
+                arcs = (number for node in side for number in order[begins[node] : begins[node + 1]])
+                return sorted(number for number in arcs if not inside[self.heads[number - 1]])
+            order, begins = self._at_nodes[1]
+            others = compress(range(1, len(self.numbers) + 1), (not one for one in inside[1:]))
+            arcs = (number for node in others for number in order[begins[node] : begins[node + 1]])
+            return sorted(number for number in arcs if inside[self.tails[number - 1]])
+        is_in = inside.__getitem__
+        return list(compress(count(1), map(gt, map(is_in, self.tails), map(is_in, self.heads))))
+
+
+def _grouped(ends: array[int], most: int) -> tuple[array[int], array[int]]:
+    order = array(NODES, sorted(range(1, len(ends) + 1), key=lambda number: ends[number - 1]))
+    begins = array(NODES, [0]) * (most + 2)
+    for node in ends:
+        begins[node + 1] += 1
+    for node in range(1, most + 2):
+        begins[node] += begins[node - 1]
+    return order, begins
+
+
+class Handles(Generic[Node]):
+    """The handles of the arcs of a problem. Each is made when it is first asked for."""
+
+    def __init__(self, columns: Columns[Node]) -> None:
+        self.columns = columns
+        self.owner: weakref.ref[Owner] | None = None
+        self._made: dict[int, Arc[Node]] = {}
+
+    def of(self, number: int) -> Arc[Node]:
+        """The handle of a number."""
+        arc = self._made.get(number)
+        if arc is None:
+            columns = self.columns
+            tail, head = columns.names[columns.tails[number - 1] - 1], columns.names[columns.heads[number - 1] - 1]
+            # Where two threads make one at once, both take the same.
+            made = Arc(number, tail, head, columns.keys.get(number), self.owner)
+            arc = self._made.setdefault(number, made)
+        return arc
+
+    def has(self, arc: Arc[Any]) -> bool:
+        return self._made.get(arc.number) is arc
+
+
+class Added(Generic[Node]):
+    """Added arcs by their ends, and by the keys that were given."""
+
+    def __init__(self, arcs: Iterable[Arc[Node]] = ()) -> None:
+        self._arcs: dict[Hashable, list[Arc[Node]]] = {}
+        for arc in arcs:
+            self.put(arc)
+
+    def put(self, arc: Arc[Node]) -> None:
+        """Takes in an arc."""
+        for key in _keys(arc):
+            self._arcs.setdefault(key, []).append(arc)
+
+    def drop(self, arc: Arc[Node]) -> None:
+        """Takes out an arc that is there."""
+        for key in _keys(arc):
+            self._arcs[key].remove(arc)
+
+    def named(self, key: Hashable) -> list[Arc[Node]]:
+        """The arcs of a key, or of a pair of ends, in their order."""
+        return self._arcs.get(key, [])
+
+
+def _keys(arc: Arc[Node]) -> list[Hashable]:
+    ends = arc.tail, arc.head
+    return [ends] if arc.given_key is None or arc.given_key == ends else [ends, arc.given_key]
+
+
+def one_of(found: list[Arc[Node]], key: Hashable) -> Arc[Node]:
+    """The one arc that was found. Raises `NoSuchArc` and `AmbiguousArc` where there is none, or several."""
+    if not found:
+        raise NoSuchArc(shown(key))
+    if len(found) > 1:
+        some = ", ".join(map(repr, found[:9])) + ", .." * (len(found) > 9)
+        raise AmbiguousArc(f"{len(found)} open arcs have the key or the ends {shown(key)}: {some}")
+    return found[0]
+
+
+class OpenArcs(Generic[Node]):
+    """The open arcs of a network at one time, in their order: those of the problem that are not closed, and then those that were
+    added."""
+
+    def __init__(self, handles: Handles[Node], added: tuple[Arc[Node], ...], closed: Iterable[int]) -> None:
+        self.handles = handles
+        self.columns = handles.columns
+        self.added = added
+        # In their order.
+        self.closed = array(NODES, sorted(closed))
+
+    def __len__(self) -> int:
+        return len(self.columns) + len(self.added) - len(self.closed)
+
+    def __eq__(self, other: object) -> bool:
+        if not isinstance(other, OpenArcs):
+            return NotImplemented
+        return (self.handles, self.added, self.closed) == (other.handles, other.added, other.closed)
+
+    def numbers(self) -> Iterable[int]:
+        """The numbers of the open arcs."""
+        everything = range(1, len(self.columns) + len(self.added) + 1)
+        if not self.closed:
+            return everything
+        is_open = bytearray(b"\1") * len(everything)
+        for number in self.closed:
+            is_open[number - 1] = 0
+        return compress(everything, is_open)
+
+    def __iter__(self) -> Iterator[Arc[Node]]:
+        return map(self.handle, self.numbers())
+
+    def handle(self, number: int) -> Arc[Node]:
+        """The arc of a number."""
+        return self.handles.of(number) if number <= len(self.columns) else self.added[number - len(self.columns) - 1]
+
+    def is_open(self, number: int) -> bool:
+        place = bisect_left(self.closed, number)
+        return self.closed[place : place + 1] != array(NODES, [number])
+
+    def place(self, number: int) -> int:
+        """The place of an open arc among the open ones, from 0 on."""
+        return number - 1 - bisect_left(self.closed, number)
+
+    def has(self, arc: Arc[Any]) -> bool:
+        """Whether this is one of the arcs, open or closed."""
+        if arc.number > len(self.columns):
+            place = arc.number - len(self.columns) - 1
+            return self.added[place : place + 1] == (arc,)
+        return self.handles.has(arc)
+
+    @functools.cached_property
+    def _added_index(self) -> Added[Node]:
+        return Added(self.added)
+
+    def find(self, key: Hashable) -> Arc[Node]:
+        """The open arc of a handle, a key or a pair of ends. Raises `NoSuchArc` and `AmbiguousArc`."""
+        if isinstance(key, Arc):
+            if not self.has(key) or not self.is_open(key.number):
+                raise NoSuchArc(repr(key))
+            return key
+        found = [self.handles.of(number) for number in self.columns.named(key) if self.is_open(number)]
+        return one_of(found + [arc for arc in self._added_index.named(key) if self.is_open(arc.number)], key)
+
+    def between(self, tail: Node, head: Node) -> list[int]:
+        """The numbers of the open arcs from one node to another, which are nodes."""
+        numbers = self.columns.between(self.columns.numbers[tail], self.columns.numbers[head])
+        added = (arc.number for arc in self.added if (arc.tail, arc.head) == (tail, head))
+        return [number for number in (*numbers, *added) if self.is_open(number)]
+
+    def tails(self) -> list[Node]:
+        """The tails of the open arcs."""
+        return [self.columns.names[node - 1] for node in self.ends()[0]]
+
+    def heads(self) -> list[Node]:
+        """The heads of the open arcs."""
+        return [self.columns.names[node - 1] for node in self.ends()[1]]
+
+    def keys(self) -> list[Hashable]:
+        """The keys that were given to the open arcs, None where none was."""
+        return [self.columns.keys.get(n) if n <= len(self.columns) else self.handle(n).given_key for n in self.numbers()]
+
+    def ends(self) -> tuple[array[int], array[int]]:
+        """The numbers of the tails and of the heads of the open arcs."""
+        tails, heads = self.columns.tails[:], self.columns.heads[:]
+        for arc in self.added:
+            tails.append(self.columns.numbers[arc.tail])
+            heads.append(self.columns.numbers[arc.head])
+        return self.chosen(tails), self.chosen(heads)
+
+    def chosen(self, column: array[int]) -> array[int]:
+        """What a column of all arcs has for the open ones."""
+        if not self.closed:
+            return column
+        return array(column.typecode, [column[number - 1] for number in self.numbers()])

@@ -1,0 +1,207 @@
+"""Columns of numbers: as texts for the program, out of its answers, and as arrays of numpy, frames of pandas and matrices of scipy. None
+of these packages is needed until its function is called."""
+
+from __future__ import annotations
+
+import importlib
+import re
+from array import array
+from collections.abc import Hashable, Iterable, Iterator
+from itertools import islice
+from typing import Any
+
+from .arcs import AMOUNTS, NODES, Columns, Node, OpenArcs
+from .errors import NoCapacity, NotAnArc, NumberTooLarge, shown
+from .kept import columns_of, whole
+
+# How many lines of a text are made or read at once.
+PIECE = 1 << 14
+_FLOW = re.compile(rb"^f [0-9]+ [0-9]+ ([0-9]+)$", re.MULTILINE)
+
+
+def package(name: str, why: str) -> Any:
+    """A package that only some calls need. Raises an ImportError that says which call needs it."""
+    try:
+        return importlib.import_module(name)
+    except ImportError as error:
+        raise ImportError(f"{why} needs the package {name.partition('.')[0]}, which is not there: {error}", name=name) from None
+
+
+def problem_lines(columns: Columns[Any], capacities: array[int]) -> Iterator[bytes]:
+    """The arc lines of a problem, many at once."""
+    lines = map("a %d %d %d\n".__mod__, zip(columns.tails, columns.heads, capacities))
+    while piece := "".join(islice(lines, PIECE)):
+        yield piece.encode()
+
+
+def flows(text: bytes, count: int) -> array[int] | None:
+    """The flows of a solution's text, and None where it does not have so many."""
+    try:
+        found = array(AMOUNTS, (int(match[1]) for match in _FLOW.finditer(text)))
+    except (OverflowError, ValueError):
+        return None
+    return found if len(found) == count else None
+
+
+def flow_array(text: bytes | array[int], count: int) -> Any:
+    """The flows of a solution's text, or of a column, as an array of numpy."""
+    np = package("numpy", "an array of flows")
+    column = np.frombuffer(text, np.uint64) if isinstance(text, array) else _last_numbers(np, text, count)
+    return column.astype(np.uint64 if column.size and int(column.max()) >> 63 else np.int64)
+
+
+def _last_numbers(np: Any, text: bytes, count: int) -> Any:
+    """The last number of each line but the first. The digits of all lines are read together, from the last to the first."""
+    letters = np.frombuffer(text, np.uint8)
+    ends = np.flatnonzero(letters == ord("\n"))[1:]
+    column = np.zeros(len(ends), np.uint64)
+    rows, scale = np.arange(len(ends)), 1
+    places = ends - 1
+    while rows.size:
+        digits = letters[places]
+        within = digits != ord(" ")
+        if not within.all():
+            rows, places, digits = rows[within], places[within], digits[within]
+        column[rows] += (digits - np.uint8(ord("0"))).astype(np.uint64) * np.uint64(scale)
+        places, scale = places - 1, scale * 10 % 2**64
+    if len(column) != count:
+        raise ValueError("the program told no flow for each open arc")
+    return column
+
+
+def columns_of_arrays(
+    tail: Any, head: Any, capacity: Any, key: Any, nodes: Iterable[Node], infinite: object
+) -> tuple[Columns[Node], array[int]]:
+    """The columns of three sequences of one length, and their capacities. Numbers in arrays of numpy are taken as they are, all
+    together, and everything else row by row. Raises `NotAnArc` for sequences of several lengths, and what `columns_of` raises."""
+    tail, head, capacity, key = (_plain(column) for column in (tail, head, capacity, key))
+    lengths = {len(column) for column in (tail, head, capacity, key) if column is not None}
+    if len(lengths) > 1:
+        raise NotAnArc(f"not an arc: the columns have several lengths: {', '.join(map(str, sorted(lengths)))}")
+    if all(_kind(column) in ("i", "u") for column in (tail, head)) and _kind(capacity) in ("i", "u", "f"):
+        np = package("numpy", "arrays")
+        columns, capacities = _of_numbers(np, tail, head, capacity, nodes, infinite)
+        if key is not None:
+            columns.keys.update((at, _known(value)) for at, value in enumerate(_listed(key), 1) if _known(value) is not None)
+            for given in columns.keys.values():
+                hash(given)
+        return columns, capacities
+    rows = zip(*map(_listed, (tail, head, capacity)), *([] if key is None else [map(_known, _listed(key))]))
+    return columns_of(rows if infinite is None else (with_infinite(row, infinite) for row in rows), nodes)
+
+
+def _plain(column: Any) -> Any:
+    """A series of pandas as an array of numpy; any other column as it is, or as a list where its length is not known."""
+    if hasattr(column, "to_numpy"):
+        return column.to_numpy()
+    return column if column is None or hasattr(column, "__len__") else list(column)
+
+
+def _kind(column: Any) -> str:
+    """The kind of numbers of an array of numpy, and nothing for other columns."""
+    return str(column.dtype.kind) if hasattr(column, "dtype") else ""
+
+
+def _listed(column: Any) -> Any:
+    return column.tolist() if hasattr(column, "tolist") else column
+
+
+def _known(value: Any) -> Any:
+    """A value of a frame: None where it is missing, as pandas writes it."""
+    return None if value is None or value != value else value
+
+
+def is_missing(capacity: object) -> bool:
+    """Whether a capacity is none: None, no number, or infinite."""
+    return capacity is None or isinstance(capacity, float) and (capacity != capacity or capacity == float("inf"))
+
+
+def with_infinite(row: tuple[Any, ...], infinite: object) -> tuple[Any, ...]:
+    """A row of arcs, with a capacity where it has none."""
+    return (*row[:2], infinite, *row[3:]) if is_missing(row[2]) else row
+
+
+def _of_numbers(
+    np: Any, tail: Any, head: Any, capacity: Any, nodes: Iterable[Node], infinite: object
+) -> tuple[Columns[Node], array[int]]:
+    """The columns of arrays of whole numbers."""
+    ends = np.empty(2 * len(tail), np.int64)
+    for column in tail, head:
+        if column.dtype.kind == "u" and column.size and int(column.max()) >> 63:
+            raise NumberTooLarge(f"the node {int(column.max())} of an array: a node that is a number lies below 2^63")
+    ends[0::2], ends[1::2] = tail, head
+    names, numbers = _numbered(np, ends)
+    known: dict[Any, int] = {}
+    for node in nodes:
+        known.setdefault(node, len(known) + 1)
+    place = np.array([0, *(known.setdefault(name, len(known) + 1) for name in names)], np.uint32)
+    numbers = place[numbers]
+    tails, heads, capacities = array(NODES), array(NODES), array(AMOUNTS)
+    tails.frombytes(numbers[0::2].tobytes())
+    heads.frombytes(numbers[1::2].tobytes())
+    capacities.frombytes(_amounts(np, tail, head, capacity, infinite).tobytes())
+    return Columns(known, tails, heads, {}), capacities
+
+
+def _numbered(np: Any, ends: Any) -> tuple[list[int], Any]:
+    """The different numbers of an array in the order in which they come first, and for each of the array its place among them, from 1
+    on."""
+    if not ends.size:
+        return [], ends
+    low, width = int(ends.min()), int(ends.max()) - int(ends.min()) + 1
+    if width <= 4 * ends.size:
+        # Of several that are put at one place the last counts, which is here the first of the array.
+        first = np.full(width, ends.size)
+        first[ends[::-1] - low] = np.arange(ends.size)[::-1]
+        used = np.flatnonzero(first < ends.size)
+        order = used[np.argsort(first[used])]
+        place = np.zeros(width, np.int64)
+        place[order] = np.arange(1, order.size + 1)
+        return (order + low).tolist(), place[ends - low]
+    names, first, inverse = np.unique(ends, return_index=True, return_inverse=True)
+    order = np.argsort(first)
+    place = np.empty(order.size, np.int64)
+    place[order] = np.arange(1, order.size + 1)
+    return names[order].tolist(), place[inverse.reshape(-1)]
+
+
+def _amounts(np: Any, tail: Any, head: Any, capacity: Any, infinite: object) -> Any:
+    """An array of capacities in 64 bits without a sign. The first that is none is told with its arc."""
+    if capacity.dtype.kind == "f":
+        missing = np.isnan(capacity) | (capacity == np.inf)
+        if infinite is not None and missing.any():
+            capacity = np.where(missing, 0.0, capacity)
+            with np.errstate(invalid="ignore"):
+                amounts = _amounts(np, tail, head, capacity, None)
+            amounts[missing] = whole(infinite, "infinite")
+            return amounts
+        wrong = ~np.isfinite(capacity) | (capacity != np.floor(capacity)) | (capacity < 0) | (capacity >= 2.0**64)
+    else:
+        wrong = capacity < 0
+    if wrong.any():
+        place = int(np.flatnonzero(wrong)[0])
+        amount = capacity[place].item()
+        whole(amount, (tail[place].item(), head[place].item(), amount))
+    return capacity.astype(np.uint64)
+
+
+def frame(arcs: OpenArcs[Any], flow: Any, capacities: array[int]) -> Any:
+    """A frame of pandas with a row for each open arc."""
+    pd = package("pandas", "a frame of flows")
+    columns = {"tail": arcs.tails(), "head": arcs.heads(), "key": arcs.keys(), "flow": flow, "capacity": capacities}
+    return pd.DataFrame(columns, index=pd.Index(list(arcs.numbers()), name="arc"))
+
+
+def flow_matrix(arcs: OpenArcs[Any], flow: Any) -> Any:
+    """The flows as a sparse matrix of scipy."""
+    sparse = package("scipy.sparse", "a matrix of flows")
+    np = package("numpy", "a matrix of flows")
+    tails, heads = (np.frombuffer(ends, np.uint32).astype(np.int64) - 1 for ends in arcs.ends())
+    count = len(arcs.columns.numbers)
+    matrix = sparse.csr_matrix((flow, (tails, heads)), shape=(count, count))
+    matrix.eliminate_zeros()
+    return matrix
+
+
+def no_capacity(edge: tuple[Any, ...], attribute: Hashable) -> NoCapacity:
+    return NoCapacity(f"no capacity: the edge {shown(edge)} has no attribute {shown(attribute)}")

@@ -1,0 +1,48 @@
+#!/usr/bin/env python3
+"""Reads the table of pipes with pandas, finds the ten pipes whose loss is the worst, tries three widenings, and draws the best.
+
+    PYTHONPATH=../../clients/python python3 worst.py [PICTURE]    in this folder
+
+The picture, best.svg by default, is drawn where Graphviz is there. In a notebook each part is a cell.
+"""
+
+import sys
+
+import dmf
+import pandas
+
+LITRES = 40
+# Those of the cut: no others can help.
+WIDENED = ["North rise", "Mill Lane", "South main"]
+
+pipes = pandas.read_csv("pipes.csv")
+network = dmf.Network.from_frame(
+    pipes, "from", "to", "litres per second", key="pipe", source="Reservoir", sink="Harbour"
+)
+before = network.solve().value
+print(f"now: {before} litres per second")
+
+# The ten worst pipes.
+losses = [
+    {"pipe": arc.key, "loss": -result.difference}
+    for arc, result in zip(network.arcs, dmf.sweep(network, dmf.each_arc_closed()))
+]
+table = pandas.DataFrame(losses).sort_values("loss", ascending=False, kind="stable")
+print(table.head(10).to_string(index=False))
+
+# Three widenings.
+gains = {}
+for pipe, result in zip(WIDENED, dmf.sweep(network, dmf.each_capacity_raised(LITRES, WIDENED))):
+    gains[pipe] = result.difference
+    print(f"{pipe} with {LITRES} more: {result.value}")
+
+# The best of them, drawn with its cut.
+best = max(gains, key=lambda pipe: gains[pipe])
+network.cap(best, network.capacity(best) + LITRES)
+network.solve()
+picture = network.cut()._repr_svg_()
+if picture:
+    with open(sys.argv[1] if len(sys.argv) > 1 else "best.svg", "w") as file:
+        file.write(picture)
+print(f"the best is {best}: {network.value} litres per second")
+network.end()

@@ -1,0 +1,44 @@
+"""The package that pip installs of clients/python, without a network."""
+
+import os
+import subprocess
+import sys
+import tempfile
+import unittest
+
+from shared import BUILT, CLIENT, dmf
+
+SCRIPT = """
+import dmf, importlib.metadata, pathlib
+assert pathlib.Path(dmf.__file__).is_relative_to({folder!r})
+told = importlib.metadata.distribution("dmf")
+assert (told.version, told.metadata["License"]) == (dmf.__version__, "MIT")
+assert any(str(file).endswith("LICENSE") for file in told.files) and any(file.name == "py.typed" for file in told.files)
+print(dmf.Network([("a", "b", 3)], "a", "b").solve().value)
+"""
+
+
+def has_pip() -> bool:
+    return subprocess.run([sys.executable, "-m", "pip", "--version"], capture_output=True).returncode == 0
+
+
+class Packaged(unittest.TestCase):
+    def test_the_version_is_the_program_s(self) -> None:
+        told = subprocess.run([BUILT, "--version"], capture_output=True, text=True).stdout
+        self.assertEqual(told, f"dmf {dmf.__version__}\n")
+
+    @unittest.skipUnless(has_pip(), "pip is not there (package python3-pip), so the client was not installed by it")
+    def test_pip_installs_it(self) -> None:
+        """With pip's own isolation, and nowhere to ask for packages; from the folder and from its source archive."""
+        with tempfile.TemporaryDirectory() as folder:
+            archive = [sys.executable, "-c", "import sys, build_wheel; build_wheel.build_sdist(sys.argv[1])", folder]
+            subprocess.run(archive, cwd=CLIENT, check=True)
+            for source in CLIENT, f"{folder}/dmf-{dmf.__version__}.tar.gz":
+                target = tempfile.mkdtemp(dir=folder)
+                words = ["-m", "pip", "install", "--no-index", "--quiet", "--no-cache-dir", "--target", target, source]
+                ran = subprocess.run([sys.executable, *words], capture_output=True, text=True, cwd=folder)
+                self.assertEqual(ran.returncode, 0, ran.stderr)
+                environment = {**os.environ, "PYTHONPATH": target}
+                script = SCRIPT.format(folder=target)
+                used = subprocess.run([sys.executable, "-c", script], env=environment, capture_output=True, text=True, cwd=folder)
+                self.assertEqual((used.stdout, used.stderr), ("3\n", ""))
