@@ -35,7 +35,7 @@ class Subject:
 def add_words(parser: argparse.ArgumentParser) -> None:
     """Adds the words that name the file, and what a table in it is."""
     parser.add_argument("places", metavar="FILE [SOURCE SINK]", nargs="*", help="a table of arcs, or a problem's file")
-    add_options(parser.add_argument_group("options for a table, as those of dmf-problem"))
+    add_options(parser)
 
 
 def words_of(parser: argparse.ArgumentParser, given: list[str]) -> argparse.Namespace:
