@@ -137,7 +137,9 @@ def wrong_story(driver: Any) -> Wrong:
         yield page.text("#verdict") != said and f"the verdict: {page.text('#verdict')}"
         yield from wrong_keys(page)
         yield from wrong_sessions(page, it)
-        yield driver.get_log("browser") != [] and f"the browser says {driver.get_log('browser')}"
+        # What is refused, and a session that has ended, a browser tells as well.
+        logged = [one["message"] for one in driver.get_log("browser") if not re.search("status of (409|410)", one["message"])]
+        yield logged != [] and f"the browser says {logged}"
         driver.get("about:blank")
         status = it.ended()
         yield status != 0 and f"the end of the page: {status}"
@@ -147,15 +149,18 @@ def wrong_keys(page: Page) -> Wrong:
     """The keyboard alone chooses an arc, and each control has a name."""
     picture = page.driver.find_element(By.ID, "picture")
     picture.send_keys(Keys.ARROW_LEFT)
-    page.driver.switch_to.active_element.send_keys(Keys.ENTER)
-    page.wait(lambda: page.text("#what h3") == "South main")
+    part = page.driver.switch_to.active_element
+    label = part.get_attribute("aria-label")
+    part.send_keys(Keys.ENTER)
+    page.wait(lambda: page.text("#what h3") and label.startswith(page.text("#what h3")))
     unnamed = page.driver.execute_script(
         "return [...document.querySelectorAll('button, input, a, g.arc, g.node')].filter((it) => it.checkVisibility() && "
         "!(it.textContent.trim() || it.getAttribute('aria-label') || it.labels?.length)).map((it) => it.outerHTML)"
     )
     yield unnamed != [] and f"controls without a name: {unnamed}"
     page.write("#text", "mill l")
-    page.press("Mill Lane, Mill -> Market")
+    page.wait(lambda: page.text("#found button") == "Mill Lane, Mill -> Market")
+    page.click("#found button")
     page.wait(lambda: page.text("#what h3") == "Mill Lane")
     page.write("#capacity", "1.5")
     page.press("Set")

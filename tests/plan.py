@@ -69,7 +69,7 @@ def wrong_sweep() -> Wrong:
     wanted = swept()
     found = {desk.names.arc_name(it.arc): (it.closed, it.doubled) for it in desk.sweep(range(1, 15))}
     yield found != wanted and f"a sweep: {found}, and not {wanted}"
-    yield (desk.value, desk.at, desk.cut_arcs()) != (165, 1, [3, 9, 14]) and f"after a sweep: {desk.value}, {desk.cut_arcs()}"
+    yield (desk.value, desk.at, list(desk.cut_arcs())) != (165, 1, [3, 9, 14]) and f"after a sweep: {desk.value}, {desk.cut_arcs()}"
     desk.end()
     idle = desk_of(WATER, with_solve=False)
     told = refused(lambda: list(idle.sweep([1])))
@@ -243,6 +243,15 @@ def wrong_scripts() -> Wrong:
     yield ran.stdout.count("solve: value 165") != 1 and f"what-if leaves steps: {ran.stdout}"
 
 
+def wrong_page() -> Wrong:
+    """The session on the page of documents is one."""
+    lines = [line[4:] for line in (ROOT / "docs/PLAN.md").read_text().splitlines() if line.startswith("    ")]
+    typed = [line.partition("> ")[2] for line in lines if re.match("[0-9]+, .*greatest> ", line)]
+    ran = run("dmf-plan", PIPES, typed="".join(f"{line}\n" for line in typed))
+    told = [line for line in lines if line.startswith(("value ", "  #"))]
+    yield (ran.stdout.splitlines(), ran.returncode, len(typed)) != (told, 0, 5) and f"the session of docs/PLAN.md: {ran}"
+
+
 def wrong_files() -> Wrong:
     """What is saved is a problem, a table and a picture; and which files are refused."""
     with tempfile.TemporaryDirectory() as folder:
@@ -350,7 +359,7 @@ def wrong_typed() -> Wrong:
 
 def main() -> bool:
     said: list[str | bool] = []
-    for wrong in (wrong_sweep, wrong_random, wrong_ended, wrong_names, wrong_scripts, wrong_files, wrong_typed):
+    for wrong in (wrong_sweep, wrong_random, wrong_ended, wrong_names, wrong_scripts, wrong_page, wrong_files, wrong_typed):
         try:
             said += wrong()
         except Exception as error:

@@ -148,7 +148,7 @@ class Board:
     def state(self) -> Json:
         """What the page shows beside the picture."""
         desk, names = self.desk, self.desk.names
-        cut = desk.cut_arcs()
+        cut = list(desk.cut_arcs())
         side = list(dict.fromkeys(names.node(node) for node in sorted(desk.side())))
         steps = desk.steps
         closed = [number for number, line in enumerate(desk.lines, 1) if line.is_closed and not line.is_replaced]
@@ -187,7 +187,7 @@ class Board:
             "closed": line.is_closed,
             "replaced": line.is_replaced,
             "full": flow > 0 and flow == line.capacity,
-            "limit": number in set(desk.cut_arcs()),
+            "limit": number in desk.cut_arcs(),
         }
 
     def _place(self, node: int) -> Json:

@@ -92,7 +92,7 @@ class Picture:
         )
 
     def _lines(self, shape: _Shape) -> Iterator[str]:
-        yield "digraph dmf {\n  rankdir=LR; bgcolor=transparent"
+        yield "digraph dmf {\n  rankdir=LR; bgcolor=transparent; ranksep=0.2"
         yield '  node [fontname="Helvetica"]\n  edge [fontname="Helvetica", fontsize=11]'
         for node, label, is_whole, is_shut in shape.nodes:
             looks = {"id": quoted(f"node-{node}"), "label": quoted(_label(label), *["shut"] * is_shut)}
@@ -108,7 +108,7 @@ class Picture:
     def _fill(self, root: ElementTree.Element, shape: _Shape) -> None:
         """Puts numbers and classes into a layout."""
         desk = self._desk
-        cut = set(desk.cut_arcs()) if desk.is_greatest else set()
+        cut = desk.cut_arcs() if desk.is_greatest else {}
         side = desk.side() if desk.is_greatest else set()
         groups = {group.get("id"): group for group in root.iter(f"{{{SVG}}}g")}
         for group in groups.values():

@@ -274,6 +274,8 @@ class _Seen:
 
     flow: Solution[Node] | None = None
     cut: Cut[Node] | None = None
+    cut_arcs: dict[int, None] | None = None
+    side: set[int] | None = None
     is_greatest: bool | None = None
 
 
@@ -386,13 +388,17 @@ class Desk:
             self._seen.cut = self._network.cut()
         return self._seen.cut
 
-    def cut_arcs(self) -> list[int]:
-        """The arcs of the cut."""
-        return [arc.number for arc in self.cut().arcs]
+    def cut_arcs(self) -> dict[int, None]:
+        """The arcs of the cut, in their order."""
+        if self._seen.cut_arcs is None:
+            self._seen.cut_arcs = dict.fromkeys(arc.number for arc in self.cut().arcs)
+        return self._seen.cut_arcs
 
     def side(self) -> set[int]:
         """The nodes on the source's side of the cut."""
-        return {self.names.nodes[node] for node in self.cut().side}
+        if self._seen.side is None:
+            self._seen.side = {self.names.nodes[node] for node in self.cut().side}
+        return self._seen.side
 
     def flow(self, number: int) -> int:
         """What flows on an arc. On one that is closed nothing does."""
@@ -528,7 +534,7 @@ class Desk:
         it. The flow is a greatest one, else this raises a `DeskFault`."""
         if not self.is_greatest:
             raise DeskFault("the flow is not greatest, so nothing can be compared with it; `solve` first")
-        cut = set(self.cut_arcs())
+        cut = self.cut_arcs()
         for number in numbers:
             self._open_line(number)
             closed = self._tried(self._network.close, number) if self.flow(number) else self.value

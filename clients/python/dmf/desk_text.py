@@ -18,7 +18,7 @@ MOST_DRAWN = 300
 def table(desk: Desk) -> str:
     """The open arcs as a table for a spreadsheet, with the titles that `dmf-names --csv` writes. Where the flow is not greatest,
     nothing stands in the column of the cut."""
-    crossing = set(desk.cut_arcs()) if desk.is_greatest else None
+    crossing = desk.cut_arcs() if desk.is_greatest else None
     written = io.StringIO()
     rows = csv.writer(written, lineterminator="\n")
     rows.writerow(TITLES)

@@ -388,7 +388,7 @@ class Plan(cmd.Cmd):
             place = desk.names.place(" ".join(words[2:]))
             wanted = [n for n, line in enumerate(desk.lines, 1) if {line.tail, line.head} & set(place)]
         elif words and words[1:] and rest in (["cut"], ["limit"]):
-            wanted = desk.cut_arcs() if desk.is_greatest else []
+            wanted = list(desk.cut_arcs()) if desk.is_greatest else []
         elif len(words) == 1 or rest == ["all"]:
             wanted = list(range(1, len(desk.lines) + 1))
         else:
