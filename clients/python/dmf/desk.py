@@ -13,13 +13,11 @@ from collections.abc import Callable, Iterable, Iterator, Sequence
 from dataclasses import dataclass, field
 from typing import NamedTuple, Union
 
+from . import Arc as Handle
+from . import Cut, Solution, read
 from .desk_file import Subject
 from .errors import CapacitiesPast64Bits, Error, FlowIsNotGreatest, Refused, SessionEnded, TooManyArcs
-from .network import Network
 from .process import Program
-from .solution import Arc as Handle
-from .solution import Cut, Solution
-from .sources import read
 from .table_problem import near
 from .tables import cleaned, shown
 from .text import display, read_names
