@@ -1,4 +1,4 @@
-# Completions of dmf-problem, dmf-names, dmf-dot and dmf-sweep for bash. What may be typed is read from the help of each, as it is found by PATH.
+# Completions of dmf-problem, dmf-names, dmf-dot, dmf-sweep, dmf-plan and dmf-board for bash. What may be typed is read from the help of each, as it is found by PATH.
 
 # The options of a tool, one a line, as its help has them: `-h, --help`, `--table FILE`.
 _dmf_tools_options() {
@@ -30,4 +30,4 @@ _dmf_tools() {
     compopt +o default 2>/dev/null
 }
 
-complete -o default -F _dmf_tools dmf-problem dmf-names dmf-dot dmf-sweep
+complete -o default -F _dmf_tools dmf-problem dmf-names dmf-dot dmf-sweep dmf-plan dmf-board

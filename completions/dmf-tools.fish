@@ -1,4 +1,4 @@
-# Completions of dmf-problem, dmf-names, dmf-dot and dmf-sweep for fish. What may be typed is read from the help of each, as it is found by PATH.
+# Completions of dmf-problem, dmf-names, dmf-dot, dmf-sweep, dmf-plan and dmf-board for fish. What may be typed is read from the help of each, as it is found by PATH.
 
 # The lines of a section of a tool's help.
 function __dmf_tools_section
@@ -38,7 +38,7 @@ function __dmf_tools_wants_file
     end
 end
 
-for tool in dmf-problem dmf-names dmf-dot dmf-sweep
+for tool in dmf-problem dmf-names dmf-dot dmf-sweep dmf-plan dmf-board
     complete -c $tool -e
     complete -c $tool -f
     complete -c $tool -a '(__dmf_tools_options)'

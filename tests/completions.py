@@ -79,7 +79,7 @@ def tool_cases(tool):
     yield f"{tool} < a", {PROBLEM}, set()
     with_value = next(option for option, value in options.items() if value)
     yield f"{tool} {with_value} 7 -", {"--help"}, {PROBLEM}
-    takes_files = "PROBLEM" in listed("positional arguments", text)
+    takes_files = any(it.split()[0] in ("PROBLEM", "FILE") for it in listed("positional arguments", text))
     yield f"{tool} a", *(({PROBLEM}, set()) if takes_files else (set(), {PROBLEM}))
     for option, value in options.items():
         if value:

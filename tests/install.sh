@@ -10,7 +10,7 @@ prefix="$work/a place"
 mkdir -p "$root/bin" "$root/crates/dmf/src" "$root/docs" "$root/clients/python/dmf"
 cp -r install dmf completions tools "$root"
 cp docs/*.1 "$root/docs"
-cp clients/python/dmf/*.py clients/python/dmf/py.typed "$root/clients/python/dmf"
+cp clients/python/dmf/*.py clients/python/dmf/*.html clients/python/dmf/py.typed "$root/clients/python/dmf"
 printf 'dmf:\n' >"$root/crates.txt"
 echo 1 >"$root/crates/dmf/src/version"
 
@@ -48,16 +48,16 @@ tree() {
 # What stands in a line for each file: the word before it, and the folder.
 lines() {
     local file name
-    for file in dmf dmf-problem dmf-names dmf-dot dmf-sweep; do
+    for file in dmf dmf-problem dmf-names dmf-dot dmf-sweep dmf-plan dmf-board; do
         echo "$1 $2/bin/$file"
     done
     for file in docs/*.1; do
         echo "$1 $2/share/man/man1/${file#docs/}"
     done
-    for file in clients/python/dmf/*.py clients/python/dmf/py.typed; do
+    for file in clients/python/dmf/*.py clients/python/dmf/*.html clients/python/dmf/py.typed; do
         echo "$1 $2/share/dmf/python/${file#clients/python/}"
     done
-    for name in dmf dmf-problem dmf-names dmf-dot dmf-sweep; do
+    for name in dmf dmf-problem dmf-names dmf-dot dmf-sweep dmf-plan dmf-board; do
         echo "$1 $2/share/bash-completion/completions/$name"
         echo "$1 $2/share/fish/vendor_completions.d/$name.fish"
     done
@@ -370,7 +370,7 @@ tool_completions() {
 for pair in bash=bash-completion/completions/dmf zsh=zsh/site-functions/_dmf fish=fish/vendor_completions.d/dmf.fish; do
     if command -v "${pair%%=*}" >/dev/null; then
         count_script "$home/tests/completions.py" "${pair%%=*}" "$work/real/share/${pair#*=}"
-        for tool in dmf-problem dmf-names dmf-dot dmf-sweep; do
+        for tool in dmf-problem dmf-names dmf-dot dmf-sweep dmf-plan dmf-board; do
             count_script "$home/tests/completions.py" "${pair%%=*}" "$(tool_completions "$tool" "${pair%%=*}")" "$tool"
         done
     else

@@ -36,7 +36,7 @@ def metadata() -> bytes:
 
 def package() -> dict[str, bytes]:
     """The files of the package."""
-    return {f"dmf/{file.name}": file.read_bytes() for file in sorted((HERE / "dmf").iterdir()) if file.suffix in (".py", ".typed")}
+    return {f"dmf/{file.name}": file.read_bytes() for file in sorted((HERE / "dmf").iterdir()) if file.suffix in (".py", ".typed", ".html")}
 
 
 def build_wheel(wheel_directory: str, config_settings: Any = None, metadata_directory: Any = None) -> str:

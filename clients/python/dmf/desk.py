@@ -1,0 +1,689 @@
+"""A planner's desk: a network by its names, the steps that were tried on it, and sweeps.
+
+A step is one thing that a planner does, as to close a place that is limited, and may be several changes of the network; it is
+undone as a whole. Arcs go by their numbers here, as `dmf-names` tells them, and `Names` finds the number of a name. Steps are kept
+as what was asked for, so they can be made again after a sweep, and on a new session where one has ended.
+"""
+
+from __future__ import annotations
+
+import contextlib
+import tempfile
+from collections.abc import Callable, Iterable, Iterator, Sequence
+from dataclasses import dataclass, field
+from typing import NamedTuple, Union
+
+from . import Arc as Handle
+from . import Cut, Solution, read
+from .desk_file import Subject
+from .errors import CapacitiesPast64Bits, Error, FlowIsNotGreatest, Refused, SessionEnded, TooManyArcs
+from .process import Program
+from .table_problem import near
+from .tables import cleaned, shown
+from .text import display, read_names
+
+Node = Union[int, str]
+MOST_LISTED = 6
+# What stands between the ends of an arc that is named by them, the longest first.
+ARROWS = (" -> ", "->", " - ", "-")
+
+
+class DeskFault(Exception):
+    """Why the desk refuses what was asked. It changes nothing."""
+
+
+class Place(NamedTuple):
+    """A place: arcs into it enter the node `entry`, and arcs out of it leave the node `exit`. The two differ where the place has a
+    limit."""
+
+    entry: int
+    exit: int
+
+
+class Line(NamedTuple):
+    """An arc as it is: its ends by their numbers, and its capacity, which one that is closed had before. `is_shut` says that it was
+    closed when a place was shut, and `is_replaced` that it was closed and then opened again, as another arc."""
+
+    tail: int
+    head: int
+    capacity: int
+    is_closed: bool = False
+    is_shut: bool = False
+    is_replaced: bool = False
+
+
+class Was(NamedTuple):
+    """What an arc was before a change; one that was added was nothing."""
+
+    number: int
+    line: Line | None
+
+
+@dataclass(frozen=True)
+class Solve:
+    pass
+
+
+@dataclass(frozen=True)
+class Close:
+    arc: int
+
+
+@dataclass(frozen=True)
+class Cap:
+    arc: int
+    capacity: int
+
+
+@dataclass(frozen=True)
+class Add:
+    tail: int
+    head: int
+    capacity: int
+    name: str | None = None
+
+
+@dataclass(frozen=True)
+class Reopen:
+    arc: int
+
+
+@dataclass(frozen=True)
+class Shut:
+    node: int
+
+
+Change = Union[Solve, Close, Cap, Add, Reopen, Shut]
+
+
+@dataclass(frozen=True)
+class Step:
+    """What was done, in words, the changes that it made, and the value of the flow that they left. `before` is what the arcs were that
+    it changed, and `shut_before` which nodes were shut."""
+
+    text: str
+    changes: tuple[Change, ...]
+    value: int
+    before: tuple[Was, ...]
+    shut_before: frozenset[int]
+
+    @property
+    def is_solved(self) -> bool:
+        return isinstance(self.changes[-1], Solve)
+
+
+@dataclass(frozen=True)
+class Trial:
+    """The greatest values where an arc is closed, and where a second one of its capacity lies beside it: None where the sum of the
+    capacities would pass 64 bits."""
+
+    arc: int
+    closed: int
+    doubled: int | None
+
+
+class Names:
+    """How places and arcs are called, and which are meant by a text."""
+
+    def __init__(self, node_names: dict[int, str], handles: dict[int, Handle[Node]], nodes: Sequence[Node]) -> None:
+        self._handles = handles
+        self._labels = [display(node_names.get(number, str(number))) for number in range(1, len(nodes) + 1)]
+        self.nodes = {node: number for number, node in enumerate(nodes, 1)}
+        self.places: dict[str, Place] = {}
+        self._several: dict[str, list[int]] = {}
+        called: dict[str, list[int]] = {}
+        for number, label in enumerate(self._labels, 1):
+            called.setdefault(cleaned(label), []).append(number)
+        self._arcs: dict[str, list[int]] = {}
+        self._between: dict[tuple[int, int], list[int]] = {}
+        for number in handles:
+            self.put(number)
+        for label, numbers in called.items():
+            if len(numbers) == 1:
+                self.places[label] = Place(numbers[0], numbers[0])
+            elif self._is_limited(label, numbers):
+                self.places[label] = Place(*numbers)
+            else:
+                self._several[label] = numbers
+
+    def _is_limited(self, label: str, numbers: list[int]) -> bool:
+        """Whether these nodes are the two halves of a place with a limit, as `dmf-problem` makes them."""
+        entry, *rest = numbers
+        between = self._between.get((entry, rest[0]), []) if len(rest) == 1 else []
+        return any(self.arc_name(number) == f"limit of {label}" for number in between)
+
+    def put(self, number: int) -> None:
+        """Takes in an arc."""
+        self._between.setdefault(self._ends(number), []).append(number)
+        name = self.arc_name(number)
+        if name:
+            self._arcs.setdefault(cleaned(name), []).append(number)
+
+    def drop(self, number: int) -> None:
+        """Takes out an arc that was taken in."""
+        self._between[self._ends(number)].remove(number)
+        name = self.arc_name(number)
+        if name:
+            self._arcs[cleaned(name)].remove(number)
+
+    def _ends(self, number: int) -> tuple[int, int]:
+        handle = self._handles[number]
+        return self.nodes[handle.tail], self.nodes[handle.head]
+
+    def node(self, number: int) -> str:
+        """How a node is called."""
+        return self._labels[number - 1]
+
+    def arc_name(self, number: int) -> str:
+        """The name that an arc was given, or nothing."""
+        key = self._handles[number].given_key
+        return display(key) if isinstance(key, str) else ""
+
+    def ends(self, number: int) -> str:
+        tail, head = self._ends(number)
+        return f"{self.node(tail)} -> {self.node(head)}"
+
+    def arc(self, number: int) -> str:
+        """An arc by its name and its ends. One that joins the two halves of a place has its name alone."""
+        name = self.arc_name(number)
+        tail, head = self._ends(number)
+        return self.ends(number) if not name else name if self.node(tail) == self.node(head) else f"{name}, {self.ends(number)}"
+
+    def short(self, number: int) -> str:
+        """An arc by its name, or else by its ends."""
+        return self.arc_name(number) or self.ends(number)
+
+    def place(self, text: str) -> Place:
+        """The place that is called so. Raises a `DeskFault`."""
+        name = cleaned(text)
+        if name in self.places:
+            return self.places[name]
+        if name in self._several:
+            listed = ", ".join(f"#{number}" for number in self._several[name][:MOST_LISTED])
+            raise DeskFault(f"several nodes are called {shown(name)}: {listed}; say one by its number")
+        number = self._numbered(name)
+        if number and number <= len(self._labels):
+            return Place(number, number)
+        raise DeskFault(f"no place is called {shown(name)}{near(name, self.places)}")
+
+    def place_of(self, node: int) -> Place:
+        """The place of a node. Raises a `DeskFault` where there is none of this number."""
+        if not 1 <= node <= len(self._labels):
+            raise DeskFault(f"there is no place #{node}")
+        place = self.places.get(cleaned(self.node(node)), Place(node, node))
+        return place if node in place else Place(node, node)
+
+    def is_place(self, text: str) -> bool:
+        return cleaned(text) in self.places
+
+    @staticmethod
+    def _numbered(name: str) -> int:
+        """The number of a text like `#7`, or 0."""
+        digits = name[1:]
+        return int(digits) if name[:1] == "#" and digits.isascii() and digits.isdigit() and len(digits) < 12 else 0
+
+    def arcs(self, text: str) -> list[int]:
+        """The arcs, open or closed, that are called so: by their name, by their ends, as in `Mill-Town` or `Mill Town`, or by their
+        number, as in `#7`. Raises a `DeskFault` where there are none."""
+        name = cleaned(text)
+        number = self._numbered(name)
+        found = {number: None} if number in self._handles else {}
+        found.update(dict.fromkeys(self._arcs.get(name, ())))
+        for tail, head in self._splits(name):
+            found.update(dict.fromkeys(self._between.get((self.places[tail].exit, self.places[head].entry), ())))
+        if not found:
+            raise DeskFault(self._unknown_arc(name))
+        return sorted(found)
+
+    def _splits(self, name: str) -> Iterator[tuple[str, str]]:
+        """The pairs of places whose names, with an arrow or a space between them, are this text."""
+        for arrow in (*ARROWS, " "):
+            at = name.find(arrow)
+            while at >= 0:
+                tail, head = name[:at].strip(), name[at + len(arrow) :].strip()
+                if tail in self.places and head in self.places:
+                    yield tail, head
+                at = name.find(arrow, at + 1)
+
+    def _unknown_arc(self, name: str) -> str:
+        for tail, head in self._splits(name):
+            return f"no arc leads from {shown(tail)} to {shown(head)}"
+        if name.isascii() and name.isdigit() and int(name) in self._handles:
+            return f"no arc is called {shown(name)}; is it #{name}, {self.arc(int(name))}?"
+        return f"no arc is called {shown(name)}{near(name, self.spoken())}"
+
+    def spoken(self) -> Iterator[str]:
+        """A text for each arc by which it can be meant."""
+        return map(self.called, self._handles)
+
+    def called(self, number: int) -> str:
+        """A text by which an arc can be meant: its name, or else its ends."""
+        tail, head = self._ends(number)
+        return self.arc_name(number) or f"{self.node(tail)}-{self.node(head)}"
+
+    def list(self, numbers: Sequence[int]) -> str:
+        listed = ", ".join(f"#{number} ({self.arc(number)})" for number in numbers[:MOST_LISTED])
+        return listed + ", .." * (len(numbers) > MOST_LISTED)
+
+
+@dataclass
+class _Seen:
+    """What was asked of the present state, and answered."""
+
+    flow: Solution[Node] | None = None
+    cut: Cut[Node] | None = None
+    cut_arcs: dict[int, None] | None = None
+    side: set[int] | None = None
+    is_greatest: bool | None = None
+
+
+@dataclass
+class _Timeline:
+    """The steps that were made, those that were undone, the last undone at the end, and how many steps each trial that is open began
+    with."""
+
+    done: list[Step] = field(default_factory=list)
+    undone: list[Step] = field(default_factory=list)
+    floors: list[int] = field(default_factory=list)
+
+
+class Desk:
+    """A network, and what was done to it. `with_solve` says that each step solves after its change, so that its value is always
+    the greatest. What a call raises beside a `DeskFault` is what the client raises: where that is `SessionEnded`, `begin_again`
+    makes the steps once more on a new session."""
+
+    def __init__(self, subject: Subject, *, with_solve: bool = False, program: Program = None) -> None:
+        self.subject = subject
+        self.with_solve = with_solve
+        self._program = program
+        self._time = _Timeline()
+        self.shut_nodes: frozenset[int] = frozenset()
+        self._begin()
+        if with_solve:
+            self.solve()
+            self._time.floors.append(1)
+
+    def _begin(self) -> None:
+        with tempfile.NamedTemporaryFile(prefix="dmf-", suffix=".max") as file:
+            file.write(self.subject.text)
+            file.flush()
+            self._network = read(file.name, program=self._program)
+        self._handles = {arc.number: arc for arc in self._network.arcs}
+        self._nodes = self._network.nodes
+        self.names = Names(read_names(self.subject.text)[0], self._handles, self._nodes)
+        nodes = self.names.nodes
+        self.lines = [
+            Line(nodes[arc.tail], nodes[arc.head], self._network.capacity(arc)) for arc in self._handles.values()
+        ]
+        self._seen = _Seen()
+        self.shut_nodes = frozenset()
+
+    def begin_again(self) -> None:
+        """Makes all steps once more, from the first on, on a new session."""
+        self._network.end()
+        self._begin()
+        done, self._time.done = self._time.done, []
+        try:
+            for step in done:
+                self._make(step.text, step.changes)
+        except Error:
+            self._time.done = done
+            raise
+
+    def end(self) -> None:
+        """Ends the session."""
+        self._network.end()
+
+    # What is known of the present state.
+
+    @property
+    def value(self) -> int:
+        """The value of the present flow."""
+        return self._network.value
+
+    @property
+    def source(self) -> int:
+        return self.names.nodes[self._network.source]
+
+    @property
+    def sink(self) -> int:
+        return self.names.nodes[self._network.sink]
+
+    @property
+    def steps(self) -> list[Step]:
+        """The steps that were made, and behind them those that were undone."""
+        return [*self._time.done, *reversed(self._time.undone)]
+
+    @property
+    def at(self) -> int:
+        """How many of the steps are made."""
+        return len(self._time.done)
+
+    @property
+    def trials(self) -> int:
+        """How many trials are open."""
+        return len(self._time.floors) - self.with_solve
+
+    @property
+    def is_greatest(self) -> bool:
+        """Whether no flow has a larger value than the present one."""
+        seen = self._seen
+        if seen.is_greatest is None:
+            if self._time.done and self._time.done[-1].is_solved:
+                seen.is_greatest = True
+            else:
+                try:
+                    self.cut()
+                except FlowIsNotGreatest:
+                    seen.is_greatest = False
+                else:
+                    seen.is_greatest = True
+        return seen.is_greatest
+
+    def cut(self) -> Cut[Node]:
+        """The smallest minimum cut. Raises `FlowIsNotGreatest`."""
+        if self._seen.cut is None:
+            self._seen.cut = self._network.cut()
+        return self._seen.cut
+
+    def cut_arcs(self) -> dict[int, None]:
+        """The arcs of the cut, in their order."""
+        if self._seen.cut_arcs is None:
+            self._seen.cut_arcs = dict.fromkeys(arc.number for arc in self.cut().arcs)
+        return self._seen.cut_arcs
+
+    def side(self) -> set[int]:
+        """The nodes on the source's side of the cut."""
+        if self._seen.side is None:
+            self._seen.side = {self.names.nodes[node] for node in self.cut().side}
+        return self._seen.side
+
+    def flow(self, number: int) -> int:
+        """What flows on an arc. On one that is closed nothing does."""
+        if self.line(number).is_closed:
+            return 0
+        self._seen.flow = self._seen.flow or self._network.flow()
+        return self._seen.flow[self._handles[number]]
+
+    def line(self, number: int) -> Line:
+        """An arc as it is. Raises a `DeskFault` where there is none of this number."""
+        if not 1 <= number <= len(self.lines):
+            raise DeskFault(f"there is no arc #{number}")
+        return self.lines[number - 1]
+
+    def problem(self) -> str:
+        """The problem of the open arcs, with the names of places and arcs."""
+        return self._network.problem()
+
+    # What can be done.
+
+    def solve(self) -> Step:
+        """Makes the flow a greatest one."""
+        return self._do("solve", [Solve()])
+
+    def close(self, number: int) -> Step:
+        """Closes an arc."""
+        self._open_line(number)
+        return self._do(f"close {self.names.short(number)}", [Close(number)])
+
+    def cap(self, number: int, capacity: int) -> Step:
+        """Gives an arc another capacity."""
+        self._open_line(number)
+        return self._do(f"{self.names.short(number)} carries {capacity}", [Cap(number, capacity)])
+
+    def add(self, tail: Place, head: Place, capacity: int, name: str = "") -> Step:
+        """Adds an arc."""
+        ends = f"{self.names.node(tail.exit)} -> {self.names.node(head.entry)}"
+        text = f"add {name + ', ' if name else ''}{ends}, {capacity}"
+        return self._do(text, [Add(tail.exit, head.entry, capacity, name or None)])
+
+    def double(self, number: int) -> Step:
+        """Adds a second arc beside an open one, of the same capacity."""
+        line = self._open_line(number)
+        return self._do(f"a second one beside {self.names.short(number)}", [Add(line.tail, line.head, line.capacity)])
+
+    def shut(self, place: Place) -> Step:
+        """Closes each open arc at a place, and the one that has its limit."""
+        if not any(not line.is_closed and (line.tail in place or line.head in place) for line in self.lines):
+            raise DeskFault(f"no arc is open at {shown(self.names.node(place.entry))}")
+        return self._do(f"shut {self.names.node(place.entry)}", [Shut(node) for node in dict.fromkeys(place)])
+
+    def open(self, number: int) -> Step:
+        """Opens an arc that is closed, with the capacity that it had. It is a new arc to the network, and has a new number."""
+        line = self.line(number)
+        if not line.is_closed or line.is_replaced:
+            raise DeskFault(f"{self.names.arc(number)} is open")
+        return self._do(f"open {self.names.short(number)}", [Reopen(number)])
+
+    def open_place(self, place: Place) -> Step:
+        """Opens the arcs that were closed when a place was shut, but for those to places that are shut too."""
+        label = self.names.node(place.entry)
+        if not self.shut_nodes & set(place):
+            raise DeskFault(f"{shown(label)} is not shut")
+        others = self.shut_nodes - set(place)
+        closed = [
+            number
+            for number, line in enumerate(self.lines, 1)
+            if line.is_shut and (line.tail in place or line.head in place) and not others & {line.tail, line.head}
+        ]
+        if not closed:
+            raise DeskFault(f"each arc at {shown(label)} leads to a place that is shut too")
+        return self._do(f"open {label}", [Reopen(number) for number in closed])
+
+    def undo(self, count: int = 1) -> None:
+        """Takes back the last steps, all of them or none."""
+        if count > self.at:
+            raise DeskFault(f"there {_are(self.at, 'step')} to undo")
+        if self._time.floors and self.at - count < self._time.floors[-1]:
+            raise DeskFault("the trial began there; `drop` or `keep` ends it" if self.trials else "there is no step to undo")
+        self._undo(count)
+
+    def redo(self, count: int = 1) -> None:
+        """Makes again the steps that were taken back last, all of them or none."""
+        if count > len(self._time.undone):
+            raise DeskFault(f"there {_are(len(self._time.undone), 'step')} to redo")
+        for _ in range(count):
+            step = self._time.undone[-1]
+            self._make(step.text, step.changes)
+            self._time.undone.pop()
+
+    def go_to(self, at: int) -> None:
+        """Goes back or forward to the state behind so many of the steps."""
+        if not 0 <= at <= len(self.steps):
+            raise DeskFault(f"there is no step {at}")
+        if at <= self.at:
+            self.undo(self.at - at)
+        else:
+            self.redo(at - self.at)
+
+    def begin_trial(self) -> None:
+        """Begins a trial: what is done from here on is kept or dropped together."""
+        self._time.floors.append(self.at)
+
+    def keep(self) -> None:
+        """Ends the trial that began last, and keeps what was done."""
+        self._refuse_no_trial()
+        self._time.floors.pop()
+
+    def drop(self) -> None:
+        """Ends the trial that began last, and takes back what was done. `redo` would do it again."""
+        self._refuse_no_trial()
+        self._undo(self.at - self._time.floors[-1])
+        self._time.floors.pop()
+
+    def _refuse_no_trial(self) -> None:
+        if not self.trials:
+            raise DeskFault("there is no trial; `try` begins one")
+
+    @contextlib.contextmanager
+    def aside(self) -> Iterator[None]:
+        """Takes back what is done inside, and keeps no step of it."""
+        at, undone = self.at, list(self._time.undone)
+        try:
+            yield
+        finally:
+            with contextlib.suppress(SessionEnded):
+                self._undo(self.at - at)
+            del self._time.done[at:]
+            self._time.undone = undone
+
+    def sweep(self, numbers: Iterable[int]) -> Iterator[Trial]:
+        """What each of these arcs means for the greatest value: where it alone is closed, and where it alone has a second one beside
+        it. The flow is a greatest one, else this raises a `DeskFault`."""
+        if not self.is_greatest:
+            raise DeskFault("the flow is not greatest, so nothing can be compared with it; `solve` first")
+        cut = self.cut_arcs()
+        for number in numbers:
+            self._open_line(number)
+            closed = self._tried(self._network.close, number) if self.flow(number) else self.value
+            # Beside an arc that is not of the cut, a second one leaves the cut as it is, and the cut is the limit.
+            doubled: int | None = self.value
+            if number in cut:
+                try:
+                    doubled = self._tried(self._add_beside, number)
+                except (CapacitiesPast64Bits, TooManyArcs):
+                    doubled = None
+            yield Trial(number, closed, doubled)
+
+    def _add_beside(self, arc: Handle[Node]) -> None:
+        self._network.add(arc.tail, arc.head, self.lines[arc.number - 1].capacity)
+
+    def _tried(self, change: Callable[[Handle[Node]], object], number: int) -> int:
+        """The greatest value after a change of an arc, which is taken back."""
+        with self._whole():
+            change(self._handles[number])
+            value = self._network.solve().value
+            self._network.undo(2)
+        return value
+
+    def the_arc(self, text: str, *, is_closed: bool = False) -> int:
+        """The arc that a text means: the open one, or the closed one. Raises a `DeskFault` where there is none, or more than one."""
+        found = [number for number in self.names.arcs(text) if not self.lines[number - 1].is_replaced]
+        fitting = [number for number in found if self.lines[number - 1].is_closed == is_closed]
+        if len(fitting) == 1:
+            return fitting[0]
+        if fitting:
+            raise DeskFault(f"{shown(cleaned(text))} may be {self.names.list(fitting)}; say one by its number")
+        arcs = self.names.list(found)
+        raise DeskFault(f"{arcs} is open" if is_closed else f"{arcs} is closed; `open` opens it")
+
+    def _open_line(self, number: int) -> Line:
+        line = self.line(number)
+        if line.is_closed:
+            raise DeskFault(f"{self.names.arc(number)} is closed")
+        return line
+
+    @contextlib.contextmanager
+    def _whole(self) -> Iterator[None]:
+        """Ends the session where what is done inside is broken off, so that it never has other changes than the steps tell."""
+        try:
+            yield
+        except Refused:
+            raise
+        except BaseException:
+            with contextlib.suppress(Error):
+                self._network.end()
+            raise
+
+    def _do(self, text: str, changes: list[Change]) -> Step:
+        """Makes a new step."""
+        step = self._make(text, (*changes, Solve()) if self.with_solve and changes != [Solve()] else tuple(changes))
+        self._time.undone = []
+        return step
+
+    def _make(self, text: str, changes: tuple[Change, ...]) -> Step:
+        """Makes a step, or none of its changes."""
+        before: list[Was] = []
+        shut_before, made = self.shut_nodes, 0
+        seen = _Seen()
+        with self._whole():
+            try:
+                for change in changes:
+                    if isinstance(change, Solve):
+                        seen = _Seen(self._network.solve(), is_greatest=True)
+                    else:
+                        seen = _Seen()
+                        before += self._change(change)
+                    made += 1
+            except Refused:
+                if made:
+                    self._network.undo(made)
+                self._take_back(before, shut_before)
+                raise
+        self._seen = seen
+        self._time.done.append(Step(text, changes, self.value, tuple(before), shut_before))
+        return self._time.done[-1]
+
+    def _change(self, change: Close | Cap | Add | Reopen | Shut) -> list[Was]:
+        """Makes a change of the network, and gives what the arcs were that it changed."""
+        if isinstance(change, Add):
+            return [self._added(Line(change.tail, change.head, change.capacity), change.name)]
+        if isinstance(change, Reopen):
+            line = self.lines[change.arc - 1]
+            added = self._added(Line(line.tail, line.head, line.capacity), self.names.arc_name(change.arc) or None)
+            self.names.drop(change.arc)
+            return [added, self._put(change.arc, line._replace(is_shut=False, is_replaced=True))]
+        if isinstance(change, Shut):
+            return self._shut(change.node)
+        line = self.lines[change.arc - 1]
+        if isinstance(change, Close):
+            self._network.close(self._handles[change.arc])
+            return [self._put(change.arc, line._replace(is_closed=True))]
+        self._network.cap(self._handles[change.arc], change.capacity)
+        return [self._put(change.arc, line._replace(capacity=change.capacity))]
+
+    def _put(self, number: int, line: Line) -> Was:
+        was = Was(number, self.lines[number - 1])
+        self.lines[number - 1] = line
+        return was
+
+    def _added(self, line: Line, name: str | None) -> Was:
+        nodes = self._nodes
+        handle = self._network.add(nodes[line.tail - 1], nodes[line.head - 1], line.capacity, name)
+        self._handles[handle.number] = handle
+        self.lines.append(line)
+        self.names.put(handle.number)
+        return Was(handle.number, None)
+
+    def _shut(self, node: int) -> list[Was]:
+        self._network.shut(self._nodes[node - 1])
+        self.shut_nodes |= {node}
+        at_node = [
+            Was(number, line)
+            for number, line in enumerate(self.lines, 1)
+            if not line.is_closed and node in (line.tail, line.head)
+        ]
+        for number, line in at_node:
+            if line:
+                self.lines[number - 1] = line._replace(is_closed=True, is_shut=True)
+        return at_node
+
+    def _take_back(self, before: Iterable[Was], shut_before: frozenset[int]) -> None:
+        """Gives back to arcs what they were."""
+        for number, line in reversed(list(before)):
+            if line is None:
+                self.names.drop(number)
+                del self._handles[number]
+                self.lines.pop()
+                continue
+            if self.lines[number - 1].is_replaced:
+                self.names.put(number)
+            self.lines[number - 1] = line
+        self.shut_nodes = shut_before
+
+    def _undo(self, count: int) -> None:
+        """Takes back so many steps, which are there."""
+        if not count:
+            return
+        undone = self._time.done[self.at - count :]
+        with self._whole():
+            self._network.undo(sum(len(step.changes) for step in undone))
+            for step in reversed(undone):
+                self._take_back(step.before, step.shut_before)
+        del self._time.done[self.at - count :]
+        self._time.undone += reversed(undone)
+        self._seen = _Seen()
+
+
+def _are(count: int, what: str) -> str:
+    return f"is no {what}" if not count else f"is one {what}" if count == 1 else f"are {count} {what}s"

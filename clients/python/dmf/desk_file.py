@@ -1,0 +1,125 @@
+"""What `dmf-plan` and `dmf-board` are given: a problem's file, or a table of arcs as `dmf-problem` takes it."""
+
+from __future__ import annotations
+
+import argparse
+from collections.abc import Sequence
+from dataclasses import dataclass
+
+from .table_problem import MOST_TOLD, Plan, Terminal, problem_text, warnings
+from .table_words import COLUMNS, add_options, names_terminals, parsed, plan_of
+from .tables import ARCS, Table, TableFault, cleaned, decoded, read_table, shown
+from .text import display, fields, lines
+from .tool import ToolFault, read_file
+
+# Titles of a column that do not say what its cells are.
+PLAIN_TITLES = {"", "amount", "arc", "cap", "capacity", "edge", "id", "key", "label", "max", "name", "no", "number", "title"}
+LONGEST_TITLE = 40
+# In how many of its first lines the problem line of a file is looked for.
+HEAD = 100_000
+FAULT, UNREADABLE = 3, 4
+
+
+@dataclass(frozen=True)
+class Subject:
+    """A problem with names in comments, as `dmf-problem` writes it. `unit` is what the table calls its amounts and `noun` what it
+    calls an arc, where its titles say so; `notes` are what looks like a mistake, and what was taken for granted."""
+
+    path: str
+    text: bytes
+    unit: str = ""
+    noun: str = ""
+    notes: tuple[str, ...] = ()
+
+
+def add_words(parser: argparse.ArgumentParser) -> None:
+    """Adds the words that name the file, and what a table in it is."""
+    parser.add_argument("places", metavar="FILE [SOURCE SINK]", nargs="*", help="a table of arcs, or a problem's file")
+    add_options(parser)
+
+
+def words_of(parser: argparse.ArgumentParser, given: list[str]) -> argparse.Namespace:
+    """The words that were given, with the path of the file."""
+    words = parsed(parser, given, 1)
+    if not words.fixed:
+        parser.error("the file of a table or a problem is wanted")
+    (words.path,) = words.fixed
+    return words
+
+
+def read_subject(words: argparse.Namespace) -> Subject:
+    """What the words name. Raises a `ToolFault`."""
+    try:
+        data = read_file(words.path, UNREADABLE)
+        if is_problem(words.path, data):
+            _refuse_table_words(words)
+            return Subject(words.path, data)
+        return _of_table(words, data)
+    except TableFault as fault:
+        fault.path = fault.path or words.path
+        raise ToolFault(str(fault), FAULT) from None
+
+
+def is_problem(path: str, data: bytes) -> bool:
+    """Whether a file has a problem, by its first line that is no comment, or by its name."""
+    head = lines(b"\n".join(data.split(b"\n", HEAD)[:HEAD]))
+    first = next((found for found in map(fields, head) if found and found[0] != b"c"), None)
+    return first is not None and first[:2] == [b"p", b"max"] or path.endswith(".max")
+
+
+def _refuse_table_words(words: argparse.Namespace) -> None:
+    if names_terminals(words) or words.titles or words.both_ways or words.scale or words.node_limits or words.encoding:
+        raise ToolFault(f"{words.path} has a problem, which names its own source and sink: the options are for tables", 2)
+
+
+def _of_table(words: argparse.Namespace, data: bytes) -> Subject:
+    table = read_table(decoded(data, words.encoding), ARCS, words.path, words.titles, words.scale)
+    plan = plan_of(words, table)
+    notes = []
+    if not plan.sources:
+        plan.sources = [_only(plan, "source", 0)]
+        notes.append(f"the source is {shown(plan.sources[0].place)}, the one place that nothing leads to")
+    if not plan.sinks:
+        plan.sinks = [_only(plan, "sink", 1)]
+        notes.append(f"the sink is {shown(plan.sinks[0].place)}, the one place that nothing leads away from")
+    text = problem_text(plan, words.scale)
+    titles = _titles(table, words.titles)
+    unit = _spoken(titles.get("capacity", ""))
+    if words.scale is not None:
+        notes.append(f"all numbers are those of the table times {words.scale}")
+        unit = f"{unit or 'units'} times {words.scale}"
+    return Subject(words.path, text.encode(), unit, _spoken(titles.get("name", "")), (*notes, *warnings(plan)))
+
+
+def _only(plan: Plan, kind: str, end: int) -> Terminal:
+    """The one place from which arcs leave and that none enters, or the other way round. Raises a `TableFault` where there is not one."""
+    rows = [record.places for record in plan.arcs.records if record.places[0] != record.places[1]]
+    others = {places[1 - end] for places in rows} | ({places[end] for places in rows} if plan.both_ways else set())
+    found = [place for place in dict.fromkeys(places[end] for places in rows) if place not in others]
+    taken = {terminal.place for terminal in (*plan.sources, *plan.sinks)}
+    if len(found) == 1 and found[0] not in taken:
+        return Terminal(found[0])
+    raise TableFault(_which(kind, found, list(plan.places)))
+
+
+def _which(kind: str, found: Sequence[str], places: Sequence[str]) -> str:
+    """What is said where the table does not tell its source or its sink."""
+    way = "leads to" if kind == "source" else "leads away from"
+    where = "does it flow from" if kind == "source" else "does it flow to"
+    choice = found or places
+    listed = ", ".join(map(shown, choice[:MOST_TOLD])) + (", .." if len(choice) > MOST_TOLD else "")
+    why = f"nothing {way} any of these: {listed}" if found else f"there is no place that nothing {way}; the places are {listed}"
+    return f'where {where}? {why}; say --{kind} "{display(choice[0])}"' + (", as often as there are such places" if len(found) > 1 else "")
+
+
+def _titles(table: Table, named: dict[str, str]) -> dict[str, str]:
+    """The titles of the columns that are known."""
+    if named or not table.heading:
+        return named
+    cells = dict(zip(COLUMNS, table.heading.cells))
+    return {column: cleaned(cell) for column, cell in cells.items()}
+
+
+def _spoken(title: str) -> str:
+    """A title, where it says what its cells are."""
+    return title if title.casefold() not in PLAIN_TITLES and len(title) <= LONGEST_TITLE and title.isprintable() else ""

@@ -1,0 +1,576 @@
+"""A planner's session at a terminal, or in a script: commands by names."""
+
+from __future__ import annotations
+
+import cmd
+import contextlib
+import difflib
+import os
+import subprocess
+import sys
+from collections.abc import Callable, Iterable, Iterator
+from pathlib import Path
+from typing import NamedTuple
+
+from .desk import Desk, DeskFault, Place, Trial
+from .desk_text import picture_text, problem, table
+from .errors import Error, Refused, SessionEnded
+from .tables import LARGEST, cleaned, shown, whole_number
+from .text import display
+
+try:
+    import readline
+except ImportError:  # A Python without it has no completion and no history.
+    readline = None  # type: ignore[assignment]
+
+MOST_REMEMBERED = 2_000
+MOST_SIDE = 30
+# How long Graphviz may take, in seconds.
+PATIENCE = 60
+DRAWN = {".svg": "svg", ".png": "png", ".pdf": "pdf"}
+FLOW, PLACE, ARC, CLOSED, COMMAND, EACH = "flow", "place", "arc", "closed", "command", "each"
+
+
+class Help(NamedTuple):
+    """How a command is written, what it does, and which names may stand behind it."""
+
+    form: str
+    says: str
+    takes: str = ""
+
+
+ARCS_SAID = (
+    'An arc goes by its name, by its ends as in Mill-Town or "Mill Town", or by its number as in #7. A name with spaces stands in quotes, '
+    "or as it is where that can mean one thing alone."
+)
+COMMANDS = {
+    "solve": Help("solve", "Finds the greatest value that can be sent, going on from the present flow."),
+    "cut": Help("cut", "Tells the limit: the arcs that hold the value where it is, and the places on the source's side of them."),
+    "flow": Help("flow [ARC|PLACE]", "Tells what flows on each arc, or on one, or on those at a place.", FLOW),
+    "close": Help("close ARC", f"Closes an arc. {ARCS_SAID}", ARC),
+    "open": Help("open [ARC|PLACE]", "Opens an arc that is closed, or a place that is shut; alone, what was closed or shut last.", CLOSED),
+    "cap": Help("cap ARC NUMBER", f"Gives an arc another capacity. {ARCS_SAID}", ARC),
+    "add": Help("add PLACE PLACE NUMBER [NAME]", "Adds an arc from the first place to the second, with a capacity.", PLACE),
+    "shut": Help("shut PLACE", "Closes each arc at a place.", PLACE),
+    "undo": Help("undo [NUMBER]", "Takes back the last step, or so many."),
+    "redo": Help("redo [NUMBER]", "Makes the step again that was taken back last, or so many."),
+    "steps": Help("steps", "Lists the steps with the value after each."),
+    "try": Help("try", "Begins a trial: `drop` takes back all that was done since, and `keep` keeps it."),
+    "keep": Help("keep", "Ends the trial, and keeps what was done."),
+    "drop": Help("drop", "Ends the trial, and takes back what was done."),
+    "what-if": Help(
+        "what-if each arc [of the cut | at PLACE]  or  what-if COMMAND",
+        "Tells for each arc the greatest value where it alone is closed, and where a second one lies beside it; or what a command would "
+        "bring, once it is solved. Nothing is changed.",
+        EACH,
+    ),
+    "draw": Help("draw FILE", "Draws the network: FILE ends with .svg, .png or .pdf, or with .dot for the text alone."),
+    "save": Help("save FILE", "Writes the plan as a table where FILE ends with .csv, or the problem where it ends with .max."),
+    "help": Help("help [COMMAND]", "Lists the commands, or tells what one does.", COMMAND),
+    "quit": Help("quit", "Ends. Nothing is saved of itself."),
+}
+CHANGES = ("close", "open", "cap", "add", "shut")
+
+
+class Word(NamedTuple):
+    """A word of a line, the place where it begins, and whether a quote was left open in it."""
+
+    text: str
+    start: int
+    is_open: bool = False
+
+
+def split(line: str) -> list[Word]:
+    """The words of a line. One that begins with a double quote goes on to the next, and two quotes in it stand for one."""
+    words = []
+    at = 0
+    while at < len(line):
+        if line[at] in " \t":
+            at += 1
+        elif line[at] == '"':
+            word = _quoted(line, at)
+            words.append(word[0])
+            at = word[1]
+        else:
+            end = next((place for place in range(at, len(line)) if line[place] in " \t"), len(line))
+            words.append(Word(line[at:end], at))
+            at = end
+    return words
+
+
+def _quoted(line: str, start: int) -> tuple[Word, int]:
+    """The word whose quote opens at a place, and the place behind it."""
+    text, at = "", start + 1
+    while True:
+        end = line.find('"', at)
+        if end < 0:
+            return Word(text + line[at:], start, True), len(line)
+        text += line[at:end]
+        at = end + 1
+        if line[at : at + 1] != '"':
+            return Word(text, start), at
+        text += '"'
+        at += 1
+
+
+def quoted(name: str) -> str:
+    """A name as it is typed as one word."""
+    if name and not any(letter in name for letter in ' \t"'):
+        return name
+    return '"' + name.replace('"', '""') + '"'
+
+
+class Plan(cmd.Cmd):
+    """The session. `is_typed` says that a person types, who sees a prompt and may complete names; else lines are a script's."""
+
+    def __init__(self, desk: Desk, *, is_typed: bool, write: Callable[[str], None]) -> None:
+        super().__init__()
+        self.desk = desk
+        self.is_typed = is_typed
+        self.write = write
+        self.refused = 0
+        self.line_number = 0
+        self._written: set[str] = set()
+        self._matches: list[str] = []
+        self._unit = f" {desk.subject.unit}" if desk.subject.unit else ""
+        self._do = {
+            "solve": self._solve, "cut": self._cut, "flow": self._flow, "close": self._close, "open": self._open, "cap": self._cap,
+            "add": self._add, "shut": self._shut, "undo": self._undo, "redo": self._redo, "steps": self._steps, "try": self._try,
+            "keep": self._keep, "drop": self._drop, "what-if": self._what_if, "draw": self._draw, "save": self._save,
+            "help": self._help, "quit": self._quit,
+        }  # fmt: skip
+
+    # How lines come and how they are answered.
+
+    def onecmd(self, line: str) -> bool:
+        """Carries out a line. Gives whether the session is to end."""
+        self.line_number += 1
+        if line == "EOF":
+            return True
+        words = split(line.rstrip("\r\n"))
+        if not words or words[0].text.startswith("#") or words[0].text == "c":
+            return False
+        try:
+            if words[-1].is_open:
+                raise DeskFault('a quote (") is not closed')
+            return bool(self._command(words[0].text)([word.text for word in words[1:]]))
+        except DeskFault as fault:
+            self.refuse(str(fault))
+        except Refused as refused:
+            self.refuse(_spoken(refused))
+        except SessionEnded as ended:
+            self.refuse(str(ended))
+            self.begin_again()
+        return False
+
+    def _command(self, word: str) -> Callable[[list[str]], object]:
+        if word in ("exit", "q"):
+            word = "quit"
+        if word not in self._do:
+            near = difflib.get_close_matches(word, COMMANDS, n=2)
+            hint = f"; is it {' or '.join(map(shown, near))}?" if near else "; `help` lists the commands"
+            raise DeskFault(f"no command is called {shown(word)}{hint}")
+        return self._do[word]
+
+    def refuse(self, why: str) -> None:
+        """Tells why a line is refused. Nothing has changed."""
+        self.refused += 1
+        where = "" if self.is_typed else f"dmf-plan: line {self.line_number}: "
+        sys.stderr.write(display(where + why) + "\n")
+        sys.stderr.flush()
+
+    def begin_again(self) -> None:
+        """Begins a new session, with the steps that were made."""
+        try:
+            self.desk.begin_again()
+        except Error as error:
+            self.refuse(f"it could not be begun again: {error}")
+        else:
+            self.tell(f"begun again, with the steps that were made: {self._value()}")
+
+    def tell(self, *lines: str) -> None:
+        self.write("".join(f"{line}\n" for line in lines))
+
+    def run_typed(self) -> None:
+        """Takes lines from a person, to the end."""
+        self.tell(self.greeting(), "`help` lists the commands, `quit` ends.")
+        with _history():
+            while True:
+                try:
+                    self.prompt = self._prompt()
+                    self.cmdloop()
+                    return
+                except KeyboardInterrupt:
+                    self.tell("")
+                except SessionEnded as ended:
+                    self.refuse(str(ended))
+                    self.begin_again()
+
+    def run_script(self, lines: Iterable[str]) -> None:
+        """Carries out the lines of a script."""
+        for line in lines:
+            if self.onecmd(line):
+                return
+
+    def greeting(self) -> str:
+        names = self.desk.names
+        ends = f"from {names.node(self.desk.source)} to {names.node(self.desk.sink)}"
+        return f"{display(self.desk.subject.path)}: {ends}, {len(self.desk.lines)} arcs between {len(names.nodes)} places."
+
+    def postcmd(self, stop: bool, line: str) -> bool:
+        if not stop:
+            self.prompt = self._prompt()
+        return stop
+
+    def _prompt(self) -> str:
+        trial = "try, " * self.desk.trials
+        return f"{trial}{self.desk.value}{', greatest' if self.desk.is_greatest else ', not greatest'}> "
+
+    def _value(self, before: int | None = None) -> str:
+        """The present value, and what was won or lost against the one before."""
+        value = self.desk.value
+        moved = f", {value - before} more" if before is not None and value > before else ""
+        moved = f", {before - value} less" if before is not None and value < before else moved
+        return f"value {value}{self._unit}{moved}" + (", the greatest" if self.desk.is_greatest else "; more can be sent: solve")
+
+    # What the commands do.
+
+    def _change(self, make: Callable[[], object]) -> None:
+        before = self.desk.value
+        make()
+        self.tell(self._value(before))
+
+    def _solve(self, words: list[str]) -> None:
+        _none(words, "solve")
+        self._change(self.desk.solve)
+
+    def _close(self, words: list[str]) -> None:
+        number = self.desk.the_arc(_wanted(words, "close"))
+        self._change(lambda: self.desk.close(number))
+
+    def _open(self, words: list[str]) -> None:
+        if not words:
+            self._change(self._last_closed())
+            return
+        name = " ".join(words)
+        desk = self.desk
+        if desk.names.is_place(name) and desk.shut_nodes & set(desk.names.place(name)):
+            self._change(lambda: desk.open_place(desk.names.place(name)))
+        else:
+            number = desk.the_arc(name, is_closed=True)
+            self._change(lambda: desk.open(number))
+
+    def _last_closed(self) -> Callable[[], object]:
+        """What opens what was closed or shut last, and is so still."""
+        desk = self.desk
+        for step in reversed(desk.steps[: desk.at]):
+            for number, line in reversed(step.before):
+                now = desk.lines[number - 1]
+                if line and not line.is_closed and now.is_closed and not now.is_replaced:
+                    shut = [node for node in (now.tail, now.head) if now.is_shut and node in desk.shut_nodes]
+                    if not now.is_shut:
+                        return lambda: desk.open(number)  # noqa: B023
+                    if shut:
+                        return lambda: desk.open_place(desk.names.place(desk.names.node(shut[0])))  # noqa: B023
+        raise DeskFault("nothing is closed")
+
+    def _cap(self, words: list[str]) -> None:
+        if len(words) < 2:
+            raise DeskFault(f"wanted is: {COMMANDS['cap'].form}")
+        number, capacity = self.desk.the_arc(" ".join(words[:-1])), _number(words[-1])
+        self._change(lambda: self.desk.cap(number, capacity))
+
+    def _add(self, words: list[str]) -> None:
+        tail, head, capacity, name = self._new_arc(words)
+        self._change(lambda: self.desk.add(tail, head, capacity, name))
+
+    def _new_arc(self, words: list[str]) -> tuple[Place, Place, int, str]:
+        """The places, the capacity and the name that the words of `add` mean, where they can mean one thing alone."""
+        places = self.desk.names
+        found = []
+        for at in range(2, len(words)):
+            if not _is_number(words[at]):
+                continue
+            for middle in range(1, at):
+                tail, head = " ".join(words[:middle]), " ".join(words[middle:at])
+                if places.is_place(tail) and places.is_place(head):
+                    found.append((places.place(tail), places.place(head), _number(words[at]), " ".join(words[at + 1 :])))
+        if len(found) == 1:
+            return found[0]
+        if found:
+            raise DeskFault("this can mean several things; put the names in quotes")
+        if len(words) < 3:
+            raise DeskFault(f"wanted is: {COMMANDS['add'].form}")
+        # What is wrong with it as it was meant most likely, each name being one word.
+        return places.place(words[0]), places.place(words[1]), _number(words[2]), " ".join(words[3:])
+
+    def _shut(self, words: list[str]) -> None:
+        place = self.desk.names.place(_wanted(words, "shut"))
+        self._change(lambda: self.desk.shut(place))
+
+    def _undo(self, words: list[str]) -> None:
+        self._change(lambda: self.desk.undo(_count(words, "undo")))
+
+    def _redo(self, words: list[str]) -> None:
+        self._change(lambda: self.desk.redo(_count(words, "redo")))
+
+    def _try(self, words: list[str]) -> None:
+        _none(words, "try")
+        self.desk.begin_trial()
+        self.tell("a trial begins: `drop` takes back what comes now, `keep` keeps it")
+
+    def _keep(self, words: list[str]) -> None:
+        _none(words, "keep")
+        self._change(self.desk.keep)
+
+    def _drop(self, words: list[str]) -> None:
+        _none(words, "drop")
+        self._change(self.desk.drop)
+
+    def _steps(self, words: list[str]) -> None:
+        _none(words, "steps")
+        steps = self.desk.steps
+        self.tell(f"  {0:>3} {'*' if self.desk.at == 0 else ' '} {display(self.desk.subject.path)}: value 0")
+        for number, step in enumerate(steps, 1):
+            mark = "*" if number == self.desk.at else " "
+            self.tell(f"  {number:>3} {mark} {step.text}: value {step.value}{' (undone)' if number > self.desk.at else ''}")
+
+    def _cut(self, words: list[str]) -> None:
+        _none(words, "cut")
+        desk = self.desk
+        if not desk.is_greatest:
+            raise DeskFault("the flow is not greatest, so there is no limit to tell; `solve` first")
+        side = list(dict.fromkeys(desk.names.node(node) for node in sorted(desk.side())))
+        more = f" and {len(side) - MOST_SIDE} more" if len(side) > MOST_SIDE else ""
+        self.tell(f"limit {desk.value}{self._unit}", f"  source's side: {', '.join(side[:MOST_SIDE])}{more}")
+        self.tell(*(f"  #{number} {desk.names.arc(number)}: {desk.line(number).capacity}" for number in desk.cut_arcs()))
+
+    def _flow(self, words: list[str]) -> None:
+        desk = self.desk
+        name = " ".join(words)
+        numbers: Iterable[int] = range(1, len(desk.lines) + 1)
+        if words and desk.names.is_place(name):
+            place = desk.names.place(name)
+            numbers = [number for number in numbers if {desk.line(number).tail, desk.line(number).head} & set(place)]
+        elif words:
+            numbers = desk.names.arcs(name)
+        self.tell(*(self._arc_line(number) for number in numbers if not desk.line(number).is_replaced))
+
+    def _arc_line(self, number: int) -> str:
+        line, flow = self.desk.line(number), self.desk.flow(number)
+        is_full = flow and flow == line.capacity
+        state = "closed" if line.is_closed else f"{flow} of {line.capacity}{', full' if is_full else ''}"
+        return f"  #{number} {self.desk.names.arc(number)}: {state}"
+
+    def _what_if(self, words: list[str]) -> None:
+        if words[:1] == ["each"]:
+            self._sweep(words[1:])
+            return
+        if not words or words[0] not in CHANGES:
+            raise DeskFault(f"wanted is: {COMMANDS['what-if'].form}; a command there is one of {', '.join(CHANGES)}")
+        desk, write, base = self.desk, self.write, self.desk.value
+        if not desk.is_greatest:
+            raise DeskFault("the flow is not greatest, so nothing can be compared with it; `solve` first")
+        with desk.aside():
+            try:
+                self.write = _nothing
+                self._do[words[0]](words[1:])
+                desk.solve()
+            finally:
+                self.write = write
+            value = desk.value
+        self.tell(f"it would be {value}{self._unit}: {_moved(base, value)}")
+
+    def _sweep(self, words: list[str]) -> None:
+        desk = self.desk
+        rest = [word for word in words[1:] if word not in ("of", "the")]
+        if len(words) >= 3 and words[1] == "at":
+            place = desk.names.place(" ".join(words[2:]))
+            wanted = [n for n, line in enumerate(desk.lines, 1) if {line.tail, line.head} & set(place)]
+        elif words and words[1:] and rest in (["cut"], ["limit"]):
+            wanted = list(desk.cut_arcs()) if desk.is_greatest else []
+        elif len(words) == 1 or rest == ["all"]:
+            wanted = list(range(1, len(desk.lines) + 1))
+        else:
+            raise DeskFault(f"wanted is: {COMMANDS['what-if'].form}")
+        base = desk.value
+        trials: list[Trial] = []
+        for trial in desk.sweep(number for number in wanted if not desk.line(number).is_closed):
+            trials.append(trial)
+            if self.is_typed and len(wanted) > 20:
+                sys.stderr.write(f"\r{len(trials)} of {len(wanted)} ")
+        if self.is_typed and len(wanted) > 20:
+            sys.stderr.write("\r\033[K")
+        for trial in sorted(trials, key=lambda trial: trial.closed):
+            second = "past 64 bits" if trial.doubled is None else f"{trial.doubled} ({_moved(base, trial.doubled)})"
+            self.tell(
+                f"  #{trial.arc} {desk.names.arc(trial.arc)}: closed {trial.closed} ({_moved(base, trial.closed)}), a second one {second}"
+            )
+
+    def _draw(self, words: list[str]) -> None:
+        path = self._new_file(words, "draw", [*DRAWN, ".dot"])
+        text = picture_text(self.desk)
+        kind = DRAWN.get(Path(path).suffix)
+        if kind is None:
+            self._put(path, text.encode())
+            return
+        try:
+            ran = subprocess.run(["dot", f"-T{kind}"], input=text.encode(), capture_output=True, timeout=PATIENCE, check=True)
+        except FileNotFoundError:
+            raise DeskFault("Graphviz is not there, which draws; its program is called dot. A FILE.dot can be had") from None
+        except subprocess.SubprocessError as error:
+            raise DeskFault(f"Graphviz did not draw it: {error}") from None
+        self._put(path, ran.stdout)
+
+    def _save(self, words: list[str]) -> None:
+        path = self._new_file(words, "save", [".csv", ".max"])
+        self._put(path, (table(self.desk) if path.endswith(".csv") else problem(self.desk)).encode())
+
+    def _new_file(self, words: list[str], command: str, endings: list[str]) -> str:
+        """The path of a file that may be written: of one that this session did not write nothing is lost."""
+        path = os.path.expanduser(_wanted(words, command))
+        if Path(path).suffix not in endings:
+            raise DeskFault(f"the name of the file ends with one of {', '.join(endings)}")
+        if os.path.realpath(path) not in self._written and os.path.lexists(path):
+            raise DeskFault(f"{shown(path)} is there already; name another file")
+        return path
+
+    def _put(self, path: str, data: bytes) -> None:
+        try:
+            with open(path, "wb") as file:
+                file.write(data)
+        except (OSError, ValueError) as error:
+            why = error.strerror if isinstance(error, OSError) else error
+            raise DeskFault(f"cannot write {shown(path)}: {why}") from None
+        self._written.add(os.path.realpath(path))
+        self.tell(f"written: {display(path)}")
+
+    def _help(self, words: list[str]) -> None:
+        if words:
+            self._command(words[0])
+            word = "quit" if words[0] in ("exit", "q") else words[0]
+            self.tell(COMMANDS[word].form, f"  {COMMANDS[word].says}")
+            return
+        width = max(len(command.form) for name, command in COMMANDS.items() if name != "what-if")
+        for name, command in COMMANDS.items():
+            form = "what-if each arc .." if name == "what-if" else command.form
+            self.tell(f"  {form:<{width}}  {command.says.split('. ')[0].rstrip('.')}.")
+
+    def _quit(self, words: list[str]) -> bool:
+        _none(words, "quit")
+        return True
+
+    # Completion.
+
+    def complete(self, text: str, state: int) -> str | None:  # type: ignore[override]
+        """The match of this number for what stands before the cursor."""
+        if state == 0:
+            with contextlib.suppress(Error, DeskFault):
+                self._matches = []
+                self._matches = self.matches(readline.get_line_buffer()[: readline.get_endidx()], text)
+        return self._matches[state] if state < len(self._matches) else None
+
+    def matches(self, line: str, text: str) -> list[str]:
+        """What may take the place of `text`, with which the line ends: the rest of each word that begins so."""
+        words = split(line)
+        if not words or words[-1].start + len(words[-1].text) < len(line) and not words[-1].is_open and line[-1] in " \t":
+            words.append(Word("", len(line)))
+        *before, last = words
+        begun = last.text.casefold()
+        found = dict.fromkeys(name for name in self._candidates([word.text for word in before]) if name.casefold().startswith(begun))
+        # What is typed of the word before `text` stays, since readline replaces `text` alone.
+        typed = len(line) - len(text) - last.start
+        return sorted(f"{_typed_form(name, last.is_open)} "[typed:] for name in found)
+
+    def _candidates(self, before: list[str]) -> Iterator[str]:
+        """What may stand behind these words."""
+        desk, names = self.desk, self.desk.names
+        if before[:1] == ["what-if"]:
+            if len(before) == 1:
+                yield from ("each", *CHANGES)
+                return
+            if before[1] == "each":
+                yield from {2: ["arc"], 3: ["of", "at"]}.get(len(before), names.places if before[3:4] == ["at"] else ["the", "cut"])
+                return
+            before = before[1:]
+        takes = COMMANDS[before[0]].takes if before and before[0] in COMMANDS else ""
+        if not before or takes == COMMAND and len(before) == 1:
+            yield from COMMANDS
+        elif takes == PLACE and len(before) <= (2 if before[0] == "add" else 1):
+            yield from names.places
+        elif takes in (ARC, FLOW) and len(before) == 1:
+            yield from (names.called(n) for n, line in enumerate(desk.lines, 1) if not line.is_closed or takes == FLOW)
+            if takes == FLOW:
+                yield from names.places
+        elif takes == CLOSED and len(before) == 1:
+            yield from (names.called(n) for n, line in enumerate(desk.lines, 1) if line.is_closed and not line.is_replaced)
+            yield from (names.node(node) for node in sorted(desk.shut_nodes))
+
+
+def _typed_form(name: str, is_open: bool) -> str:
+    whole = quoted(name)
+    return whole if whole != name or not is_open else f'"{name}"'
+
+
+def _nothing(_: str) -> None:
+    pass
+
+
+def _moved(before: int, after: int) -> str:
+    """What is won or lost."""
+    return f"{after - before} more" if after > before else f"{before - after} less" if after < before else "no change"
+
+
+def _none(words: list[str], command: str) -> None:
+    if words:
+        raise DeskFault(f"wanted is: {COMMANDS[command].form}")
+
+
+def _wanted(words: list[str], command: str) -> str:
+    """What stands behind a command, which is one name."""
+    name = cleaned(" ".join(words))
+    if not name:
+        raise DeskFault(f"wanted is: {COMMANDS[command].form}")
+    return name
+
+
+def _is_number(word: str) -> bool:
+    return word.isascii() and word.isdigit()
+
+
+def _number(word: str) -> int:
+    try:
+        return whole_number(word)
+    except ValueError as fault:
+        raise DeskFault(f"{shown(word)} {fault}") from None
+
+
+def _count(words: list[str], command: str) -> int:
+    if len(words) > 1:
+        raise DeskFault(f"wanted is: {COMMANDS[command].form}")
+    return _number(words[0]) if words else 1
+
+
+def _spoken(refused: Refused) -> str:
+    """A refusal of the program in a planner's words."""
+    return f"the capacities would be together past {LARGEST}" if refused.text == "capacities past 64 bits" else str(refused)
+
+
+@contextlib.contextmanager
+def _history() -> Iterator[None]:
+    """Keeps the lines that are typed in a file, from one session to the next, where that can be written."""
+    if readline is None:
+        yield
+        return
+    state = os.environ.get("XDG_STATE_HOME", "")
+    folder = Path(state if os.path.isabs(state) else os.path.expanduser("~/.local/state")) / "dmf"
+    readline.set_completer_delims(" \t")
+    readline.set_history_length(MOST_REMEMBERED)
+    with contextlib.suppress(OSError):
+        readline.read_history_file(folder / "plan_history")
+    try:
+        yield
+    finally:
+        with contextlib.suppress(OSError):
+            folder.mkdir(mode=0o700, parents=True, exist_ok=True)
+            readline.write_history_file(folder / "plan_history")

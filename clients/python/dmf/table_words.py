@@ -1,0 +1,101 @@
+"""The options by which the tools are told what a table is: its columns, its sources and sinks, its limits and its encoding."""
+
+from __future__ import annotations
+
+import argparse
+import re
+from decimal import Decimal
+
+from .table_problem import Plan, Terminal, terminal_of, terminals_of
+from .tables import ARCS, LIMITS, Form, Table, TableFault, cleaned, decoded, read_table
+from .tool import read_file, standard_input
+
+COLUMNS = ("tail", "head", "capacity", "name")
+
+
+def encoding(word: str) -> str:
+    """The name of an encoding of text."""
+    try:
+        b"A".decode(word)
+    except UnicodeDecodeError:
+        # It is an encoding of text in which one byte is no character.
+        pass
+    except (LookupError, UnicodeError):
+        raise argparse.ArgumentTypeError(f"no encoding of text: {word}") from None
+    return word
+
+
+def scale(word: str) -> Decimal:
+    """What decimal numbers are multiplied by."""
+    if not re.fullmatch(r"[0-9]{1,20}(\.[0-9]{1,20})?", word) or not Decimal(word):
+        raise argparse.ArgumentTypeError(f"no decimal number above 0: {word}")
+    return Decimal(word)
+
+
+def add_options(parser: argparse._ActionsContainer) -> None:
+    """Adds the options that say what a table is."""
+    add = parser.add_argument
+    add("--tail", metavar="TITLE", help="the title of the column of tails; with --head and --capacity")
+    add("--head", metavar="TITLE", help="the title of the column of heads")
+    add("--capacity", metavar="TITLE", help="the title of the column of capacities")
+    add("--name", metavar="TITLE", help="the title of the column of the names of arcs")
+    add("--both-ways", action="store_true", help="make of each row two arcs, there and back")
+    add("--scale", metavar="K", type=scale, help="numbers may be decimal; K times each is a whole number, and is taken")
+    add("--source", metavar="PLACE[=LIMIT]", action="append", default=[], help="a source, which gives at most LIMIT; may be repeated")
+    add("--sink", metavar="PLACE[=LIMIT]", action="append", default=[], help="a sink, which takes at most LIMIT; may be repeated")
+    add("--sources", metavar="FILE", help="a table of sources and their limits")
+    add("--sinks", metavar="FILE", help="a table of sinks and their limits")
+    add("--node-limits", metavar="FILE", help="a table of places and the most that may pass through each")
+    add("--encoding", metavar="NAME", type=encoding, help="how the tables are encoded, as in latin-1 (UTF-8)")
+
+
+def parsed(parser: argparse.ArgumentParser, given: list[str], fixed: int = 0) -> argparse.Namespace:
+    """The words that were given, of which `places` takes those that are no options; so many of these stand before the source and
+    the sink. Words that do not go together are refused."""
+    end = given.index("--") if "--" in given else len(given)
+    words = parser.parse_intermixed_args(given[:end])
+    # Behind -- no word is an option, so a place there may begin with a dash.
+    places = [*words.places, *given[end + 1 :]]
+    words.fixed, words.places = places[:fixed], places[fixed:]
+    if words.places and names_terminals(words) or len(words.places) not in (0, 2):
+        parser.error("a source and a sink are two words, or stand behind options such as --source and --sink")
+    if words.places:
+        words.source, words.sink = words.places[:1], words.places[1:]
+    titles = {column: getattr(words, column) for column in COLUMNS}
+    words.titles = {column: title for column, title in titles.items() if title is not None}
+    if words.titles and not {"tail", "head", "capacity"} <= words.titles.keys():
+        parser.error("--tail, --head and --capacity are given together")
+    if len({cleaned(title) for title in words.titles.values()}) < len(words.titles):
+        parser.error("two of --tail, --head, --capacity and --name name the same column")
+    return words
+
+
+def names_terminals(words: argparse.Namespace) -> bool:
+    """Whether a source or a sink is named."""
+    return any((words.source, words.sink, words.sources, words.sinks))
+
+
+def read(path: str | None, form: Form, words: argparse.Namespace) -> Table:
+    """The table in a file, or on standard input where there is no path."""
+    data = standard_input().read() if path is None else read_file(path)
+    try:
+        text = decoded(data, words.encoding)
+    except TableFault as fault:
+        fault.path = path or ""
+        raise
+    return read_table(text, form, path or "", words.titles if form is ARCS else None, words.scale)
+
+
+def plan_of(words: argparse.Namespace, arcs: Table) -> Plan:
+    """What the words ask for, of a table of arcs."""
+    plan = Plan(arcs, [], [], None, words.both_ways)
+
+    def terminals(named: list[str], path: str | None) -> list[Terminal]:
+        listed = terminals_of(read(path, LIMITS, words), plan.places) if path else []
+        return [terminal_of(word, plan.places, words.scale) for word in named] + listed
+
+    plan.sources = terminals(words.source, words.sources)
+    plan.sinks = terminals(words.sink, words.sinks)
+    if words.node_limits:
+        plan.limits = read(words.node_limits, LIMITS, words)
+    return plan

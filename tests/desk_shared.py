@@ -1,0 +1,59 @@
+"""What the tests of the planner's desk share: the water story and what is so of it, and how the tools are run on it."""
+
+from __future__ import annotations
+
+import os
+import subprocess
+import sys
+from itertools import product
+from pathlib import Path
+from typing import NamedTuple
+
+ROOT = Path(__file__).resolve().parents[1]
+sys.path.insert(0, str(ROOT / "clients/python"))
+PIPES = "examples/water/pipes.csv"
+SECONDS = 60
+# The story of examples/water: the greatest values of the plan of today, with Market Street wider, with a new pipe, without the Market
+# link and without the Bridge pipe, as its page reckons them from the limits.
+STORY = [165, 165, 180, 165, 155]
+# An odd name: what would be markup in a page, and a quote.
+ODD = '<img src=x onerror="document.title=1"> "Q" & \\N'
+
+
+class Pipe(NamedTuple):
+    tail: str
+    head: str
+    capacity: int
+    name: str
+
+
+def water() -> list[Pipe]:
+    """The pipes of the story, as its table has them."""
+    rows = (row.split(",") for row in (ROOT / PIPES).read_text().splitlines()[1:])
+    return [Pipe(tail, head, int(capacity), name) for tail, head, capacity, name in rows]
+
+
+def greatest(pipes: list[Pipe]) -> int:
+    """The greatest value from the reservoir to the harbour: the least that the pipes out of any set of places carry which has the one
+    and not the other."""
+    places = sorted({place for pipe in pipes for place in pipe[:2]} - {"Reservoir", "Harbour"})
+
+    def carried(side: set[str]) -> int:
+        return sum(pipe.capacity for pipe in pipes if pipe.tail in side and pipe.head not in side)
+
+    sides = ({"Reservoir", *(place for place, is_in in zip(places, chosen) if is_in)} for chosen in product((0, 1), repeat=len(places)))
+    return min(map(carried, sides))
+
+
+def swept() -> dict[str, tuple[int, int]]:
+    """For each pipe the greatest values without it, and with a second one beside it, by trying all sets of places."""
+    pipes = water()
+    return {pipe.name: (greatest([it for it in pipes if it != pipe]), greatest([*pipes, pipe])) for pipe in pipes}
+
+
+def run(tool: str, *words: str, typed: str = "", **environment: str) -> subprocess.CompletedProcess[str]:
+    """Runs a tool at the root."""
+    return subprocess.run(
+        [str(ROOT / "tools" / tool), *words], input=typed, capture_output=True, text=True, timeout=SECONDS, cwd=ROOT,
+        env={**os.environ, **environment},
+    )  # fmt: skip
