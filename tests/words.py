@@ -2,7 +2,6 @@
 wrong with them and how it is used, and those that ask for help or for the version, which are answered on standard output."""
 
 import re
-import sys
 
 import built
 from built import Case
@@ -134,6 +133,3 @@ ROWS = [
     *(row(words, Outcome(0, having(part))) for words, part in HELPS),
     *(row(words, Outcome(0, text.encode())) for words, text in VERSIONS),
 ]
-
-if __name__ == "__main__":
-    sys.exit(built.report(judge, ROWS))
