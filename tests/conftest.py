@@ -25,7 +25,7 @@ def pytest_addoption(parser: pytest.Parser) -> None:
 
 
 # The random cases of hypothesis: the same ones each time in the gate, and others each time by hand.
-settings.register_profile("gate", max_examples=400, derandomize=True, database=None, deadline=None)
+settings.register_profile("gate", max_examples=250, derandomize=True, database=None, deadline=None)
 settings.register_profile(
     "long", max_examples=100_000, database=DirectoryBasedExampleDatabase(ROOT / ".hypothesis"), deadline=None, print_blob=True
 )

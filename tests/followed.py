@@ -159,9 +159,9 @@ class Told:
         return None
 
 
-def followed(state: State, commands: list[bytes], want_cut: bool, bound: int, is_given: bool) -> str | bool:
+def followed(state: State, commands: list[bytes], wanted: session.SolveReply, bound: int, is_given: bool) -> str | bool:
     """Follows a session, and judges what is known after each command. Every reply is told whole before the next one begins."""
-    held = session.Session(state, want_cut, bound)
+    held = session.Session(state, wanted, bound)
     follower = Follower(read_problem(oracle_problem.problem_text(state)), iter(commands) if is_given else None)
     for place, line in enumerate(commands, 1):
         try:
@@ -188,10 +188,10 @@ def wrong_sessions(random: Random) -> Wrong:
         if state.source == state.sink or state.capacity_sum() > texts.LARGEST:
             continue
         commands = [b" ".join(line) + b"\n" for line in random_cases.command_lines(state, random)]
-        want_cut, bound = random.random() < 0.5, random.choice([0, 1, 3, session.MOST_KEPT])
+        wanted, bound = session.SolveReply(cut=random.random() < 0.5), random.choice([0, 1, 3, session.MOST_KEPT])
         for is_given in True, False:
             try:
-                wrong = followed(state, commands, want_cut, bound, is_given)
+                wrong = followed(state, commands, wanted, bound, is_given)
             except TranscriptFault as fault:
                 wrong = f"{fault.text}, {fault}"
             yield wrong and f"{b''.join(commands)!r}: {wrong}"
@@ -217,7 +217,7 @@ def wrong_odd_replies(random: Random) -> Wrong:
             continue
         problem = oracle_problem.problem_text(state)
         script = random_cases.plain_text(random_cases.command_lines(state, random)[:30])
-        replies, _ = session.run_lines(state, script, random.random() < 0.5, session.Refusals())
+        replies, _ = session.run_lines(state, script, session.SolveReply(cut=random.random() < 0.5), session.Refusals())
         odd = random_cases.text_of([fields(line) for line in lines(replies)], random, b"cx", 1)
         commands = random.choice([None, lines_with_ends(script)])
         try:

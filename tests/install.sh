@@ -271,6 +271,60 @@ call "help" 0 "$("$root/install" -h)"$'\n' "" --help
 "$root/install" --prefix "$work/new" >"$work/out" 2>&1 && "$root/install" --remove --prefix "$work/new" >"$work/out" 2>&1
 same "a folder that was made is removed" "$? $(find "$work/new" 2>&1 | head -c 5)" "0 find:"
 
+# Folders above the prefix, and those that a list alone names.
+call_in() {
+    local name=$1 wanted=$2
+    quiet --remove --prefix "$3"
+    same "$name" "$? $(grep -v '^removed ' "$work/out")" "0 $wanted"
+}
+if [ "$(stat -c %W "$work")" -gt 0 ]; then
+    made=$work/made/by/it
+    quiet --prefix "$made" && quiet --prefix "$made"
+    call_in "removing, where folders above were made" "" "$made"
+    same "they are removed" "$([ -e "$work/made" ] || echo gone)" gone
+    quiet --prefix "$made"
+    echo mine >"$work/made/mine"
+    call_in "removing, where a folder above is not empty" "left, since it is not empty: $work/made" "$made"
+    same "it keeps what is in it" "$(cd "$work/made" && find . -mindepth 1)" ./mine
+    quiet --prefix "$made"
+    echo mine >"$made/mine"
+    call_in "removing, where the prefix is not empty" "left, since it is not empty: $made" "$made"
+    rm -r "$work/made"
+    quiet --prefix "$made"
+    sed -i '/ \.\.\//d' "$made/share/dmf/installed"
+    call_in "removing by a list that knows no folder above" "" "$made"
+    same "they stay" "$(cd "$work/made" && find . -mindepth 1)" ./by
+    rm -r "$work/made"
+    # The file system's times of birth have whole seconds here, and those of one call are at most one apart.
+    mkdir -p "$work/theirs/empty"
+    sleep 2.1
+    quiet --prefix "$work/theirs/empty/place"
+    echo "- ../" >>"$work/theirs/empty/place/share/dmf/installed"
+    echo "- ../../" >>"$work/theirs/empty/place/share/dmf/installed"
+    call_in "a forged list with the folders above" \
+        "left, since it was not made with $work/theirs/empty/place: $work/theirs/empty" "$work/theirs/empty/place"
+    same "they stay as they are" "$(cd "$work/theirs" && find .)" $'.\n./empty'
+    quiet --prefix "$made"
+    mv "$made" "$work/theirs/empty/moved"
+    call_in "a prefix that was moved" \
+        "left, since it was not made with $work/theirs/empty/moved: $work/theirs/empty" "$work/theirs/empty/moved"
+    same "the folders there stay" "$(cd "$work/theirs" && find .)" $'.\n./empty'
+    rm -r "$work/made"
+else
+    echo "skipped: this file system does not tell when a folder was made, so folders above a prefix stay"
+fi
+mkdir -p "$work/theirs/empty"
+quiet --prefix "$work/new"
+for place in ../theirs/empty/ ../theirs/../ .././ ..; do
+    cp "$work/new/share/dmf/installed" "$work/list"
+    echo "- $place" >>"$work/new/share/dmf/installed"
+    call "a list with the folder $place" 1 "" \
+        "install: $work/new/share/dmf/installed names $place, which is not below $work/new; nothing was removed
+" --remove --prefix "$work/new"
+    cp "$work/list" "$work/new/share/dmf/installed"
+done
+same "no folder is removed by it" "$([ -d "$work/theirs/empty" ] && echo there)" there
+
 # Where it puts all when no folder is named.
 printf '#!/bin/sh\necho 1000\n' >"$root/bin/id"
 chmod 755 "$root/bin/id"

@@ -11,7 +11,7 @@ from commands import ARC, CAPACITY, COMMANDS, NODE, PRINTED, STEPS, WHAT, Comman
 from hypothesis import strategies as st
 from odd_texts import ODD_BYTES, ODD_COMMANDS, ODD_FIELDS, ODD_LINES
 from oracle.network import Arc, State
-from oracle.session import Session
+from oracle.session import Session, SolveReply
 from oracle.texts import LARGEST, Fault
 from random_cases import ODD_WORDS
 
@@ -83,7 +83,7 @@ changes = st.lists(st.one_of(st.just(("solve",)), st.tuples(st.just("cap"), st.i
 @st.composite
 def solutions(draw: st.DrawFn, state: State) -> Lines:
     """The lines of a solution of what a session makes of a network. Of pairs without flow some are left out."""
-    session = Session(state, False)
+    session = Session(state, SolveReply())
     for fields in draw(changes):
         try:
             session.reply(*fields)
@@ -150,6 +150,7 @@ def texts(draw: st.DrawFn, lines: Lines, comment: bytes) -> bytes:
 
 
 CUTS = st.sampled_from([(), (b"--cut",)])
+BRIEF = st.sampled_from([(), (), (b"--brief",)])
 BOUNDS: st.SearchStrategy[tuple[bytes, ...]] = st.sampled_from([(), (), (b"--history", b"0"), (b"--history", b"1"), (b"--history", b"2")])
 
 
@@ -163,7 +164,7 @@ def solves(draw: st.DrawFn) -> Case:
 def sessions(draw: st.DrawFn) -> Case:
     state = draw(networks().filter(fits))
     problem = b"".join(b" ".join(fields) + b"\n" for fields in problem_lines(state))
-    words = (b"session", *draw(CUTS), *draw(BOUNDS), PROBLEM)
+    words = (b"session", *draw(CUTS), *draw(BRIEF), *draw(BOUNDS), PROBLEM)
     return Case("a session", words, problem, draw(texts(draw(scripts(state)), b"c")))
 
 

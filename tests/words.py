@@ -10,11 +10,11 @@ from worked_forms import Worked
 
 # How the program and its commands are used.
 USAGE = """Usage: dmf [solve [--cut] [--progress]] <FILE
-       dmf session [--cut] [--history N] [--progress] PROBLEM
+       dmf session [--brief] [--cut] [--history N] [--progress] PROBLEM
        dmf check PROBLEM <SOLUTION
 """
 SOLVE = "Usage: dmf solve [--cut] [--progress] <FILE\n"
-SESSION = "Usage: dmf session [--cut] [--history N] [--progress] PROBLEM\n"
+SESSION = "Usage: dmf session [--brief] [--cut] [--history N] [--progress] PROBLEM\n"
 CHECK = "Usage: dmf check PROBLEM <SOLUTION\n"
 HELP = f"""Solve maximum-flow problems in the DIMACS format, and hold what-if sessions on them
 
@@ -52,6 +52,7 @@ Each command's --help has an example of its replies. man dmf has the formats.
 REFUSED = [
     ("--cut", "unexpected argument '--cut' found"),
     ("--progress", "unexpected argument '--progress' found"),
+    ("--brief", "unexpected argument '--brief' found"),
     ("session", "<PROBLEM>"),
     ("session --cut", "<PROBLEM>"),
     ("check", "<PROBLEM>"),
@@ -59,6 +60,11 @@ REFUSED = [
     ("session P Q", "unexpected argument 'Q' found"),
     ("check --cut P", "unexpected argument '--cut' found"),
     ("check --progress P", "unexpected argument '--progress' found"),
+    ("check --brief P", "unexpected argument '--brief' found"),
+    ("solve --brief", "unexpected argument '--brief' found"),
+    ("session --brief", "<PROBLEM>"),
+    ("session --brief --brief P", "cannot be used multiple times"),
+    ("session --brief --cut P --brief", "cannot be used multiple times"),
     ("check P Q", "unexpected argument 'Q' found"),
     ("wash", "unrecognized subcommand 'wash'"),
     ("Solve", "unrecognized subcommand 'Solve'"),
@@ -93,12 +99,14 @@ HELPS = [
     ("solve --help", "\n  $ dmf solve --cut <network.max\n  s 5\n"),
     ("solve --help", "--progress  Tell on standard error how far it is\n"),
     ("session --help", SESSION),
+    ("session --help", "--brief        Answer a solve by its value in place of the solution\n"),
     ("session --help", "--cut          Write the smallest minimum cut after each solution\n"),
     ("session --help", "--history <N>  Keep at most N changes for undo [default: 1000000]\n"),
     ("session --help", "--progress     Tell on standard error how far it is\n"),
     ("session --help", "\n  undo [K]    "),
     ("session --help", "  c undo value VALUE\n"),
     ("session --help", "closed\nones keep their numbers.\n"),
+    ("session --help", "--brief the reply\nto solve is c solve value VALUE.\n"),
     ("session --help", "at a terminal by Ctrl-D.\n"),
     ("session --help", "| dmf session network.max\n"),
     ("check --help", CHECK),

@@ -24,7 +24,7 @@ from worked_forms import (
     wrong,
 )
 from worked_once import ONCE
-from worked_sessions import HISTORIES, SESSIONS
+from worked_sessions import BRIEF_SESSIONS, HISTORIES, SESSIONS
 
 SOLVES = [
     solved("two ways that cross", CROSSED, CROSSED_FLOW),
@@ -90,7 +90,7 @@ FAULTS = [
         "line 5: capacities past 64 bits",
     ),
 ]
-WORKED = SOLVES + SESSIONS + HISTORIES + CHECKS + FAULTS
+WORKED = SOLVES + SESSIONS + BRIEF_SESSIONS + HISTORIES + CHECKS + FAULTS
 # As many command lines as a session takes, and one more.
 LIMITS = [
     held("a million command lines", CROSSED, b"undo\n" + b"\n" * 999_999, "c refused 1 nothing to undo"),

@@ -45,6 +45,7 @@ def wrong(problem, solution, told):
 
 
 CUT = b"--cut"
+BRIEF = b"--brief"
 # Four nodes: two ways from the source to the sink, and an arc from the one to the other.
 CROSSED = "p max 4 5 / n 1 s / n 4 t / a 1 2 3 / a 1 3 2 / a 2 3 5 / a 2 4 2 / a 3 4 3"
 CROSSED_FLOW = "s 5 / f 1 2 3 / f 1 3 2 / f 2 3 1 / f 2 4 2 / f 3 4 3"

@@ -1,6 +1,7 @@
 """Sessions that were worked out by hand: their commands and their replies."""
 
 from worked_forms import (
+    BRIEF,
     CROSSED,
     CROSSED_CUT,
     CROSSED_FLOW,
@@ -260,6 +261,25 @@ SESSIONS = [
         CUT,
     ),
 ]
+BRIEF_SESSIONS = [
+    held(
+        "brief replies to solves, and the flow where it is printed",
+        CROSSED,
+        "solve / print flow / cap 5 1 / solve / add 1 4 7 / solve / print cut / undo 2 / print flow",
+        f"c solve value 5 / {CROSSED_FLOW} / c cap value 3 / c solve value 3 / c add 6 value 3 / c solve value 10 / c cut 10 / c side 1 / "
+        f"c side 2 / c side 3 / c undo value 3 / {NARROW_FLOW}",
+        BRIEF,
+    ),
+    held(
+        "each brief reply with its cut",
+        CROSSED,
+        "solve / cap 5 1 / solve / solve 1 / print flow",
+        f"c solve value 5 / {CROSSED_CUT} / c cap value 3 / c solve value 3 / {NARROW_CUT} / c refused 4 wrong number of fields / {NARROW_FLOW}",
+        CUT,
+        BRIEF,
+    ),
+]
+
 HISTORIES = [
     held(
         "one state is kept",

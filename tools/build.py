@@ -40,7 +40,7 @@ MEMORY = 3.5
 # how long the rest takes.
 SECONDS = {
     "dmf_node": 3, "dmf_arguments": 60, "dmf_state": 63, "dmf_history": 37, "dmf_path": 140, "dmf_text": 90, "dmf_solver": 71,
-    "dmf_net": 24, "dmf_session": 80, "dmf_terminal": 162, "dmf_runs": 94, "dmf_run": 43, "dmf": 108,
+    "dmf_session": 80, "dmf_terminal": 162, "dmf_runs": 94, "dmf": 102,
 }  # fmt: skip
 UNKNOWN_SECONDS = 60
 

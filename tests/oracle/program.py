@@ -5,7 +5,7 @@ from typing import NamedTuple
 
 from .network import is_greatest, solved
 from .problem import read_problem
-from .session import MOST_KEPT, MOST_LINES, Refusals, cut_of, run_lines
+from .session import MOST_KEPT, MOST_LINES, Refusals, SolveReply, cut_of, run_lines
 from .solution import read_solution, solution_text
 from .texts import LineFault, written
 
@@ -49,8 +49,7 @@ VERSION = Outcome(WELL, b"dmf 0.1.0\n")
 REFUSED_WORDS = Outcome(USAGE, b"", re.compile(rb"error: .*\nUsage: dmf.*\n", re.DOTALL))
 REFUSED_VALUE = Outcome(USAGE, b"", re.compile(rb"error: .*\n", re.DOTALL))
 NO_TEXT = Outcome(USAGE, b"", told("a word is not UTF-8"))
-COMMANDS = ("solve", "session", "check")
-FLAGS = ("--cut", "--progress")
+FLAGS = {"solve": ("--cut", "--progress"), "session": ("--brief", "--cut", "--progress"), "check": ()}
 
 
 def help_on(words):
@@ -85,13 +84,13 @@ def check(problem, solution):
     return Outcome(NOT_GREATEST, written("c", "flow", state.value()))
 
 
-def session(problem, commands, want_cut, bound, refusals=None):
+def session(problem, commands, wanted, bound, refusals=None):
     state = judged(read_problem, bounded(problem))
     line_count = commands.count(b"\n") + (not commands.endswith(b"\n") and commands != b"")
     is_too_much = len(commands) > MOST_BYTES or line_count > MOST_LINES
     if is_too_much:
         commands = ended_lines(commands[:MOST_BYTES])
-    replies, some_refused = run_lines(state, commands, want_cut, refusals or Refusals(), bound)
+    replies, some_refused = run_lines(state, commands, wanted, refusals or Refusals(), bound)
     if is_too_much:
         return Outcome(STREAM_FAULT, replies, TOO_MUCH)
     return Outcome(SOME_REFUSED if some_refused else WELL, replies)
@@ -113,18 +112,18 @@ def read_file(path):
 
 
 def asked(words):
-    """What words ask for: the command's word, whether a cut is wanted, the bound of the history, and the path where one is; or how
-    the run ends at once. Words are taken from left to right."""
+    """What words ask for: the command's word, what is wanted of a solve's reply, the bound of the history, and the path where one is;
+    or how the run ends at once. Words are taken from left to right."""
     if words in ([], ["--"]):
-        return "solve", False, MOST_KEPT, None
+        return "solve", SolveReply(), MOST_KEPT, None
     if words[0] in ("-h", "--help"):
         return help_on([])
     if words[0] in ("-V", "--version"):
         return VERSION
     if words[0] == "help":
-        is_known = len(words) == 1 or len(words) == 2 and words[1] in (*COMMANDS, "help")
+        is_known = len(words) == 1 or len(words) == 2 and words[1] in (*FLAGS, "help")
         return help_on(words[1:]) if is_known else REFUSED_WORDS
-    if words[0] not in COMMANDS:
+    if words[0] not in FLAGS:
         return REFUSED_WORDS
     return asked_of(words[0], words[1:])
 
@@ -150,7 +149,7 @@ def asked_of(command, words):
             return help_on([command])
         elif are_flags and word == "--":
             are_flags = False
-        elif are_flags and word in FLAGS and command != "check" and word not in flags:
+        elif are_flags and word in FLAGS[command] and word not in flags:
             flags.add(word)
         elif are_flags and word.startswith("-") and word != "-":
             return REFUSED_WORDS
@@ -160,7 +159,8 @@ def asked_of(command, words):
             return REFUSED_WORDS
     if len(paths) < path_count:
         return REFUSED_WORDS
-    return command, "--cut" in flags, MOST_KEPT if bound is None else bound, *(paths or [None])
+    wanted = SolveReply(cut="--cut" in flags, brief="--brief" in flags)
+    return command, wanted, MOST_KEPT if bound is None else bound, *(paths or [None])
 
 
 def run(words, standard_input, refusals=None):
@@ -172,12 +172,12 @@ def run(words, standard_input, refusals=None):
     asked_for = asked(words)
     if isinstance(asked_for, Outcome):
         return asked_for
-    command, want_cut, bound, path = asked_for
+    command, wanted, bound, path = asked_for
     try:
         if command == "solve":
-            return solve(standard_input, want_cut)
+            return solve(standard_input, wanted.cut)
         if command == "check":
             return check(read_file(path), standard_input)
-        return session(read_file(path), standard_input, want_cut, bound, refusals)
+        return session(read_file(path), standard_input, wanted, bound, refusals)
     except Ended as ended:
         return ended.outcome

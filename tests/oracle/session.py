@@ -1,5 +1,7 @@
 """Sessions: command lines, the timeline of whole states, and the replies."""
 
+from typing import NamedTuple
+
 from . import changes
 from .network import is_greatest, smallest_side
 from .problem import problem_text
@@ -51,13 +53,20 @@ def cut_of(state):
     return cut_text(*smallest_side(state))
 
 
+class SolveReply(NamedTuple):
+    """What is wanted of the reply to a solve: the cut behind it, and briefly the value in place of the solution."""
+
+    cut: bool = False
+    brief: bool = False
+
+
 class Session:
     """The states of a session, the place of the present one, and how many are kept before it."""
 
-    def __init__(self, state, want_cut, bound=MOST_KEPT):
+    def __init__(self, state, wanted, bound=MOST_KEPT):
         self.states = [state]
         self.place = 0
-        self.want_cut = want_cut
+        self.wanted = wanted
         self.bound = bound
 
     def present(self):
@@ -80,7 +89,8 @@ class Session:
             del self.states[0]
             self.place -= 1
         if word == "solve":
-            return solution_text(state) + (cut_of(state) if self.want_cut else b"")
+            solved = written("c", word, "value", state.value()) if self.wanted.brief else solution_text(state)
+            return solved + (cut_of(state) if self.wanted.cut else b"")
         number = [len(state.arcs)] if word == "add" else []
         return written("c", word, *number, "value", state.value())
 
@@ -130,10 +140,10 @@ class Refusals:
                 raise Fault("no memory")
 
 
-def run_lines(state, text, want_cut, refusals, bound=MOST_KEPT):
+def run_lines(state, text, wanted, refusals, bound=MOST_KEPT):
     """What the lines of a command text write, one reply a line, and whether one of them is refused. An empty rest behind the
     last line feed is no line. Lines past the limit are left out."""
-    session = Session(state, want_cut, bound)
+    session = Session(state, wanted, bound)
     replies = []
     some_refused = False
     *ended, rest = text.split(b"\n")

@@ -18,7 +18,7 @@ from hypothesis import strategies as st
 from hypothesis.stateful import RuleBasedStateMachine, initialize, rule
 from oracle.network import State
 from oracle.problem import problem_text
-from oracle.session import MOST_KEPT, Session, command_of
+from oracle.session import MOST_KEPT, Session, SolveReply, command_of
 from oracle.texts import Fault, written
 
 NETWORK = b"p max 4 5\nn 1 s\nn 4 t\na 1 2 3\na 1 3 2\na 2 3 5\na 2 4 2\na 3 4 3\n"
@@ -96,12 +96,12 @@ class LiveSession(RuleBasedStateMachine):
         self.folder = tempfile.TemporaryDirectory()
         self.count, self.some_refused = 0, False
 
-    @initialize(state=strategies.networks().filter(strategies.fits), want_cut=st.booleans(), bound=st.sampled_from([MOST_KEPT, 0, 1, 2]))
-    def begin(self, state: State, want_cut: bool, bound: int) -> None:
-        self.model = Session(state, want_cut, bound)
+    @initialize(state=strategies.networks().filter(strategies.fits), wanted=st.builds(SolveReply, st.booleans(), st.booleans()), bound=st.sampled_from([MOST_KEPT, 0, 1, 2]))
+    def begin(self, state: State, wanted: SolveReply, bound: int) -> None:
+        self.model = Session(state, wanted, bound)
         problem = f"{self.folder.name}/problem.max"
         Path(problem).write_bytes(problem_text(state))
-        self.live = Live(*["--cut"] * want_cut, "--history", str(bound), problem)
+        self.live = Live(*["--cut"] * wanted.cut, *["--brief"] * wanted.brief, "--history", str(bound), problem)
 
     @rule(choice=strategies.choice)
     def send(self, choice: strategies.Choice) -> None:

@@ -34,8 +34,8 @@ TEXTS = """problem line expected, second problem line, unknown line, not a max p
     capacities past 64 bits, no such arc, over capacity, second value line, value line missing,
     flow not conserved at node, value differs, line too long, unknown command, arc is closed, nothing to undo,
     nothing to redo, flow is not greatest, cannot open the problem, read failed, a word is not UTF-8, Usage: dmf,
-    c greatest, c flow, c cut, c side, c cap value, c add, c close value, c shut value, c undo value, c redo value, p max,
-    dmf 0.1.0"""
+    c greatest, c flow, c cut, c side, c cap value, c add, c close value, c shut value, c solve value, c undo value,
+    c redo value, p max, dmf 0.1.0"""
 NO_MEMORY = "no memory"
 ALL_TEXTS = {*re.split(r",\s+", TEXTS), NO_MEMORY}
 

@@ -21,7 +21,7 @@ import pytest
 from conftest import ROOT
 from oracle import changes
 from oracle.network import Arc, State
-from oracle.session import MOST_KEPT, Session
+from oracle.session import MOST_KEPT, Session, SolveReply
 from oracle.texts import Fault
 
 CRATE = ROOT / "crates" / "dmf_calls"
@@ -92,7 +92,7 @@ def answer(session: Session, command: tuple[Any, ...], is_refused: bool) -> str:
 
 def told_session(name: str, bound: int, refused: Collection[int]) -> list[str]:
     """What is told of a session over the history of this name and bound, of which these commands are refused memory."""
-    session = Session(START, WANTS_CUT[bound], bound)
+    session = Session(START, SolveReply(cut=WANTS_CUT[bound]), bound)
     lines = [f"history {name} {bound}", *told_place(session)]
     for number, text in enumerate(COMMANDS):
         lines += [told_command(text), answer(session, command_of(text), number in refused), *told_place(session)]

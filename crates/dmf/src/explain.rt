@@ -1,7 +1,8 @@
 //! What is told on a terminal behind a fault. By its words it is known from where the program reads.
 use crate::fault::Fault;
 use crate::words;
-use dmf_run::{EngineFault, MAX_HISTORY, Mode, read_words};
+use dmf_arguments::{MAX_HISTORY, Mode, read_words};
+use dmf_runs::EngineFault;
 use dmf_terminal::{
     Origin, explain_open, explain_problem, explain_read, explain_solution, explain_words,
 };

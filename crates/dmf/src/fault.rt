@@ -1,4 +1,4 @@
-use dmf_run::EngineFault;
+use dmf_runs::EngineFault;
 use thiserror::Error;
 
 /// Why the program gives no answer.

@@ -7,9 +7,10 @@ mod explain;
 mod fault;
 mod words;
 
-use dmf_run::{
-    Arguments, EngineFault, MAX_BYTES, MAX_HISTORY, Mode, Status, WordsFault, read_arguments,
-    run_check, run_session_watched, run_solve_watched, status_of,
+use dmf_arguments::{Arguments, MAX_HISTORY, Mode, WordsFault, read_arguments};
+use dmf_runs::{
+    EngineFault, MAX_BYTES, SolveReply, Status, run_check, run_session_watched, run_solve_watched,
+    status_of,
 };
 use dmf_session::MAX_BOUND;
 use dmf_terminal::{
@@ -37,7 +38,11 @@ fn main(rt: HostRuntime) -> ExitCode {
 }
 
 fn run(rt: &HostRuntime) -> Result<Status, Fault> {
-    let Arguments { mode, progress } = match read_arguments(rt.alloc(), words::words(rt)?) {
+    let Arguments {
+        mode,
+        progress,
+        brief,
+    } = match read_arguments(rt.alloc(), words::words(rt)?) {
         Ok(asked) => asked,
         Err(WordsFault::Help(text)) => return print(rt, text.as_str()),
         Err(WordsFault::Usage(text)) => return Err(Fault::Usage(text)),
@@ -49,7 +54,13 @@ fn run(rt: &HostRuntime) -> Result<Status, Fault> {
             cut,
             history,
             problem,
-        } => hold_session(rt, problem.as_str(), cut, progress, history),
+        } => hold_session(
+            rt,
+            problem.as_str(),
+            SolveReply { cut, brief },
+            progress,
+            history,
+        ),
         Mode::Check { problem } => check(rt, problem.as_str()),
     }
 }
@@ -67,13 +78,13 @@ fn solve(rt: &HostRuntime, want_cut: bool, want_progress: bool) -> Result<Status
     outcome.map_err(Fault::Run)
 }
 
-/// Holds a session on the problem in the file at the path, with the commands from standard input, and tells the cut of
-/// each solve where it is wanted. At most `bound` states are kept before the present one.
+/// Holds a session on the problem in the file at the path, with the commands from standard input, and solves answered as
+/// wanted. At most `bound` states are kept before the present one.
 #[inline(never)]
 fn hold_session(
     rt: &HostRuntime,
     path: &str,
-    want_cut: bool,
+    wanted: SolveReply,
     want_progress: bool,
     bound: u32,
 ) -> Result<Status, Fault>
@@ -92,7 +103,7 @@ fn hold_session(
         &mut problem,
         &mut commands,
         &mut out,
-        want_cut,
+        wanted,
         bound,
         &mut watch,
     );

@@ -10,7 +10,7 @@ use Rattle.dmf_arguments.specs.declared.words.WordsFault.TheVariants.{NoMemory}
 use Rattle.dmf_arguments.specs.Matches.{Asked, asked_of}
 use Rattle.clap.specs.Words.{Row, first_of, one_of}
 use Rattle.dmf_arguments.specs.Words.{Text, Gives, IsBound, IsHelp, IsUsage, ReadsWords, solving, holding, checking}
-use Rattle.dmf_arguments.proofs.Table.{faults_in, asked_in, history_alone_refused, solve_history_refused, check_history_refused, nothing_taken, nothing_asked, solve_taken, solve_asked, solve_cut_taken, solve_cut_asked, solve_progress_taken, solve_progress_asked, solve_cut_progress_taken, solve_cut_progress_asked, solve_progress_cut_taken, solve_progress_cut_asked, progress_alone_refused, check_progress_refused, check_taken, check_asked, help_asked, help_of_asked, solve_help_asked, session_help_asked, check_help_asked, version_asked, cut_alone_refused, session_alone_refused, check_alone_refused, solve_path_refused, check_second_refused, check_cut_refused, unknown_refused}
+use Rattle.dmf_arguments.proofs.Table.{faults_in, asked_in, history_alone_refused, solve_history_refused, check_history_refused, nothing_taken, nothing_asked, solve_taken, solve_asked, solve_cut_taken, solve_cut_asked, solve_progress_taken, solve_progress_asked, solve_cut_progress_taken, solve_cut_progress_asked, solve_progress_cut_taken, solve_progress_cut_asked, progress_alone_refused, check_progress_refused, brief_alone_refused, solve_brief_refused, check_brief_refused, check_taken, check_asked, help_asked, help_of_asked, solve_help_asked, session_help_asked, check_help_asked, version_asked, cut_alone_refused, session_alone_refused, check_alone_refused, solve_path_refused, check_second_refused, check_cut_refused, unknown_refused}
 use Rattle.dmf_arguments.proofs.SessionOrders.{no_bound_refused, repeated_refused, session_asks}
 
 -- a list of no kinds has no first one
@@ -28,31 +28,31 @@ module _ (words : List Text) (asked : Asked) (result : Result Arguments WordsFau
   finds row what is known = found ∙ (ap asked_in is ∙ known)
 
   pub taken_reads : (asked ≡ None → Gives (solving false false) result)
-      → ((cut progress : Bool) (text path : Option Text) → asked ≡ Some (codes "solve", Some (bool_text cut), Some (bool_text progress), text, path)
+      → ((cut progress : Bool) (brief text path : Option Text) → asked ≡ Some (codes "solve", Some (bool_text cut), brief, Some (bool_text progress), text, path)
       → Gives (solving cut progress) result)
-      → ((cut progress : Bool) (text : Text) (bound : ℕ) (path : Text)
-      → asked ≡ Some (codes "session", Some (bool_text cut), Some (bool_text progress), Some text, Some path)
-      → IsBound text bound → Gives (holding cut progress bound path) result)
-      → ((cut progress text : Option Text) (path : Text) → asked ≡ Some (codes "check", cut, progress, text, Some path) → Gives (checking path) result)
+      → ((cut brief progress : Bool) (text : Text) (bound : ℕ) (path : Text)
+      → asked ≡ Some (codes "session", Some (bool_text cut), Some (bool_text brief), Some (bool_text progress), Some text, Some path)
+      → IsBound text bound → Gives (holding cut brief progress bound path) result)
+      → ((cut brief progress text : Option Text) (path : Text) → asked ≡ Some (codes "check", cut, brief, progress, text, Some path) → Gives (checking path) result)
       → ReadsWords words result
   taken_reads nothing solve session check = record {
     nothing = λ is. nothing (finds _ _ is nothing_asked);
-    solve = λ is. solve false false None None (finds _ _ is solve_asked);
-    solve_cut = λ is. solve true false None None (finds _ _ is solve_cut_asked);
-    solve_progress = λ is. solve false true None None (finds _ _ is solve_progress_asked);
+    solve = λ is. solve false false None None None (finds _ _ is solve_asked);
+    solve_cut = λ is. solve true false None None None (finds _ _ is solve_cut_asked);
+    solve_progress = λ is. solve false true None None None (finds _ _ is solve_progress_asked);
     solve_cut_progress = λ is. elim is [
-      | inl first ↦ solve true true None None (finds _ _ first solve_cut_progress_asked)
-      | inr last ↦ solve true true None None (finds _ _ last solve_progress_cut_asked)
+      | inl first ↦ solve true true None None None (finds _ _ first solve_cut_progress_asked)
+      | inr last ↦ solve true true None None None (finds _ _ last solve_progress_cut_asked)
     ];
     session = λ parts said path say named is.
         let asks = session_asks parts said path say named in
-        session said.cut said.progress asks.text (unwrap_or said.bound 1000000) path (finds _ _ is asks.asked) asks.written;
+        session said.cut said.brief said.progress asks.text (unwrap_or said.bound 1000000) path (finds _ _ is asks.asked) asks.written;
     repeated = λ parts said word rest say again is. elim (repeated_refused parts said word rest say again) [
       | inl conflict ↦ absurd (untaken _ is conflict)
       | inr unknown ↦ absurd (untaken _ is unknown)
     ];
     no_bound = λ text path word plain none is. absurd (untaken _ is (no_bound_refused text path word plain none));
-    check = λ path plain is. check None None None path (finds _ _ is (check_asked path plain));
+    check = λ path plain is. check None None None None path (finds _ _ is (check_asked path plain));
     help = λ is. absurd (untaken _ is help_asked);
     solve_help = λ is. absurd (untaken _ is solve_help_asked);
     session_help = λ is. absurd (untaken _ is session_help_asked);
@@ -64,6 +64,9 @@ module _ (words : List Text) (asked : Asked) (result : Result Arguments WordsFau
     check_history = λ text path is. absurd (untaken _ is (check_history_refused text path));
     progress_alone = λ rest is. absurd (untaken _ is (progress_alone_refused rest));
     check_progress = λ path is. absurd (untaken _ is (check_progress_refused path));
+    brief_alone = λ rest is. absurd (untaken _ is (brief_alone_refused rest));
+    solve_brief = λ is. absurd (untaken _ is solve_brief_refused);
+    check_brief = λ path is. absurd (untaken _ is (check_brief_refused path));
     cut_alone = λ rest is. absurd (untaken _ is (cut_alone_refused rest));
     no_problem = λ is. elim is [
       | inl held ↦ absurd (untaken _ held session_alone_refused)
@@ -168,6 +171,9 @@ module _ (words : List Text) (kind : ErrorKind) (fault : WordsFault)
     check_history = λ text path is. stray _ is (check_history_refused text path);
     progress_alone = λ rest is. stray _ is (progress_alone_refused rest);
     check_progress = λ path is. stray _ is (check_progress_refused path);
+    brief_alone = λ rest is. stray _ is (brief_alone_refused rest);
+    solve_brief = λ is. stray _ is solve_brief_refused;
+    check_brief = λ path is. stray _ is (check_brief_refused path);
     cut_alone = λ rest is. stray _ is (cut_alone_refused rest);
     no_problem = λ is. elim is [ inl held ↦ missing _ held session_alone_refused | inr checked ↦ missing _ checked check_alone_refused ];
     solve_path = λ path plain is. stray _ is (solve_path_refused path plain);
@@ -177,30 +183,36 @@ module _ (words : List Text) (kind : ErrorKind) (fault : WordsFault)
   }
 
 -- What was asked of the rows of a command that was found.
-pub record AskedRows (rows : List Row) (flag progress bound path : Option Text) : Type 0 where
+pub record AskedRows (rows : List Row) (flag brief progress bound path : Option Text) : Type 0 where
   pub flag_is : one_of (codes "cut") rows ≡ flag
+  pub brief_is : one_of (codes "brief") rows ≡ brief
   pub progress_is : one_of (codes "progress") rows ≡ progress
   pub bound_is : one_of (codes "history") rows ≡ bound
   pub path_is : first_of (codes "problem") rows ≡ path
 
-pub asked_rows : (found : Option (Text × List Row)) (rows : List Row) (name : Text) (flag progress bound path : Option Text)
-    → Some rows ≡ option_map (λ p. p.1) found → asked_of found ≡ Some (name, flag, progress, bound, path)
-    → AskedRows rows flag progress bound path
-asked_rows None rows name flag progress bound path has asked = cc
-asked_rows (Some p) rows name flag progress bound path has asked =
+-- the name of a command that was found, and the texts of what stood behind it
+abbrev Parts : Type 0
+Parts = Text × Option Text × Option Text × Option Text × Option Text × Option Text
+
+pub asked_rows : (found : Option (Text × List Row)) (rows : List Row) (name : Text) (flag brief progress bound path : Option Text)
+    → Some rows ≡ option_map (λ p. p.1) found → asked_of found ≡ Some (name, flag, brief, progress, bound, path)
+    → AskedRows rows flag brief progress bound path
+asked_rows None rows name flag brief progress bound path has asked = cc
+asked_rows (Some p) rows name flag brief progress bound path has asked =
     let same : rows ≡ p.1 = cc in
-    let parts : (p.0, one_of (codes "cut") p.1, one_of (codes "progress") p.1, one_of (codes "history") p.1, first_of (codes "problem") p.1)
-    ≡ (name, flag, progress, bound, path) = cc in
+    let parts : (p.0, one_of (codes "cut") p.1, one_of (codes "brief") p.1, one_of (codes "progress") p.1, one_of (codes "history") p.1, first_of (codes "problem") p.1)
+    ≡ (name, flag, brief, progress, bound, path) = cc in
     rw same (record {
-      flag_is = ap (λ (q : Text × Option Text × Option Text × Option Text × Option Text). q.1) parts;
-      progress_is = ap (λ (q : Text × Option Text × Option Text × Option Text × Option Text). q.2) parts;
-      bound_is = ap (λ (q : Text × Option Text × Option Text × Option Text × Option Text). q.3) parts;
-      path_is = ap (λ (q : Text × Option Text × Option Text × Option Text × Option Text). q.4) parts;
+      flag_is = ap (λ (q : Parts). q.1) parts;
+      brief_is = ap (λ (q : Parts). q.2) parts;
+      progress_is = ap (λ (q : Parts). q.3) parts;
+      bound_is = ap (λ (q : Parts). q.4) parts;
+      path_is = ap (λ (q : Parts). q.5) parts;
     })
 
-pub same-holding : {cut wanted progress told : Bool} {n bound : ℕ} {problem path : Text} → cut ≡ wanted → progress ≡ told → n ≡ bound
-    → problem ≡ path → holding cut progress n problem ≡ holding wanted told bound path
-same-holding c t n p = cc
+pub same-holding : {cut wanted brief short progress told : Bool} {n bound : ℕ} {problem path : Text} → cut ≡ wanted → brief ≡ short → progress ≡ told
+    → n ≡ bound → problem ≡ path → holding cut brief progress n problem ≡ holding wanted short told bound path
+same-holding c b t n p = cc
 
 -- a flag reads as its text says
 pub flag_reads : (cut read : Bool) (text : Option Text) → (text ≡ Some (codes "true") → read ≡ true)

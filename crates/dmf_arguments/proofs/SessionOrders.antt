@@ -12,12 +12,12 @@ use Rattle.clap.specs.declared.error.kind.ErrorKind.{ErrorKind}
 use Rattle.clap.proofs.FaultLemmas.{past}
 use Rattle.clap.proofs.OnLiterals.{clap_on_literals}
 use Rattle.dmf_arguments.specs.Matches.{Asked, asked_of}
-use Rattle.dmf_arguments.specs.Words.{Adds, IsBound, IsPlain, IsRepeated, Part, Said, Say, Text, nothing_said, spelled, with_cut, with_history, with_problem, with_progress}
+use Rattle.dmf_arguments.specs.Words.{Adds, IsBound, IsPlain, IsRepeated, Part, Said, Say, Text, nothing_said, spelled, with_brief, with_cut, with_history, with_problem, with_progress}
 use Rattle.dmf_arguments.proofs.Table.{faults_in, asked_in, most_text}
 use Rattle.dmf_arguments.proofs.BoundLemmas.{bound_is_plain, bound_passes, no_bound_passes_not}
 use Rattle.dmf_arguments.proofs.RowLemmas.{HasGoodDefault, defaults_at, defaults_clean, no_row, or_default, other_row, own_row, row_at, use_row, used_once}
 use Rattle.dmf_arguments.proofs.WordWalk.{Goes, goes_on, plain_word_is, standing, stays}
-use Rattle.dmf_arguments.proofs.SessionWords.{asks_below, bad_bound_refused, bound_settles, bound_turn, cut_again, cut_turn, end_fault, history_turn, holding, path_again, path_settles, path_turn, progress_again, progress_turn, refused_behind, session_rule, session_rules, session_shape, start, taken_below}
+use Rattle.dmf_arguments.proofs.SessionWords.{asks_below, bad_bound_refused, bound_settles, bound_turn, brief_again, brief_turn, cut_again, cut_turn, end_fault, history_turn, holding, path_again, path_settles, path_turn, progress_again, progress_turn, refused_behind, session_rule, session_rules, session_shape, start, taken_below}
 
 -- ---- what is found for each argument
 
@@ -28,14 +28,15 @@ abbrev value_row : Text → Option Text → Option Row
 value_row id text = option_map (λ t. use_row (session_rule id) (t ∷ [])) text
 
 -- The rows have these flags, this text of a bound and this path, where they are there.
-record Shows (rows : List Row) (wanted told : Bool) (bound named : Option Text) : Type 0 where
+record Shows (rows : List Row) (wanted short told : Bool) (bound named : Option Text) : Type 0 where
   cut : row_at (codes "cut") rows ≡ flag_row (codes "cut") wanted
+  brief : row_at (codes "brief") rows ≡ flag_row (codes "brief") short
   progress : row_at (codes "progress") rows ≡ flag_row (codes "progress") told
   text : row_at (codes "history") rows ≡ value_row (codes "history") bound
   path : row_at (codes "problem") rows ≡ value_row (codes "problem") named
 
-module _ (rows : List Row) (wanted told : Bool) (text path : Option Text) (shows : Shows rows wanted told text path) where
-  cut_shown : wanted ≡ false → Shows (used (session_rule (codes "cut")) [] rows) true told text path
+module _ (rows : List Row) (wanted short told : Bool) (text path : Option Text) (shows : Shows rows wanted short told text path) where
+  cut_shown : wanted ≡ false → Shows (used (session_rule (codes "cut")) [] rows) true short told text path
   unfolding clap_on_literals
   cut_shown fresh =
       let none = shows.cut ∙ ap (flag_row (codes "cut")) fresh in
@@ -43,12 +44,27 @@ module _ (rows : List Row) (wanted told : Bool) (text path : Option Text) (shows
       used_once (session_rule (codes "cut")) [] rows none in
       record {
         cut = own_row _ rows _ is none;
+        brief = other_row _ rows _ is (codes "brief") refl ∙ shows.brief;
         progress = other_row _ rows _ is (codes "progress") refl ∙ shows.progress;
         text = other_row _ rows _ is (codes "history") refl ∙ shows.text;
         path = other_row _ rows _ is (codes "problem") refl ∙ shows.path;
       }
 
-  progress_shown : told ≡ false → Shows (used (session_rule (codes "progress")) [] rows) wanted true text path
+  brief_shown : short ≡ false → Shows (used (session_rule (codes "brief")) [] rows) wanted true told text path
+  unfolding clap_on_literals
+  brief_shown fresh =
+      let none = shows.brief ∙ ap (flag_row (codes "brief")) fresh in
+      let is : used (session_rule (codes "brief")) [] rows ≡ rows ++ use_row (session_rule (codes "brief")) [] ∷ [] =
+      used_once (session_rule (codes "brief")) [] rows none in
+      record {
+        cut = other_row _ rows _ is (codes "cut") refl ∙ shows.cut;
+        brief = own_row _ rows _ is none;
+        progress = other_row _ rows _ is (codes "progress") refl ∙ shows.progress;
+        text = other_row _ rows _ is (codes "history") refl ∙ shows.text;
+        path = other_row _ rows _ is (codes "problem") refl ∙ shows.path;
+      }
+
+  progress_shown : told ≡ false → Shows (used (session_rule (codes "progress")) [] rows) wanted short true text path
   unfolding clap_on_literals
   progress_shown fresh =
       let none = shows.progress ∙ ap (flag_row (codes "progress")) fresh in
@@ -56,12 +72,13 @@ module _ (rows : List Row) (wanted told : Bool) (text path : Option Text) (shows
       used_once (session_rule (codes "progress")) [] rows none in
       record {
         cut = other_row _ rows _ is (codes "cut") refl ∙ shows.cut;
+        brief = other_row _ rows _ is (codes "brief") refl ∙ shows.brief;
         progress = own_row _ rows _ is none;
         text = other_row _ rows _ is (codes "history") refl ∙ shows.text;
         path = other_row _ rows _ is (codes "problem") refl ∙ shows.path;
       }
 
-  text_shown : (more : Text) → text ≡ None → Shows (used (session_rule (codes "history")) (more ∷ []) rows) wanted told (Some more) path
+  text_shown : (more : Text) → text ≡ None → Shows (used (session_rule (codes "history")) (more ∷ []) rows) wanted short told (Some more) path
   unfolding clap_on_literals
   text_shown more fresh =
       let none = shows.text ∙ ap (value_row (codes "history")) fresh in
@@ -69,12 +86,13 @@ module _ (rows : List Row) (wanted told : Bool) (text path : Option Text) (shows
       used_once (session_rule (codes "history")) (more ∷ []) rows none in
       record {
         cut = other_row _ rows _ is (codes "cut") refl ∙ shows.cut;
+        brief = other_row _ rows _ is (codes "brief") refl ∙ shows.brief;
         progress = other_row _ rows _ is (codes "progress") refl ∙ shows.progress;
         text = own_row _ rows _ is none;
         path = other_row _ rows _ is (codes "problem") refl ∙ shows.path;
       }
 
-  path_shown : (more : Text) → path ≡ None → Shows (used (session_rule (codes "problem")) (more ∷ []) rows) wanted told text (Some more)
+  path_shown : (more : Text) → path ≡ None → Shows (used (session_rule (codes "problem")) (more ∷ []) rows) wanted short told text (Some more)
   unfolding clap_on_literals
   path_shown more fresh =
       let none = shows.path ∙ ap (value_row (codes "problem")) fresh in
@@ -82,6 +100,7 @@ module _ (rows : List Row) (wanted told : Bool) (text path : Option Text) (shows
       used_once (session_rule (codes "problem")) (more ∷ []) rows none in
       record {
         cut = other_row _ rows _ is (codes "cut") refl ∙ shows.cut;
+        brief = other_row _ rows _ is (codes "brief") refl ∙ shows.brief;
         progress = other_row _ rows _ is (codes "progress") refl ∙ shows.progress;
         text = other_row _ rows _ is (codes "history") refl ∙ shows.text;
         path = own_row _ rows _ is none;
@@ -103,7 +122,7 @@ place (Some path) = 2
 record Holds (rows : List Row) (pending : Option (Text × List Text)) (said : Said) : Type 0 where
   text : Option Text
   clean : settle_fault session_rules false (holding rows pending) ≡ []
-  shows : Shows (settled_rows session_rules pending rows) said.cut said.progress text said.path
+  shows : Shows (settled_rows session_rules pending rows) said.cut said.brief said.progress text said.path
   writes : Writes text said.bound
 
 abbrev walk_at : List Row → Option (Text × List Text) → Said → Walk
@@ -131,8 +150,17 @@ part_leads rows pending before with_cut after holds adds =
     subst (Leads (walk_at rows pending before) (codes "--cut" ∷ [])) (sym adds.1) (record {
       rows = used (session_rule (codes "cut")) [] now;
       pending = None;
-      holds = record { text = holds.text; clean = refl; shows = cut_shown now _ _ _ _ holds.shows adds.0; writes = holds.writes };
+      holds = record { text = holds.text; clean = refl; shows = cut_shown now _ _ _ _ _ holds.shows adds.0; writes = holds.writes };
       goes = λ more end goes. goes_on _ _ _ _ _ _ (cut_turn rows pending _ holds.clean fresh) goes;
+    })
+part_leads rows pending before with_brief after holds adds =
+    let now = settled_rows session_rules pending rows in
+    let fresh = holds.shows.brief ∙ ap (flag_row (codes "brief")) adds.0 in
+    subst (Leads (walk_at rows pending before) (codes "--brief" ∷ [])) (sym adds.1) (record {
+      rows = used (session_rule (codes "brief")) [] now;
+      pending = None;
+      holds = record { text = holds.text; clean = refl; shows = brief_shown now _ _ _ _ _ holds.shows adds.0; writes = holds.writes };
+      goes = λ more end goes. goes_on _ _ _ _ _ _ (brief_turn rows pending _ holds.clean fresh) goes;
     })
 part_leads rows pending before with_progress after holds adds =
     let now = settled_rows session_rules pending rows in
@@ -140,7 +168,7 @@ part_leads rows pending before with_progress after holds adds =
     subst (Leads (walk_at rows pending before) (codes "--progress" ∷ [])) (sym adds.1) (record {
       rows = used (session_rule (codes "progress")) [] now;
       pending = None;
-      holds = record { text = holds.text; clean = refl; shows = progress_shown now _ _ _ _ holds.shows adds.0; writes = holds.writes };
+      holds = record { text = holds.text; clean = refl; shows = progress_shown now _ _ _ _ _ holds.shows adds.0; writes = holds.writes };
       goes = λ more end goes. goes_on _ _ _ _ _ _ (progress_turn rows pending _ holds.clean fresh) goes;
     })
 part_leads rows pending before (with_history text) after holds adds =
@@ -153,7 +181,7 @@ part_leads rows pending before (with_history text) after holds adds =
       holds = record {
         text = Some text;
         clean = bound_settles now text fresh (bound_passes text adds.0 adds.2);
-        shows = text_shown now _ _ _ _ holds.shows text absent;
+        shows = text_shown now _ _ _ _ _ holds.shows text absent;
         writes = (adds.0, adds.2, refl);
       };
       goes = λ more end goes. goes_on _ _ _ _ _ _ (history_turn rows pending _ holds.clean)
@@ -169,7 +197,7 @@ part_leads rows pending before (with_problem path) after holds adds =
       holds = record {
         text = holds.text;
         clean = path_settles now path fresh;
-        shows = path_shown now _ _ _ _ holds.shows path adds.0;
+        shows = path_shown now _ _ _ _ _ holds.shows path adds.0;
         writes = holds.writes;
       };
       goes = λ more end goes. subst (λ (w : Walk). Goes session_shape w (path ∷ more) end) first
@@ -194,15 +222,16 @@ parts_lead (part ∷ parts) rows pending before after holds say =
 -- ---- at the end
 
 -- a session that was asked for, by the texts of its flags, of its bound and of its path
-abbrev session_asked : Bool → Bool → Text → Text → Asked
-session_asked wanted told text path = Some (codes "session", Some (bool_text wanted), Some (bool_text told), Some text, Some path)
+abbrev session_asked : Bool → Bool → Bool → Text → Text → Asked
+session_asked wanted short told text path =
+    Some (codes "session", Some (bool_text wanted), Some (bool_text short), Some (bool_text told), Some text, Some path)
 
 -- The words behind `session` have no fault, and ask for what was said.
 pub record Asks (said : Said) (path : Text) (words : List Text) : Type 0 where
   pub text : Text
   pub written : IsBound text (unwrap_or said.bound 1000000)
   pub taken : faults_in (codes "session" ∷ words) ≡ []
-  pub asked : asked_in (codes "session" ∷ words) ≡ session_asked said.cut said.progress text path
+  pub asked : asked_in (codes "session" ∷ words) ≡ session_asked said.cut said.brief said.progress text path
 
 -- the bound that stands where none is written
 most-bound : IsBound most_text 1000000
@@ -220,6 +249,11 @@ cut_read : (used : Bool) → option_and_then row_text (at_end (codes "cut") (fla
 unfolding clap_on_literals
 cut_read true = refl
 cut_read false = refl
+
+brief_read : (used : Bool) → option_and_then row_text (at_end (codes "brief") (flag_row (codes "brief") used)) ≡ Some (bool_text used)
+unfolding clap_on_literals
+brief_read true = refl
+brief_read false = refl
 
 progress_read : (used : Bool) → option_and_then row_text (at_end (codes "progress") (flag_row (codes "progress") used)) ≡ Some (bool_text used)
 unfolding clap_on_literals
@@ -240,7 +274,7 @@ path_read path = refl
 
 good_defaults : AllByRecursion HasGoodDefault session_rules
 unfolding clap_on_literals
-good_defaults = (refl, (refl, (refl, (refl, (refl, tt)))))
+good_defaults = (refl, (refl, (refl, (refl, (refl, (refl, tt))))))
 
 given : (row : Option Row) (path : Text) → row ≡ at_end (codes "problem") (value_row (codes "problem") (Some path))
     → option_map_or (λ (r : Row). explicit_source r.source) row false ≡ true
@@ -253,9 +287,9 @@ path_checked : (rows : List Row) (path : Text) → row_at (codes "problem") rows
 unfolding clap_on_literals
 path_checked rows path is = ap (λ (b : Bool). if (not b || false) then MissingRequiredArgument ∷ [] else []) (given _ path is)
 
-same_asked : {c wanted p told t text f path : Option Text} → c ≡ wanted → p ≡ told → t ≡ text → f ≡ path
-    → ◌≡◌ {A = Asked} (Some (codes "session", c, p, t, f)) (Some (codes "session", wanted, told, text, path))
-same_asked is too also last = cc
+same_asked : {c wanted b short p told t text f path : Option Text} → c ≡ wanted → b ≡ short → p ≡ told → t ≡ text → f ≡ path
+    → ◌≡◌ {A = Asked} (Some (codes "session", c, b, p, t, f)) (Some (codes "session", wanted, short, told, text, path))
+same_asked is briefly too also last = cc
 
 module _ (rows : List Row) (pending : Option (Text × List Text)) (said : Said) (path : Text) (holds : Holds rows pending said)
     (named : said.path ≡ Some path) where
@@ -270,15 +304,16 @@ module _ (rows : List Row) (pending : Option (Text × List Text)) (said : Said) 
   ends_clean = past _ _ holds.clean ∙ (past _ _ (defaults_clean session_rules _ good_defaults) ∙ path_checked (finished session_rules (holding rows pending)) path path_found)
 
   ends_asked : asked_of (Some (codes "session", finished session_rules (holding rows pending)))
-      ≡ session_asked said.cut said.progress (unwrap_or holds.text most_text) path
+      ≡ session_asked said.cut said.brief said.progress (unwrap_or holds.text most_text) path
   ends_asked = same_asked
       (ap (option_and_then row_text) (found (codes "cut") _ holds.shows.cut) ∙ cut_read said.cut)
+      (ap (option_and_then row_text) (found (codes "brief") _ holds.shows.brief) ∙ brief_read said.brief)
       (ap (option_and_then row_text) (found (codes "progress") _ holds.shows.progress) ∙ progress_read said.progress)
       (ap (option_and_then row_text) (found (codes "history") _ holds.shows.text) ∙ text_read holds.text said.bound holds.writes)
       (ap (option_and_then (λ (r : Row). slice_get r.values 0)) path_found ∙ path_read path)
 
 nothing_held_yet : Holds [] None nothing_said
-nothing_held_yet = record { text = None; clean = refl; shows = record { cut = refl; progress = refl; text = refl; path = refl }; writes = refl }
+nothing_held_yet = record { text = None; clean = refl; shows = record { cut = refl; brief = refl; progress = refl; text = refl; path = refl }; writes = refl }
 
 all_lead : (parts : List Part) (said : Said) → Say nothing_said parts said → Leads start (flat_map spelled parts) said
 all_lead parts said say = parts_lead parts [] None nothing_said said nothing_held_yet say
@@ -315,9 +350,11 @@ repeated_refused parts said word rest say again =
     elim again [
       | inl cut ↦ inl (fault ArgumentConflict (ap (turn_fault session_shape [] at) cut.1
           ∙ cut_again led.rows led.pending (place said.path) _ led.holds.clean (led.holds.shows.cut ∙ ap (flag_row (codes "cut")) cut.0)))
-      | inr (inl progress) ↦ inl (fault ArgumentConflict (ap (turn_fault session_shape [] at) progress.1
+      | inr (inl brief) ↦ inl (fault ArgumentConflict (ap (turn_fault session_shape [] at) brief.1
+          ∙ brief_again led.rows led.pending (place said.path) _ led.holds.clean (led.holds.shows.brief ∙ ap (flag_row (codes "brief")) brief.0)))
+      | inr (inr (inl progress)) ↦ inl (fault ArgumentConflict (ap (turn_fault session_shape [] at) progress.1
           ∙ progress_again led.rows led.pending (place said.path) _ led.holds.clean (led.holds.shows.progress ∙ ap (flag_row (codes "progress")) progress.0)))
-      | inr (inr second) ↦ inr (fault UnknownArgument (ap (λ (p : Option Text). turn_fault session_shape [] (standing led.rows led.pending idle (place p)) word) second.1
+      | inr (inr (inr second)) ↦ inr (fault UnknownArgument (ap (λ (p : Option Text). turn_fault session_shape [] (standing led.rows led.pending idle (place p)) word) second.1
           ∙ path_again led.rows led.pending word (plain_word_is word second.2)))
     ]
 

@@ -131,6 +131,17 @@ cut_turn rows pending position settled fresh = record {
   goes = refl;
 }
 
+pub brief_turn : (rows : List Row) (pending : Option (Text × List Text)) (position : ℕ)
+    → settle_fault session_rules false (holding rows pending) ≡ []
+    → row_at (codes "brief") (settled_rows session_rules pending rows) ≡ None
+    → Turn session_shape (standing rows pending idle position) (codes "--brief")
+    (standing (used (session_rule (codes "brief")) [] (settled_rows session_rules pending rows)) None idle position)
+unfolding clap_on_literals
+brief_turn rows pending position settled fresh = record {
+  clean = first_use settled (no_row (codes "brief") (settled_rows session_rules pending rows) fresh);
+  goes = refl;
+}
+
 pub progress_turn : (rows : List Row) (pending : Option (Text × List Text)) (position : ℕ)
     → settle_fault session_rules false (holding rows pending) ≡ []
     → row_at (codes "progress") (settled_rows session_rules pending rows) ≡ None
@@ -148,6 +159,11 @@ module _ (rows : List Row) (pending : Option (Text × List Text)) (position : �
       → turn_fault session_shape [] (standing rows pending idle position) (codes "--cut") ≡ ArgumentConflict ∷ []
   unfolding clap_on_literals
   cut_again some = second_use settled (some_row (codes "cut") found (settled_rows session_rules pending rows) some)
+
+  pub brief_again : row_at (codes "brief") (settled_rows session_rules pending rows) ≡ Some found
+      → turn_fault session_shape [] (standing rows pending idle position) (codes "--brief") ≡ ArgumentConflict ∷ []
+  unfolding clap_on_literals
+  brief_again some = second_use settled (some_row (codes "brief") found (settled_rows session_rules pending rows) some)
 
   pub progress_again : row_at (codes "progress") (settled_rows session_rules pending rows) ≡ Some found
       → turn_fault session_shape [] (standing rows pending idle position) (codes "--progress") ≡ ArgumentConflict ∷ []

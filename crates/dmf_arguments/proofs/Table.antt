@@ -47,7 +47,7 @@ pub solve_taken : faults_in (codes "solve" ∷ []) ≡ []
 unfolding clap_on_literals
 solve_taken = refl
 
-pub solve_asked : asked_in (codes "solve" ∷ []) ≡ Some (codes "solve", Some (bool_text false), Some (bool_text false), None, None)
+pub solve_asked : asked_in (codes "solve" ∷ []) ≡ Some (codes "solve", Some (bool_text false), None, Some (bool_text false), None, None)
 unfolding clap_on_literals
 solve_asked = refl
 
@@ -55,7 +55,7 @@ pub solve_cut_taken : faults_in (codes "solve" ∷ codes "--cut" ∷ []) ≡ []
 unfolding clap_on_literals
 solve_cut_taken = refl
 
-pub solve_cut_asked : asked_in (codes "solve" ∷ codes "--cut" ∷ []) ≡ Some (codes "solve", Some (bool_text true), Some (bool_text false), None, None)
+pub solve_cut_asked : asked_in (codes "solve" ∷ codes "--cut" ∷ []) ≡ Some (codes "solve", Some (bool_text true), None, Some (bool_text false), None, None)
 unfolding clap_on_literals
 solve_cut_asked = refl
 
@@ -64,7 +64,7 @@ unfolding clap_on_literals
 solve_progress_taken = refl
 
 pub solve_progress_asked : asked_in (codes "solve" ∷ codes "--progress" ∷ [])
-    ≡ Some (codes "solve", Some (bool_text false), Some (bool_text true), None, None)
+    ≡ Some (codes "solve", Some (bool_text false), None, Some (bool_text true), None, None)
 unfolding clap_on_literals
 solve_progress_asked = refl
 
@@ -73,7 +73,7 @@ unfolding clap_on_literals
 solve_cut_progress_taken = refl
 
 pub solve_cut_progress_asked : asked_in (codes "solve" ∷ codes "--cut" ∷ codes "--progress" ∷ [])
-    ≡ Some (codes "solve", Some (bool_text true), Some (bool_text true), None, None)
+    ≡ Some (codes "solve", Some (bool_text true), None, Some (bool_text true), None, None)
 unfolding clap_on_literals
 solve_cut_progress_asked = refl
 
@@ -82,7 +82,7 @@ unfolding clap_on_literals
 solve_progress_cut_taken = refl
 
 pub solve_progress_cut_asked : asked_in (codes "solve" ∷ codes "--progress" ∷ codes "--cut" ∷ [])
-    ≡ Some (codes "solve", Some (bool_text true), Some (bool_text true), None, None)
+    ≡ Some (codes "solve", Some (bool_text true), None, Some (bool_text true), None, None)
 unfolding clap_on_literals
 solve_progress_cut_asked = refl
 
@@ -92,7 +92,7 @@ check_taken [] plain = refl
 check_taken (x ∷ xs) plain = rw (plain, plain) refl
 
 pub check_asked : (path : Text) → IsPlain path
-    → asked_in (codes "check" ∷ path ∷ []) ≡ Some (codes "check", None, None, None, Some path)
+    → asked_in (codes "check" ∷ path ∷ []) ≡ Some (codes "check", None, None, None, None, Some path)
 unfolding clap_on_literals
 check_asked [] plain = refl
 check_asked (x ∷ xs) plain = rw (plain, plain) refl
@@ -139,6 +139,18 @@ progress_alone_refused rest = refl
 pub check_progress_refused : (path : Text) → faults_in (codes "check" ∷ codes "--progress" ∷ path ∷ []) ≡ UnknownArgument ∷ []
 unfolding clap_on_literals
 check_progress_refused path = refl
+
+pub brief_alone_refused : (rest : List Text) → faults_in (codes "--brief" ∷ rest) ≡ UnknownArgument ∷ []
+unfolding clap_on_literals
+brief_alone_refused rest = refl
+
+pub solve_brief_refused : faults_in (codes "solve" ∷ codes "--brief" ∷ []) ≡ UnknownArgument ∷ []
+unfolding clap_on_literals
+solve_brief_refused = refl
+
+pub check_brief_refused : (path : Text) → faults_in (codes "check" ∷ codes "--brief" ∷ path ∷ []) ≡ UnknownArgument ∷ []
+unfolding clap_on_literals
+check_brief_refused path = refl
 
 pub history_alone_refused : (rest : List Text) → faults_in (codes "--history" ∷ rest) ≡ UnknownArgument ∷ []
 unfolding clap_on_literals

@@ -9,6 +9,9 @@ use Rattle.clap.specs.declared.builder.action.ArgAction.TheVariants.{SetTrue}
 abbrev pub cut_rule : Rule
 cut_rule = record (new_rule (codes "cut")) { long = Some (codes "cut"); action = Some SetTrue }
 
+abbrev pub brief_rule : Rule
+brief_rule = record (new_rule (codes "brief")) { long = Some (codes "brief"); action = Some SetTrue }
+
 abbrev pub progress_rule : Rule
 progress_rule = record (new_rule (codes "progress")) { long = Some (codes "progress"); action = Some SetTrue }
 
@@ -29,7 +32,8 @@ solve_line = with_rule (with_rule (new_app (codes "solve")) cut_rule) progress_r
 
 abbrev pub session_line : App
 session_line =
-    with_rule (with_rule (with_rule (with_rule (new_app (codes "session")) cut_rule) history_rule) progress_rule) problem_rule
+    with_rule (with_rule (with_rule (with_rule (with_rule (new_app (codes "session")) brief_rule) cut_rule) history_rule) progress_rule)
+    problem_rule
 
 abbrev pub check_line : App
 check_line = with_rule (new_app (codes "check")) problem_rule
@@ -42,10 +46,16 @@ abbrev pub arguments : App
 arguments =
     with_subcommand (with_subcommand (with_subcommand program_line solve_line.top) session_line.top) check_line.top
 
--- the command that was found, with the texts of its two flags, of its bound and of its path, where it has them
+-- the command that was found, with the texts of its three flags, of its bound and of its path, where it has them
 abbrev pub Asked : Type 0
-Asked = Option (Text × Option Text × Option Text × Option Text × Option Text)
+Asked = Option (Text × Option Text × Option Text × Option Text × Option Text × Option Text)
 
 abbrev pub asked_of : Option (Text × List Row) → Asked
-asked_of = option_map (λ found.
-    (found.0, one_of (codes "cut") found.1, one_of (codes "progress") found.1, one_of (codes "history") found.1, first_of (codes "problem") found.1))
+asked_of = option_map (λ found. (
+  found.0,
+  one_of (codes "cut") found.1,
+  one_of (codes "brief") found.1,
+  one_of (codes "progress") found.1,
+  one_of (codes "history") found.1,
+  first_of (codes "problem") found.1,
+))

@@ -12,19 +12,20 @@ abbrev pub Text : Type 0
 Text = List ℕ
 
 -- what the program is asked to do, with the path of the problem's file: of a solve and of a session, whether the cut is wanted,
--- and whether progress is told also where standard error is no terminal; a session has the bound of its history
+-- and whether progress is told also where standard error is no terminal; of a session, between these two, whether a solve is
+-- answered briefly, and behind them the bound of its history
 pub data Task : Type 0 where
   solving : Bool → Bool → Task
-  holding : Bool → Bool → ℕ → Text → Task
+  holding : Bool → Bool → Bool → ℕ → Text → Task
   checking : Text → Task
 
-abbrev pub task_with : Bool → Mode → Task
-task_with progress (mode.Solve cut) = solving cut progress
-task_with progress (mode.Session cut history problem) = holding cut progress history problem.bytes.items
-task_with progress (mode.Check problem) = checking problem.bytes.items
+abbrev pub task_with : Bool → Bool → Mode → Task
+task_with brief progress (mode.Solve cut) = solving cut progress
+task_with brief progress (mode.Session cut history problem) = holding cut brief progress history problem.bytes.items
+task_with brief progress (mode.Check problem) = checking problem.bytes.items
 
 abbrev pub task_of : Arguments → Task
-task_of asked = task_with asked.progress asked.mode
+task_of asked = task_with asked.brief asked.progress asked.mode
 
 -- Reading the words gave this task, or memory was refused.
 abbrev pub Gives : Task → Result Arguments WordsFault → Type 0
@@ -76,29 +77,34 @@ pub record IsNoCommand (word : Text) : Type 0 where
 -- A part of what stands behind `session`: an option, with the text of its number where it has one, or the path of a problem.
 pub data Part : Type 0 where
   with_cut : Part
+  with_brief : Part
   with_progress : Part
   with_history : Text → Part
   with_problem : Text → Part
 
 abbrev pub spelled : Part → List Text
 spelled with_cut = codes "--cut" ∷ []
+spelled with_brief = codes "--brief" ∷ []
 spelled with_progress = codes "--progress" ∷ []
 spelled (with_history text) = codes "--history" ∷ text ∷ []
 spelled (with_problem path) = path ∷ []
 
--- What parts say: whether the cut is wanted, whether progress is, and the bound of the history and the path, if they are there.
+-- What parts say: whether the cut is wanted, whether brief replies are, whether progress is, and the bound of the history and the
+-- path, if they are there.
 pub record Said : Type 0 where
   pub cut : Bool
+  pub brief : Bool
   pub progress : Bool
   pub bound : Option ℕ
   pub path : Option Text
 
 abbrev pub nothing_said : Said
-nothing_said = record { cut = false; progress = false; bound = None; path = None }
+nothing_said = record { cut = false; brief = false; progress = false; bound = None; path = None }
 
 -- One more part is said, of a kind that was not said before.
 abbrev pub Adds : Said → Part → Said → Type 0
 Adds before with_cut after = (before.cut ≡ false) × (after ≡ record before { cut = true })
+Adds before with_brief after = (before.brief ≡ false) × (after ≡ record before { brief = true })
 Adds before with_progress after = (before.progress ≡ false) × (after ≡ record before { progress = true })
 Adds before (with_history text) after = (bound : ℕ) × (before.bound ≡ None) × IsBound text bound × (after ≡ record before { bound = Some bound })
 Adds before (with_problem path) after = (before.path ≡ None) × IsPlain path × (after ≡ record before { path = Some path })
@@ -108,10 +114,10 @@ abbrev pub Say : Said → List Part → Said → Type 0
 Say before [] after = before ≡ after
 Say before (part ∷ parts) after = (between : Said) × Adds before part between × Say between parts after
 
--- The word says once more what was said: that the cut is wanted, or progress, or a path.
+-- The word says once more what was said: that the cut is wanted, or brief replies, or progress, or a path.
 abbrev pub IsRepeated : Said → Text → Type 0
-IsRepeated said word = ((said.cut ≡ true) × (word ≡ codes "--cut")) ⊎ ((said.progress ≡ true) × (word ≡ codes "--progress"))
-    ⊎ ((path : Text) × (said.path ≡ Some path) × IsPlain word)
+IsRepeated said word = ((said.cut ≡ true) × (word ≡ codes "--cut")) ⊎ ((said.brief ≡ true) × (word ≡ codes "--brief"))
+    ⊎ ((said.progress ≡ true) × (word ≡ codes "--progress")) ⊎ ((path : Text) × (said.path ≡ Some path) × IsPlain word)
 
 -- What reading gives, by the words behind the program's name. The path of a problem is any word that does not begin with
 -- a dash. The bound of a session's history is 1,000,000 where none is written.
@@ -124,7 +130,7 @@ pub record ReadsWords (words : List Text) (result : Result Arguments WordsFault)
       ⊎ (words ≡ codes "solve" ∷ codes "--progress" ∷ codes "--cut" ∷ []) → Gives (solving true true) result
   pub session : (parts : List Part) (said : Said) (path : Text) → Say nothing_said parts said → said.path ≡ Some path
       → words ≡ codes "session" ∷ flat_map spelled parts
-      → Gives (holding said.cut said.progress (unwrap_or said.bound 1000000) path) result
+      → Gives (holding said.cut said.brief said.progress (unwrap_or said.bound 1000000) path) result
   pub repeated : (parts : List Part) (said : Said) (word : Text) (rest : List Text) → Say nothing_said parts said → IsRepeated said word
       → words ≡ codes "session" ∷ flat_map spelled parts ++ word ∷ rest → GivesUsage result
   pub no_bound : (text path : Text) → IsPlain text → IsPlain path → ((bound : ℕ) → IsBound text bound → ⊥)
@@ -145,6 +151,9 @@ pub record ReadsWords (words : List Text) (result : Result Arguments WordsFault)
   pub check_second : (path other : Text) → IsPlain path → IsPlain other → words ≡ codes "check" ∷ path ∷ other ∷ [] → GivesUsage result
   pub progress_alone : (rest : List Text) → words ≡ codes "--progress" ∷ rest → GivesUsage result
   pub check_progress : (path : Text) → words ≡ codes "check" ∷ codes "--progress" ∷ path ∷ [] → GivesUsage result
+  pub brief_alone : (rest : List Text) → words ≡ codes "--brief" ∷ rest → GivesUsage result
+  pub solve_brief : words ≡ codes "solve" ∷ codes "--brief" ∷ [] → GivesUsage result
+  pub check_brief : (path : Text) → words ≡ codes "check" ∷ codes "--brief" ∷ path ∷ [] → GivesUsage result
   pub check_cut : (path : Text) → words ≡ codes "check" ∷ codes "--cut" ∷ path ∷ [] → GivesUsage result
   pub unknown : (word : Text) (rest : List Text) → IsNoCommand word → words ≡ word ∷ rest → GivesUsage result
 

@@ -5,14 +5,14 @@ pub const VERSION: &str = "0.1.0";
 
 /// How the program is used.
 pub const USAGE: &str = "dmf [solve [--cut] [--progress]] <FILE
-       dmf session [--cut] [--history N] [--progress] PROBLEM
+       dmf session [--brief] [--cut] [--history N] [--progress] PROBLEM
        dmf check PROBLEM <SOLUTION";
 
 /// How `dmf solve` is used.
 pub const SOLVE_USAGE: &str = "dmf solve [--cut] [--progress] <FILE";
 
 /// How `dmf session` is used.
-pub const SESSION_USAGE: &str = "dmf session [--cut] [--history N] [--progress] PROBLEM";
+pub const SESSION_USAGE: &str = "dmf session [--brief] [--cut] [--history N] [--progress] PROBLEM";
 
 /// How `dmf check` is used.
 pub const CHECK_USAGE: &str = "dmf check PROBLEM <SOLUTION";
@@ -66,7 +66,8 @@ pub const SESSION_NOTES: &str = "Commands, one a line on standard input, and the
   print WHAT  WHAT is problem, flow or cut        what was asked for
 
 VALUE is the value of the flow after the command. Line L, where it is refused,
-changes nothing and is answered by c refused L REASON.
+changes nothing and is answered by c refused L REASON. With --brief the reply
+to solve is c solve value VALUE.
 
 Arcs are numbered from 1 in the order of PROBLEM. Added ones follow, and closed
 ones keep their numbers.

@@ -3,7 +3,7 @@ ghost use Rattle.std.specs.Prelude.{ℕ, ◌≡◌, ◌≢◌, ◌≤◌, IfOk, 
 ghost use Rattle.clap.specs.Words.{app_of, first_value, found_of, kind_of, one_text, rule_of, subcommand_rows_of};
 ghost use Rattle.clap.specs.Values.{bool_text};
 ghost use Rattle.clap.specs.declared.builder.command.Command.TheViews.{out-Command as fields_of};
-ghost use Rattle.dmf_arguments.specs.Matches.{asked_of, check_line, arguments, cut_rule, history_rule, problem_rule, progress_rule, program_line, session_line, solve_line};
+ghost use Rattle.dmf_arguments.specs.Matches.{asked_of, brief_rule, check_line, arguments, cut_rule, history_rule, problem_rule, progress_rule, program_line, session_line, solve_line};
 ghost use Rattle.dmf_arguments.specs.Words.{Gives, HasBound, IsBound, IsHelp, IsUsage, ReadsMode, ReadsWords, Text, solving, holding, checking};
 ghost use Rattle.dmf_arguments.specs.declared.words.WordsFault.TheVariants.{NoMemory};
 
@@ -35,11 +35,13 @@ pub enum Mode {
     },
 }
 
-/// All that the arguments ask for: a run, and whether it tells its progress also where standard error is no terminal.
+/// All that the arguments ask for: a run, whether it tells its progress also where standard error is no terminal, and of a session
+/// whether it answers a solve by its value in place of the solution.
 #[derive(Debug, Drop, PartialEq, Eq)]
 pub struct Arguments {
     pub mode: Mode,
     pub progress: bool,
+    pub brief: bool,
 }
 
 /// Why the words ask for no run.
@@ -79,9 +81,9 @@ pub fn read_words(alloc: Global, words: Vec<String>) -> Result<Mode, WordsFault>
 /// Reads the program's arguments, of which the first is its name.
 ///
 /// No words behind it, or `solve`, ask for [`Mode::Solve`]; `session PROBLEM` asks for [`Mode::Session`], and
-/// `check PROBLEM` for [`Mode::Check`]. The flags `--cut` and `--progress` may stand behind `solve` and `session`, `--history N`
-/// behind `session` alone, with a number up to [`MAX_HISTORY`], which is what stands for it where it is absent, and `--help` behind
-/// each command and alone: it is answered by [`WordsFault::Help`], and so are `help`, alone or before a command, and `--version`
+/// `check PROBLEM` for [`Mode::Check`]. The flags `--cut` and `--progress` may stand behind `solve` and `session`, `--brief` and
+/// `--history N` behind `session` alone, N a number up to [`MAX_HISTORY`], which is what stands for it where it is absent, and `--help`
+/// behind each command and alone: it is answered by [`WordsFault::Help`], and so are `help`, alone or before a command, and `--version`
 /// alone. A PROBLEM that begins with a dash stands behind `--`. All other words are refused by [`WordsFault::Usage`]; the texts are
 /// those of `clap`. [`WordsFault::NoMemory`] may come in place of any answer.
 #[inline(never)]
@@ -144,6 +146,7 @@ fn session<'a>(alloc: Global) -> Result<Command<'a>, AllocError>
         .about("Carry out the commands on standard input, on the problem in a file")
         .override_usage(help::SESSION_USAGE)
         .after_help(help::SESSION_NOTES)
+        .arg(brief(alloc))?
         .arg(cut(alloc, "Write the smallest minimum cut after each solution"))?
         .arg(history(alloc))?
         .arg(progress(alloc))?
@@ -172,6 +175,17 @@ fn cut<'a>(alloc: Global, help: &'a str) -> Arg<'a>
         .long("cut")
         .action(ArgAction::SetTrue)
         .help(help)
+}
+
+/// The flag with which a session answers a solve by its value.
+fn brief<'a>(alloc: Global) -> Arg<'a>
+    ensures rule { rule_of result ≡ brief_rule }
+    ensures local { result.global ≡ false }
+{
+    Arg::new(alloc, "brief")
+        .long("brief")
+        .action(ArgAction::SetTrue)
+        .help("Answer a solve by its value in place of the solution")
 }
 
 /// The flag with which progress is told also where standard error is no terminal.
@@ -213,21 +227,23 @@ fn problem<'a>(alloc: Global) -> Arg<'a>
 /// What the words that the program takes ask for.
 fn arguments_of(alloc: Global, matches: &ArgMatches<'_>) -> Result<Arguments, WordsFault>
     ensures nothing { asked_of (subcommand_rows_of matches.now) ≡ None → Gives (solving false false) result }
-    ensures solve { (cut progress : Bool) (text path : Option Text)
-        → asked_of (subcommand_rows_of matches.now) ≡ Some (codes "solve", Some (bool_text cut), Some (bool_text progress), text, path)
-        → Gives (solving cut progress) result }
-    ensures session { (cut progress : Bool) (text : Text) (bound : ℕ) (path : Text)
+    ensures solve { (cut progress : Bool) (brief text path : Option Text)
         → asked_of (subcommand_rows_of matches.now)
-        ≡ Some (codes "session", Some (bool_text cut), Some (bool_text progress), Some text, Some path)
-        → IsBound text bound → Gives (holding cut progress bound path) result }
-    ensures check { (cut progress text : Option Text) (path : Text)
-        → asked_of (subcommand_rows_of matches.now) ≡ Some (codes "check", cut, progress, text, Some path)
+        ≡ Some (codes "solve", Some (bool_text cut), brief, Some (bool_text progress), text, path)
+        → Gives (solving cut progress) result }
+    ensures session { (cut brief progress : Bool) (text : Text) (bound : ℕ) (path : Text)
+        → asked_of (subcommand_rows_of matches.now)
+        ≡ Some (codes "session", Some (bool_text cut), Some (bool_text brief), Some (bool_text progress), Some text, Some path)
+        → IsBound text bound → Gives (holding cut brief progress bound path) result }
+    ensures check { (cut brief progress text : Option Text) (path : Text)
+        → asked_of (subcommand_rows_of matches.now) ≡ Some (codes "check", cut, brief, progress, text, Some path)
         → Gives (checking path) result }
     ensures bound { IfOk result (λ asked. HasBound asked.mode) }
 {
     match matches.subcommand() {
         Some(("session", session)) => Ok(Arguments {
             progress: session.get_flag("progress"),
+            brief: session.get_flag("brief"),
             mode: Mode::Session {
                 cut: session.get_flag("cut"),
                 history: bound_of(session),
@@ -236,18 +252,21 @@ fn arguments_of(alloc: Global, matches: &ArgMatches<'_>) -> Result<Arguments, Wo
         }),
         Some(("check", check)) => Ok(Arguments {
             progress: false,
+            brief: false,
             mode: Mode::Check {
                 problem: path_of(alloc, check)?,
             },
         }),
         Some((_, solve)) => Ok(Arguments {
             progress: solve.get_flag("progress"),
+            brief: false,
             mode: Mode::Solve {
                 cut: solve.get_flag("cut"),
             },
         }),
         None => Ok(Arguments {
             progress: false,
+            brief: false,
             mode: Mode::Solve { cut: false },
         }),
     }

@@ -43,6 +43,7 @@ impl DeltaHistory {
         requires { bound ≤ 1000000 }
         ensures { result ≡ start bound state }
     {
+        // Each reader promises that the state is one, as the states of a timeline are.
         let _nodes = state.nodes();
         DeltaHistory {
             present: state,

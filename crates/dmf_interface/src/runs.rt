@@ -1,7 +1,9 @@
 //! Runs from bytes to bytes, single command lines, and the program's arguments.
+use dmf_net::Unwatched;
 use dmf_run::{
-    EngineFault, Mode, Status, WordsFault, read_command, read_words, refusal_text, run_check,
-    run_commands, run_session, run_session_bounded, run_solve, status_of,
+    EngineFault, Mode, SolveReply, Status, WordsFault, read_command, read_words, refusal_text,
+    run_check, run_commands, run_session, run_session_bounded, run_session_watched, run_solve,
+    status_of,
 };
 use dmf_session::{Command, DeltaHistory, Refusal, Session};
 use dmf_text::{StdSink, StdSource, read_problem};
@@ -90,6 +92,28 @@ fn sessions_are_held(rt: HostRuntime) -> Result<(), Fail> {
     assert!(rt; ended == [Status::Well, Status::SomeRefused, Status::SomeRefused]);
     let replies =
         b"s 7\nf 1 2 7\nc cap value 0\nc refused 2 nothing to undo\nc refused 1 nothing to redo\n";
+    assert!(rt; written.as_slice() == replies.as_slice());
+    Ok(())
+}
+
+#[test]
+fn solves_are_answered_briefly(rt: HostRuntime) -> Result<(), Fail> {
+    let mut written = Vec::new(rt.alloc());
+    let wanted = SolveReply {
+        cut: true,
+        brief: true,
+    };
+    let outcome = run_session_watched(
+        rt.alloc(),
+        &mut StdSource::new(PROBLEM),
+        &mut StdSource::new(b"solve\nprint flow\n".as_slice()),
+        &mut StdSink::new(&mut written),
+        wanted,
+        1,
+        &mut Unwatched,
+    );
+    assert!(rt; outcome == Ok(Status::Well));
+    let replies = b"c solve value 7\nc cut 7\nc side 1\ns 7\nf 1 2 7\n";
     assert!(rt; written.as_slice() == replies.as_slice());
     Ok(())
 }

@@ -133,7 +133,7 @@ fn each_state_comes_back(rt: HostRuntime) -> Result<(), Fail> {
     Ok(())
 }
 
-/// A change of one of the first seven arcs, or of a node; most of them are accepted.
+/// A change whose arc or node has a number from 0 to 6. There is none of number 0; most of these changes are accepted.
 fn draw(draws: &mut Draws) -> Change {
     let number = u64::from(draws.below(7));
     match draws.below(8) {

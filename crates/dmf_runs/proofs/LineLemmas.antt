@@ -6,6 +6,7 @@ use Rattle.dmf_session.specs.declared.command.Refusal.{Refusal}
 use Rattle.dmf_session.specs.declared.command.Refusal.TheVariants.{UnknownCommand, FieldCount, NotANumber, TooLarge, NoSuchArc, Closed, NoSuchNode, TooManyArcs, SumTooLarge, NothingToUndo, NothingToRedo, NotGreatest, NoMemory, LineTooLong}
 use Rattle.dmf_history.specs.Timeline.{Timeline}
 use Rattle.dmf_session.specs.Step.{Steps, Answers}
+use Rattle.dmf_runs.specs.declared.reply.SolveReply.{SolveReply}
 use Rattle.dmf_runs.specs.Line.{line_meaning}
 use Rattle.dmf_runs.specs.Run.{LineRuns, Runs}
 
@@ -35,8 +36,8 @@ or-assoc true b c = refl
 or-assoc false b c = refl
 
 -- one line more
-pub Runs-push : (want_cut : Bool) (number : ℕ) (t : Timeline) (lines : List (List ℕ)) (text : List ℕ) (refused : Bool) (u : Timeline) (line more : List ℕ) (later : Bool) (v : Timeline) → Runs (Answers want_cut) number t lines text refused u → LineRuns (Answers want_cut) (number + length lines) u (line_meaning true line) more later v → Runs (Answers want_cut) number t (lines ++ line ∷ []) (text ++ more) (refused || later) v
-Runs-push want_cut number t [] text refused u line more later v runs then =
+pub Runs-push : (wanted : SolveReply) (number : ℕ) (t : Timeline) (lines : List (List ℕ)) (text : List ℕ) (refused : Bool) (u : Timeline) (line more : List ℕ) (later : Bool) (v : Timeline) → Runs wanted.brief (Answers wanted.cut) number t lines text refused u → LineRuns wanted.brief (Answers wanted.cut) (number + length lines) u (line_meaning true line) more later v → Runs wanted.brief (Answers wanted.cut) number t (lines ++ line ∷ []) (text ++ more) (refused || later) v
+Runs-push wanted number t [] text refused u line more later v runs then =
     let here : number + 0 ≡ number = omega arith in
     record {
       between = v;
@@ -44,12 +45,12 @@ Runs-push want_cut number t [] text refused u line more later v runs then =
       here = later;
       more = [];
       later = false;
-      runs = subst (λ n. LineRuns (Answers want_cut) n t (line_meaning true line) more later v) here (subst (λ w. LineRuns (Answers want_cut) (number + 0) w (line_meaning true line) more later v) runs.2 then);
+      runs = subst (λ n. LineRuns wanted.brief (Answers wanted.cut) n t (line_meaning true line) more later v) here (subst (λ w. LineRuns wanted.brief (Answers wanted.cut) (number + 0) w (line_meaning true line) more later v) runs.2 then);
       goes_on = (refl, refl, refl);
       text_is = ap (λ x. x ++ more) runs.0 ∙ sym (append-nil more);
       refused_is = ap (λ b. b || later) runs.1 ∙ or-false later;
     }
-Runs-push want_cut number t (x ∷ lines) text refused u line more later v runs then =
+Runs-push wanted number t (x ∷ lines) text refused u line more later v runs then =
     let place : number + length (x ∷ lines) ≡ number + 1 + length lines = omega arith in
     record {
       between = runs.between;
@@ -58,7 +59,7 @@ Runs-push want_cut number t (x ∷ lines) text refused u line more later v runs 
       more = runs.more ++ more;
       later = runs.later || later;
       runs = runs.runs;
-      goes_on = Runs-push want_cut (number + 1) runs.between lines runs.more runs.later u line more later v runs.goes_on (subst (λ n. LineRuns (Answers want_cut) n u (line_meaning true line) more later v) place then);
+      goes_on = Runs-push wanted (number + 1) runs.between lines runs.more runs.later u line more later v runs.goes_on (subst (λ n. LineRuns wanted.brief (Answers wanted.cut) n u (line_meaning true line) more later v) place then);
       text_is = ap (λ y. y ++ more) runs.text_is ∙ append_assoc runs.first runs.more more;
       refused_is = ap (λ b. b || later) runs.refused_is ∙ or-assoc runs.here runs.later later;
     }

@@ -102,7 +102,7 @@ answer-stands want_cut number t u command result stands answers =
 
 -- No run of at most 1,000,000 lines forgets a state.
 pub never-forgotten : MillionIsNeverForgotten
-never-forgotten want_cut s given text refused = RunsAll-implied Stands (Answers want_cut)
+never-forgotten want_cut brief s given text refused = RunsAll-implied brief Stands (Answers want_cut)
     (λ number t stands. record { place = stands.place; at_most = omega (arith, stands.at_most); bound = stands.bound })
     (answer-stands want_cut) (AnswersForgettingNothing want_cut) 1000000
     (λ number t u command result few stands answers. record { answers = answers; forgets_nothing = forgets-nothing number t stands few })

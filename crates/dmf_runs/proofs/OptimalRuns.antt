@@ -22,15 +22,15 @@ Answers-keeps some one want_cut t u command result has answers = ⊎_elim
 
 -- Wherever a run has come to there are states.
 pub solves-are-optimal : HasAnswer → HasOneAnswer → SolvedIsOptimal → SolvesAreOptimal
-solves-are-optimal some one solved want_cut bound s lines text refused t u reply state runs answers =
-    solved want_cut t u reply (Runs-keeps (Answers want_cut) (Answers-keeps some one want_cut) 1 (start bound s) lines text refused t (HasStates-start bound s state) runs) answers
+solves-are-optimal some one solved want_cut brief bound s lines text refused t u reply state runs answers =
+    solved want_cut t u reply (Runs-keeps brief (Answers want_cut) (Answers-keeps some one want_cut) 1 (start bound s) lines text refused t (HasStates-start bound s state) runs) answers
 
 optimal-after : SolvedIsOptimal → (want_cut : Bool) (t u : Timeline) (command : Command) (result : Result Reply Refusal) → HasStates t → Answers want_cut t command result u → command ≡ Solve → OnOk result (HasOptimalPresent u)
 optimal-after solved want_cut t u command (Ok reply) has answers is = solved want_cut t u reply has (subst (λ c. Answers want_cut t c (Ok reply) u) is answers)
 optimal-after solved want_cut t u command (Err refusal) has answers is = tt
 
 pub runs-are-optimal : HasAnswer → HasOneAnswer → SolvedIsOptimal → RunsAreOptimal
-runs-are-optimal some one solved want_cut bound s given text refused state all =
-    RunsAll-tells (Answers want_cut) (Answers-keeps some one want_cut) (AnswersOptimally want_cut)
+runs-are-optimal some one solved want_cut brief bound s given text refused state all =
+    RunsAll-tells brief (Answers want_cut) (Answers-keeps some one want_cut) (AnswersOptimally want_cut)
     (λ t u command result has answers. record { answers = answers; optimal = optimal-after solved want_cut t u command result has answers })
     (start bound s) given text refused (HasStates-start bound s state) all

@@ -11,6 +11,7 @@ use Rattle.dmf_session.specs.declared.command.Refusal.{Refusal}
 use Rattle.dmf_session.specs.Step.{Answers}
 use Rattle.dmf_history.specs.Timeline.{Timeline}
 use Rattle.dmf_runs.specs.declared.input.Next.TheVariants.{Line}
+use Rattle.dmf_runs.specs.declared.reply.SolveReply.{SolveReply}
 use Rattle.dmf_runs.specs.Streams.{Writer, Streams}
 use Rattle.dmf_runs.specs.KeptLine.{Kept, Means}
 use Rattle.dmf_runs.specs.Line.{HasNoLineFeed, with_line_feeds, line_meaning}
@@ -29,7 +30,7 @@ pub record IsFresh (input : InputState) : Type 0 where
   pub none_taken : input.pending.count ≡ 0
 
 -- So many lines were carried out from the timeline `t`, and `u` is the timeline now.
-pub record Progress (want_cut : Bool) (t : Timeline) (before now : InputState) (held holds : Writer) (number : ℕ) (u : Timeline) (is_refused : Bool) : Type 0 where
+pub record Progress (wanted : SolveReply) (t : Timeline) (before now : InputState) (held holds : Writer) (number : ℕ) (u : Timeline) (is_refused : Bool) : Type 0 where
   pub fresh : IsFresh before
   pub lines : List (List ℕ)
   pub each : All HasNoLineFeed lines
@@ -39,10 +40,10 @@ pub record Progress (want_cut : Bool) (t : Timeline) (before now : InputState) (
   pub written : List ℕ
   pub appends : Appends held.contents holds.contents written
   pub writer : holds.has_failed ≡ held.has_failed
-  pub runs : Runs (Answers want_cut) 1 t lines written is_refused u
+  pub runs : Runs wanted.brief (Answers wanted.cut) 1 t lines written is_refused u
 
-pub Progress-none : (want_cut : Bool) (t : Timeline) (input : InputState) (held : Writer) → IsFresh input → Progress want_cut t input input held held 1 t false
-Progress-none want_cut t input held fresh = record {
+pub Progress-none : (wanted : SolveReply) (t : Timeline) (input : InputState) (held : Writer) → IsFresh input → Progress wanted t input input held held 1 t false
+Progress-none wanted t input held fresh = record {
   fresh = fresh;
   lines = [];
   each = All-nil HasNoLineFeed;
@@ -59,19 +60,19 @@ pub with_line_feeds-push : (lines : List (List ℕ)) (line : List ℕ) → with_
 with_line_feeds-push lines line = flat_map-append (λ l. l ++ 10 ∷ []) lines (line ∷ []) ∙ ap (λ x. with_line_feeds lines ++ x) (append-nil (line ++ 10 ∷ []))
 
 -- A line that was carried out.
-pub record Carried (want_cut : Bool) (u : Timeline) (meaning : Result (Option Command) Refusal) (number : ℕ) (holds next : Writer) (refused : Bool) (v : Timeline) : Type 0 where
+pub record Carried (wanted : SolveReply) (u : Timeline) (meaning : Result (Option Command) Refusal) (number : ℕ) (holds next : Writer) (refused : Bool) (v : Timeline) : Type 0 where
   pub text : List ℕ
-  pub runs : LineRuns (Answers want_cut) number u meaning text refused v
+  pub runs : LineRuns wanted.brief (Answers wanted.cut) number u meaning text refused v
   pub appends : Appends holds.contents next.contents text
   pub writer : next.has_failed ≡ holds.has_failed
 
-abbrev pub Progress-more : (want_cut : Bool) (t : Timeline) (before now then : InputState) (held holds next : Writer) (number : ℕ) (u : Timeline) (is_refused : Bool) (meaning : Result (Option Command) Refusal) (kept : Kept) (refused : Bool) (v : Timeline)
-    → Progress want_cut t before now held holds number u is_refused → GivesLine now then kept (Ok Line) → Means kept true meaning → Carried want_cut u meaning number holds next refused v
-    → Progress want_cut t before then held next (number + 1) v (is_refused || refused)
-Progress-more want_cut t before now then held holds next number u is_refused meaning kept refused v p gave means c =
+abbrev pub Progress-more : (wanted : SolveReply) (t : Timeline) (before now then : InputState) (held holds next : Writer) (number : ℕ) (u : Timeline) (is_refused : Bool) (meaning : Result (Option Command) Refusal) (kept : Kept) (refused : Bool) (v : Timeline)
+    → Progress wanted t before now held holds number u is_refused → GivesLine now then kept (Ok Line) → Means kept true meaning → Carried wanted u meaning number holds next refused v
+    → Progress wanted t before then held next (number + 1) v (is_refused || refused)
+Progress-more wanted t before now then held holds next number u is_refused meaning kept refused v p gave means c =
     let line : List ℕ = gave.0 in
     let place : 1 + length p.lines ≡ number = omega (arith, p.counted) in
-    let runs = subst (λ m. LineRuns (Answers want_cut) number u m c.text refused v) (means gave.0 gave.3) c.runs in
+    let runs = subst (λ m. LineRuns wanted.brief (Answers wanted.cut) number u m c.text refused v) (means gave.0 gave.3) c.runs in
     record {
       fresh = p.fresh;
       lines = p.lines ++ line ∷ [];
@@ -82,5 +83,5 @@ Progress-more want_cut t before now then held holds next number u is_refused mea
       written = p.written ++ c.text;
       appends = Appends-trans _ _ _ p.written c.text p.appends c.appends;
       writer = c.writer ∙ p.writer;
-      runs = Runs-push want_cut 1 t p.lines p.written is_refused u line c.text refused v p.runs (subst (λ n. LineRuns (Answers want_cut) n u (line_meaning true line) c.text refused v) (sym place) runs);
+      runs = Runs-push wanted 1 t p.lines p.written is_refused u line c.text refused v p.runs (subst (λ n. LineRuns wanted.brief (Answers wanted.cut) n u (line_meaning true line) c.text refused v) (sym place) runs);
     }

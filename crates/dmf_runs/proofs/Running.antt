@@ -30,30 +30,30 @@ some-present t within = ⊎_elim
 -- ---- one line
 
 -- what is shown of a result
-record SomeShown (number : ℕ) (command : Command) (result : Result Reply Refusal) (u : Timeline) : Type 0 where
+record SomeShown (brief : Bool) (number : ℕ) (command : Command) (result : Result Reply Refusal) (u : Timeline) : Type 0 where
   text : List ℕ
   refused : Bool
-  shows : Shows number command result u text refused
+  shows : Shows brief number command result u text refused
 
-shown : (number : ℕ) (command : Command) (result : Result Reply Refusal) (u : Timeline) → HasStates u → SomeShown number command result u
-shown number command (Ok reply) u has =
+shown : (brief : Bool) (number : ℕ) (command : Command) (result : Result Reply Refusal) (u : Timeline) → HasStates u → SomeShown brief number command result u
+shown brief number command (Ok reply) u has =
     let s = some-present u has.place in
-    record { text = reply_text command reply s.0; refused = false; shows = (s.0, s.1, refl, refl) }
-shown number command (Err refusal) u has = record { text = refused_text number refusal; refused = true; shows = (refl, refl) }
+    record { text = reply_text brief command reply s.0; refused = false; shows = (s.0, s.1, refl, refl) }
+shown brief number command (Err refusal) u has = record { text = refused_text number refusal; refused = true; shows = (refl, refl) }
 
 -- A run of one line, after which there are states again.
-record SomeLine (want_cut : Bool) (number : ℕ) (t : Timeline) (meaning : Result (Option Command) Refusal) : Type 0 where
+record SomeLine (want_cut brief : Bool) (number : ℕ) (t : Timeline) (meaning : Result (Option Command) Refusal) : Type 0 where
   text : List ℕ
   refused : Bool
   after : Timeline
-  runs : LineRuns (Steps want_cut) number t meaning text refused after
+  runs : LineRuns brief (Steps want_cut) number t meaning text refused after
   has_states : HasStates after
 
-some-line : HasAnswer → (want_cut : Bool) (number : ℕ) (t : Timeline) (meaning : Result (Option Command) Refusal) → HasStates t → SomeLine want_cut number t meaning
-some-line answer want_cut number t (Ok None) has = record { text = []; refused = false; after = t; runs = (refl, refl, refl); has_states = has }
-some-line answer want_cut number t (Ok (Some command)) has =
+some-line : HasAnswer → (want_cut brief : Bool) (number : ℕ) (t : Timeline) (meaning : Result (Option Command) Refusal) → HasStates t → SomeLine want_cut brief number t meaning
+some-line answer want_cut brief number t (Ok None) has = record { text = []; refused = false; after = t; runs = (refl, refl, refl); has_states = has }
+some-line answer want_cut brief number t (Ok (Some command)) has =
     let a = answer want_cut t command has in
-    let is = shown number command a.result a.after a.has_states in
+    let is = shown brief number command a.result a.after a.has_states in
     record {
       text = is.text;
       refused = is.refused;
@@ -61,24 +61,24 @@ some-line answer want_cut number t (Ok (Some command)) has =
       runs = (a.result, a.steps, is.shows);
       has_states = a.has_states;
     }
-some-line answer want_cut number t (Err refusal) has =
+some-line answer want_cut brief number t (Err refusal) has =
     record { text = refused_text number refusal; refused = true; after = t; runs = (refl, refl, refl); has_states = has }
 
 -- ---- all lines
 
 -- A run of lines, after which there are states again.
-record SomeLines (want_cut : Bool) (number : ℕ) (t : Timeline) (lines : List (List ℕ)) : Type 0 where
+record SomeLines (want_cut brief : Bool) (number : ℕ) (t : Timeline) (lines : List (List ℕ)) : Type 0 where
   text : List ℕ
   refused : Bool
   after : Timeline
-  runs : Runs (Steps want_cut) number t lines text refused after
+  runs : Runs brief (Steps want_cut) number t lines text refused after
   has_states : HasStates after
 
-some-lines : HasAnswer → (want_cut : Bool) (number : ℕ) (t : Timeline) (lines : List (List ℕ)) → HasStates t → SomeLines want_cut number t lines
-some-lines answer want_cut number t [] has = record { text = []; refused = false; after = t; runs = (refl, refl, refl); has_states = has }
-some-lines answer want_cut number t (line ∷ lines) has =
-    let first = some-line answer want_cut number t (line_meaning true line) has in
-    let rest = some-lines answer want_cut (number + 1) first.after lines first.has_states in
+some-lines : HasAnswer → (want_cut brief : Bool) (number : ℕ) (t : Timeline) (lines : List (List ℕ)) → HasStates t → SomeLines want_cut brief number t lines
+some-lines answer want_cut brief number t [] has = record { text = []; refused = false; after = t; runs = (refl, refl, refl); has_states = has }
+some-lines answer want_cut brief number t (line ∷ lines) has =
+    let first = some-line answer want_cut brief number t (line_meaning true line) has in
+    let rest = some-lines answer want_cut brief (number + 1) first.after lines first.has_states in
     record {
       text = first.text ++ rest.text;
       refused = first.refused || rest.refused;
@@ -98,23 +98,23 @@ some-lines answer want_cut number t (line ∷ lines) has =
     }
 
 -- a run of the rest, if there is one
-record SomeRest (want_cut : Bool) (number : ℕ) (t : Timeline) (rest : List ℕ) : Type 0 where
+record SomeRest (want_cut brief : Bool) (number : ℕ) (t : Timeline) (rest : List ℕ) : Type 0 where
   text : List ℕ
   refused : Bool
-  runs : RestRuns (Steps want_cut) number t rest text refused
+  runs : RestRuns brief (Steps want_cut) number t rest text refused
 
-some-rest : HasAnswer → (want_cut : Bool) (number : ℕ) (t : Timeline) (rest : List ℕ) → HasStates t → SomeRest want_cut number t rest
-some-rest answer want_cut number t [] has = record { text = []; refused = false; runs = (refl, refl) }
-some-rest answer want_cut number t (byte ∷ rest) has =
-    let line = some-line answer want_cut number t (line_meaning false (byte ∷ rest)) has in
+some-rest : HasAnswer → (want_cut brief : Bool) (number : ℕ) (t : Timeline) (rest : List ℕ) → HasStates t → SomeRest want_cut brief number t rest
+some-rest answer want_cut brief number t [] has = record { text = []; refused = false; runs = (refl, refl) }
+some-rest answer want_cut brief number t (byte ∷ rest) has =
+    let line = some-line answer want_cut brief number t (line_meaning false (byte ∷ rest)) has in
     record { text = line.text; refused = line.refused; runs = (line.after, line.runs) }
 
 -- Each command text has a run from the start of each state.
 pub has-run : HasAnswer → HasRun
-has-run answer want_cut bound s given state =
+has-run answer want_cut brief bound s given state =
     let some = some-split given in
-    let first = some-lines answer want_cut 1 (start bound s) some.lines (HasStates-start bound s state) in
-    let last = some-rest answer want_cut (length some.lines + 1) first.after some.rest first.has_states in
+    let first = some-lines answer want_cut brief 1 (start bound s) some.lines (HasStates-start bound s state) in
+    let last = some-rest answer want_cut brief (length some.lines + 1) first.after some.rest first.has_states in
     record {
       text = first.text ++ last.text;
       refused = first.refused || last.refused;
@@ -141,17 +141,17 @@ at-most-lines last lines [] few = few
 at-most-lines last lines (byte ∷ rest) few = omega (arith, few)
 
 -- Holds is so of each timeline to which a line is given, by the line's number.
-module _ (Holds : ℕ → Timeline → Type 0) (Gives : Answering)
+module _ (brief : Bool) (Holds : ℕ → Timeline → Type 0) (Gives : Answering)
     (idle : (number : ℕ) (t : Timeline) → Holds number t → Holds (number + 1) t)
     (keeps : (number : ℕ) (t u : Timeline) (command : Command) (result : Result Reply Refusal) → Holds number t → Gives t command result u → Holds (number + 1) u) where
   line-keeps : (number : ℕ) (t : Timeline) (meaning : Result (Option Command) Refusal) (text : List ℕ) (refused : Bool) (u : Timeline) → Holds number t
-      → LineRuns Gives number t meaning text refused u → Holds (number + 1) u
+      → LineRuns brief Gives number t meaning text refused u → Holds (number + 1) u
   line-keeps number t (Ok None) text refused u holds l = subst (Holds (number + 1)) (sym l.2) (idle number t holds)
   line-keeps number t (Ok (Some command)) text refused u holds l = keeps number t u command l.0 holds l.1
   line-keeps number t (Err refusal) text refused u holds l = subst (Holds (number + 1)) (sym l.2) (idle number t holds)
 
   lines-keep : (number : ℕ) (t : Timeline) (lines : List (List ℕ)) (text : List ℕ) (refused : Bool) (u : Timeline) → Holds number t
-      → Runs Gives number t lines text refused u → Holds (number + length lines) u
+      → Runs brief Gives number t lines text refused u → Holds (number + length lines) u
   lines-keep number t [] text refused u holds runs =
       let same : number ≡ number + 0 = omega arith in
       subst (λ (n : ℕ). Holds n u) same (subst (Holds number) (sym runs.2) holds)
@@ -164,13 +164,13 @@ module _ (Holds : ℕ → Timeline → Type 0) (Gives : Answering)
   module _ (Tells : Answering) (last : ℕ)
       (implies : (number : ℕ) (t u : Timeline) (command : Command) (result : Result Reply Refusal) → number ≤ last → Holds number t → Gives t command result u → Tells t command result u) where
     line-implied : (number : ℕ) (t : Timeline) (meaning : Result (Option Command) Refusal) (text : List ℕ) (refused : Bool) (u : Timeline) → number ≤ last → Holds number t
-        → LineRuns Gives number t meaning text refused u → LineRuns Tells number t meaning text refused u
+        → LineRuns brief Gives number t meaning text refused u → LineRuns brief Tells number t meaning text refused u
     line-implied number t (Ok None) text refused u few holds l = l
     line-implied number t (Ok (Some command)) text refused u few holds l = (l.0, implies number t u command l.0 few holds l.1, l.2)
     line-implied number t (Err refusal) text refused u few holds l = l
 
     lines-implied : (number : ℕ) (t : Timeline) (lines : List (List ℕ)) (text : List ℕ) (refused : Bool) (u : Timeline) → number + length lines ≤ last + 1 → Holds number t
-        → Runs Gives number t lines text refused u → Runs Tells number t lines text refused u
+        → Runs brief Gives number t lines text refused u → Runs brief Tells number t lines text refused u
     lines-implied number t [] text refused u few holds runs = runs
     lines-implied number t (line ∷ lines) text refused u few holds runs =
         let next = line-keeps number t (line_meaning true line) runs.first runs.here runs.between holds runs.runs in
@@ -187,15 +187,15 @@ module _ (Holds : ℕ → Timeline → Type 0) (Gives : Answering)
         }
 
     rest-implied : (t : Timeline) (lines : List (List ℕ)) (rest text : List ℕ) (refused : Bool) → line_count lines rest ≤ last → Holds (1 + length lines) t
-        → RestRuns Gives (length lines + 1) t rest text refused → RestRuns Tells (length lines + 1) t rest text refused
+        → RestRuns brief Gives (length lines + 1) t rest text refused → RestRuns brief Tells (length lines + 1) t rest text refused
     rest-implied t lines [] text refused few holds runs = runs
     rest-implied t lines (byte ∷ rest) text refused few holds runs =
         let same : 1 + length lines ≡ length lines + 1 = omega arith in
         (runs.0, line-implied (length lines + 1) t (line_meaning false (byte ∷ rest)) text refused runs.0 few (subst (λ (n : ℕ). Holds n t) same holds) runs.1)
 
     -- A run whose commands are answered in one way is one whose commands are answered in another that is implied.
-    pub RunsAll-implied : (t : Timeline) (given text : List ℕ) (refused : Bool) → Holds 1 t → (all : RunsAll Gives t given text refused) → line_count all.lines all.rest ≤ last
-        → RunsAll Tells t given text refused
+    pub RunsAll-implied : (t : Timeline) (given text : List ℕ) (refused : Bool) → Holds 1 t → (all : RunsAll brief Gives t given text refused) → line_count all.lines all.rest ≤ last
+        → RunsAll brief Tells t given text refused
     RunsAll-implied t given text refused holds all few =
         record {
           lines = all.lines;
@@ -216,19 +216,19 @@ module _ (Holds : ℕ → Timeline → Type 0) (Gives : Answering)
 abbrev pub Keeps : Answering → Type 0
 Keeps Gives = (t u : Timeline) (command : Command) (result : Result Reply Refusal) → HasStates t → Gives t command result u → HasStates u
 
-module _ (Gives : Answering) (keeps : Keeps Gives) where
-  pub LineRuns-keeps : (number : ℕ) (t : Timeline) (meaning : Result (Option Command) Refusal) (text : List ℕ) (refused : Bool) (u : Timeline) → HasStates t → LineRuns Gives number t meaning text refused u → HasStates u
-  LineRuns-keeps = line-keeps (λ _ t. HasStates t) Gives (λ number t has. has) (λ number. keeps)
+module _ (brief : Bool) (Gives : Answering) (keeps : Keeps Gives) where
+  pub LineRuns-keeps : (number : ℕ) (t : Timeline) (meaning : Result (Option Command) Refusal) (text : List ℕ) (refused : Bool) (u : Timeline) → HasStates t → LineRuns brief Gives number t meaning text refused u → HasStates u
+  LineRuns-keeps = line-keeps brief (λ _ t. HasStates t) Gives (λ number t has. has) (λ number. keeps)
 
-  pub Runs-keeps : (number : ℕ) (t : Timeline) (lines : List (List ℕ)) (text : List ℕ) (refused : Bool) (u : Timeline) → HasStates t → Runs Gives number t lines text refused u → HasStates u
-  Runs-keeps = lines-keep (λ _ t. HasStates t) Gives (λ number t has. has) (λ number. keeps)
+  pub Runs-keeps : (number : ℕ) (t : Timeline) (lines : List (List ℕ)) (text : List ℕ) (refused : Bool) (u : Timeline) → HasStates t → Runs brief Gives number t lines text refused u → HasStates u
+  Runs-keeps = lines-keep brief (λ _ t. HasStates t) Gives (λ number t has. has) (λ number. keeps)
 
   -- What is so of each answer on a timeline that has states is so of each answer of a run.
   pub RunsAll-tells : (Tells : Answering)
       → ((t u : Timeline) (command : Command) (result : Result Reply Refusal) → HasStates t → Gives t command result u → Tells t command result u)
-      → (t : Timeline) (given text : List ℕ) (refused : Bool) → HasStates t → RunsAll Gives t given text refused → RunsAll Tells t given text refused
+      → (t : Timeline) (given text : List ℕ) (refused : Bool) → HasStates t → RunsAll brief Gives t given text refused → RunsAll brief Tells t given text refused
   RunsAll-tells Tells implies t given text refused has all =
-      RunsAll-implied (λ _ t. HasStates t) Gives (λ number t has. has) (λ number. keeps) Tells (line_count all.lines all.rest)
+      RunsAll-implied brief (λ _ t. HasStates t) Gives (λ number t has. has) (λ number. keeps) Tells (line_count all.lines all.rest)
       (λ number t u command result few. implies t u command result) t given text refused has all (omega arith)
 
 -- ---- answers where memory is there
@@ -253,5 +253,5 @@ step-is-answer some one want_cut t u command result has steps =
 
 -- A run in which no command is refused memory is one in which a command may be refused it.
 pub steps-are-answers : HasAnswer → HasOneAnswer → StepsAreAnswers
-steps-are-answers some one want_cut bound s given text refused state all =
-    RunsAll-tells (Steps want_cut) (Steps-keeps some one want_cut) (Answers want_cut) (step-is-answer some one want_cut) (start bound s) given text refused (HasStates-start bound s state) all
+steps-are-answers some one want_cut brief bound s given text refused state all =
+    RunsAll-tells brief (Steps want_cut) (Steps-keeps some one want_cut) (Answers want_cut) (step-is-answer some one want_cut) (start bound s) given text refused (HasStates-start bound s state) all

@@ -3,22 +3,23 @@ use Rattle.std.proofs.Common.{◌≡◌, ℕ, List, Bool, Ok, Err, Result, inl, 
 use Rattle.dmf_runs.specs.declared.fault.Status.{Status}
 use Rattle.dmf_runs.specs.declared.fault.EngineFault.{EngineFault}
 use Rattle.dmf_runs.specs.declared.fault.EngineFault.TheVariants as fault
+use Rattle.dmf_runs.specs.declared.reply.SolveReply.{SolveReply}
 use Rattle.dmf_runs.specs.Streams.{Reader, Streams}
 use Rattle.dmf_runs.specs.Session.{ReadsProblem, RunsOn, SessionAnswered}
 
-pub answered-by_run : (want_cut : Bool) (bound : ℕ) (from to : Reader) (old new : Streams) (text : List ℕ) (result : Result Status EngineFault) → RunsOn want_cut bound from to old new text result → SessionAnswered want_cut bound from to old new text result
-answered-by_run want_cut bound from to old new text (Ok status) r = r
-answered-by_run want_cut bound from to old new text (Err fault.Read) r = inr r
-answered-by_run want_cut bound from to old new text (Err fault.Write) r = r
-answered-by_run want_cut bound from to old new text (Err (fault.Problem f)) r = inr r
-answered-by_run want_cut bound from to old new text (Err (fault.Solution f)) r = inr r
-answered-by_run want_cut bound from to old new text (Err fault.NoMemory) r = absurd r.runs.4
-answered-by_run want_cut bound from to old new text (Err fault.TooMuchInput) r = inr r
+pub answered-by_run : (wanted : SolveReply) (bound : ℕ) (from to : Reader) (old new : Streams) (text : List ℕ) (result : Result Status EngineFault) → RunsOn wanted bound from to old new text result → SessionAnswered wanted bound from to old new text result
+answered-by_run wanted bound from to old new text (Ok status) r = r
+answered-by_run wanted bound from to old new text (Err fault.Read) r = inr r
+answered-by_run wanted bound from to old new text (Err fault.Write) r = r
+answered-by_run wanted bound from to old new text (Err (fault.Problem f)) r = inr r
+answered-by_run wanted bound from to old new text (Err (fault.Solution f)) r = inr r
+answered-by_run wanted bound from to old new text (Err fault.NoMemory) r = absurd r.runs.4
+answered-by_run wanted bound from to old new text (Err fault.TooMuchInput) r = inr r
 
-pub answered-unread : (want_cut : Bool) (bound : ℕ) (from to : Reader) (old new : Streams) (text : List ℕ) (told : EngineFault) → ReadsProblem from to text (Err told) → new ≡ old → SessionAnswered want_cut bound from to old new text (Err told)
-answered-unread want_cut bound from to old new text fault.Read read untouched = inl (read, untouched)
-answered-unread want_cut bound from to old new text fault.Write read untouched = absurd read
-answered-unread want_cut bound from to old new text (fault.Problem f) read untouched = inl (read, untouched)
-answered-unread want_cut bound from to old new text (fault.Solution f) read untouched = absurd read
-answered-unread want_cut bound from to old new text fault.NoMemory read untouched = (untouched, read)
-answered-unread want_cut bound from to old new text fault.TooMuchInput read untouched = inl (read, untouched)
+pub answered-unread : (wanted : SolveReply) (bound : ℕ) (from to : Reader) (old new : Streams) (text : List ℕ) (told : EngineFault) → ReadsProblem from to text (Err told) → new ≡ old → SessionAnswered wanted bound from to old new text (Err told)
+answered-unread wanted bound from to old new text fault.Read read untouched = inl (read, untouched)
+answered-unread wanted bound from to old new text fault.Write read untouched = absurd read
+answered-unread wanted bound from to old new text (fault.Problem f) read untouched = inl (read, untouched)
+answered-unread wanted bound from to old new text (fault.Solution f) read untouched = absurd read
+answered-unread wanted bound from to old new text fault.NoMemory read untouched = (untouched, read)
+answered-unread wanted bound from to old new text fault.TooMuchInput read untouched = inl (read, untouched)

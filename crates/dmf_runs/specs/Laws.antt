@@ -18,34 +18,34 @@ use Rattle.dmf_runs.specs.Outcome.{RunsAll, line_count}
 use Rattle.dmf_runs.specs.SolveRun.{WritesSolved}
 
 -- A run of the command text that was given, from the timeline `t`: what it writes, and whether a line is refused.
-pub record SomeRun (Gives : Answering) (t : Timeline) (given : List ℕ) : Type 0 where
+pub record SomeRun (brief : Bool) (Gives : Answering) (t : Timeline) (given : List ℕ) : Type 0 where
   pub text : List ℕ
   pub refused : Bool
-  pub runs : RunsAll Gives t given text refused
+  pub runs : RunsAll brief Gives t given text refused
 
 -- From the start of each state, with each bound, each command text has a run in which no command is refused memory.
 abbrev pub HasRun : Type 0
-HasRun = (want_cut : Bool) (bound : ℕ) (s : NetworkState) (given : List ℕ) → IsState s → SomeRun (Steps want_cut) (start bound s) given
+HasRun = (want_cut brief : Bool) (bound : ℕ) (s : NetworkState) (given : List ℕ) → IsState s → SomeRun brief (Steps want_cut) (start bound s) given
 
 -- And one alone: any two write the same text, and are the same in whether a line is refused.
 abbrev pub HasOneRun : Type 0
 HasOneRun =
-    (want_cut : Bool) (bound : ℕ) (s : NetworkState) (given text other : List ℕ) (refused also : Bool) → IsState s
-    → RunsAll (Steps want_cut) (start bound s) given text refused → RunsAll (Steps want_cut) (start bound s) given other also
+    (want_cut brief : Bool) (bound : ℕ) (s : NetworkState) (given text other : List ℕ) (refused also : Bool) → IsState s
+    → RunsAll brief (Steps want_cut) (start bound s) given text refused → RunsAll brief (Steps want_cut) (start bound s) given other also
     → (text ≡ other) × (refused ≡ also)
 
 -- A run in which no command is refused memory is one in which a command may be refused it.
 abbrev pub StepsAreAnswers : Type 0
 StepsAreAnswers =
-    (want_cut : Bool) (bound : ℕ) (s : NetworkState) (given text : List ℕ) (refused : Bool) → IsState s
-    → RunsAll (Steps want_cut) (start bound s) given text refused → RunsAll (Answers want_cut) (start bound s) given text refused
+    (want_cut brief : Bool) (bound : ℕ) (s : NetworkState) (given text : List ℕ) (refused : Bool) → IsState s
+    → RunsAll brief (Steps want_cut) (start bound s) given text refused → RunsAll brief (Answers want_cut) (start bound s) given text refused
 
 -- Wherever a run of lines has come to, in which commands may have been refused memory: a solve that is not refused leaves an
 -- optimal present state.
 abbrev pub SolvesAreOptimal : Type 0
 SolvesAreOptimal =
-    (want_cut : Bool) (bound : ℕ) (s : NetworkState) (lines : List (List ℕ)) (text : List ℕ) (refused : Bool) (t u : Timeline) (reply : Reply)
-    → IsState s → Runs (Answers want_cut) 1 (start bound s) lines text refused t → Answers want_cut t Solve (Ok reply) u
+    (want_cut brief : Bool) (bound : ℕ) (s : NetworkState) (lines : List (List ℕ)) (text : List ℕ) (refused : Bool) (t u : Timeline) (reply : Reply)
+    → IsState s → Runs brief (Answers want_cut) 1 (start bound s) lines text refused t → Answers want_cut t Solve (Ok reply) u
     → HasOptimalPresent u
 
 -- A command is answered so, and where it is a solve that is not refused, it leaves an optimal present state.
@@ -56,8 +56,8 @@ pub record AnswersOptimally (want_cut : Bool) (t : Timeline) (command : Command)
 -- So each run of a command text is one in which each solve that is not refused leaves an optimal present state.
 abbrev pub RunsAreOptimal : Type 0
 RunsAreOptimal =
-    (want_cut : Bool) (bound : ℕ) (s : NetworkState) (given text : List ℕ) (refused : Bool) → IsState s
-    → RunsAll (Answers want_cut) (start bound s) given text refused → RunsAll (AnswersOptimally want_cut) (start bound s) given text refused
+    (want_cut brief : Bool) (bound : ℕ) (s : NetworkState) (given text : List ℕ) (refused : Bool) → IsState s
+    → RunsAll brief (Answers want_cut) (start bound s) given text refused → RunsAll brief (AnswersOptimally want_cut) (start bound s) given text refused
 
 -- What is appended to the timeline makes it forget no state: it is put behind the states up to the present one.
 abbrev pub ForgetsNothing : Timeline → Type 0
@@ -72,9 +72,9 @@ pub record AnswersForgettingNothing (want_cut : Bool) (t : Timeline) (command : 
 -- wherever the bound could matter, the list goes on as one that has no bound.
 abbrev pub MillionIsNeverForgotten : Type 0
 MillionIsNeverForgotten =
-    (want_cut : Bool) (s : NetworkState) (given text : List ℕ) (refused : Bool)
-    → (all : RunsAll (Answers want_cut) (start 1000000 s) given text refused) → line_count all.lines all.rest ≤ 1000000
-    → RunsAll (AnswersForgettingNothing want_cut) (start 1000000 s) given text refused
+    (want_cut brief : Bool) (s : NetworkState) (given text : List ℕ) (refused : Bool)
+    → (all : RunsAll brief (Answers want_cut) (start 1000000 s) given text refused) → line_count all.lines all.rest ≤ 1000000
+    → RunsAll brief (AnswersForgettingNothing want_cut) (start 1000000 s) given text refused
 
 -- Where a run that solves a problem writes a solution, it is that of an optimal state.
 abbrev pub WrittenIsOptimal : Type 0

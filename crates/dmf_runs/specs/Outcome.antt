@@ -7,19 +7,20 @@ use Rattle.dmf_runs.specs.declared.fault.Status.{Status}
 use Rattle.dmf_runs.specs.declared.fault.Status.TheVariants.{Well, SomeRefused}
 use Rattle.dmf_runs.specs.declared.fault.EngineFault.{EngineFault}
 use Rattle.dmf_runs.specs.declared.fault.EngineFault.TheVariants as fault
+use Rattle.dmf_runs.specs.declared.reply.SolveReply.{SolveReply}
 use Rattle.dmf_runs.specs.Streams.{Streams}
 use Rattle.dmf_runs.specs.Line.{HasNoLineFeed, with_line_feeds, IsSplit, line_meaning}
 use Rattle.dmf_session.specs.Step.{Answers}
 use Rattle.dmf_runs.specs.Run.{Answering, HasReply, LineRuns, Runs}
 
 -- a last line, which no line feed ended, if there is one
-abbrev pub RestRuns : Answering → ℕ → Timeline → List ℕ → List ℕ → Bool → Type 0
-RestRuns Gives number t [] text refused = (text ≡ []) × (refused ≡ false)
-RestRuns Gives number t (byte ∷ rest) text refused =
-    (u : Timeline) × LineRuns Gives number t (line_meaning false (byte ∷ rest)) text refused u
+abbrev pub RestRuns : Bool → Answering → ℕ → Timeline → List ℕ → List ℕ → Bool → Type 0
+RestRuns brief Gives number t [] text refused = (text ≡ []) × (refused ≡ false)
+RestRuns brief Gives number t (byte ∷ rest) text refused =
+    (u : Timeline) × LineRuns brief Gives number t (line_meaning false (byte ∷ rest)) text refused u
 
 -- All lines of the text that was given were carried out, and this was written; `refused` says whether one was refused.
-pub record RunsAll (Gives : Answering) (t : Timeline) (given text : List ℕ) (refused : Bool) : Type 0 where
+pub record RunsAll (brief : Bool) (Gives : Answering) (t : Timeline) (given text : List ℕ) (refused : Bool) : Type 0 where
   pub lines : List (List ℕ)
   pub rest : List ℕ
   pub split : IsSplit given lines rest
@@ -28,19 +29,19 @@ pub record RunsAll (Gives : Answering) (t : Timeline) (given text : List ℕ) (r
   pub here : Bool
   pub last : List ℕ
   pub later : Bool
-  pub runs : Runs Gives 1 t lines first here between
-  pub rest_runs : RestRuns Gives (length lines + 1) between rest last later
+  pub runs : Runs brief Gives 1 t lines first here between
+  pub rest_runs : RestRuns brief Gives (length lines + 1) between rest last later
   pub text_is : text ≡ first ++ last
   pub refused_is : refused ≡ (here || later)
 
 -- Just the lines that a line feed ended were carried out, of the text that was given, and this was written.
-pub record RunsEndedLines (want_cut : Bool) (t : Timeline) (given text : List ℕ) : Type 0 where
+pub record RunsEndedLines (wanted : SolveReply) (t : Timeline) (given text : List ℕ) : Type 0 where
   pub lines : List (List ℕ)
   pub rest : List ℕ
   pub split : IsSplit given lines rest
   pub refused : Bool
   pub after : Timeline
-  pub runs : Runs (Answers want_cut) 1 t lines text refused after
+  pub runs : Runs wanted.brief (Answers wanted.cut) 1 t lines text refused after
 
 -- There is a last line, and it has a reply: the rest, which no line feed ended, or where that is empty the last of the lines.
 abbrev pub LastHasReply : List (List ℕ) → List ℕ → Type 0
@@ -51,13 +52,13 @@ LastHasReply lines (byte ∷ rest) = HasReply (line_meaning false (byte ∷ rest
 -- First lines of the text that was given were carried out, and this is a front of what they write. The last of them has a
 -- reply, so that neither a blank line nor a comment made the writer fail; it was ended by a line feed, or it is the last line
 -- of all, and the reader is at its end.
-pub record RunsFront (want_cut : Bool) (t : Timeline) (known : Option (List ℕ)) (given text : List ℕ) : Type 0 where
+pub record RunsFront (wanted : SolveReply) (t : Timeline) (known : Option (List ℕ)) (given text : List ℕ) : Type 0 where
   pub front : List ℕ
   pub behind : List ℕ
   pub given_is : given ≡ front ++ behind
   pub whole : List ℕ
   pub refused : Bool
-  pub runs : RunsAll (Answers want_cut) t front whole refused
+  pub runs : RunsAll wanted.brief (Answers wanted.cut) t front whole refused
   pub replies : LastHasReply runs.lines runs.rest
   pub ends : (runs.rest ≡ []) ⊎ ((behind ≡ []) × IsAtEnd known)
   pub rest : List ℕ
@@ -65,7 +66,7 @@ pub record RunsFront (want_cut : Bool) (t : Timeline) (known : Option (List ℕ)
 
 -- Just the lines that end within the limits were carried out, of the text that was given, and this was written: there
 -- are as many as may be and one byte more, or the bytes up to the limit do not end the next line.
-pub record RunsWithin (want_cut : Bool) (t : Timeline) (given text : List ℕ) : Type 0 where
+pub record RunsWithin (wanted : SolveReply) (t : Timeline) (given text : List ℕ) : Type 0 where
   pub lines : List (List ℕ)
   pub rest : List ℕ
   pub given_is : given ≡ with_line_feeds lines ++ rest
@@ -76,7 +77,7 @@ pub record RunsWithin (want_cut : Bool) (t : Timeline) (given text : List ℕ) :
       ⊎ ((2 ^ 30 < length given) × HasNoLineFeed (take (2 ^ 30 - length (with_line_feeds lines)) rest))
   pub refused : Bool
   pub after : Timeline
-  pub runs : Runs (Answers want_cut) 1 t lines text refused after
+  pub runs : Runs wanted.brief (Answers wanted.cut) 1 t lines text refused after
 
 -- The answer tells whether a line was refused.
 abbrev pub status_if : Bool → Status
@@ -99,20 +100,27 @@ pub record IsWithin (new : Streams) (given : List ℕ) (count : ℕ) : Type 0 wh
   pub lines : count ≤ 1000000
 
 -- what a run of command lines answers, where these bytes were given and written; no answer but these is given
-abbrev pub Gave : Bool → Timeline → Streams → Streams → List ℕ → List ℕ → Result Status EngineFault → Type 0
-Gave want_cut t old new given written (Ok status) =
-    (refused : Bool) × (all : RunsAll (Answers want_cut) t given written refused) × (status ≡ status_if refused)
+abbrev pub Gave : SolveReply → Timeline → Streams → Streams → List ℕ → List ℕ → Result Status EngineFault → Type 0
+Gave wanted t old new given written (Ok status) =
+    (refused : Bool) × (all : RunsAll wanted.brief (Answers wanted.cut) t given written refused) × (status ≡ status_if refused)
     × IsWithin new given (line_count all.lines all.rest) × NoneFailed old new
-Gave want_cut t old new given written (Err fault.Read) =
-    RunsEndedLines want_cut t given written × (new.reader.has_failed ≡ true) × (new.writer.has_failed ≡ old.writer.has_failed)
-Gave want_cut t old new given written (Err fault.Write) =
-    RunsFront want_cut t new.reader.known given written × (new.writer.has_failed ≡ true) × (new.reader.has_failed ≡ old.reader.has_failed)
-Gave want_cut t old new given written (Err fault.TooMuchInput) = RunsWithin want_cut t given written × NoneFailed old new
-Gave want_cut t old new given written (Err fault) = ⊥
+Gave wanted t old new given written (Err fault.Read) =
+    RunsEndedLines wanted t given written × (new.reader.has_failed ≡ true) × (new.writer.has_failed ≡ old.writer.has_failed)
+Gave wanted t old new given written (Err fault.Write) =
+    RunsFront wanted t new.reader.known given written × (new.writer.has_failed ≡ true) × (new.reader.has_failed ≡ old.reader.has_failed)
+Gave wanted t old new given written (Err fault.TooMuchInput) = RunsWithin wanted t given written × NoneFailed old new
+Gave wanted t old new given written (Err fault) = ⊥
 
--- A run of command lines from the timeline `t`. `want_cut` says whether a cut is wanted after each solution that answers
--- `solve`.
-abbrev pub RunsCommands : Bool → Timeline → Streams → Streams → Result Status EngineFault → Type 0
-RunsCommands want_cut t old new result =
+-- A run of command lines from the timeline `t`, with this wanted of its replies to solves.
+abbrev pub RunsCommandsWith : SolveReply → Timeline → Streams → Streams → Result Status EngineFault → Type 0
+RunsCommandsWith wanted t old new result =
     (given : List ℕ) × (written : List ℕ) × Consumes old.reader.known new.reader.known given × Appends old.writer.contents new.writer.contents written
-    × Gave want_cut t old new given written result
+    × Gave wanted t old new given written result
+
+-- solutions, and a cut after each where it is wanted
+abbrev pub solutions : Bool → SolveReply
+solutions want_cut = record { cut = want_cut; brief = false }
+
+-- The same where solves are answered by their solutions. `want_cut` says whether a cut is wanted after each.
+abbrev pub RunsCommands : Bool → Timeline → Streams → Streams → Result Status EngineFault → Type 0
+RunsCommands want_cut = RunsCommandsWith (solutions want_cut)

@@ -10,6 +10,7 @@ use Rattle.dmf_session.specs.declared.command.Reply.{Reply}
 use Rattle.dmf_session.specs.declared.command.Reply.TheVariants.{Value, Added, Solution, Problem, Flow, Cut}
 use Rattle.dmf_session.specs.declared.command.Refusal.{Refusal}
 use Rattle.dmf_history.specs.Timeline.{Timeline, IsPresent}
+use Rattle.dmf_session.specs.Step.{value_of}
 use Rattle.dmf_runs.specs.RefusalText.{refusal_text}
 use Rattle.dmf_runs.specs.Line.{line_meaning}
 
@@ -40,14 +41,25 @@ abbrev pub solved_text : NetworkState → Option CutSide → List ℕ
 solved_text s None = solution_text s
 solved_text s (Some side) = solution_text s ++ cut_text side
 
--- what is written in reply to a command, where `s` is the state that is present after it
-abbrev pub reply_text : Command → Reply → NetworkState → List ℕ
-reply_text command (Value value) s = value_text command value
-reply_text command (Added arc value) s = added_text command arc value
-reply_text command (Solution side) s = solved_text s side
-reply_text command Problem s = problem_text s.network
-reply_text command Flow s = solution_text s
-reply_text command (Cut side) s = cut_text side
+-- `c solve value V`, and this cut after it, if there is one
+abbrev pub brief_text : ℕ → Option CutSide → List ℕ
+brief_text value None = value_text Solve value
+brief_text value (Some side) = value_text Solve value ++ cut_text side
+
+-- what a solve is answered by that left the state `s`: its solution or, where brief replies are wanted, its value
+abbrev pub solve_text : Bool → NetworkState → Option CutSide → List ℕ
+solve_text false s side = solved_text s side
+solve_text true s side = brief_text (value_of s) side
+
+-- what is written in reply to a command, where `s` is the state that is present after it; `brief` says whether brief replies
+-- are wanted
+abbrev pub reply_text : Bool → Command → Reply → NetworkState → List ℕ
+reply_text brief command (Value value) s = value_text command value
+reply_text brief command (Added arc value) s = added_text command arc value
+reply_text brief command (Solution side) s = solve_text brief s side
+reply_text brief command Problem s = problem_text s.network
+reply_text brief command Flow s = solution_text s
+reply_text brief command (Cut side) s = cut_text side
 
 -- what is written of a refused line
 abbrev pub refused_text : ℕ → Refusal → List ℕ
@@ -55,10 +67,10 @@ refused_text number refusal = written_line (codes "c" ∷ codes "refused" ∷ de
 
 -- The text is that of a command that was given to a session in line `number`, was answered so and left `u`; `refused`
 -- says whether it was refused.
-abbrev pub Shows : ℕ → Command → Result Reply Refusal → Timeline → List ℕ → Bool → Type 0
-Shows number command (Ok reply) u text refused =
-    (s : NetworkState) × IsPresent u s × (text ≡ reply_text command reply s) × (refused ≡ false)
-Shows number command (Err refusal) u text refused = (text ≡ refused_text number refusal) × (refused ≡ true)
+abbrev pub Shows : Bool → ℕ → Command → Result Reply Refusal → Timeline → List ℕ → Bool → Type 0
+Shows brief number command (Ok reply) u text refused =
+    (s : NetworkState) × IsPresent u s × (text ≡ reply_text brief command reply s) × (refused ≡ false)
+Shows brief number command (Err refusal) u text refused = (text ≡ refused_text number refusal) × (refused ≡ true)
 
 -- A line that means this has a reply: it is neither blank nor a comment.
 abbrev pub HasReply : Result (Option Command) Refusal → Type 0
@@ -69,12 +81,12 @@ abbrev pub Answering : Type 1
 Answering = Timeline → Command → Result Reply Refusal → Timeline → Type 0
 
 -- A line that means this, in line `number`, turns the timeline `t` into `u` and writes the text; a command is answered as
--- `Gives` says.
-abbrev pub LineRuns : Answering → ℕ → Timeline → Result (Option Command) Refusal → List ℕ → Bool → Timeline → Type 0
-LineRuns Gives number t (Ok None) text refused u = (text ≡ []) × (refused ≡ false) × (u ≡ t)
-LineRuns Gives number t (Ok (Some command)) text refused u =
-    (result : Result Reply Refusal) × Gives t command result u × Shows number command result u text refused
-LineRuns Gives number t (Err refusal) text refused u = (text ≡ refused_text number refusal) × (refused ≡ true) × (u ≡ t)
+-- `Gives` says, and a solve briefly where that is wanted.
+abbrev pub LineRuns : Bool → Answering → ℕ → Timeline → Result (Option Command) Refusal → List ℕ → Bool → Timeline → Type 0
+LineRuns brief Gives number t (Ok None) text refused u = (text ≡ []) × (refused ≡ false) × (u ≡ t)
+LineRuns brief Gives number t (Ok (Some command)) text refused u =
+    (result : Result Reply Refusal) × Gives t command result u × Shows brief number command result u text refused
+LineRuns brief Gives number t (Err refusal) text refused u = (text ≡ refused_text number refusal) × (refused ≡ true) × (u ≡ t)
 
 -- A first line, and the lines after it.
 pub record FirstAndMore (First : List ℕ → Bool → Timeline → Type 0) (More : Timeline → List ℕ → Bool → Type 0)
@@ -90,9 +102,10 @@ pub record FirstAndMore (First : List ℕ → Bool → Timeline → Type 0) (Mor
   pub refused_is : refused ≡ (here || later)
 
 -- Lines, each ended by a line feed, of which the first has this number, turn the timeline `t` into `u` and write the
--- text; `refused` says whether one was refused. Each command is answered as `Gives` says.
-abbrev pub Runs : Answering → ℕ → Timeline → List (List ℕ) → List ℕ → Bool → Timeline → Type 0
-Runs Gives number t [] text refused u = (text ≡ []) × (refused ≡ false) × (u ≡ t)
-Runs Gives number t (line ∷ lines) text refused u =
-    FirstAndMore (LineRuns Gives number t (line_meaning true line))
-    (λ between more later. Runs Gives (number + 1) between lines more later u) text refused
+-- text; `refused` says whether one was refused. Each command is answered as `Gives` says, and a solve briefly where that is
+-- wanted.
+abbrev pub Runs : Bool → Answering → ℕ → Timeline → List (List ℕ) → List ℕ → Bool → Timeline → Type 0
+Runs brief Gives number t [] text refused u = (text ≡ []) × (refused ≡ false) × (u ≡ t)
+Runs brief Gives number t (line ∷ lines) text refused u =
+    FirstAndMore (LineRuns brief Gives number t (line_meaning true line))
+    (λ between more later. Runs brief Gives (number + 1) between lines more later u) text refused

@@ -9,8 +9,9 @@ use Rattle.dmf_history.specs.Timeline.{start}
 use Rattle.dmf_runs.specs.declared.fault.Status.{Status}
 use Rattle.dmf_runs.specs.declared.fault.EngineFault.{EngineFault}
 use Rattle.dmf_runs.specs.declared.fault.EngineFault.TheVariants as fault
+use Rattle.dmf_runs.specs.declared.reply.SolveReply.{SolveReply}
 use Rattle.dmf_runs.specs.Streams.{Reader, Streams}
-use Rattle.dmf_runs.specs.Outcome.{RunsCommands}
+use Rattle.dmf_runs.specs.Outcome.{RunsCommandsWith, solutions}
 
 -- This text was given, it is the whole of what the reader had left, and it is within the limit.
 pub record GaveWhole (old new : Reader) (text : List ℕ) : Type 0 where
@@ -54,23 +55,26 @@ abbrev pub Untouched : Streams → Streams → Type 0
 Untouched old new = new ≡ old
 
 -- The problem was read, and its command lines were run.
-pub record RunsOn (want_cut : Bool) (bound : ℕ) (from to : Reader) (old new : Streams) (text : List ℕ) (result : Result Status EngineFault) : Type 0 where
+pub record RunsOn (wanted : SolveReply) (bound : ℕ) (from to : Reader) (old new : Streams) (text : List ℕ) (result : Result Status EngineFault) : Type 0 where
   pub state : NetworkState
   pub problem : ReadsProblem from to text (Ok state)
-  pub runs : RunsCommands want_cut (start bound state) old new result
+  pub runs : RunsCommandsWith wanted (start bound state) old new result
 
 -- What a session answers that was given this much of the problem's text. What it answers without having run a line it
 -- answers with nothing written and no command byte taken.
-abbrev pub SessionAnswered : Bool → ℕ → Reader → Reader → Streams → Streams → List ℕ → Result Status EngineFault → Type 0
-SessionAnswered want_cut bound from to old new text (Ok status) = RunsOn want_cut bound from to old new text (Ok status)
-SessionAnswered want_cut bound from to old new text (Err fault.Write) = RunsOn want_cut bound from to old new text (Err fault.Write)
-SessionAnswered want_cut bound from to old new text (Err fault.NoMemory) = Untouched old new × (to.has_failed ≡ from.has_failed)
-SessionAnswered want_cut bound from to old new text (Err told) =
-    (ReadsProblem from to text (Err told) × Untouched old new) ⊎ RunsOn want_cut bound from to old new text (Err told)
+abbrev pub SessionAnswered : SolveReply → ℕ → Reader → Reader → Streams → Streams → List ℕ → Result Status EngineFault → Type 0
+SessionAnswered wanted bound from to old new text (Ok status) = RunsOn wanted bound from to old new text (Ok status)
+SessionAnswered wanted bound from to old new text (Err fault.Write) = RunsOn wanted bound from to old new text (Err fault.Write)
+SessionAnswered wanted bound from to old new text (Err fault.NoMemory) = Untouched old new × (to.has_failed ≡ from.has_failed)
+SessionAnswered wanted bound from to old new text (Err told) =
+    (ReadsProblem from to text (Err told) × Untouched old new) ⊎ RunsOn wanted bound from to old new text (Err told)
 
--- A session, from the bytes that its two readers gave to those that its writer took. `want_cut` says whether a cut is
--- wanted after each solution that answers `solve`; the bound is the largest number of states that are kept before the present
--- one.
+-- A session, from the bytes that its two readers gave to those that its writer took, with this wanted of its replies to solves.
+-- The bound is the largest number of states that are kept before the present one.
+abbrev pub RunsSessionWith : SolveReply → ℕ → Reader → Reader → Streams → Streams → Result Status EngineFault → Type 0
+RunsSessionWith wanted bound from to old new result =
+    (text : List ℕ) × Consumes from.known to.known text × SessionAnswered wanted bound from to old new text result
+
+-- The same where solves are answered by their solutions. `want_cut` says whether a cut is wanted after each.
 abbrev pub RunsSession : Bool → ℕ → Reader → Reader → Streams → Streams → Result Status EngineFault → Type 0
-RunsSession want_cut bound from to old new result =
-    (text : List ℕ) × Consumes from.known to.known text × SessionAnswered want_cut bound from to old new text result
+RunsSession want_cut = RunsSessionWith (solutions want_cut)

@@ -9,6 +9,7 @@ use Rattle.dmf_history.specs.Timeline.{Timeline}
 use Rattle.dmf_session.specs.Step.{Answers}
 use Rattle.dmf_runs.specs.declared.reply.Answer.{Answer}
 use Rattle.dmf_runs.specs.declared.reply.Answer.TheVariants.{Accepted, Refused}
+use Rattle.dmf_runs.specs.declared.reply.SolveReply.{SolveReply}
 use Rattle.dmf_runs.specs.Run.{LineRuns}
 
 abbrev pub is_refusal : Answer → Bool
@@ -17,7 +18,7 @@ is_refusal Refused = true
 
 -- Carrying out one line, which means this, wrote its text or, where the writer failed, a front of it; on success it
 -- is answered whether the line was refused.
-abbrev pub WritesLine : {S : Type 0} → Bool → (S → Option (List ℕ)) → (S → Bool) → S → S → ℕ → Timeline → Result (Option Command) Refusal → Timeline → Result Answer WriteFault → Type 0
-WritesLine want_cut contents has_failed old new number t meaning u result =
-    (text : List ℕ) × (refused : Bool) × LineRuns (Answers want_cut) number t meaning text refused u
+abbrev pub WritesLine : {S : Type 0} → SolveReply → (S → Option (List ℕ)) → (S → Bool) → S → S → ℕ → Timeline → Result (Option Command) Refusal → Timeline → Result Answer WriteFault → Type 0
+WritesLine wanted contents has_failed old new number t meaning u result =
+    (text : List ℕ) × (refused : Bool) × LineRuns wanted.brief (Answers wanted.cut) number t meaning text refused u
     × Writes contents has_failed old new result text × IfOk result (λ answer. is_refusal answer ≡ refused)

@@ -11,6 +11,7 @@ pub use laws::{
     steps_are_answers, written_is_optimal,
 };
 pub use refusal::refusal_text;
+pub use reply::SolveReply;
 pub use session::{
     MAX_LINES, run_commands, run_commands_watched, run_session, run_session_bounded,
     run_session_watched,

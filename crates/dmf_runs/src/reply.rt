@@ -13,6 +13,15 @@ use dmf_text::{
     LineBuffer, Sink, WriteFault, line_of, put_all, write_cut, write_problem, write_solution,
 };
 
+/// How a solve in a session is to be answered.
+#[derive(Clone, Copy)]
+pub struct SolveReply {
+    /// With the smallest minimum cut behind the solution, or behind the value.
+    pub cut: bool,
+    /// By its value, as `c solve value V`, in place of the solution.
+    pub brief: bool,
+}
+
 /// How a line was answered.
 #[derive(Clone, Copy)]
 pub enum Answer {
@@ -93,6 +102,40 @@ pub fn put_solved<W: Sink>(
     }
 }
 
+fn put_line_and_cut<W: Sink>(line: &LineBuffer, side: &Side, out: &mut W) -> Result<(), WriteFault>
+    ensures { Writes W.contents W.has_failed out.old out.new result (line.now ++ cut_text side.now) }
+{
+    put_all(out, line.as_bytes())?;
+    put_cut(side, out)
+}
+
+/// Writes the value of a solve, and this cut after it, if there is one, and flushes them.
+pub fn put_brief<W: Sink>(value: u64, side: &Option<Side>, out: &mut W) -> Result<(), WriteFault>
+    ensures { Writes W.contents W.has_failed out.old out.new result (run.brief_text value side.now) }
+{
+    let line = value_line(Command::Solve, value);
+    match side {
+        None => put_line(&line, out),
+        Some(side) => put_line_and_cut(&line, side, out),
+    }
+}
+
+/// Writes what a solve is answered by: the solution of the present state, or briefly its value.
+fn put_solve<W: Sink>(
+    state: &State,
+    side: &Option<Side>,
+    brief: bool,
+    out: &mut W,
+) -> Result<(), WriteFault>
+    ensures { Writes W.contents W.has_failed out.old out.new result (run.solve_text brief state.now side.now) }
+{
+    if brief {
+        put_brief(state.value(), side, out)
+    } else {
+        put_solved(state, side, out)
+    }
+}
+
 /// Passes on what was written.
 fn flush<W: Sink>(out: &mut W) -> Result<(), WriteFault>
     ensures { Writes W.contents W.has_failed out.old out.new result [] }
@@ -115,19 +158,21 @@ fn refused_line(number: u32, refusal: &Refusal) -> LineBuffer
     ])
 }
 
-/// Writes the reply to a command.
+/// Writes the reply to a command, briefly to a solve where that is wanted.
 pub fn show<W: Sink>(
     command: Command,
     reply: &Reply,
     present: &State,
+    brief: bool,
     out: &mut W,
 ) -> Result<(), WriteFault>
-    ensures { Writes W.contents W.has_failed out.old out.new result (run.reply_text command reply.now present.now) }
+    ensures { Writes W.contents W.has_failed out.old out.new result
+        (run.reply_text brief command reply.now present.now) }
 {
     match reply {
         Reply::Value(value) => { put_line(&value_line(command, *value), out) }
         Reply::Added(arc, value) => { put_line(&added_line(command, *arc, *value), out) }
-        Reply::Solution(side) => put_solved(present, side, out),
+        Reply::Solution(side) => put_solve(present, side, brief, out),
         Reply::Problem => put_problem(present, out),
         Reply::Flow => put_solution(present, out),
         Reply::Cut(side) => put_cut(side, out),

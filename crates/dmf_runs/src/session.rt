@@ -1,8 +1,8 @@
 //! A session from bytes to bytes.
 ghost use Rattle.std.specs.Prelude.{◌≡◌, ◌≤◌, IsOk, None, Ok, Some, length};
 ghost use Rattle.dmf_runs.specs.Streams.{reader_of, writer_of, streams_of};
-ghost use Rattle.dmf_runs.specs.Outcome.{RunsCommands, status_if};
-ghost use Rattle.dmf_runs.specs.Session.{RunsSession};
+ghost use Rattle.dmf_runs.specs.Outcome.{RunsCommands, RunsCommandsWith, solutions, status_if};
+ghost use Rattle.dmf_runs.specs.Session.{RunsSession, RunsSessionWith};
 ghost use Rattle.dmf_runs.specs.WrittenLine.{WritesLine};
 
 use crate::command_text::{Meaning, meaning_of};
@@ -10,7 +10,7 @@ use crate::fault::{EngineFault, Status};
 use crate::input::{Input, Next};
 use crate::kept_line::KeptLine;
 use crate::problem::read_state;
-use crate::reply::{Answer, refuse, show};
+use crate::reply::{Answer, SolveReply, refuse, show};
 use dmf_history::{DeltaHistory, History, MAX_BOUND};
 use dmf_session::{Command, Session};
 use dmf_solver::{Unwatched, Watch};
@@ -41,27 +41,34 @@ pub fn run_commands<H: History + Drop, C: Source, W: Sink>(
         (streams_of (reader_of C.remaining C.has_failed commands.new) (writer_of W.contents W.has_failed out.new))
         result }
 {
-    run_commands_watched(alloc, session, commands, out, want_cut, &mut Unwatched)
+    run_commands_watched(
+        alloc,
+        session,
+        commands,
+        out,
+        solutions(want_cut),
+        &mut Unwatched,
+    )
 }
 
-/// Does the same, and tells the watch of each path along which a solve augments the flow.
+/// Does the same with solves answered as wanted, and tells the watch of each path along which a solve augments the flow.
 pub fn run_commands_watched<H: History + Drop, C: Source, W: Sink, V: Watch>(
     alloc: Global,
     session: Session<H>,
     commands: &mut C,
     out: &mut W,
-    want_cut: bool,
+    wanted: SolveReply,
     watch: &mut V,
 ) -> Result<Status, EngineFault>
     requires at_first { (H.timeline session).place ≡ 0 }
     requires one_state { length (H.timeline session).states ≡ 1 }
-    ensures { RunsCommands want_cut (H.timeline session)
+    ensures { RunsCommandsWith wanted (H.timeline session)
         (streams_of (reader_of C.remaining C.has_failed commands.old) (writer_of W.contents W.has_failed out.old))
         (streams_of (reader_of C.remaining C.has_failed commands.new) (writer_of W.contents W.has_failed out.new))
         result }
 {
     let mut session = session;
-    run_lines(alloc, &mut session, commands, out, want_cut, watch)
+    run_lines(alloc, &mut session, commands, out, wanted, watch)
 }
 
 /// Carries out the command lines on a session that is the caller's.
@@ -70,12 +77,12 @@ fn run_lines<H: History, C: Source, W: Sink, V: Watch>(
     session: &mut Session<H>,
     commands: &mut C,
     out: &mut W,
-    want_cut: bool,
+    wanted: SolveReply,
     watch: &mut V,
 ) -> Result<Status, EngineFault>
     requires at_first { (H.timeline session.old).place ≡ 0 }
     requires one_state { length (H.timeline session.old).states ≡ 1 }
-    ensures { RunsCommands want_cut (H.timeline session.old)
+    ensures { RunsCommandsWith wanted (H.timeline session.old)
         (streams_of (reader_of C.remaining C.has_failed commands.old) (writer_of W.contents W.has_failed out.old))
         (streams_of (reader_of C.remaining C.has_failed commands.new) (writer_of W.contents W.has_failed out.new))
         result }
@@ -87,12 +94,12 @@ fn run_lines<H: History, C: Source, W: Sink, V: Watch>(
         match input.next_line(commands, &mut line)? {
             Next::Line => {
                 let meaning = meaning_of(&line, true);
-                let answer = answer(alloc, session, number, meaning, out, want_cut, watch)?;
+                let answer = answer(alloc, session, number, meaning, out, wanted, watch)?;
                 is_refused |= answer.is_refusal();
             }
             Next::Last => {
                 let meaning = meaning_of(&line, false);
-                let answer = answer(alloc, session, number, meaning, out, want_cut, watch)?;
+                let answer = answer(alloc, session, number, meaning, out, wanted, watch)?;
                 is_refused |= answer.is_refusal();
                 return Ok(status(is_refused));
             }
@@ -146,24 +153,24 @@ pub fn run_session_bounded<P: Source, C: Source, W: Sink>(
         problem,
         commands,
         out,
-        want_cut,
+        solutions(want_cut),
         bound,
         &mut Unwatched,
     )
 }
 
-/// Does the same, and tells the watch of each path along which a solve augments the flow.
+/// Does the same with solves answered as wanted, and tells the watch of each path along which a solve augments the flow.
 pub fn run_session_watched<P: Source, C: Source, W: Sink, V: Watch>(
     alloc: Global,
     problem: &mut P,
     commands: &mut C,
     out: &mut W,
-    want_cut: bool,
+    wanted: SolveReply,
     bound: u32,
     watch: &mut V,
 ) -> Result<Status, EngineFault>
     requires { bound ≤ 1000000 }
-    ensures { RunsSession want_cut bound
+    ensures { RunsSessionWith wanted bound
         (reader_of P.remaining P.has_failed problem.old) (reader_of P.remaining P.has_failed problem.new)
         (streams_of (reader_of C.remaining C.has_failed commands.old) (writer_of W.contents W.has_failed out.old))
         (streams_of (reader_of C.remaining C.has_failed commands.new) (writer_of W.contents W.has_failed out.new))
@@ -171,7 +178,17 @@ pub fn run_session_watched<P: Source, C: Source, W: Sink, V: Watch>(
 {
     let state = read_state(alloc, problem)?;
     let history = DeltaHistory::with_bound(alloc, state, bound);
-    run_commands_watched(alloc, Session::new(history), commands, out, want_cut, watch)
+    run_commands_watched(alloc, Session::new(history), commands, out, wanted, watch)
+}
+
+/// Solves are answered by their solutions, and a cut after each where it is wanted.
+fn solutions(want_cut: bool) -> SolveReply
+    ensures { result ≡ solutions want_cut }
+{
+    SolveReply {
+        cut: want_cut,
+        brief: false,
+    }
 }
 
 fn status(is_refused: bool) -> Status
@@ -191,16 +208,16 @@ fn answer<H: History, W: Sink, V: Watch>(
     number: u32,
     meaning: Meaning,
     out: &mut W,
-    want_cut: bool,
+    wanted: SolveReply,
     watch: &mut V,
 ) -> Result<Answer, WriteFault>
-    ensures line { WritesLine want_cut W.contents W.has_failed out.old out.new number
+    ensures line { WritesLine wanted W.contents W.has_failed out.old out.new number
         (H.timeline session.old) meaning (H.timeline session.new) result }
     ensures silent { meaning ≡ Ok None → (out.new ≡ out.old) × IsOk result }
 {
     match meaning {
         Ok(None) => Ok(Answer::Accepted),
-        Ok(Some(command)) => answer_command(alloc, session, number, command, out, want_cut, watch),
+        Ok(Some(command)) => answer_command(alloc, session, number, command, out, wanted, watch),
         Err(refusal) => refuse(number, &refusal, out),
     }
 }
@@ -211,15 +228,15 @@ fn answer_command<H: History, W: Sink, V: Watch>(
     number: u32,
     command: Command,
     out: &mut W,
-    want_cut: bool,
+    wanted: SolveReply,
     watch: &mut V,
 ) -> Result<Answer, WriteFault>
-    ensures { WritesLine want_cut W.contents W.has_failed out.old out.new number
+    ensures { WritesLine wanted W.contents W.has_failed out.old out.new number
         (H.timeline session.old) (Ok (Some command)) (H.timeline session.new) result }
 {
-    match session.step_watched(alloc, command, want_cut, watch) {
+    match session.step_watched(alloc, command, wanted.cut, watch) {
         Ok(reply) => {
-            show(command, &reply, session.present(), out)?;
+            show(command, &reply, session.present(), wanted.brief, out)?;
             Ok(Answer::Accepted)
         }
         Err(refusal) => refuse(number, &refusal, out),

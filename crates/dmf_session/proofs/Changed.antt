@@ -12,7 +12,7 @@ use Rattle.dmf_state.specs.Edit.{applied}
 use Rattle.dmf_session.specs.declared.command.Reply.{Reply}
 use Rattle.dmf_session.specs.declared.command.Reply.TheVariants.{Value, Added}
 use Rattle.dmf_session.specs.declared.command.Refusal.{Refusal}
-use Rattle.dmf_history.specs.Timeline.{Timeline, IsPresent, appended, Appends}
+use Rattle.dmf_history.specs.Timeline.{Timeline, IsPresent, Appends}
 use Rattle.dmf_session.specs.Step.{Changes, IsChanged, IsRefused, refusal_of, value_of}
 use Rattle.dmf_session.specs.Laws.{HasStates}
 use Rattle.dmf_history.proofs.Appending.{one-present, now-present, appends-applied}

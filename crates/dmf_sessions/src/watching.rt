@@ -3,7 +3,7 @@ ghost use Rattle.std.specs.Prelude.{map, pos, Some, None, if◌then◌else◌};
 
 use dmf_fixtures::NETWORK_A;
 use dmf_history::MAX_BOUND;
-use dmf_runs::{Status, run_session_watched};
+use dmf_runs::{SolveReply, Status, run_session_watched};
 use dmf_solver::Watch;
 use dmf_text::{StdSink, StdSource};
 use std::test::Fail;
@@ -37,7 +37,10 @@ fn each_path_of_each_solve_is_told(rt: HostRuntime) -> Result<(), Fail> {
         &mut StdSource::new(NETWORK_A),
         &mut StdSource::new(b"solve\nundo\nadd 1 4 7\nsolve\n".as_slice()),
         &mut StdSink::new(&mut written),
-        false,
+        SolveReply {
+            cut: false,
+            brief: false,
+        },
         MAX_BOUND,
         &mut paths,
     );

@@ -1,6 +1,9 @@
 -- What becomes of the residual pairs where flows and capacities of arcs change.
-use Rattle.std.proofs.Common.{ℕ, ◌≡◌, ◌+◌, ◌-◌, ◌<◌, ◌≤◌, ◌==◌, Bool, true, false, List, [], ◌∷◌, length, get_or, set, zero, suc, refl, ap, sym, ◌∙◌, subst, arith, Option, Some, None, length-set, Vec, Global}
+use Rattle.std.proofs.Common.{ℕ, ◌≡◌, ◌+◌, ◌-◌, ◌<◌, ◌≤◌, ◌==◌, Bool, true, false, List, [], ◌∷◌, length, get_or, set, drop, zero, suc, refl, ap, sym, ◌∙◌, subst, arith, Option, Some, None, length-set, Vec, Global}
 use Rattle.std.specs.Option.{option_map}
+use Rattle.std.proofs.lemmas.Option.{slice_get_within}
+use Rattle.std.proofs.Math.ListN.{drop_of_length-le}
+use Rattle.std.proofs.Math.Seq.{drop-cons}
 use Rattle.dmf_path.specs.declared.pair.Pair.{Pair}
 use Rattle.dmf_path.specs.Search.{Searched, pair_number, pair_with, with_pairs, with_rooms, against_at}
 use Rattle.dmf_state.specs.declared.arc.Arc.{Arc}
@@ -12,7 +15,7 @@ use Rattle.dmf_state.specs.declared.moves.Direction.{Direction}
 use Rattle.dmf_state.specs.declared.moves.Direction.TheVariants.{Forward, Back}
 use Rattle.dmf_state.specs.Arc.{no_arc, closed_arc, open_arc, with_cap}
 use Rattle.dmf_state.specs.Direction.{along, cap_along, edited_along, FitsAlong}
-use Rattle.dmf_state.specs.Edit.{moved, moves_of, numbers, with_closed, AddsArc, ArcFits, MovesFit}
+use Rattle.dmf_state.specs.Edit.{applied, moved, moves_of, numbers, with_closed, AddsArc, ArcFits, MovesFit}
 use Rattle.dmf_state.specs.Network.{Network, arc_number, with_arc}
 use Rattle.dmf_state.specs.NetworkState.{NetworkState}
 use Rattle.dmf_solver.specs.Pairs.{recapped, with_capacity}
@@ -20,11 +23,43 @@ use Rattle.dmf_solver.specs.ResidualNetwork.{residual_pair, residual_pairs, resi
 use Rattle.dmf_state.specs.Revert.{with_opened}
 use Rattle.dmf_state.proofs.ChangedArc.{has_arc-within}
 use Rattle.dmf_state.proofs.ClosedArcs.{HasArcs-open, HasArcs}
-use Rattle.dmf_state.proofs.ClosedTogether.{HasArcs-long}
-use Rattle.dmf_solver.proofs.EditedState.{AddsNone, ArePut, arcs-long, index-put, put-more, put-all}
-use Rattle.dmf_state.proofs.Moving.{no_move}
+use Rattle.dmf_state.proofs.ClosedTogether.{HasArcs-long, length-closed}
+use Rattle.dmf_state.proofs.Moving.{no_move, MovesFit-made}
 use Rattle.dmf_solver.proofs.ResidualSearch.{length-pairs_each}
 use Rattle.dmf_state.proofs.Reverting.{fit-back}
+
+-- ---- moves
+
+-- The first `i` moves are made.
+pub record ArePut (moves : List Move) (last_flows : List ℕ) (i : ℕ) (flows : List ℕ) : Type 0 where
+  pub last : ℕ
+  pub fit : MovesFit last (drop i moves) flows
+  pub rest : moved (drop i moves) flows ≡ last_flows
+
+pub put-none : (moves : List Move) (flows : List ℕ) → MovesFit 0 moves flows → ArePut moves (moved moves flows) 0 flows
+put-none moves flows fit = record { last = 0; fit = fit; rest = refl }
+
+module _ (moves : List Move) (last_flows : List ℕ) (i : ℕ) (flows : List ℕ) (h : i < length moves) (a : ArePut moves last_flows i flows) where
+  split : drop i moves ≡ get_or moves i no_move ∷ drop (i + 1) moves
+  split =
+      let next : suc i ≡ i + 1 = omega arith in
+      subst (λ k. drop i moves ≡ get_or moves i no_move ∷ drop k moves) next (drop-cons moves i no_move h)
+
+  fit : MovesFit a.last (get_or moves i no_move ∷ drop (i + 1) moves) flows
+  fit = subst (λ ms. MovesFit a.last ms flows) split a.fit
+
+  pub index-put : (1 ≤ (get_or moves i no_move).arc) × ((get_or moves i no_move).arc - 1 < length flows)
+  index-put = (omega (arith, fit.0), slice_get_within flows ((get_or moves i no_move).arc - 1) (get_or moves i no_move).from fit.1)
+
+  pub put-more : ArePut moves last_flows (i + 1) (set flows ((get_or moves i no_move).arc - 1) (get_or moves i no_move).to)
+  put-more = record {
+    last = (get_or moves i no_move).arc;
+    fit = MovesFit-made a.last (get_or moves i no_move) (drop (i + 1) moves) flows fit;
+    rest = subst (λ ms. moved ms flows ≡ last_flows) split a.rest;
+  }
+
+pub put-all : (moves : List Move) (last_flows : List ℕ) (i : ℕ) (flows : List ℕ) → length moves ≤ i → ArePut moves last_flows i flows → flows ≡ last_flows
+put-all moves last_flows i flows long a = subst (λ ms. moved ms flows ≡ last_flows) (drop_of_length-le moves long) a.rest
 
 -- ---- one flow
 
@@ -193,12 +228,20 @@ has-fits (Add tail head cap) n fits = tt
 has-fits (Shut arcs moves) n fits = HasArcs-open 0 arcs.items n fits
 has-fits (Solve moves) n fits = tt
 
+-- After an edit that adds none there are as many arcs.
+arcs-long : (edit : Edit) (s : NetworkState) → (AddsArc edit → ⊥) → length (applied edit s).network.arcs ≡ length s.network.arcs
+arcs-long (Cap j old new moves) s none = length-set s.network.arcs (j - 1) (with_cap new (arc_number s.network j))
+arcs-long (Close j old moves) s none = length-set s.network.arcs (j - 1) (closed_arc (arc_number s.network j))
+arcs-long (Add tail head cap) s none = absurd (none tt)
+arcs-long (Shut arcs moves) s none = length-closed arcs.items s.network
+arcs-long (Solve moves) s none = refl
+
 -- They are there before the edit and after it.
 pub has-along : (d : Direction) (edit : Edit) (s : NetworkState) → (AddsArc edit → ⊥) → FitsAlong d edit s → HasArcs s.network (recapped_arcs edit)
 has-along Forward edit s none fits = has-fits edit s.network fits.arc
 has-along Back edit s none stands =
     let b : NetworkState = stands.before in
-    let long = arcs-long edit b (λ tail head cap is. none (subst AddsArc (sym is) tt)) in
+    let long = arcs-long edit b none in
     HasArcs-long b.network s.network (recapped_arcs edit) (ap (λ (u : NetworkState). length u.network.arcs) (sym stands.gives) ∙ long) (has-fits edit b.network stands.fits.arc)
 
 -- The moves of an edit that fits, or their opposites where it stands, fit the flows,
@@ -207,8 +250,8 @@ moves-along Forward edit s fits = fits.moves
 moves-along Back edit s stands = fit-back edit s (moves_of edit) stands refl
 
 -- and lead to those of the other state, where the edit adds no arc.
-pub flows-along : (d : Direction) (edit : Edit) (s : NetworkState) → AddsNone edit → moved (along d (moves_of edit)) s.flows ≡ (edited_along d edit s).flows
-flows-along d (Add tail head cap) s none = absurd (none tail head cap refl)
+pub flows-along : (d : Direction) (edit : Edit) (s : NetworkState) → (AddsArc edit → ⊥) → moved (along d (moves_of edit)) s.flows ≡ (edited_along d edit s).flows
+flows-along d (Add tail head cap) s none = absurd (none tt)
 flows-along Forward (Cap j old new moves) s none = refl
 flows-along Forward (Close j old moves) s none = refl
 flows-along Forward (Shut arcs moves) s none = refl
@@ -219,7 +262,7 @@ flows-along Back (Shut arcs moves) s none = refl
 flows-along Back (Solve moves) s none = refl
 
 -- An edit that is not one of an added arc adds none.
-pub none-added : (edit : Edit) → AddsNone edit → AddsArc edit → ⊥
+pub none-added : (edit : Edit) → ((tail head cap : ℕ) → edit ≡ Add tail head cap → ⊥) → AddsArc edit → ⊥
 none-added (Cap j old new moves) none adds = adds
 none-added (Close j old moves) none adds = adds
 none-added (Add tail head cap) none adds = none tail head cap refl

@@ -8,8 +8,6 @@ pub mod Crossing
 pub mod Reached
 pub mod Carrying
 pub mod CarryingSteps
-pub mod FoundArc
-pub mod EditedState
 pub mod Lowering
 pub mod Draining
 pub mod OneOutcome

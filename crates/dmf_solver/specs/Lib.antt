@@ -8,5 +8,4 @@ pub mod Laws
 pub mod ResidualNetwork
 pub mod Pairs
 pub mod Moves
-pub mod Edited
 pub mod Planning

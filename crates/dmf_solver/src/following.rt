@@ -3,12 +3,25 @@
 ghost use Rattle.std.specs.Prelude.{◌≡◌, ◌-◌, ◌<◌, ◌≤◌, ℕ, List, length};
 ghost use Rattle.dmf_path.specs.Search.{with_pairs};
 ghost use Rattle.dmf_state.specs.Direction.{along, edited_along, FitsAlong};
-ghost use Rattle.dmf_state.specs.Edit.{moved, AddsArc, MovesFit};
+ghost use Rattle.dmf_state.specs.Edit.{moved, moves_of, AddsArc, MovesFit};
 ghost use Rattle.dmf_solver.specs.Pairs.{with_capacity};
 ghost use Rattle.dmf_solver.specs.ResidualNetwork.{residual_search, IsResidualOf};
 
 use dmf_path::Search;
 use dmf_state::{Direction, Edit, Move, State};
+
+/// The moves of an edit.
+pub fn moves_of(edit: &Edit) -> &[Move]
+    ensures { result.now ≡ moves_of edit.now }
+{
+    match *edit {
+        Edit::Cap { ref moves, .. } => moves,
+        Edit::Close { ref moves, .. } => moves,
+        Edit::Add { .. } => &[],
+        Edit::Shut { ref moves, .. } => moves,
+        Edit::Solve { ref moves } => moves,
+    }
+}
 
 /// Gives the links of each arc that the moves name the rooms that its flow leaves once they are made, or taken back.
 pub fn put_flows(search: &mut Search, state: &State, moves: &[Move], direction: Direction)

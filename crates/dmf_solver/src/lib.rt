@@ -17,8 +17,6 @@ pub use watch::{Unwatched, Watch};
 
 mod carrying_pairs;
 mod drain;
-mod edited;
-mod edited_pairs;
 mod fault;
 mod following;
 mod laws;

@@ -9,9 +9,8 @@ ghost use Rattle.dmf_state.specs.Revert.{reverted, Stands};
 ghost use Rattle.dmf_state.specs.Side.{IsSmallestSide};
 ghost use Rattle.dmf_solver.specs.Told.{TellsSolve, MayTellSolve};
 
-use crate::edited::moves_of;
 use crate::fault::{CutFault, PlanFault};
-use crate::following::{put_capacities, put_flows};
+use crate::following::{moves_of, put_capacities, put_flows};
 use crate::residual::residual_search;
 use crate::side::{side_along, solved_side};
 use crate::solve::{Solved, solve};

@@ -9,7 +9,6 @@ ghost use Rattle.dmf_solver.specs.Pairs.{IsReachedSide, IsSolved};
 ghost use Rattle.dmf_state.specs.Edit.{applied, Fits};
 ghost use Rattle.dmf_solver.specs.ResidualNetwork.{IsResidualOf};
 
-use crate::edited::edited_search;
 use crate::fault::CutFault;
 use crate::residual::residual_search;
 use crate::solve::Solved;
@@ -49,7 +48,7 @@ pub fn side_along(alloc: Global, search: &Search, state: &State) -> Result<Side,
 /// The smallest side of the network that an edit makes of the state's, which does not change. The edit fits the state, as
 /// one that was planned on it does.
 ///
-/// Its flow must be greatest; else the answer is as that of [`smallest_side`]. Takes memory for the flows too.
+/// Its flow must be greatest; else the answer is as that of [`smallest_side`]. Takes memory for a copy of the state too.
 pub fn side_after(alloc: Global, state: &State, edit: &Edit) -> Result<Side, CutFault>
     requires { Fits edit.now state.now }
     ensures side { IfOk result (λ side. IsSmallestSide (applied edit.now state.now).network side) }
@@ -57,12 +56,9 @@ pub fn side_after(alloc: Global, state: &State, edit: &Edit) -> Result<Side, Cut
     ensures greatest { OnOk result (IsGreatest (applied edit.now state.now).network (applied edit.now state.now).flows) }
     ensures fault { IfErr result (λ fault. fault ≡ CutFault.NotGreatest → IsSurpassed (applied edit.now state.now).network (applied edit.now state.now).flows) }
 {
-    let edited = edited_search(alloc, state, edit)?;
-    let side = reached_side(alloc, &edited.search, edited.value)?;
-    if side.contains(state.sink()) {
-        return Err(CutFault::NotGreatest);
-    }
-    Ok(side)
+    let mut after = state.copy(alloc)?;
+    after.apply(edit)?;
+    smallest_side(alloc, &after)
 }
 
 /// The smallest side of the state's network, once it is solved.

@@ -1,17 +1,13 @@
 -- Arcs that are closed one after the other: what the network is then, and how opening them gives back the one before.
-use Rattle.std.proofs.Common.{ℕ, ◌≡◌, ◌≢◌, ◌+◌, ◌-◌, ◌<◌, ◌≤◌, ◌==◌, List, [], ◌∷◌, length, get_or, set, zero, suc, Bool, true, false, cond, refl, ap, sym, ◌∙◌, subst, arith, ⊎_elim}
-use Rattle.std.specs.List.Sorted.{IsStrictlyIncreasing}
-use Rattle.std.proofs.lemmas.Bool.Decides.{eqb_tells}
+use Rattle.std.proofs.Common.{ℕ, ◌≡◌, ◌≢◌, ◌-◌, ◌<◌, ◌≤◌, List, [], ◌∷◌, length, set, zero, suc, true, false, refl, ap, sym, ◌∙◌, subst, arith}
 use Rattle.std.proofs.lemmas.List.{get_or-set_same, get_or-set_other, length-set, set-set, set-get_or}
 use Rattle.dmf_state.specs.declared.arc.Arc.{Arc}
 use Rattle.dmf_state.specs.declared.edit.Shutting.{Shutting}
 use Rattle.dmf_state.specs.Arc.{no_arc, open_arc, closed_arc, open_arcs_at}
-use Rattle.dmf_state.specs.Edit.{AreOpenWith, IsOpenWith, numbers, with_closed}
-use Rattle.dmf_state.specs.Edit.{shuts}
-use Rattle.dmf_state.specs.Flow.{flow_value}
+use Rattle.dmf_state.specs.Edit.{AreOpenWith, IsOpenWith, with_closed}
 use Rattle.dmf_state.specs.Network.{Network, IsNetwork, arc_number, has_arc, with_arc}
 use Rattle.dmf_state.specs.Revert.{with_open, with_opened}
-use Rattle.dmf_state.proofs.ChangedArc.{has_arc-within, IsNetwork-with_arc, flow_value-with_arc}
+use Rattle.dmf_state.proofs.ChangedArc.{has_arc-within, IsNetwork-with_arc}
 use Rattle.dmf_state.proofs.ClosedArcs.{closed_at, HasArcs-open, HasArcs}
 use Rattle.dmf_state.proofs.OpenArcs.{listed_from, numbers-listed, open-listed}
 
@@ -35,70 +31,9 @@ HasArcs-at v n = subst (HasArcs n) (numbers-listed v 1 n.arcs) (HasArcs-open 0 (
 
 -- ---- what stays
 
-pub nodes-closed : (arcs : List Shutting) (n : Network) → (with_closed arcs n).nodes ≡ n.nodes
-nodes-closed [] n = refl
-nodes-closed (a ∷ arcs) n = nodes-closed arcs (closed_at n a.arc)
-
-pub source-closed : (arcs : List Shutting) (n : Network) → (with_closed arcs n).source ≡ n.source
-source-closed [] n = refl
-source-closed (a ∷ arcs) n = source-closed arcs (closed_at n a.arc)
-
-pub sink-closed : (arcs : List Shutting) (n : Network) → (with_closed arcs n).sink ≡ n.sink
-sink-closed [] n = refl
-sink-closed (a ∷ arcs) n = sink-closed arcs (closed_at n a.arc)
-
 pub length-closed : (arcs : List Shutting) (n : Network) → length (with_closed arcs n).arcs ≡ length n.arcs
 length-closed [] n = refl
 length-closed (a ∷ arcs) n = length-closed arcs (closed_at n a.arc) ∙ length-set n.arcs (a.arc - 1) (closed_arc (arc_number n a.arc))
-
--- The value of a flow, too.
-pub value-with_closed : (arcs : List Shutting) (n : Network) (flows : List ℕ) → length flows ≡ length n.arcs → flow_value (with_closed arcs n) flows ≡ flow_value n flows
-value-with_closed [] n flows long = refl
-value-with_closed (a ∷ arcs) n flows long =
-    let closed : Arc = closed_arc (arc_number n a.arc) in
-    value-with_closed arcs (closed_at n a.arc) flows (long ∙ sym (length-set n.arcs (a.arc - 1) closed))
-    ∙ flow_value-with_arc n a.arc closed flows refl refl long
-
--- ---- each arc
-
--- The numbers of open arcs that are listed in order ascend.
-increasing-cons : (x y : ℕ) (ys : List ℕ) → x < y → IsStrictlyIncreasing (y ∷ ys) → IsStrictlyIncreasing (x ∷ y ∷ ys)
-increasing-cons x y ys lt increasing zero h = lt
-increasing-cons x y ys lt increasing (suc k) h =
-    let next : suc (k + 1) ≡ suc k + 1 = omega arith in
-    subst (λ i. get_or (y ∷ ys) k 0 < get_or (x ∷ y ∷ ys) i 0) next (increasing k (omega (arith, h)))
-
-pub increasing-tail : (x : ℕ) (xs : List ℕ) → IsStrictlyIncreasing (x ∷ xs) → IsStrictlyIncreasing xs
-increasing-tail x xs increasing k h =
-    let next : suc k + 1 ≡ suc (k + 1) = omega arith in
-    subst (λ i. get_or xs k 0 < get_or (x ∷ xs) i 0) next (increasing (suc k) (omega (arith, h)))
-
-pub increasing-open : (last : ℕ) (arcs : List Shutting) (n : Network) → AreOpenWith last arcs n → IsStrictlyIncreasing (last ∷ numbers arcs)
-increasing-open last [] n are = λ k h. absurd (omega (arith, h))
-increasing-open last (a ∷ arcs) n are = increasing-cons last a.arc (numbers arcs) are.0 (increasing-open a.arc arcs n are.2)
-
-same-cond : {A : Type 0} (b : Bool) (x : A) → cond b x x ≡ x
-same-cond true x = refl
-same-cond false x = refl
-
--- An arc of the network with these arcs closed, whose numbers ascend from past 0.
-pub arc-closed : (last : ℕ) (arcs : List Shutting) (n : Network) (k : ℕ) → IsStrictlyIncreasing (last ∷ numbers arcs) → k < length n.arcs → get_or (with_closed arcs n).arcs k no_arc ≡ cond (shuts arcs (k + 1)) (closed_arc (get_or n.arcs k no_arc)) (get_or n.arcs k no_arc)
-arc-closed last [] n k increasing h = refl
-arc-closed last (a ∷ arcs) n k increasing h =
-    let past : last < a.arc = increasing 0 (omega arith) in
-    let closed : Arc = closed_arc (arc_number n a.arc) in
-    let within : k < length (closed_at n a.arc).arcs = rw length-set h in
-    let rest = arc-closed a.arc arcs (closed_at n a.arc) k (increasing-tail last (a.arc ∷ numbers arcs) increasing) within in
-    ⊎_elim
-    (λ (here : ((a.arc == k + 1) ≡ true) × (a.arc ≡ k + 1)).
-    let index : k ≡ a.arc - 1 = omega (arith, here.1) in
-    let put : get_or (closed_at n a.arc).arcs k no_arc ≡ closed_arc (get_or n.arcs k no_arc) =
-    ap (λ i. get_or (closed_at n a.arc).arcs i no_arc) index ∙ get_or-set_same n.arcs (a.arc - 1) closed no_arc (omega (arith, h, index)) ∙ ap (λ i. closed_arc (get_or n.arcs i no_arc)) (sym index) in
-    rw here.0 (rest ∙ ap (λ x. cond (shuts arcs (k + 1)) (closed_arc x) x) put ∙ same-cond (shuts arcs (k + 1)) (closed_arc (get_or n.arcs k no_arc))))
-    (λ (other : ((a.arc == k + 1) ≡ false) × (a.arc ≢ k + 1)).
-    let apart : k ≢ a.arc - 1 = λ e. other.1 (omega (arith, e, past)) in
-    rw other.0 (rest ∙ ap (λ x. cond (shuts arcs (k + 1)) (closed_arc x) x) (get_or-set_other n.arcs (a.arc - 1) k closed no_arc apart)))
-    (eqb_tells a.arc (k + 1))
 
 -- ---- opened again
 

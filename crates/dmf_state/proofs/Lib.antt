@@ -1,6 +1,5 @@
 pub mod IdleArc
 pub mod Summing
-pub mod NodeSums
 pub mod OverCapacity
 pub mod Balance
 pub mod Changing

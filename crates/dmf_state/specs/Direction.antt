@@ -1,5 +1,5 @@
 -- Edits that are made or taken back, and a last arc that can be dropped.
--- Private: only contracts inside the crate and proofs use this.
+-- Private: only proofs and contracts inside the crate use this, and contracts of what it exports for the crates above it alone.
 use Rattle.std.specs.Prelude.{ℕ, ◌≡◌, List, map, false}
 use Rattle.dmf_state.specs.declared.arc.Arc.{Arc}
 use Rattle.dmf_state.specs.declared.edit.Edit.{Edit}

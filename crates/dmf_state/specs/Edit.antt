@@ -1,7 +1,6 @@
 -- Edits: changes that were planned on a state, written down so that they can be applied to it.
 -- Public: a public contract says no more than this.
-use Rattle.std.specs.Prelude.{ℕ, ◌≡◌, ◌+◌, ◌-◌, ◌<◌, ◌==◌, if◌then◌else◌, Bool, List, [], ◌∷◌, map, slice_get, slice_set, Some, true, false, ⊤}
-use Rattle.std.specs.List.{list_any}
+use Rattle.std.specs.Prelude.{ℕ, ◌≡◌, ◌+◌, ◌-◌, ◌<◌, ◌==◌, if◌then◌else◌, List, [], ◌∷◌, map, slice_get, slice_set, Some, true, false, ⊤}
 use Rattle.dmf_state.specs.declared.edit.Move.{Move}
 use Rattle.dmf_state.specs.declared.edit.Shutting.{Shutting}
 use Rattle.dmf_state.specs.declared.edit.Edit.{Edit}
@@ -21,10 +20,6 @@ moves_of (Solve moves) = moves.items
 -- the numbers of these arcs
 abbrev pub numbers : List Shutting → List ℕ
 numbers arcs = map (λ a. a.arc) arcs
-
--- whether arc number `j` is one of these
-abbrev pub shuts : List Shutting → ℕ → Bool
-shuts arcs j = list_any (λ a. a.arc == j) arcs
 
 -- the numbers of the arcs that an edit shuts
 abbrev pub shut_arcs : Edit → List ℕ

@@ -37,7 +37,7 @@ impl Arc {
     }
 
     /// The arc, closed.
-    pub fn close(self) -> Self
+    pub fn closed(self) -> Self
         ensures { result ≡ closed_arc self }
     {
         Arc {

@@ -10,7 +10,9 @@ use std::alloc::{AllocError, Global};
 /// What flows out of a node and into it.
 #[derive(Clone, Copy, Debug)]
 pub struct NodeFlow {
+    /// The sum of the flows on the arcs that have the node as their tail.
     pub leaving: u64,
+    /// The sum of the flows on the arcs that have the node as their head.
     pub entering: u64,
 }
 
@@ -76,26 +78,6 @@ impl FlowSums {
             entering: self.entering[k],
         }
     }
-}
-
-/// What flows out of a node and into it, in one pass over the arcs.
-pub fn node_flow(arcs: &[Arc], flows: &[u64], node: u32) -> NodeFlow
-    requires one_flow_each { length flows.now ≡ length arcs.now }
-    requires small { sum_by (λ p. p.1) (zip arcs.now flows.now) < 2 ^ 64 }
-    ensures { IsNodeFlow arcs.now flows.now node result }
-{
-    let mut leaving = 0;
-    let mut entering = 0;
-    for (i, arc) in arcs.iter().enumerate() {
-        let flow = flows[i];
-        if arc.tail == node {
-            leaving += flow;
-        }
-        if arc.head == node {
-            entering += flow;
-        }
-    }
-    NodeFlow { leaving, entering }
 }
 
 /// The number of the first arc on which more flows than its capacity, counted from 1.

@@ -4,7 +4,6 @@
 pub use arc::Arc;
 pub use edit::{Edit, Move, Shutting};
 pub use fault::{ArcFault, FlowFault, NetFault, NoMemory};
-pub use flow_sums::{NodeFlow, node_flow};
 pub use laws::{edit_has_one_state_before, reverting_gives_back};
 pub use limits::{MAX_ARCS, MAX_NODES};
 pub use moves::Direction;

@@ -12,7 +12,9 @@ use crate::flow_sums::NodeFlow;
 /// Whether an edit is made or taken back.
 #[derive(Clone, Copy)]
 pub enum Direction {
+    /// It is made.
     Forward,
+    /// It is taken back.
     Back,
 }
 

@@ -8,7 +8,8 @@ use std::marker::Model;
 
 /// A set of nodes that is a cut, with the capacity of the cut.
 ///
-/// Its methods take no memory.
+/// [`Side::new`] asks that the numbers of the nodes ascend, and no more: that they are a cut, and of this capacity, is what the
+/// contract of a call says that tells a side. Its methods take no memory.
 #[derive(Debug, Drop)]
 pub struct Side {
     ids: Vec<u32>,

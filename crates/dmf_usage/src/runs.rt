@@ -20,6 +20,7 @@ fn words_ask_to_solve(rt: HostRuntime) -> Result<(), Fail> {
         let wanted = Arguments {
             mode: Mode::Solve { cut: *cut },
             progress: *progress,
+            brief: false,
         };
         expect(rt.alloc(), line, wanted)?;
     }
@@ -69,8 +70,38 @@ fn expect_sessions(alloc: Global, rows: &[Session]) -> Result<(), Fail> {
             history: *history,
             problem: String::from_str(alloc, problem)?,
         };
-        let progress = *progress;
-        expect(alloc, line, Arguments { mode, progress })?;
+        let wanted = Arguments {
+            mode,
+            progress: *progress,
+            brief: false,
+        };
+        expect(alloc, line, wanted)?;
+    }
+    Ok(())
+}
+
+/// Words that ask for a session on the problem P with brief replies, each with whether cuts and the progress are told, and the bound.
+const BRIEF: [(&str, bool, bool, u32); 4] = [
+    ("session --brief P", false, false, 1_000_000),
+    ("session --brief --cut P", true, false, 1_000_000),
+    ("session --cut P --brief", true, false, 1_000_000),
+    ("session --progress --brief --history 3 P", false, true, 3),
+];
+
+#[test]
+fn words_ask_for_brief_replies(rt: HostRuntime) -> Result<(), Fail> {
+    for (line, cut, progress, history) in &BRIEF {
+        let mode = Mode::Session {
+            cut: *cut,
+            history: *history,
+            problem: String::from_str(rt.alloc(), "P")?,
+        };
+        let wanted = Arguments {
+            mode,
+            progress: *progress,
+            brief: true,
+        };
+        expect(rt.alloc(), line, wanted)?;
     }
     Ok(())
 }
@@ -91,6 +122,7 @@ fn words_ask_for_a_check(rt: HostRuntime) -> Result<(), Fail> {
     let wanted = Arguments {
         mode: Mode::Check { problem },
         progress: false,
+        brief: false,
     };
     expect(rt.alloc(), "check P", wanted)
 }

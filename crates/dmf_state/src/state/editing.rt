@@ -39,7 +39,7 @@ impl State {
                 ref moves,
                 ..
             } => {
-                let arc = self.arc(j).close();
+                let arc = self.arc(j).closed();
                 self.change_arc(j, arc, moves, Direction::Forward);
                 Ok(())
             }
@@ -93,7 +93,7 @@ impl State {
         ensures { self.new ≡ record { network = with_closed arcs.now self.old.network; flows = self.old.flows } }
     {
         for shutting in arcs {
-            let arc = self.arc(shutting.arc).close();
+            let arc = self.arc(shutting.arc).closed();
             self.set_arc(shutting.arc, arc);
         }
     }

@@ -7,12 +7,14 @@ use Rattle.dmf_arguments.proofs.words.arguments_of.Goals as goal
 
 -- a session was asked for
 pub returns-in_ok-path_of-in-Some-session-default-clause-session : goal.returns-in_ok-path_of-in-Some-session-default-clause-session
-returns-in_ok-path_of-in-Some-session-default-clause-session c = λ cut progress text bound path is writes.
+returns-in_ok-path_of-in-Some-session-default-clause-session c = λ cut brief progress text bound path is writes.
     let found = found_of c.in-Some-session-default.session.now in
-    let both = asked_rows (subcommand_rows_of c.args.matches.now) (rows_of found) _ _ _ _ _ c.in-Some-session-default.ensures.rows is in
+    let both = asked_rows (subcommand_rows_of c.args.matches.now) (rows_of found) _ _ _ _ _ _ c.in-Some-session-default.ensures.rows is in
     same-holding
-    (flag_reads cut c.get_flag-in-Some-session-default.result _ c.get_flag-in-Some-session-default.ensures.value c.get_flag-in-Some-session-default.ensures.other
-    (one_text-rows found (codes "cut") ∙ both.flag_is))
+    (flag_reads cut c.get_flag-in-Some-session-default-2.result _ c.get_flag-in-Some-session-default-2.ensures.value
+    c.get_flag-in-Some-session-default-2.ensures.other (one_text-rows found (codes "cut") ∙ both.flag_is))
+    (flag_reads brief c.get_flag-in-Some-session-default.result _ c.get_flag-in-Some-session-default.ensures.value
+    c.get_flag-in-Some-session-default.ensures.other (one_text-rows found (codes "brief") ∙ both.brief_is))
     (flag_reads progress c.get_flag.result _ c.get_flag.ensures.value c.get_flag.ensures.other
     (one_text-rows found (codes "progress") ∙ both.progress_is))
     (c.bound_of.ensures.value text bound (one_text-rows found (codes "history") ∙ both.bound_is) writes)
@@ -20,16 +22,16 @@ returns-in_ok-path_of-in-Some-session-default-clause-session c = λ cut progress
 
 -- checking was asked for
 pub returns-in_ok-path_of-in-Some-check-default-clause-check : goal.returns-in_ok-path_of-in-Some-check-default-clause-check
-returns-in_ok-path_of-in-Some-check-default-clause-check c = λ cut progress text path is.
+returns-in_ok-path_of-in-Some-check-default-clause-check c = λ cut brief progress text path is.
     let found = found_of c.in-Some-check-default.check.now in
-    let both = asked_rows (subcommand_rows_of c.args.matches.now) (rows_of found) _ _ _ _ _ c.in-Some-check-default.ensures.rows is in
+    let both = asked_rows (subcommand_rows_of c.args.matches.now) (rows_of found) _ _ _ _ _ _ c.in-Some-check-default.ensures.rows is in
     ap checking (c.in_ok-path_of-in-Some-check-default.ensures path (first_value-rows found (codes "problem") ∙ both.path_is))
 
 -- solving was asked for
 pub returns-in-Some-clause-solve : goal.returns-in-Some-clause-solve
-returns-in-Some-clause-solve c = λ cut progress text path is.
+returns-in-Some-clause-solve c = λ cut progress brief text path is.
     let found = found_of c.in-Some.solve.now in
-    let both = asked_rows (subcommand_rows_of c.args.matches.now) (rows_of found) _ _ _ _ _ c.in-Some.ensures.rows is in
+    let both = asked_rows (subcommand_rows_of c.args.matches.now) (rows_of found) _ _ _ _ _ _ c.in-Some.ensures.rows is in
     ap₂ solving (flag_reads cut c.get_flag-in-Some-2.result _ c.get_flag-in-Some-2.ensures.value
     c.get_flag-in-Some-2.ensures.other (one_text-rows found (codes "cut") ∙ both.flag_is))
     (flag_reads progress c.get_flag-in-Some.result _ c.get_flag-in-Some.ensures.value c.get_flag-in-Some.ensures.other

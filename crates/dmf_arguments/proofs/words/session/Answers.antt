@@ -8,16 +8,18 @@ pub returns-clause-line : goal.returns-clause-line
 returns-clause-line c =
     let start = ap app_of_fields c.after_help.ensures
     ∙ (ap app_of_fields c.override_usage.ensures ∙ (ap app_of_fields c.about.ensures ∙ c.new.ensures.app)) in
-    let one = line_with _ _ _ _ _ c.in_ok-arg.ensures c.cut.ensures.local start c.cut.ensures.rule in
-    let two = line_with _ _ _ _ _ c.in_ok-arg-2.ensures c.history.ensures.local one c.history.ensures.rule in
-    let three = line_with _ _ _ _ _ c.in_ok-arg-3.ensures c.progress.ensures.local two c.progress.ensures.rule in
-    IfOk-weaker c.arg-4.result _ _ (λ m h. line_with _ _ _ _ _ h c.problem.ensures.local three c.problem.ensures.rule) c.arg-4.ensures
+    let brief = line_with _ _ _ _ _ c.in_ok-arg.ensures c.brief.ensures.local start c.brief.ensures.rule in
+    let cut = line_with _ _ _ _ _ c.in_ok-arg-2.ensures c.cut.ensures.local brief c.cut.ensures.rule in
+    let history = line_with _ _ _ _ _ c.in_ok-arg-3.ensures c.history.ensures.local cut c.history.ensures.rule in
+    let progress = line_with _ _ _ _ _ c.in_ok-arg-4.ensures c.progress.ensures.local history c.progress.ensures.rule in
+    IfOk-weaker c.arg-5.result _ _ (λ m h. line_with _ _ _ _ _ h c.problem.ensures.local progress c.problem.ensures.rule) c.arg-5.ensures
 
 pub returns-clause-local : goal.returns-clause-local
 returns-clause-local c =
     let start = ap has_globals c.after_help.ensures
     ∙ (ap has_globals c.override_usage.ensures ∙ (ap has_globals c.about.ensures ∙ c.new.ensures.local)) in
-    let one = local_with _ _ _ c.in_ok-arg.ensures c.cut.ensures.local start in
-    let two = local_with _ _ _ c.in_ok-arg-2.ensures c.history.ensures.local one in
-    let three = local_with _ _ _ c.in_ok-arg-3.ensures c.progress.ensures.local two in
-    IfOk-weaker c.arg-4.result _ _ (λ m h. local_with _ _ _ h c.problem.ensures.local three) c.arg-4.ensures
+    let brief = local_with _ _ _ c.in_ok-arg.ensures c.brief.ensures.local start in
+    let cut = local_with _ _ _ c.in_ok-arg-2.ensures c.cut.ensures.local brief in
+    let history = local_with _ _ _ c.in_ok-arg-3.ensures c.history.ensures.local cut in
+    let progress = local_with _ _ _ c.in_ok-arg-4.ensures c.progress.ensures.local history in
+    IfOk-weaker c.arg-5.result _ _ (λ m h. local_with _ _ _ h c.problem.ensures.local progress) c.arg-5.ensures

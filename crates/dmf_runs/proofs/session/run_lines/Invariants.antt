@@ -10,7 +10,7 @@ invariant-loop-number g l =
     let timeline = g.H.History.timeline in
     let reader = reader_of g.C.Source.remaining g.C.Source.has_failed in
     let writer = writer_of g.W.Sink.contents g.W.Sink.has_failed in
-    Progress l.fn.want_cut (timeline l.fn.session)
+    Progress l.fn.wanted (timeline l.fn.session)
     (input_over (record { bytes = []; count = 0 }) (reader l.fn.commands))
     (input_over l.input (reader l.commands))
     (writer l.fn.out)

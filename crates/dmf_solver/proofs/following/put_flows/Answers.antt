@@ -1,8 +1,7 @@
 use Rattle.std.proofs.Common.{◌≤◌, arith, length}
 use Rattle.std.proofs.lemmas.Slice.Zip.{AllZip-long}
 use Rattle.dmf_state.specs.Direction.{along}
-use Rattle.dmf_solver.proofs.EditedState.{put-none}
-use Rattle.dmf_solver.proofs.Followed.{long-followed, move-within, followed-next, followed-all}
+use Rattle.dmf_solver.proofs.Followed.{put-none, long-followed, move-within, followed-next, followed-all}
 use Rattle.dmf_state.proofs.TakenBack.{length-along, within-along, get_or-along}
 use Rattle.dmf_solver.proofs.following.put_flows.Goals as goal
 

@@ -20,7 +20,7 @@ returns-clause-kept c =
     let edit = c.args.edit.now in
     let d = c.args.direction in
     c.put_capacities.ensures (moved (along d (moves_of edit)) s.flows) (rw c.moves_of.ensures at c.put_flows.ensures.flows)
-    ∙ ap (residual_search (edited_along d edit s).network) (flows-along d edit s c.in_default.not-Add)
+    ∙ ap (residual_search (edited_along d edit s).network) (flows-along d edit s (none-added edit c.in_default.not-Add))
 
 pub returns-clause-dropped : goal.returns-clause-dropped
 returns-clause-dropped c = (λ same. absurd (cc), λ adds. absurd (none-added c.args.edit.now c.in_default.not-Add adds))
