@@ -10,6 +10,7 @@ from collections.abc import Iterator
 from pathlib import Path
 
 import pytest
+from _pytest.terminal import TerminalReporter
 from hypothesis import settings
 from hypothesis.database import DirectoryBasedExampleDatabase
 
@@ -27,7 +28,7 @@ def pytest_addoption(parser: pytest.Parser) -> None:
 # The random cases of hypothesis: the same ones each time in the gate, and others each time by hand.
 settings.register_profile("gate", max_examples=250, derandomize=True, database=None, deadline=None)
 settings.register_profile(
-    "long", max_examples=100_000, database=DirectoryBasedExampleDatabase(ROOT / ".hypothesis"), deadline=None, print_blob=True
+    "long", max_examples=100_000, database=DirectoryBasedExampleDatabase(str(ROOT / ".hypothesis")), deadline=None, print_blob=True
 )
 
 
@@ -65,7 +66,7 @@ def pytest_collection_modifyitems(items: list[pytest.Item]) -> None:
     items[:] = dealt(items, int(os.environ.get("PYTEST_XDIST_WORKER_COUNT", "1")))
 
 
-def pytest_terminal_summary(terminalreporter: pytest.TerminalReporter) -> None:
+def pytest_terminal_summary(terminalreporter: TerminalReporter) -> None:
     """Tells what was skipped, and ends with the line 'N passed, M failed', in which a script counts for each of its cases."""
     stats = terminalreporter.stats
     passed = len(stats.get("passed", []))

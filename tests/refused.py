@@ -12,7 +12,7 @@ from oracle.session import Refusals
 REFUSED = "memory", -1, -1
 
 
-def ways_of(case: Case, run: Run, row: int) -> list[str] | list[int]:
+def ways_of(case: Case, run: Run, row: int) -> list[str | int]:
     """In which of the three ways a run ended of which so many requests in a row were refused, if in one: `nothing`, the numbers of
     the refused lines, or `ample`."""
     if OUT_OF_MEMORY.allows(*run):
@@ -21,4 +21,4 @@ def ways_of(case: Case, run: Run, row: int) -> list[str] | list[int]:
     # A line that may not be refused memory is not refused by the second implementation.
     if len(lines) > row or not built.wanted(case, Refusals(lines)).allows(*run):
         return []
-    return lines or ["ample"]
+    return [*lines] or ["ample"]

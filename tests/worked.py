@@ -23,7 +23,6 @@ from worked_forms import (
     text,
     wrong,
 )
-from worked_once import ONCE
 from worked_sessions import BRIEF_SESSIONS, HISTORIES, SESSIONS
 
 SOLVES = [

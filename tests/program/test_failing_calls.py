@@ -69,21 +69,23 @@ class Texts:
     def __init__(self, case: Case) -> None:
         self.case = case
         self.ample = built.wanted(case)
-        if not isinstance(self.ample.written, bytes):
-            # The help's text is the program's own.
-            self.ample = self.ample._replace(written=built.run(case).out)
+        # The help's text is the program's own.
+        self.written = self.ample.written if isinstance(self.ample.written, bytes) else built.run(case).out
+        self.ample = self.ample._replace(written=self.written)
         self.replies: dict[bytes, bytes] = {}
 
     def due(self, given: int, is_read: bool) -> bytes:
         """What is to be written before more is read: where so many bytes were given of standard input, and where all was read."""
         command = self.case.words[:1]
         if is_read or self.case in WORDS:
-            return self.ample.written
+            return self.written
         if command != (b"session",):
             return b""
         front = ended_lines(self.case.input[:given])
         if front not in self.replies:
-            self.replies[front] = built.wanted(self.case._replace(input=front)).written
+            written = built.wanted(self.case._replace(input=front)).written
+            assert isinstance(written, bytes)
+            self.replies[front] = written
         return self.replies[front]
 
 
@@ -118,7 +120,7 @@ def wrong_writes(texts: Texts, calls: list[Call]) -> str | None:
     """Says what is wrong with the writes of a run in which no call fails and none is cut short."""
     case = texts.case
     ends = [place for place, byte in enumerate(case.input, 1) if byte == LINE_FEED] if case.words[:1] == (b"session",) else []
-    lengths = [0, *(len(texts.due(end, False)) for end in ends), len(texts.ample.written)]
+    lengths = [0, *(len(texts.due(end, False)) for end in ends), len(texts.written)]
     wanted = [end - begin for begin, end in zip(lengths, lengths[1:]) if end > begin]
     writes = [result for name, file, result in calls if (name, file) == ("write", OUTPUT)]
     return None if writes == wanted else f"it writes {writes} bytes, and not {wanted}"

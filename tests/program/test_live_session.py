@@ -125,5 +125,5 @@ class LiveSession(RuleBasedStateMachine):
         self.folder.cleanup()
 
 
-class TestLive(LiveSession.TestCase):  # type: ignore[name-defined, misc]
-    settings = settings(max_examples=60, stateful_step_count=25)
+TestLive = LiveSession.TestCase
+TestLive.settings = settings(max_examples=60, stateful_step_count=25)

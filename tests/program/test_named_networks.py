@@ -33,7 +33,7 @@ ROUND = (
     " / a 7 8 1"
 )
 # Each network with the commands that come before all others.
-NETWORKS = {
+NETWORKS: dict[str, tuple[str | bytes, str]] = {
     "two ways that cross": (CROSSED, ""),
     "two ways of one length": (JOINED, ""),
     "two ways of one length, turned": (TURNED, ""),
@@ -92,8 +92,8 @@ def first_difference(wanted: Outcome, run: Run) -> str:
     pairs = zip(wanted.written.split(b"\n"), run.out.split(b"\n"))
     for number, (line, other) in enumerate(pairs, 1):
         if line != other:
-            return f"line {number} written is {other}, and not {line}"
-    return f"status {run.status}, and not {wanted.status}; {len(run.out)} bytes, and not {len(wanted.written)}; told {run.err}"
+            return f"line {number} written is {other!r}, and not {line!r}"
+    return f"status {run.status}, and not {wanted.status}; {len(run.out)} bytes, and not {len(wanted.written)}; told {run.err!r}"
 
 
 @pytest.mark.usefixtures("case_folder")

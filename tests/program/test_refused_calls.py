@@ -14,7 +14,6 @@ import subprocess
 import tempfile
 from collections.abc import Collection
 from itertools import count
-from pathlib import Path
 from typing import Any
 
 import pytest
