@@ -126,4 +126,5 @@ class LiveSession(RuleBasedStateMachine):
 
 
 TestLive = LiveSession.TestCase
-TestLive.settings = settings(max_examples=60, stateful_step_count=25)
+assert settings.default
+TestLive.settings = settings(max_examples=settings.default.max_examples // 4, stateful_step_count=25)
