@@ -7,6 +7,7 @@ import re
 import shutil
 import subprocess
 from collections.abc import Iterator
+from itertools import islice
 from pathlib import Path
 
 import pytest
@@ -26,7 +27,7 @@ def pytest_addoption(parser: pytest.Parser) -> None:
 
 
 # The random cases of hypothesis: the same ones each time in the gate, and others each time by hand.
-settings.register_profile("gate", max_examples=250, derandomize=True, database=None, deadline=None)
+settings.register_profile("gate", max_examples=120, derandomize=True, database=None, deadline=None)
 settings.register_profile(
     "long", max_examples=100_000, database=DirectoryBasedExampleDatabase(str(ROOT / ".hypothesis")), deadline=None, print_blob=True
 )
@@ -57,9 +58,11 @@ def dealt(items: list[pytest.Item], workers: int) -> list[pytest.Item]:
     order: list[pytest.Item] = []
     for worker in range(workers):
         batch = longest[worker::workers]
-        batch += [item for item, _ in zip(others, range(size - len(batch)))]
+        batch += islice(others, max(size - len(batch), 0))
         order += batch
-    return order + list(others)
+    order += others
+    assert len(order) == len(items)
+    return order
 
 
 def pytest_collection_modifyitems(items: list[pytest.Item]) -> None:

@@ -185,7 +185,7 @@ def test_stdout(writes: bool) -> None:
     assert STDOUT.read_text() == ample()
 
 
-@pytest.mark.seconds(5)
+@pytest.mark.seconds(40)
 @pytest.mark.usefixtures("calls_program")
 @pytest.mark.parametrize("row", [1, 2])
 def test_refused(faults: str, row: int) -> None:
