@@ -1,14 +1,16 @@
 """Runs the built program on cases, in the folder where the caller stands, and beside it the second implementation. What builds
 the program is `./dmf --version`."""
 
+from __future__ import annotations
+
 import os
 import signal
 import subprocess
-import tempfile
-from concurrent.futures import ProcessPoolExecutor
 from typing import NamedTuple
 
 from oracle import program
+from oracle.program import Outcome
+from oracle.session import Refusals
 
 BUILT = os.path.join(os.path.dirname(os.path.dirname(os.path.abspath(__file__))), "crates", "dmf", "out", "dmf")
 PROBLEM = b"problem.max"
@@ -19,7 +21,7 @@ class Case(NamedTuple):
     """The words behind the program's name, the problem in the file problem.max, and what is on standard input, in bytes."""
 
     name: str
-    words: tuple
+    words: tuple[bytes, ...]
     problem: bytes
     input: bytes
 
@@ -27,12 +29,20 @@ class Case(NamedTuple):
 class Run(NamedTuple):
     """How a run ended. A signal that ended it is a status below 0."""
 
-    status: int
+    status: int | None
     out: bytes
     err: bytes
 
 
-def run(case, **environment):
+class Call(NamedTuple):
+    """A call that a run made: its name, the file's number, and what came of it."""
+
+    name: str
+    file: int
+    result: int
+
+
+def run(case: Case, **environment: str) -> Run:
     """Runs the program. What the environment has beside the caller's are texts."""
     try:
         ran = subprocess.run(
@@ -47,9 +57,8 @@ def run(case, **environment):
     return Run(ran.returncode, ran.stdout, ran.stderr)
 
 
-def watch(case, library, **fault):
-    """Runs the program with tests/faults.c preloaded, by what its first lines name. Gives the run and the calls that it made: the
-    name of each, the file's number, and what came of it."""
+def watch(case: Case, library: str, **fault: str | int) -> tuple[Run, list[Call]]:
+    """Runs the program with tests/faults.c preloaded, by what its first lines name. Gives the run and the calls that it made."""
     if os.path.exists("calls"):
         os.remove("calls")
     names = {f"FAULT_{name}".removesuffix("_CALL"): str(value) for name, value in fault.items()}
@@ -57,15 +66,15 @@ def watch(case, library, **fault):
     if not os.path.exists("calls"):
         return ended, []
     with open("calls") as calls:
-        return ended, [(name, int(file), int(result)) for name, file, result in map(str.split, calls)]
+        return ended, [Call(name, int(file), int(result)) for name, file, result in map(str.split, calls)]
 
 
-def put_problem(case):
+def put_problem(case: Case) -> None:
     with open(PROBLEM, "wb") as file:
         file.write(case.problem)
 
 
-def wanted(case, refusals=None):
+def wanted(case: Case, refusals: Refusals | None = None) -> Outcome:
     """How the second implementation ends, in the same folder."""
     return program.run(case.words, case.input, refusals)
 
@@ -75,26 +84,7 @@ def heed_interrupts() -> None:
     signal.signal(signal.SIGINT, signal.SIG_DFL)
 
 
-def enter_folder(folder):
-    """Goes to a new folder inside this one, which has a folder that is no problem."""
-    os.chdir(tempfile.mkdtemp(dir=folder))
-    os.mkdir("folder")
-
-
-def in_parallel(judge, items, size=1):
-    """What a function gives for each item, in the order of the items. Each process has a folder of its own, and takes so many
-    items at once."""
-    with tempfile.TemporaryDirectory() as folder:
-        with ProcessPoolExecutor(initializer=enter_folder, initargs=(folder,)) as pool:
-            yield from pool.map(judge, items, chunksize=size)
-
-
-def report(judge, items, size=1):
-    """Judges each item by a function that says what is wrong with it, if something is, and tells the judgements."""
-    return tell(list(in_parallel(judge, items, size)))
-
-
-def tell(said):
+def tell(said: list[object]) -> bool:
     """Names what failed of these judgements, ends with the line 'N passed, M failed', and gives the script's status."""
     failed = [wrong for wrong in said if wrong]
     for wrong in failed:

@@ -15,7 +15,7 @@ sys.path.insert(0, "clients/python")
 import random_cases
 from built import tell
 from dmf.replies import Cut, Event, Printed, Solution
-from dmf.text import Fault, TextFault, display, fields, lines, number, read_names, read_problem
+from dmf.text import Fault, display, fields, lines, number, read_names, read_problem
 from dmf.transcript import Follower, TranscriptFault
 from oracle import session, texts
 from oracle import problem as oracle_problem

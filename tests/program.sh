@@ -61,7 +61,6 @@ help_words "the word help before a command" help session
 run "the version" 0 $'dmf 0.1.0\n' "" --version </dev/null
 run "a cut behind the problem" 0 "$solution_a$cut_a" "" session examples/a.max --cut <<<solve
 run "words that are not UTF-8" 2 "" $'dmf: a word is not UTF-8\n' session $'\xff' </dev/null
-count_script tests/words.py
 
 # Solving.
 run "no words" 0 "$solution_a" "" <examples/a.max
@@ -79,7 +78,6 @@ run "an empty problem" 3 "" $'dmf: line 1: problem line expected\n' session /dev
 # Sessions.
 run "standard input is a folder" 4 "" $'dmf: read failed\n' session examples/a.max <examples
 run_script "the examples of the documents and of the help" tests/examples.py
-run_script "each reply is seen before the next line is sent" tests/live_session.py
 
 # The script finds the program from any folder and through a link, and the program finds the caller's files.
 ln -s "$PWD/dmf" "$work/linked"

@@ -2,7 +2,11 @@
 
 A text is made as a list of lines, and a line as a list of fields. Faults are put into these, or into the bytes at the end."""
 
+from __future__ import annotations
+
+from collections.abc import Callable, Iterator
 from dataclasses import replace
+from random import Random
 
 from built import PROBLEM, Case
 from odd_texts import ODD_BYTES, ODD_COMMANDS, ODD_FIELDS, ODD_LINES
@@ -11,12 +15,15 @@ from oracle.network import Arc, State
 from oracle.session import FIELDS
 from oracle.texts import LARGEST, Fault
 
+Lines = list[list[bytes]]
+CHANGES: list[Callable[..., State]] = [solve, cap, cap, close, shut, add]
 
-def line(*fields):
+
+def line(*fields: object) -> list[bytes]:
     return [str(field).encode() for field in fields]
 
 
-def capacities(random):
+def capacities(random: Random) -> Callable[[], int]:
     """A way in which capacities are chosen."""
     kind = random.randrange(14)
     if kind < 3:
@@ -34,7 +41,7 @@ def capacities(random):
     return lambda: random.randrange(1, 12)
 
 
-def near_ends(nodes, random):
+def near_ends(nodes: int, random: Random) -> Iterator[tuple[int, int]]:
     """The ends of arcs of which most lead to one of the next places, so that paths are long."""
     reach, fewest, most = random.choice([1, 2, 3]), random.choice([0, 1, 1]), random.choice([1, 2, 4, 6, 8])
     for tail in range(nodes):
@@ -43,7 +50,7 @@ def near_ends(nodes, random):
             yield tail, min(head, nodes - 1)
 
 
-def level_ends(nodes, random):
+def level_ends(nodes: int, random: Random) -> Iterator[tuple[int, int]]:
     """The ends of arcs that lead from level to level."""
     width, degree = random.choice([2, 3, 4, 6]), random.choice([1, 2, 2])
     for place in range(1, nodes - 1):
@@ -54,7 +61,7 @@ def level_ends(nodes, random):
             yield place, head
 
 
-def chain_ends(nodes, random):
+def chain_ends(nodes: int, random: Random) -> Iterator[tuple[int, int]]:
     """The ends of arcs that make chains, with short cuts from chain to chain. A shortest path takes short cuts, and the greatest
     flow often leaves them empty again."""
     count = random.randint(2, 4)
@@ -67,13 +74,13 @@ def chain_ends(nodes, random):
         yield chain[place], random.choice(other[place + 1 :] or other[-1:])
 
 
-def network(random, most_nodes=60):
+def network(random: Random, most_nodes: int = 60) -> State:
     """A network without flow. A few have a sum of capacities past 64 bits."""
     nodes = min(most_nodes, random.choice([2, 3, 4, 5, 6, 6, 8, 10, 14, 14, 20, 26, 60]))
     ends = list(random.choice([near_ends, level_ends, chain_ends, chain_ends])(nodes, random))
     for share, other in (0.05, 1), (random.choice([0, 0, 0.2, 1]), -1):
         # Parallel arcs and opposite ones.
-        ends += [pair[::other] for pair in ends if random.random() < share]
+        ends += [pair if other == 1 else (pair[1], pair[0]) for pair in ends if random.random() < share]
     if random.random() < 0.7:
         random.shuffle(ends)
     if random.random() < 0.2:
@@ -86,7 +93,7 @@ def network(random, most_nodes=60):
     return State(nodes, source, sink, arcs, (0,) * len(arcs))
 
 
-def problem_lines(state, random):
+def problem_lines(state: State, random: Random) -> Lines:
     terminals = [line("n", state.source, "s"), line("n", state.sink if random.random() < 0.99 else state.source, "t")]
     if random.random() < 0.2:
         terminals.reverse()
@@ -94,26 +101,33 @@ def problem_lines(state, random):
     return [line("p", "max", state.nodes, len(arcs)), *terminals, *arcs]
 
 
-def changed(state, random):
+def changed(state: State, random: Random) -> State:
     """The state after a few changes, with what may flow there."""
     for _ in range(random.choice([0, 1, 2, 4, 8])):
         arc = random.randint(1, len(state.arcs) + 1)
         ends = [random.randint(1, state.nodes) for _ in range(2)]
         amount = random.choice([0, 0, 1, 2, 5, 9])
-        change = random.choice([solve, cap, cap, close, shut, add])
-        numbers = {solve: [], cap: [arc, amount], close: [arc], shut: ends[:1], add: [*ends, amount]}[change]
+        change: Callable[..., State] = random.choice(CHANGES)
+        fields: dict[Callable[..., State], list[int]] = {
+            solve: [],
+            cap: [arc, amount],
+            close: [arc],
+            shut: ends[:1],
+            add: [*ends, amount],
+        }
         try:
-            state = change(state, *numbers)
+            state = change(state, *fields[change])
         except Fault:
             pass
     return state
 
 
-def with_cycles(state, random):
+def with_cycles(state: State, random: Random) -> State:
     """The state with more flow on cycles of arcs that are met by walking on at random."""
     flows = list(state.flows)
     for _ in range(random.randrange(4)):
-        node, trail = random.randint(1, state.nodes), []
+        node = random.randint(1, state.nodes)
+        trail: list[int] = []
         while True:
             nexts = [j for j, arc in enumerate(state.arcs) if arc.tail == node and flows[j] < arc.cap]
             if not nexts or len(trail) > state.nodes:
@@ -128,7 +142,7 @@ def with_cycles(state, random):
     return replace(state, flows=tuple(flows))
 
 
-def solution_lines(state, random):
+def solution_lines(state: State, random: Random) -> Lines:
     """The lines of a solution in any order. Some pairs are told by several lines, and some without flow by none."""
     lines = [line("s", state.value() if random.random() < 0.95 else random.randrange(9))]
     for arc, flow in state.open_arcs():
@@ -143,7 +157,7 @@ def solution_lines(state, random):
     return lines
 
 
-def command_lines(state, random):
+def command_lines(state: State, random: Random) -> Lines:
     """A script of commands. Most of them can be carried out."""
     count = random.choice([3, 8, 20, 60, 200])
     odd_share = random.choice([0, 0.02, 0.3])
@@ -176,7 +190,7 @@ def command_lines(state, random):
     return lines
 
 
-def with_fault(lines, random):
+def with_fault(lines: Lines, random: Random) -> Lines:
     """The lines with one thing changed. What is made need not be at fault."""
     lines = [list(fields) for fields in lines] or [[]]
     # The first three lines of a problem are at fault in most ways.
@@ -204,7 +218,7 @@ def with_fault(lines, random):
     return lines
 
 
-def other_field(field, lines, random):
+def other_field(field: bytes, lines: Lines, random: Random) -> bytes:
     """A field in place of this one: a number near it, a field of another line, or an odd one."""
     kind = random.randrange(3)
     if kind == 0 and field.isdigit() and len(field) < 100:
@@ -214,11 +228,11 @@ def other_field(field, lines, random):
     return random.choice(ODD_FIELDS)
 
 
-def plain_text(lines):
+def plain_text(lines: Lines) -> bytes:
     return b"".join(b" ".join(fields) + b"\n" for fields in lines)
 
 
-def loose_text(lines, random, comment):
+def loose_text(lines: Lines, random: Random, comment: bytes) -> bytes:
     """The text of lines with more space than is needed, leading zeros, comments, blank lines and carriage returns."""
     text = b""
     for fields in lines:
@@ -233,7 +247,7 @@ def loose_text(lines, random, comment):
     return text
 
 
-def text_of(lines, random, comment, fault_share):
+def text_of(lines: Lines, random: Random, comment: bytes, fault_share: float) -> bytes:
     """The text of lines. This share of the texts is changed somewhere, which may be a fault."""
     is_changed = random.random() < fault_share
     if is_changed:
@@ -248,7 +262,7 @@ def text_of(lines, random, comment, fault_share):
     return text
 
 
-def words_of(command, random):
+def words_of(command: bytes, random: Random) -> tuple[bytes, ...]:
     """Words that ask for this, with or without a cut, brief replies and a bound of the history; some of them are faulty."""
     path = [random.choices([PROBLEM, b"missing.max", b"folder"], [98, 1, 1])[0]] if command != b"solve" else []
     cut = [b"--cut"] * random.randrange(2) if command != b"check" else []
@@ -271,12 +285,12 @@ ODD_WORDS = (
 )
 
 
-def random_words(random):
+def random_words(random: Random) -> tuple[bytes, ...]:
     """Any words. The problem's file may be missing, or a folder."""
     return tuple(random.choices(ODD_WORDS, k=random.randrange(5)))
 
 
-def random_case(name, random):
+def random_case(name: str, random: Random) -> Case:
     command = random.choices([b"solve", b"session", b"check", b""], [20, 45, 30, 5])[0]
     state = network(random)
     if command == b"check":

@@ -1,8 +1,9 @@
 """Runs the built program on words that ask for no run: those that it does not take, of which it tells on standard error what is
 wrong with them and how it is used, and those that ask for help or for the version, which are answered on standard output."""
 
+from __future__ import annotations
+
 import re
-import sys
 
 import built
 from built import Case
@@ -119,17 +120,17 @@ HELPS = [
 VERSIONS = [("--version", "dmf 0.1.0\n"), ("-V", "dmf 0.1.0\n")]
 
 
-def having(*parts):
+def having(*parts: str) -> re.Pattern[bytes]:
     """The texts that have these parts, each behind the one before."""
     return re.compile(b".*".join([b"", *(re.escape(part.encode()) for part in parts), b""]), re.DOTALL)
 
 
-def row(words, outcome):
+def row(words: str, outcome: Outcome) -> Worked:
     """Words between which a space stands, and how the program is to end on them."""
     return Worked(Case(f"the words '{words}'", tuple(words.encode().split()), b"", b""), outcome)
 
 
-def judge(worked):
+def judge(worked: Worked) -> str | None:
     """Says what is wrong with the run on a row's words."""
     case, wanted = worked
     run = built.run(case)
@@ -142,6 +143,3 @@ ROWS = [
     *(row(words, Outcome(0, having(part))) for words, part in HELPS),
     *(row(words, Outcome(0, text.encode())) for words, text in VERSIONS),
 ]
-
-if __name__ == "__main__":
-    sys.exit(built.report(judge, ROWS))

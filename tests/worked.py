@@ -1,11 +1,9 @@
-"""Cases that were worked out by hand, and what the definitions give in them.
+"""Cases that were worked out by hand, and what the definitions give in them."""
 
-    python3 tests/worked.py    compares the built program and the second implementation with them
-"""
+from __future__ import annotations
 
-import sys
+from collections.abc import Iterator
 
-import built
 from built import PROBLEM, Case
 from oracle.program import Outcome
 from worked_forms import (
@@ -25,7 +23,6 @@ from worked_forms import (
     text,
     wrong,
 )
-from worked_once import ONCE
 from worked_sessions import BRIEF_SESSIONS, HISTORIES, SESSIONS
 
 SOLVES = [
@@ -103,7 +100,7 @@ LIMITS = [
 ]
 
 
-def fronts():
+def fronts() -> Iterator[tuple[Case, int | None]]:
     """Cases with each front of a text: a problem, commands and a solution that end anywhere. Each is given with its status, where
     that is known: a problem is whole where at most the end of its last line is missing."""
     problem = text(CROSSED)
@@ -113,18 +110,3 @@ def fronts():
         for end in range(len(whole) + 1):
             status = 3 * (end + 1 < len(whole)) if command == b"solve" else None
             yield Case(f"the first {end} bytes for {command.decode()}", words, problem, whole[:end]), status
-
-
-def judge(pair):
-    """Says what is wrong with a case, of which it may be known how it ends, or with which status."""
-    case, known = pair
-    built.put_problem(case)
-    wanted = built.wanted(case)
-    if known not in (None, wanted, wanted.status):
-        return f"{case.name}: the second implementation ends so: {wanted}"
-    run = built.run(case)
-    return None if wanted.allows(*run) else f"{case.name}: the program ends so: {run}"
-
-
-if __name__ == "__main__":
-    sys.exit(built.report(judge, WORKED + ONCE + LIMITS + [*fronts()], 10))

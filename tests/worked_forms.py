@@ -1,5 +1,7 @@
 """The forms of cases that were worked out by hand, and the networks that several of them have."""
 
+from __future__ import annotations
+
 from typing import NamedTuple
 
 from built import PROBLEM, Case
@@ -11,34 +13,34 @@ class Worked(NamedTuple):
     wanted: Outcome
 
 
-def text(lines):
+def text(lines: str | bytes) -> bytes:
     """The text of lines between which a slash stands, or the text itself where it is one."""
     if isinstance(lines, bytes):
         return lines
     return "".join(line + "\n" for line in lines.split(" / ") if line).encode()
 
 
-def solved(name, problem, written, *flags):
+def solved(name: str, problem: str | bytes, written: str, *flags: bytes) -> Worked:
     return Worked(Case(name, (b"solve", *flags), text(problem), text(problem)), Outcome(0, text(written)))
 
 
-def held(name, problem, commands, replies, *flags):
+def held(name: str, problem: str | bytes, commands: str | bytes, replies: str, *flags: bytes) -> Worked:
     case = Case(name, (b"session", *flags, PROBLEM), text(problem), text(commands))
     return Worked(case, Outcome(int("refused" in replies), text(replies)))
 
 
-def checked(name, problem, solution, verdict):
+def checked(name: str, problem: str | bytes, solution: str | bytes, verdict: str) -> Worked:
     case = Case(name, (b"check", PROBLEM), text(problem), text(solution))
     return Worked(case, Outcome(int("flow" in verdict), text(verdict)))
 
 
-def faulty(problem, told, command=b"solve"):
+def faulty(problem: str | bytes, told: str, command: bytes = b"solve") -> Worked:
     """A problem that is refused. Standard input has it too, where it is read."""
     words = (command,) if command == b"solve" else (command, PROBLEM)
     return Worked(Case(f"a problem: {told}", words, text(problem), text(problem)), Outcome(3, b"", f"dmf: {told}\n".encode()))
 
 
-def wrong(problem, solution, told):
+def wrong(problem: str | bytes, solution: str | bytes, told: str) -> Worked:
     """A solution that is refused."""
     case = Case(f"a solution: {told}", (b"check", PROBLEM), text(problem), text(solution))
     return Worked(case, Outcome(3, b"", f"dmf: {told}\n".encode()))

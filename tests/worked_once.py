@@ -1,5 +1,7 @@
 """More cases that were worked out by hand. None of their requests for memory is refused, and none of their reads and writes fails."""
 
+from __future__ import annotations
+
 from worked_forms import (
     CROSSED,
     CROSSED_CUT,
@@ -296,7 +298,7 @@ FRONTS = {
     60: "line 8: wrong number of fields",
 }
 # Solutions with their faults.
-SOLUTIONS = {
+SOLUTIONS: dict[str | bytes, str] = {
     b"c\n\n": "line 3: value line missing",
     "x": "line 1: unknown line",
     "a 1 2 3": "line 1: unknown line",

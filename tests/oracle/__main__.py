@@ -9,7 +9,7 @@ sys.path[0] = os.path.dirname(os.path.dirname(os.path.abspath(__file__)))
 from oracle.program import Outcome, asked, run  # noqa: E402
 
 
-def main():
+def main() -> int:
     words = [os.fsencode(word) for word in sys.argv[1:]]
     reads = not isinstance(asked([word.decode(errors="replace") for word in words]), Outcome)
     outcome = run(words, sys.stdin.buffer.read() if reads else b"")

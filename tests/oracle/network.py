@@ -1,5 +1,7 @@
 """Networks with a flow on them: their paths, solving, draining and the smallest side of a minimum cut."""
 
+from __future__ import annotations
+
 from dataclasses import dataclass, replace
 from typing import NamedTuple
 
@@ -27,39 +29,39 @@ class State:
     nodes: int
     source: int
     sink: int
-    arcs: tuple
-    flows: tuple
+    arcs: tuple[Arc, ...]
+    flows: tuple[int, ...]
 
-    def capacity_sum(self):
+    def capacity_sum(self) -> int:
         return sum(arc.cap for arc in self.arcs)
 
-    def excesses(self):
+    def excesses(self) -> dict[int, int]:
         """What flows out of a node less what flows into it, of each node at which these differ."""
-        excesses = {}
+        excesses: dict[int, int] = {}
         for arc, flow in zip(self.arcs, self.flows):
             excesses[arc.tail] = excesses.get(arc.tail, 0) + flow
             excesses[arc.head] = excesses.get(arc.head, 0) - flow
         return {node: excess for node, excess in excesses.items() if excess != 0}
 
-    def value(self):
+    def value(self) -> int:
         return self.excesses().get(self.source, 0)
 
-    def open_arcs(self):
+    def open_arcs(self) -> list[tuple[Arc, int]]:
         """Each open arc with its flow."""
         return [(arc, flow) for arc, flow in zip(self.arcs, self.flows) if not arc.is_closed]
 
 
-def least_path(steps, start, goal):
+def least_path(steps: list[Step], start: int, goal: int) -> list[Step] | None:
     """The shortest path from start to goal whose list of ranks comes first of those of its length, or None where no path is.
 
     Goes from distance to distance: each shortest path to a node is one to the node before it, and a step more."""
-    leaving = {}
+    leaving: dict[int, list[Step]] = {}
     for step in steps:
         leaving.setdefault(step.start, []).append(step)
-    least = {start: []}
+    least: dict[int, list[Step]] = {start: []}
     farthest = [start]
     while farthest and goal not in least:
-        found = {}
+        found: dict[int, list[Step]] = {}
         for node in farthest:
             for step in leaving.get(node, []):
                 path = least[node] + [step]
@@ -70,7 +72,7 @@ def least_path(steps, start, goal):
     return least.get(goal)
 
 
-def residual_steps(state):
+def residual_steps(state: State) -> list[Step]:
     """Along each arc what more can flow, and against it what flows."""
     steps = []
     for j, (arc, flow) in enumerate(zip(state.arcs, state.flows), 1):
@@ -81,7 +83,7 @@ def residual_steps(state):
     return steps
 
 
-def solved(state):
+def solved(state: State) -> State:
     """Augments along least paths until there is none."""
     while path := least_path(residual_steps(state), state.source, state.sink):
         amount = min(step.room for step in path)
@@ -92,7 +94,7 @@ def solved(state):
     return state
 
 
-def carrying_steps(state):
+def carrying_steps(state: State) -> list[Step]:
     """Along each arc what flows, and from the sink to the source the value, by a link that ranks after all arcs."""
     flowing = enumerate(zip(state.arcs, state.flows), 1)
     steps = [Step(2 * j, arc.tail, arc.head, flow) for j, (arc, flow) in flowing if flow > 0]
@@ -101,11 +103,12 @@ def carrying_steps(state):
     return steps
 
 
-def drained(state, j, limit):
+def drained(state: State, j: int, limit: int) -> State:
     """Takes off arc j what is above the limit, and off least paths from its head to its tail."""
     arc = state.arcs[j - 1]
     while state.flows[j - 1] > limit:
         path = least_path(carrying_steps(state), arc.head, arc.tail)
+        assert path is not None
         amount = min([state.flows[j - 1] - limit] + [step.room for step in path])
         flows = list(state.flows)
         for lowered in [j] + [step.rank // 2 for step in path]:
@@ -115,9 +118,9 @@ def drained(state, j, limit):
     return state
 
 
-def reached(state):
+def reached(state: State) -> set[int]:
     """The nodes to which residual steps lead from the source."""
-    leaving = {}
+    leaving: dict[int, list[int]] = {}
     for step in residual_steps(state):
         leaving.setdefault(step.start, []).append(step.end)
     found = {state.source}
@@ -130,11 +133,11 @@ def reached(state):
     return found
 
 
-def is_greatest(state):
+def is_greatest(state: State) -> bool:
     return state.sink not in reached(state)
 
 
-def smallest_side(state):
+def smallest_side(state: State) -> tuple[list[int], int]:
     """The nodes that every minimum cut has, ascending, and its capacity. The flow is greatest: then they are those reached."""
     side = reached(state)
     capacity = sum(arc.cap for arc in state.arcs if arc.tail in side and arc.head not in side)

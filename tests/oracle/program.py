@@ -1,9 +1,12 @@
 """The program as its caller sees it: words, files, standard streams and statuses."""
 
+from __future__ import annotations
+
 import re
+from collections.abc import Callable, Sequence
 from typing import NamedTuple
 
-from .network import is_greatest, solved
+from .network import State, is_greatest, solved
 from .problem import read_problem
 from .session import MOST_KEPT, MOST_LINES, Refusals, SolveReply, cut_of, run_lines
 from .solution import read_solution, solution_text
@@ -19,10 +22,10 @@ class Outcome(NamedTuple):
     the texts that it matches, where the documents do not have the text itself."""
 
     status: int
-    written: object
-    told: object = b""
+    written: bytes | re.Pattern[bytes]
+    told: bytes | re.Pattern[bytes] = b""
 
-    def allows(self, status, out, err):
+    def allows(self, status: int | None, out: bytes, err: bytes) -> bool:
         """Whether a run that ended so ended as this says."""
         pairs = (self.written, out), (self.told, err)
         return self.status == status and all(
@@ -30,15 +33,24 @@ class Outcome(NamedTuple):
         )
 
 
+class Asked(NamedTuple):
+    """What words ask for: a command, what is wanted of a solve's reply, the bound of the history, and the path where one is."""
+
+    command: str
+    wanted: SolveReply
+    bound: int
+    path: str = ""
+
+
 class Ended(Exception):
     """A run that ends before it writes anything."""
 
-    def __init__(self, status, told):
+    def __init__(self, status: int, told: bytes) -> None:
         super().__init__(told)
         self.outcome = Outcome(status, b"", told)
 
 
-def told(text):
+def told(text: object) -> bytes:
     return f"dmf: {text}\n".encode()
 
 
@@ -49,34 +61,34 @@ VERSION = Outcome(WELL, b"dmf 0.1.0\n")
 REFUSED_WORDS = Outcome(USAGE, b"", re.compile(rb"error: .*\nUsage: dmf.*\n", re.DOTALL))
 REFUSED_VALUE = Outcome(USAGE, b"", re.compile(rb"error: .*\n", re.DOTALL))
 NO_TEXT = Outcome(USAGE, b"", told("a word is not UTF-8"))
-FLAGS = {"solve": ("--cut", "--progress"), "session": ("--brief", "--cut", "--progress"), "check": ()}
+FLAGS: dict[str, tuple[str, ...]] = {"solve": ("--cut", "--progress"), "session": ("--brief", "--cut", "--progress"), "check": ()}
 
 
-def help_on(words):
+def help_on(words: list[str]) -> Outcome:
     """The help of a command, or of the program. Its text is the program's own, but that it says how it is used."""
     usage = b"".join(rb" " + word.encode() for word in words)
     return Outcome(WELL, re.compile(rb".*\nUsage: dmf" + usage + rb"\b.*\n", re.DOTALL))
 
 
-def bounded(text):
+def bounded(text: bytes) -> bytes:
     if len(text) > MOST_BYTES:
         raise Ended(STREAM_FAULT, TOO_MUCH)
     return text
 
 
-def judged(read, *texts):
+def judged(read: Callable[..., State], *texts: object) -> State:
     try:
         return read(*texts)
     except LineFault as fault:
         raise Ended(TEXT_FAULT, told(fault)) from None
 
 
-def solve(problem, want_cut):
+def solve(problem: bytes, want_cut: bool) -> Outcome:
     state = solved(judged(read_problem, bounded(problem)))
     return Outcome(WELL, solution_text(state) + (cut_of(state) if want_cut else b""))
 
 
-def check(problem, solution):
+def check(problem: bytes, solution: bytes) -> Outcome:
     state = judged(read_problem, bounded(problem))
     state = judged(read_solution, bounded(solution), state)
     if is_greatest(state):
@@ -84,7 +96,7 @@ def check(problem, solution):
     return Outcome(NOT_GREATEST, written("c", "flow", state.value()))
 
 
-def session(problem, commands, wanted, bound, refusals=None):
+def session(problem: bytes, commands: bytes, wanted: SolveReply, bound: int, refusals: Refusals | None = None) -> Outcome:
     state = judged(read_problem, bounded(problem))
     line_count = commands.count(b"\n") + (not commands.endswith(b"\n") and commands != b"")
     is_too_much = len(commands) > MOST_BYTES or line_count > MOST_LINES
@@ -96,12 +108,12 @@ def session(problem, commands, wanted, bound, refusals=None):
     return Outcome(SOME_REFUSED if some_refused else WELL, replies)
 
 
-def ended_lines(text):
+def ended_lines(text: bytes) -> bytes:
     """The lines of a text that a line feed ends."""
     return text[: text.rfind(b"\n") + 1]
 
 
-def read_file(path):
+def read_file(path: str) -> bytes:
     try:
         with open(path, "rb") as file:
             return file.read()
@@ -111,11 +123,11 @@ def read_file(path):
         raise Ended(STREAM_FAULT, told("cannot open the problem")) from None
 
 
-def asked(words):
+def asked(words: list[str]) -> Asked | Outcome:
     """What words ask for: the command's word, what is wanted of a solve's reply, the bound of the history, and the path where one is;
     or how the run ends at once. Words are taken from left to right."""
     if words in ([], ["--"]):
-        return "solve", SolveReply(), MOST_KEPT, None
+        return Asked("solve", SolveReply(), MOST_KEPT)
     if words[0] in ("-h", "--help"):
         return help_on([])
     if words[0] in ("-V", "--version"):
@@ -128,21 +140,23 @@ def asked(words):
     return asked_of(words[0], words[1:])
 
 
-def bound_of(text):
+def bound_of(text: str) -> int | None:
     """The bound that a text writes: digits, behind a plus or not; none where it is past the most."""
     digits = text.removeprefix("+")
     is_number = digits.isascii() and digits.isdigit()
     return int(digits) if is_number and int(digits) <= MOST_KEPT else None
 
 
-def asked_of(command, words):
+def asked_of(command: str, words: list[str]) -> Asked | Outcome:
     """What the words behind a command ask for."""
     path_count = 0 if command == "solve" else 1
-    paths, flags, bound, are_flags = [], set(), None, True
-    words = iter(words)
-    for word in words:
+    paths: list[str] = []
+    flags: set[str] = set()
+    bound, are_flags = None, True
+    rest = iter(words)
+    for word in rest:
         if are_flags and command == "session" and bound is None and (word == "--history" or word.startswith("--history=")):
-            bound = bound_of(word.removeprefix("--history=") if "=" in word else next(words, ""))
+            bound = bound_of(word.removeprefix("--history=") if "=" in word else next(rest, ""))
             if bound is None:
                 return REFUSED_VALUE
         elif are_flags and word in ("-h", "--help"):
@@ -160,16 +174,16 @@ def asked_of(command, words):
     if len(paths) < path_count:
         return REFUSED_WORDS
     wanted = SolveReply(cut="--cut" in flags, brief="--brief" in flags)
-    return command, wanted, MOST_KEPT if bound is None else bound, *(paths or [None])
+    return Asked(command, wanted, MOST_KEPT if bound is None else bound, *paths)
 
 
-def run(words, standard_input, refusals=None):
+def run(words: Sequence[bytes], standard_input: bytes, refusals: Refusals | None = None) -> Outcome:
     """How the program ends on these words, which are bytes, with this text on standard input."""
     try:
-        words = [word.decode() for word in words]
+        texts = [word.decode() for word in words]
     except UnicodeDecodeError:
         return NO_TEXT
-    asked_for = asked(words)
+    asked_for = asked(texts)
     if isinstance(asked_for, Outcome):
         return asked_for
     command, wanted, bound, path = asked_for

@@ -1,9 +1,12 @@
 """Sessions: command lines, the timeline of whole states, and the replies."""
 
-from typing import NamedTuple
+from __future__ import annotations
+
+from collections.abc import Callable, Iterable
+from typing import Any, NamedTuple
 
 from . import changes
-from .network import is_greatest, smallest_side
+from .network import State, is_greatest, smallest_side
 from .problem import problem_text
 from .solution import cut_text, solution_text
 from .texts import Fault, fields_of, number_of, written
@@ -24,10 +27,10 @@ FIELDS = {
     b"print": {1},
 }
 PRINTED = {b"problem", b"flow", b"cut"}
-CHANGES = {"cap": changes.cap, "add": changes.add, "close": changes.close, "shut": changes.shut, "solve": changes.solve}
+CHANGES: dict[str, Callable[..., State]] = {"cap": changes.cap, "add": changes.add, "close": changes.close, "shut": changes.shut, "solve": changes.solve}
 
 
-def command_of(line, is_ended):
+def command_of(line: bytes, is_ended: bool) -> tuple[Any, ...] | None:
     """The word of the command that a line means, with what it speaks of; None for a blank line and a comment."""
     if len(line) > LONGEST_LINE:
         raise Fault("line too long")
@@ -49,7 +52,7 @@ def command_of(line, is_ended):
     return word.decode(), *numbers
 
 
-def cut_of(state):
+def cut_of(state: State) -> bytes:
     return cut_text(*smallest_side(state))
 
 
@@ -63,16 +66,16 @@ class SolveReply(NamedTuple):
 class Session:
     """The states of a session, the place of the present one, and how many are kept before it."""
 
-    def __init__(self, state, wanted, bound=MOST_KEPT):
+    def __init__(self, state: State, wanted: SolveReply, bound: int = MOST_KEPT) -> None:
         self.states = [state]
         self.place = 0
         self.wanted = wanted
         self.bound = bound
 
-    def present(self):
+    def present(self) -> State:
         return self.states[self.place]
 
-    def reply(self, word, *rest):
+    def reply(self, word: str, *rest: Any) -> bytes:
         """Carries a command out, and gives its reply. Raises the fault for which it is refused, and then changes nothing."""
         if word == "print":
             return self.printed(*rest)
@@ -81,7 +84,7 @@ class Session:
         self.move(word, *rest)
         return written("c", word, "value", self.present().value())
 
-    def changed(self, word, *rest):
+    def changed(self, word: str, *rest: int) -> bytes:
         state = CHANGES[word](self.present(), *rest)
         self.states = self.states[: self.place + 1] + [state]
         self.place += 1
@@ -94,14 +97,14 @@ class Session:
         number = [len(state.arcs)] if word == "add" else []
         return written("c", word, *number, "value", state.value())
 
-    def move(self, word, count):
+    def move(self, word: str, count: int) -> None:
         if word == "undo" and count > self.place:
             raise Fault("nothing to undo")
         if word == "redo" and count > len(self.states) - 1 - self.place:
             raise Fault("nothing to redo")
         self.place += count if word == "redo" else -count
 
-    def printed(self, what):
+    def printed(self, what: str) -> bytes:
         state = self.present()
         if what == "problem":
             return problem_text(state)
@@ -111,7 +114,7 @@ class Session:
             raise Fault("flow is not greatest")
         return cut_of(state)
 
-    def may_want_memory(self, word, *rest):
+    def may_want_memory(self, word: str, *rest: Any) -> bool:
         """Whether this command may be refused memory, as it stands here: a change that nothing else refuses, a print of the
         cut, and steps forward of which one adds an arc."""
         if word in CHANGES:
@@ -129,18 +132,20 @@ class Session:
 class Refusals:
     """The lines of a session that are refused memory, counted from 1, where they may be; the lines that may be are noted."""
 
-    def __init__(self, lines=()):
+    def __init__(self, lines: Iterable[int] = ()) -> None:
         self.lines = frozenset(lines)
-        self.possible = set()
+        self.possible: set[int] = set()
 
-    def judge(self, session, line, command):
+    def judge(self, session: Session, line: int, command: tuple[Any, ...]) -> None:
         if session.may_want_memory(*command):
             self.possible.add(line)
             if line in self.lines:
                 raise Fault("no memory")
 
 
-def run_lines(state, text, wanted, refusals, bound=MOST_KEPT):
+def run_lines(
+    state: State, text: bytes, wanted: SolveReply, refusals: Refusals, bound: int = MOST_KEPT
+) -> tuple[bytes, bool]:
     """What the lines of a command text write, one reply a line, and whether one of them is refused. An empty rest behind the
     last line feed is no line. Lines past the limit are left out."""
     session = Session(state, wanted, bound)

@@ -1,7 +1,10 @@
 """Solution texts and cuts."""
 
+from __future__ import annotations
+
 from dataclasses import replace
 
+from .network import State
 from .texts import Fault, number_of, read_text, written
 
 FIELDS = {b"s": 2, b"f": 4}
@@ -10,17 +13,17 @@ FIELDS = {b"s": 2, b"f": 4}
 class Reading:
     """What the lines of a solution of a state's network have said so far."""
 
-    def __init__(self, state):
+    def __init__(self, state: State) -> None:
         self.state = state
-        self.value = None
+        self.value: int | None = None
         # The capacities of the arcs of each pair of tail and head, and the flow that lines have told of it.
-        self.capacities = {}
+        self.capacities: dict[tuple[int, int], int] = {}
         for arc in state.arcs:
             pair = arc.tail, arc.head
             self.capacities[pair] = self.capacities.get(pair, 0) + arc.cap
         self.flows = dict.fromkeys(self.capacities, 0)
 
-    def take(self, fields):
+    def take(self, fields: list[bytes]) -> None:
         kind = fields[0]
         if kind not in FIELDS:
             raise Fault("unknown line")
@@ -34,7 +37,7 @@ class Reading:
         else:
             self.take_flow(*numbers)
 
-    def take_flow(self, tail, head, flow):
+    def take_flow(self, tail: int, head: int, flow: int) -> None:
         pair = tail, head
         if pair not in self.flows:
             raise Fault("no such arc")
@@ -42,7 +45,7 @@ class Reading:
             raise Fault("over capacity")
         self.flows[pair] += flow
 
-    def end(self):
+    def end(self) -> State:
         if self.value is None:
             raise Fault("value line missing")
         state = replace(self.state, flows=self.put_on())
@@ -53,7 +56,7 @@ class Reading:
             raise Fault("value differs")
         return state
 
-    def put_on(self):
+    def put_on(self) -> tuple[int, ...]:
         """The flow of each arc: what its capacity allows of what the arcs of its pair before it leave."""
         left = dict(self.flows)
         flows = []
@@ -64,15 +67,15 @@ class Reading:
         return tuple(flows)
 
 
-def read_solution(text, state):
+def read_solution(text: bytes, state: State) -> State:
     """The same network with the flow that a solution text tells. Raises its first fault."""
     return read_text(text, Reading(state))
 
 
-def solution_text(state):
+def solution_text(state: State) -> bytes:
     flows = [written("f", arc.tail, arc.head, flow) for arc, flow in state.open_arcs()]
     return written("s", state.value()) + b"".join(flows)
 
 
-def cut_text(side, capacity):
+def cut_text(side: list[int], capacity: int) -> bytes:
     return written("c", "cut", capacity) + b"".join(written("c", "side", node) for node in side)

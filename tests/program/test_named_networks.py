@@ -1,14 +1,16 @@
 """Compares the built program with the second implementation on networks that were chosen for their paths, in sessions that halve
-and close each arc, shut each node, and solve again: each change on the solved network, and one after the other.
+and close each arc, shut each node, and solve again: each change on the solved network, and one after the other."""
 
-    python3 tests/named_networks.py
-"""
+from __future__ import annotations
 
-import sys
+from collections.abc import Iterator
 
 import built
-from built import PROBLEM, Case
+import pytest
+from built import PROBLEM, Case, Run
+from oracle.network import State
 from oracle.problem import read_problem
+from oracle.program import Outcome
 from worked_forms import CROSSED, CUT, JOINED, LOOSE, PARALLEL, text
 
 # As JOINED, but that the arcs to nodes 2 and 3 stand the other way round.
@@ -31,7 +33,7 @@ ROUND = (
     " / a 7 8 1"
 )
 # Each network with the commands that come before all others.
-NETWORKS = {
+NETWORKS: dict[str, tuple[str | bytes, str]] = {
     "two ways that cross": (CROSSED, ""),
     "two ways of one length": (JOINED, ""),
     "two ways of one length, turned": (TURNED, ""),
@@ -42,10 +44,10 @@ NETWORKS = {
     "a detour": (DETOUR, LED_ROUND),
     "a flow that goes round": (ROUND, ""),
 }
-BOUNDS = {"all that is kept": (), "one state kept": (b"--history", b"1")}
+BOUNDS: dict[str, tuple[bytes, ...]] = {"all that is kept": (), "one state kept": (b"--history", b"1")}
 
 
-def each_alone(state):
+def each_alone(state: State) -> Iterator[str]:
     """Halves and closes each arc and shuts each node, goes back and forth, and back again before the next; and solves there."""
     changes = [change for j, arc in enumerate(state.arcs, 1) for change in (f"cap {j} {arc.cap // 2}", f"close {j}")]
     changes += [f"shut {node}" for node in range(1, state.nodes + 1)]
@@ -53,7 +55,7 @@ def each_alone(state):
         yield from (change, "print flow", "print cut", "undo", "print flow", "redo", "print flow", "undo", "solve")
 
 
-def arcs_in_turn(state):
+def arcs_in_turn(state: State) -> Iterator[str]:
     """Halves and closes one arc after the other, and solves again each time; goes back to the begin, and forward again."""
     for j, arc in enumerate(state.arcs, 1):
         yield from (f"cap {j} {arc.cap // 2}", "print flow", f"close {j}", "print flow", "solve", "print cut")
@@ -62,7 +64,7 @@ def arcs_in_turn(state):
         yield from ("redo 2", "print flow", "redo", "print flow")
 
 
-def nodes_in_turn(state):
+def nodes_in_turn(state: State) -> Iterator[str]:
     """Shuts one inner node after the other, and solves again each time."""
     for node in range(1, state.nodes + 1):
         if node not in (state.source, state.sink):
@@ -72,9 +74,9 @@ def nodes_in_turn(state):
 SCRIPTS = [each_alone, arcs_in_turn, nodes_in_turn]
 
 
-def cases():
-    for name, (problem, before) in NETWORKS.items():
-        problem = text(problem)
+def cases() -> Iterator[Case]:
+    for name, (lines, before) in NETWORKS.items():
+        problem = text(lines)
         state = read_problem(problem)
         for script in SCRIPTS:
             commands = text(" / ".join([before, "solve", "print cut", *script(state)]))
@@ -84,21 +86,19 @@ def cases():
                     yield Case(title, (b"session", *bound, *flags, PROBLEM), problem, commands)
 
 
-def judge(case):
-    """Says what is wrong with a case."""
-    built.put_problem(case)
-    wanted, run = built.wanted(case), built.run(case)
-    return None if wanted.allows(*run) else f"{case.name}: {first_difference(wanted, run)}"
-
-
-def first_difference(wanted, run):
+def first_difference(wanted: Outcome, run: Run) -> str:
     """The first line in which a session differs from what is wanted, or how it ended where none does."""
+    assert isinstance(wanted.written, bytes)
     pairs = zip(wanted.written.split(b"\n"), run.out.split(b"\n"))
     for number, (line, other) in enumerate(pairs, 1):
         if line != other:
-            return f"line {number} written is {other}, and not {line}"
-    return f"status {run.status}, and not {wanted.status}; {len(run.out)} bytes, and not {len(wanted.written)}; told {run.err}"
+            return f"line {number} written is {other!r}, and not {line!r}"
+    return f"status {run.status}, and not {wanted.status}; {len(run.out)} bytes, and not {len(wanted.written)}; told {run.err!r}"
 
 
-if __name__ == "__main__":
-    sys.exit(built.report(judge, [*cases()], 10))
+@pytest.mark.usefixtures("case_folder")
+@pytest.mark.parametrize("case", [pytest.param(it, id=it.name) for it in cases()])
+def test_named_network(case: Case) -> None:
+    built.put_problem(case)
+    wanted, run = built.wanted(case), built.run(case)
+    assert wanted.allows(*run), first_difference(wanted, run)

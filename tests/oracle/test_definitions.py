@@ -2,16 +2,19 @@
 a least path is the least of all paths, a greatest flow has the least capacity of all cuts as its value, and the smallest side has
 the nodes that all minimum cuts have."""
 
-import sys
+from __future__ import annotations
+
+from collections.abc import Iterator
 from itertools import combinations
 from random import Random
 
-import built
-from oracle.network import is_greatest, least_path, residual_steps, smallest_side, solved
+import pytest
 from random_cases import changed, network, with_cycles
 
+from oracle.network import State, Step, is_greatest, least_path, residual_steps, smallest_side, solved
 
-def paths(steps, start, goal, passed=()):
+
+def paths(steps: list[Step], start: int, goal: int, passed: tuple[int, ...] = ()) -> Iterator[list[Step]]:
     """Each path from start to goal that comes to no node twice, as a list of steps."""
     if start == goal:
         yield []
@@ -23,7 +26,7 @@ def paths(steps, start, goal, passed=()):
                 yield [step, *rest]
 
 
-def cuts(state):
+def cuts(state: State) -> Iterator[set[int]]:
     """Each set of nodes that has the source and not the sink."""
     others = [node for node in range(1, state.nodes + 1) if node not in (state.source, state.sink)]
     for size in range(len(others) + 1):
@@ -31,33 +34,26 @@ def cuts(state):
             yield {state.source, *chosen}
 
 
-def capacity(state, side):
+def capacity(state: State, side: set[int]) -> int:
     return sum(arc.cap for arc in state.arcs if arc.tail in side and arc.head not in side)
 
 
-def is_flow(state):
+def is_flow(state: State) -> bool:
     balanced = not state.excesses().keys() - {state.source, state.sink}
     return balanced and all(0 <= flow <= arc.cap for arc, flow in zip(state.arcs, state.flows))
 
 
-def judge(number):
-    """Says what is wrong on one network."""
+@pytest.mark.parametrize("number", range(500))
+def test_definitions(number: int) -> None:
     random = Random(f"definitions/{number}")
     state = with_cycles(changed(network(random, 6), random), random)
+    assert is_flow(state), "the flow to begin with"
     steps = residual_steps(state)
     least = min(paths(steps, state.source, state.sink), key=lambda path: (len(path), [step.rank for step in path]), default=None)
+    assert least_path(steps, state.source, state.sink) == least
     best = solved(state)
     smallest = min(capacity(state, side) for side in cuts(state))
+    assert is_flow(best) and best.value() == smallest
+    assert is_greatest(state) == (state.value() == smallest) and is_greatest(best)
     in_all = set.intersection(*(side for side in cuts(state) if capacity(state, side) == smallest))
-    wrong = {
-        "the flow to begin with": not is_flow(state),
-        "the least path": least_path(steps, state.source, state.sink) != least,
-        "the greatest flow": not is_flow(best) or best.value() != smallest,
-        "whether a flow is greatest": is_greatest(state) != (state.value() == smallest) or not is_greatest(best),
-        "the smallest side": smallest_side(best) != (sorted(in_all), smallest),
-    }
-    return any(wrong.values()) and f"network {number}: {[name for name in wrong if wrong[name]]} of {state}"
-
-
-if __name__ == "__main__":
-    sys.exit(built.report(judge, range(500), 20))
+    assert smallest_side(best) == (sorted(in_all), smallest)

@@ -1,29 +1,31 @@
-"""Refuses the program of crates/dmf_calls each request for memory in turn, and each two in a row, by the preloaded library that
-the first argument names: a vector that is refused room to grow asks again, for just the room that it needs.
+"""Refuses the program of crates/dmf_calls each request for memory in turn, and each two in a row, by the preloaded library of
+tests/faults.c: a vector that is refused room to grow asks again, for just the room that it needs.
 
 After each call the program tells all that then stands. A call that is refused memory has changed nothing, and each other call
 does what the second implementation does. Changes that alter nothing take so little memory that 200 of them make fewer than 100
-requests. With the argument `--write` alone, what the program writes with ample memory is
-written to its file `stdout`, as the second implementation has it."""
+requests. What the program writes with ample memory stands in its file `stdout`; `--write` makes it anew."""
 
+from __future__ import annotations
+
+import fcntl
 import os
 import re
 import subprocess
-import sys
 import tempfile
-from functools import partial
+from collections.abc import Collection
 from itertools import count
+from typing import Any
 
-from built import in_parallel, tell
+import pytest
+from conftest import ROOT
 from oracle import changes
 from oracle.network import Arc, State
-from oracle.session import MOST_KEPT, Session
+from oracle.session import MOST_KEPT, Session, SolveReply
 from oracle.texts import Fault
 
-ROOT = os.path.dirname(os.path.dirname(os.path.abspath(__file__)))
-CRATE = os.path.join(ROOT, "crates", "dmf_calls")
-BUILT = os.path.join(CRATE, "out", "dmf_calls")
-STDOUT = os.path.join(CRATE, "stdout")
+CRATE = ROOT / "crates" / "dmf_calls"
+BUILT = CRATE / "out" / "dmf_calls"
+STDOUT = CRATE / "stdout"
 
 ARCS = (Arc(1, 2, 3), Arc(1, 3, 2), Arc(2, 3, 5), Arc(2, 4, 2), Arc(3, 4, 3))
 START = State(4, 1, 4, ARCS, (0, 0, 0, 0, 0))
@@ -48,23 +50,23 @@ TOLD = {
 WANTS_CUT = {MOST_KEPT: True, 1: False, 0: True}
 SESSIONS = [(name, bound) for bound in WANTS_CUT for name in ("whole", "delta")]
 # The calls of which some run has to be refused memory, by the part of the program's text and the word.
-GROWING = {(*session, word) for session in SESSIONS for word in ("add", "cap", "close", "shut", "solve", "print")} | {
+GROWING: set[tuple[str | int, ...]] = {(*session, word) for session in SESSIONS for word in ("add", "cap", "close", "shut", "solve", "print")} | {
     ("state", "add"),
     ("state", "copy"),
 }
 
 
-def command_of(text):
+def command_of(text: str) -> tuple[Any, ...]:
     word, *rest = text.split()
     return word, *(rest if word == "print" else map(int, rest))
 
 
-def told_command(text):
+def told_command(text: str) -> str:
     word, *fields = text.split()
     return f"command {TOLD[word].format(*map(str.capitalize, fields))}"
 
 
-def told_state(state):
+def told_state(state: State) -> list[str]:
     arcs = [
         f"{'closed' if arc.is_closed else 'open'} {arc.tail} {arc.head} {arc.cap} {flow}"
         for arc, flow in zip(state.arcs, state.flows)
@@ -72,11 +74,11 @@ def told_state(state):
     return [f"value {state.value()}", *arcs]
 
 
-def told_place(session):
+def told_place(session: Session) -> list[str]:
     return [f"past {session.place} future {len(session.states) - 1 - session.place}", *told_state(session.present())]
 
 
-def answer(session, command, is_refused):
+def answer(session: Session, command: tuple[Any, ...], is_refused: bool) -> str:
     if is_refused and session.may_want_memory(*command):
         return REFUSED
     try:
@@ -87,16 +89,16 @@ def answer(session, command, is_refused):
     return f"accepted {cut[1].decode()}" if cut else "accepted"
 
 
-def told_session(name, bound, refused):
+def told_session(name: str, bound: int, refused: Collection[int]) -> list[str]:
     """What is told of a session over the history of this name and bound, of which these commands are refused memory."""
-    session = Session(START, WANTS_CUT[bound], bound)
+    session = Session(START, SolveReply(cut=WANTS_CUT[bound]), bound)
     lines = [f"history {name} {bound}", *told_place(session)]
     for number, text in enumerate(COMMANDS):
         lines += [told_command(text), answer(session, command_of(text), number in refused), *told_place(session)]
     return lines
 
 
-def told_edits(refused, not_copied):
+def told_edits(refused: Collection[int], not_copied: Collection[int]) -> list[str]:
     """What is told of a state to which arcs are added, where these additions and these copies are refused memory."""
     state = START
     lines = ["state", *told_state(state)]
@@ -109,7 +111,7 @@ def told_edits(refused, not_copied):
     return lines
 
 
-def refused_in(part):
+def refused_in(part: list[str]) -> tuple[set[int], set[int]]:
     """The numbers of the commands of a part that are refused memory, and of the copies."""
     commands = [number for number, line in enumerate(part) if line.startswith("command ")]
     copies = [line for line in part if line in ("copy", "no copy no memory")]
@@ -119,18 +121,19 @@ def refused_in(part):
     )
 
 
-def parts_of(lines):
+def parts_of(lines: list[str]) -> list[list[str]]:
     """The parts of the program's text, each with its first line."""
     starts = [number for number, line in enumerate(lines) if line.startswith(("history ", "state", "no history", "no state"))]
     return [lines[start:end] for start, end in zip(starts, starts[1:] + [len(lines)])]
 
 
-def wanted(lines):
+def wanted(lines: list[str]) -> tuple[list[str], set[tuple[str | int, ...]]]:
     """The text that is wanted where these lines were written, and what was refused memory."""
     parts = parts_of(lines)
     if len(parts) != len(SESSIONS) + 1:
-        return [], {"not all parts"}
-    told, refusals = [], set()
+        return [], {("not all parts",)}
+    told: list[str] = []
+    refusals: set[tuple[str | int, ...]] = set()
     for session, part in zip(SESSIONS, parts):
         refused, _ = refused_in(part)
         told += part if part == ["no history"] else told_session(*session, refused)
@@ -141,7 +144,7 @@ def wanted(lines):
     return told, refusals
 
 
-def run(library, at, row, *words):
+def run(library: str, at: int, row: int, *words: str) -> tuple[int, list[str], bool]:
     """What the program writes where so many requests from this one on are refused, and whether one was."""
     with tempfile.NamedTemporaryFile() as calls:
         faults = {"FAULT": "memory", "FAULT_AT": str(at), "FAULT_ROW": str(row), "FAULT_CALLS": calls.name}
@@ -151,42 +154,56 @@ def run(library, at, row, *words):
         return ran.returncode, ran.stdout.decode().splitlines(), b"memory" in calls.read()
 
 
-def judge(library, row):
-    """Says what is wrong where so many requests in a row are refused, from each on."""
-    seen = set()
-    for at in count(1):
-        status, lines, was_refused = run(library, at, row)
-        told, refusals = wanted(lines)
-        if status != 0 or lines != told or (refusals and not was_refused):
-            return f"with {row} requests from number {at} on refused: status {status}, {refusals}"
-        if not was_refused:
-            break
-        seen |= refusals
-    missing = GROWING - seen if row > 1 else set()
-    return missing and f"with {row} requests in a row refused, no run is refused {sorted(missing)}"
-
-
-def ample():
+def ample() -> str:
     lines = [line for session in SESSIONS for line in told_session(*session, ())] + told_edits((), ())
     return "".join(f"{line}\n" for line in lines)
 
 
-def judge_many(library):
-    """Says what is wrong with 200 changes that alter nothing."""
-    ended = run(library, 100, 1, "many")
-    return ended != (0, ["past 200"], False) and f"200 changes that alter nothing end so: {ended}"
+def is_old() -> bool:
+    """Whether the program is missing, or a source has changed since it was built."""
+    if not BUILT.exists():
+        return True
+    sources = (path for part in ("src", "specs", "proofs") for path in ROOT.glob(f"crates/*/{part}/**/*"))
+    return any(path.stat().st_mtime > BUILT.stat().st_mtime for path in sources)
 
 
-def main():
-    if sys.argv[1] == "--write":
-        with open(STDOUT, "w") as file:
-            file.write(ample())
-        return 0
-    with open(STDOUT) as file:
-        said = [file.read() != ample() and "crates/dmf_calls/stdout is not what the second implementation tells"]
-    said += [*in_parallel(partial(judge, sys.argv[1]), (1, 2)), judge_many(sys.argv[1])]
-    return tell(said)
+@pytest.fixture
+def calls_program(tmp_path_factory: pytest.TempPathFactory) -> None:
+    """The program of crates/dmf_calls, which is built where it is missing or older than a source: by one worker alone."""
+    with open(tmp_path_factory.getbasetemp().parent / "dmf_calls", "w") as lock:
+        fcntl.flock(lock, fcntl.LOCK_EX)
+        if is_old():
+            ran = subprocess.run(["rt", "run"], cwd=CRATE, capture_output=True, text=True)
+            assert ran.returncode == 0, ran.stderr[-2000:]
+            BUILT.touch()
 
 
-if __name__ == "__main__":
-    sys.exit(main())
+def test_stdout(writes: bool) -> None:
+    """The text of crates/dmf_calls/stdout is what the second implementation tells."""
+    if writes:
+        STDOUT.write_text(ample())
+    assert STDOUT.read_text() == ample()
+
+
+@pytest.mark.seconds(40)
+@pytest.mark.usefixtures("calls_program")
+@pytest.mark.parametrize("row", [1, 2])
+def test_refused(faults: str, row: int) -> None:
+    """So many requests in a row are refused, from each on."""
+    seen: set[tuple[str | int, ...]] = set()
+    for at in count(1):
+        status, lines, was_refused = run(faults, at, row)
+        told, refusals = wanted(lines)
+        assert (status, lines) == (0, told), f"with {row} requests from number {at} on refused"
+        assert was_refused or not refusals, f"with {row} requests from number {at} on refused"
+        if not was_refused:
+            break
+        seen |= refusals
+    # Each call that grows is refused in some run.
+    assert row == 1 or GROWING <= seen
+
+
+@pytest.mark.usefixtures("calls_program")
+def test_many(faults: str) -> None:
+    """200 changes that alter nothing make fewer than 100 requests."""
+    assert run(faults, 100, 1, "many") == (0, ["past 200"], False)

@@ -1,18 +1,20 @@
-"""Lets each read and each write of a run fail in turn, by the preloaded library that the first argument names: with an error, as
+"""Lets each read and each write of a run fail in turn, by the preloaded library of tests/faults.c: with an error, as
 a call that was interrupted, and as a write that takes no byte. Reads and writes are cut short too.
 
 From the calls of a run it is seen in which order it reads and writes. A session has written the replies to all lines that it
 was given whole before it reads on; other runs write nothing before all is read; and after a call that failed none reads. Where
 no call fails and none is cut short, each reply is one write, and so is all that another run writes."""
 
+from __future__ import annotations
+
 import errno
-import sys
-from functools import partial
+from collections.abc import Iterator
 from itertools import count
 from typing import NamedTuple
 
 import built
-from built import PROBLEM, Case
+import pytest
+from built import PROBLEM, Call, Case, Run
 from oracle.program import Outcome, ended_lines, told
 from worked import CHECKS, SOLVES, WORKED
 from worked_forms import text
@@ -43,7 +45,7 @@ class Fault(NamedTuple):
     call: str
     error: int
 
-    def is_passed_over(self):
+    def is_passed_over(self) -> bool:
         """Whether the program is to go on as if nothing had failed. An interrupted write is tried again, and a file whose size
         is not told is read."""
         return self in (Fault("write", errno.EINTR), Fault("statx", errno.EIO))
@@ -64,30 +66,33 @@ FAULTS_OF_CALLS = [
 class Texts:
     """What the runs of a case are to write."""
 
-    def __init__(self, case):
+    def __init__(self, case: Case) -> None:
         self.case = case
         self.ample = built.wanted(case)
-        if not isinstance(self.ample.written, bytes):
-            # The help's text is the program's own.
-            self.ample = self.ample._replace(written=built.run(case).out)
-        self.replies = {}
+        # The help's text is the program's own.
+        self.written = self.ample.written if isinstance(self.ample.written, bytes) else built.run(case).out
+        self.ample = self.ample._replace(written=self.written)
+        self.replies: dict[bytes, bytes] = {}
 
-    def due(self, given, is_read):
+    def due(self, given: int, is_read: bool) -> bytes:
         """What is to be written before more is read: where so many bytes were given of standard input, and where all was read."""
         command = self.case.words[:1]
         if is_read or self.case in WORDS:
-            return self.ample.written
+            return self.written
         if command != (b"session",):
             return b""
         front = ended_lines(self.case.input[:given])
         if front not in self.replies:
-            self.replies[front] = built.wanted(self.case._replace(input=front)).written
+            written = built.wanted(self.case._replace(input=front)).written
+            assert isinstance(written, bytes)
+            self.replies[front] = written
         return self.replies[front]
 
 
-def wrong_in(texts, fault, run, calls):
+def wrong_in(texts: Texts, fault: Fault, run: Run, calls: list[Call]) -> str | None:
     """Says what is wrong with a run in which a call may have failed."""
-    given, written, failed = 0, 0, None
+    given, written = 0, 0
+    failed: tuple[str, int] | None = None
     is_read, problem_is_read = False, PROBLEM not in texts.case.words
     for name, file, result in calls:
         due = texts.due(given, is_read)
@@ -111,17 +116,17 @@ def wrong_in(texts, fault, run, calls):
     return None if wanted_end(texts.ample, failed, due, run).allows(*run) else f"it ends so: {run}"
 
 
-def wrong_writes(texts, calls):
+def wrong_writes(texts: Texts, calls: list[Call]) -> str | None:
     """Says what is wrong with the writes of a run in which no call fails and none is cut short."""
     case = texts.case
     ends = [place for place, byte in enumerate(case.input, 1) if byte == LINE_FEED] if case.words[:1] == (b"session",) else []
-    lengths = [0, *(len(texts.due(end, False)) for end in ends), len(texts.ample.written)]
+    lengths = [0, *(len(texts.due(end, False)) for end in ends), len(texts.written)]
     wanted = [end - begin for begin, end in zip(lengths, lengths[1:]) if end > begin]
     writes = [result for name, file, result in calls if (name, file) == ("write", OUTPUT)]
-    return writes != wanted and f"it writes {writes} bytes, and not {wanted}"
+    return None if writes == wanted else f"it writes {writes} bytes, and not {wanted}"
 
 
-def wanted_end(ample, failed, due, run):
+def wanted_end(ample: Outcome, failed: tuple[str, int] | None, due: bytes, run: Run) -> Outcome:
     """How a run is to end in which this call failed. A writer that failed once may be given the rest of its text again, but
     none that follows."""
     if failed is None:
@@ -137,35 +142,36 @@ def wanted_end(ample, failed, due, run):
     return ample._replace(told=run.err)
 
 
-def judge(case_and_pieces, library):
-    """Says what is wrong with the runs of a case."""
-    case, pieces = case_and_pieces
+def pieces_of(case: Case) -> list[int]:
+    """Of a long text not too small ones: each read and each write is a run."""
+    return [WHOLE, MANY if len(case.input) > MANY else FEW]
+
+
+def items() -> Iterator[tuple[Case, list[int]]]:
+    """Each case with the most bytes of a read and of a write."""
+    for case in [case for case, _ in WORKED] + WORDS:
+        yield case, pieces_of(case)
+    for kind in (SOLVES, SESSIONS, CHECKS):
+        yield kind[-1].case, [ONE]
+    for case in LONG:
+        yield case, [WHOLE, MANY]
+
+
+@pytest.mark.seconds(1)
+@pytest.mark.usefixtures("case_folder")
+@pytest.mark.parametrize(("case", "pieces"), [pytest.param(*it, id=f"{it[0].name}, {it[1]}") for it in items()])
+def test_failing_calls(case: Case, pieces: list[int], faults: str) -> None:
+    """Each call of each kind fails in turn."""
     built.put_problem(case)
     texts = Texts(case)
     for piece in pieces:
         for fault in FAULTS_OF_CALLS:
             for number in count(1):
-                run, calls = built.watch(case, library, CALL=fault.call, AT=number, AS=fault.error, PIECE=piece)
+                run, calls = built.watch(case, faults, CALL=fault.call, AT=number, AS=fault.error, PIECE=piece)
                 wrong = wrong_in(texts, fault, run, calls)
-                if wrong:
-                    return f"{case.name}: pieces of {piece}, {fault.call} {number} fails with {fault.error}: {wrong}"
+                assert not wrong, f"pieces of {piece}, {fault.call} {number} fails with {fault.error}: {wrong}"
                 if sum(name == fault.call for name, *_ in calls) < number:
                     break
             if piece == WHOLE and case not in LONG + WORDS:
                 wrong = wrong_writes(texts, calls)
-                if wrong:
-                    return f"{case.name}: {wrong}"
-    return None
-
-
-def pieces_of(case):
-    """Of a long text not too small ones: each read and each write is a run."""
-    return [WHOLE, MANY if len(case.input) > MANY else FEW]
-
-
-if __name__ == "__main__":
-    cases = [case for case, _ in WORKED] + WORDS
-    items = [(case, pieces_of(case)) for case in cases]
-    items += [(kind[-1].case, [ONE]) for kind in (SOLVES, SESSIONS, CHECKS)]
-    items += [(case, [WHOLE, MANY]) for case in LONG]
-    sys.exit(built.report(partial(judge, library=sys.argv[1]), items))
+                assert not wrong, wrong

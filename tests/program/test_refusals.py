@@ -1,24 +1,23 @@
-"""Refuses each request for memory of a run in turn, by the preloaded library that the first argument names; and where arcs are added,
-each two in a row: a vector that is refused room to grow asks again, for just the room that it needs.
+"""Refuses each request for memory of a run in turn, by the preloaded library of tests/faults.c; and where arcs are added, each two
+in a row: a vector that is refused room to grow asks again, for just the room that it needs.
 
 A run of which requests were refused ends in one of three ways: with status 5 and nothing written; in a session with at most as
 many replies `c refused L no memory`, where line L is one that may want memory, and all other replies as if that line were a
 comment; or as with ample memory."""
 
-import re
-import sys
-from functools import partial
+from __future__ import annotations
+
 from itertools import count
 
 import built
+import pytest
 from built import PROBLEM, Case
-from oracle.program import OUT_OF_MEMORY
 from oracle.session import Refusals
+from refused import REFUSED, ways_of
 from worked import WORKED
 from worked_forms import CROSSED, text
 from worked_sessions import SESSIONS
 
-REFUSED = "memory", -1, -1
 # Lines that search the network wherever the cases carry them out, and so want memory there. So does a session's first solve; a
 # later one may go along links that the session has kept, and move nothing.
 SEARCHING = b"print cut", b"shut 3"
@@ -46,19 +45,7 @@ MORE = [
 ]
 
 
-def ways_of(case, run, row):
-    """In which of the three ways a run ended of which so many requests in a row were refused, if in one: `nothing`, the numbers of
-    the refused lines, or `ample`."""
-    if OUT_OF_MEMORY.allows(*run):
-        return ["nothing"]
-    lines = [int(line) for line in re.findall(rb"^c refused (\d+) no memory$", run.out, re.MULTILINE)]
-    # A line that may not be refused memory is not refused by the second implementation.
-    if len(lines) > row or not built.wanted(case, Refusals(lines)).allows(*run):
-        return []
-    return lines or ["ample"]
-
-
-def searches(case):
+def searches(case: Case) -> set[int]:
     """The lines that search the network, and the first solve."""
     asked = Refusals()
     built.wanted(case, asked)
@@ -67,26 +54,22 @@ def searches(case):
     return {line for line in asked.possible if lines[line - 1] in SEARCHING}.union(solves[:1])
 
 
-def judge(item, library):
-    """Says what is wrong with the runs of a case of which so many requests in a row are refused."""
-    case, row = item
+ITEMS = [(case, row) for case in [it.case for it in WORKED] + MORE for row in (1, 2) if row == 1 or b"add " in case.input]
+
+
+@pytest.mark.seconds(1)
+@pytest.mark.usefixtures("case_folder")
+@pytest.mark.parametrize(("case", "row"), [pytest.param(*it, id=f"{it[0].name}, {it[1]} in a row") for it in ITEMS])
+def test_refusals(case: Case, row: int, faults: str) -> None:
+    """Each request of a case is refused in turn, or each so many in a row."""
     built.put_problem(case)
-    ways = set()
+    ways: set[str | int] = set()
     for number in count(1):
-        run, calls = built.watch(case, library, CALL="memory", AT=number, ROW=row)
+        run, calls = built.watch(case, faults, CALL="memory", AT=number, ROW=row)
         if REFUSED not in calls:
             break
         ended = ways_of(case, run, row)
-        if not ended:
-            return f"{case.name}: with {row} requests from number {number} on refused the run ends so: {run}"
+        assert ended, f"with {row} requests from number {number} on refused the run ends so: {run}"
         ways.update(ended)
-    if not built.wanted(case).allows(*run):
-        return f"{case.name}: with ample memory the run ends so: {run}"
-    missing = {"nothing", *searches(case)} - ways
-    return missing and f"{case.name}: no refused request is told so: {missing}"
-
-
-if __name__ == "__main__":
-    cases = [case for case, _ in WORKED] + MORE
-    items = [(case, row) for case in cases for row in (1, 2) if row == 1 or b"add " in case.input]
-    sys.exit(built.report(partial(judge, library=sys.argv[1]), items))
+    assert built.wanted(case).allows(*run), f"with ample memory the run ends so: {run}"
+    assert {"nothing", *searches(case)} <= ways, "a refused request is told each way"

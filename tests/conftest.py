@@ -1,0 +1,126 @@
+"""What pytest is told for all tests: where they run, what they share, in which order they begin, and the line that ends them."""
+
+from __future__ import annotations
+
+import os
+import re
+import shutil
+import subprocess
+from collections.abc import Iterator
+from itertools import islice
+from pathlib import Path
+
+import pytest
+from _pytest.terminal import TerminalReporter
+from hypothesis import settings
+from hypothesis.database import DirectoryBasedExampleDatabase
+
+ROOT = Path(__file__).resolve().parent.parent
+# So many tests with random cases are to meet each text of the documents together.
+ALL_BATCHES = 120
+BUILT = ROOT / "crates" / "dmf" / "out" / "dmf"
+
+
+def pytest_addoption(parser: pytest.Parser) -> None:
+    parser.addoption("--long", action="store_true", help="try many more random cases")
+    parser.addoption("--write", action="store_true", help="make what is compared with files anew")
+
+
+# The random cases of hypothesis: the same ones each time in the gate, and others each time by hand.
+settings.register_profile("gate", max_examples=120, derandomize=True, database=None, deadline=None)
+settings.register_profile(
+    "long", max_examples=100_000, database=DirectoryBasedExampleDatabase(str(ROOT / ".hypothesis")), deadline=None, print_blob=True
+)
+
+
+def pytest_configure(config: pytest.Config) -> None:
+    """Goes to the root, and has the program built once, before the workers begin."""
+    os.chdir(ROOT)
+    settings.load_profile("long" if config.getoption("--long") else "gate")
+    if hasattr(config, "workerinput") or config.option.collectonly:
+        return
+    ran = subprocess.run(["./dmf", "--version"], stdin=subprocess.DEVNULL, capture_output=True, text=True)
+    if ran.returncode != 0:
+        pytest.exit(f"the program is not built: {ran.stderr[-3000:]}", returncode=3)
+
+
+def seconds(item: pytest.Item) -> float:
+    marker = item.get_closest_marker("seconds")
+    return float(marker.args[0]) if marker else 0
+
+
+def dealt(items: list[pytest.Item], workers: int) -> list[pytest.Item]:
+    """The tests in an order in which each worker begins with its share of the long ones: pytest-xdist gives each at first the next
+    of a quarter of its share."""
+    longest = sorted(filter(seconds, items), key=seconds, reverse=True)
+    others = iter([item for item in items if not seconds(item)])
+    size = max(len(items) // (4 * workers), 2)
+    order: list[pytest.Item] = []
+    for worker in range(workers):
+        batch = longest[worker::workers]
+        batch += islice(others, max(size - len(batch), 0))
+        order += batch
+    order += others
+    assert len(order) == len(items)
+    return order
+
+
+def pytest_collection_modifyitems(items: list[pytest.Item]) -> None:
+    items[:] = dealt(items, int(os.environ.get("PYTEST_XDIST_WORKER_COUNT", "1")))
+
+
+def pytest_terminal_summary(terminalreporter: TerminalReporter) -> None:
+    """Tells what was skipped, and ends with the line 'N passed, M failed', in which a script counts for each of its cases."""
+    stats = terminalreporter.stats
+    passed = len(stats.get("passed", []))
+    failed = len(stats.get("failed", [])) + len(stats.get("error", []))
+    skipped = [re.sub("^Skipped: ", "", report.longrepr[2]) for report in stats.get("skipped", [])]
+    for report in stats.get("passed", []) + stats.get("failed", []):
+        told = dict(report.user_properties)
+        if "cases" in told:
+            ran, wrong = told["cases"]
+            # The script itself was counted as one.
+            passed += ran - (report.outcome == "passed")
+            failed += max(wrong, 1) - 1 if report.outcome == "failed" else 0
+            skipped += told["skipped"]
+    terminalreporter.ensure_newline()
+    unmet = [set(it[1]) for report in stats.get("passed", []) for it in report.user_properties if it[0] == "unmet"]
+    if len(unmet) >= ALL_BATCHES and set.intersection(*unmet):
+        failed += 1
+        terminalreporter.write_line(f"failed: no random case meets {sorted(set.intersection(*unmet))}")
+    for why in dict.fromkeys(skipped):
+        terminalreporter.write_line(f"skipped: {why}")
+    terminalreporter.write_line(f"{passed} passed, {failed} failed")
+
+
+@pytest.fixture(scope="session")
+def faults(tmp_path_factory: pytest.TempPathFactory) -> str:
+    """The library of tests/faults.c, which is preloaded to refuse memory and to let reads and writes fail."""
+    if not shutil.which("gcc"):
+        pytest.skip("no gcc, so no request for memory was refused, and no read or write failed")
+    library = tmp_path_factory.mktemp("library") / "faults.so"
+    source = ROOT / "tests" / "faults.c"
+    subprocess.run(["gcc", "-shared", "-fPIC", "-O1", "-Wall", "-o", library, source], check=True)
+    return str(library)
+
+
+@pytest.fixture
+def writes(request: pytest.FixtureRequest) -> bool:
+    """Whether a file that is made of others is made anew."""
+    return bool(request.config.getoption("--write"))
+
+
+@pytest.fixture(scope="session")
+def case_room(tmp_path_factory: pytest.TempPathFactory) -> Path:
+    """A folder for the files of cases, with a folder in it that is no problem."""
+    room = tmp_path_factory.mktemp("cases")
+    (room / "folder").mkdir()
+    return room
+
+
+@pytest.fixture
+def case_folder(case_room: Path) -> Iterator[Path]:
+    """The folder for the files of cases, in which the test runs."""
+    os.chdir(case_room)
+    yield case_room
+    os.chdir(ROOT)
