@@ -130,7 +130,8 @@ def expect_of_a_changed_text(expect: Expect) -> None:
         terminal = Terminal()
         subprocess.run([BUILT], stdin=file, stderr=terminal.end, timeout=SECONDS)
     told = terminal.close().splitlines()
-    expect(f"a file from its middle: {told}", told[1:] == ["line 14: there are more a lines than ARCS of the problem line says"])
+    line = len(NETWORK.splitlines()) + 1
+    expect(f"a file from its middle: {told}", told[1:] == [f"line {line}: there are more a lines than ARCS of the problem line says"])
 
 
 def expect_of_sessions(expect: Expect) -> None:

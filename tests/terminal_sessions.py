@@ -3,10 +3,13 @@ by hand."""
 
 from dataclasses import dataclass
 
-# Arcs and nodes with names, a name that two arcs have, and one of several words.
+# Arcs and nodes with names, a name that two arcs have, and some of several words.
 NETWORK = b"""c arc 2 Tunnel
 c arc 3 Mill Street, 300 mm
 c node 3 Reservoir
+c node 2 Old Mill
+c node 4 New Harbour
+c node 1 Old Mill Old Mill
 c arc 4 Bridge
 c arc 5 Bridge
 p max 4 5
@@ -24,6 +27,7 @@ COMMANDS = (
     "the commands are cap I U, add V W U, close I, shut V, solve, undo [K], redo [K] and "
     "print problem, print flow, print cut; Ctrl-D ends the session"
 )
+ADD_FORM = "add takes two nodes and a capacity (add V W U, 4 fields)"
 BOUNDS = "is no whole number from 0 to 18446744073709551615"
 
 
@@ -47,6 +51,13 @@ REFUSED = [
     ("print x", "unknown command", "'x' is not printed: print problem, print flow or print cut"),
     ("close Tunnel", "not a number", "arcs go by number here: 2 is Tunnel"),
     ("close Mill Street, 300 mm", "wrong number of fields", "arcs go by number here: 3 is Mill Street, 300 mm"),
+    ("cap Mill Street, 300 mm 5", "wrong number of fields", "arcs go by number here: 3 is Mill Street, 300 mm"),
+    ("shut Old Mill", "wrong number of fields", "nodes go by number here: 2 is Old Mill"),
+    ("add Old Mill New Harbour 5", "wrong number of fields", "nodes go by number here: the two are 2 and 4"),
+    ("add 3 Old Mill 5", "wrong number of fields", "nodes go by number here: the two are 3 and 2"),
+    # The first name may end at two places.
+    ("add Old Mill Old Mill Old Mill 5", "wrong number of fields", f"{ADD_FORM}; found 8 fields"),
+    ("add Old Mill Nowhere 5", "wrong number of fields", f"{ADD_FORM}; found 5 fields"),
     ("cap Bridge 1", "not a number", "arcs go by number here: 4 is Bridge, and so is another"),
     ("close Nobody", "not a number", "'Nobody' is no number: arcs go by number here, from 1 in the order of the problem"),
     ("shut Reservoir", "not a number", "nodes go by number here: 3 is Reservoir"),
@@ -59,7 +70,7 @@ REFUSED = [
     ("close 0", "no such arc", "there are arcs 1 to 5"),
     ("shut 9", "no such node", "there are nodes 1 to 4"),
     ("cap 1", "wrong number of fields", "cap takes an arc and its new capacity (cap I U, 3 fields); found 2 fields"),
-    ("add 1 2", "wrong number of fields", "add takes two nodes and a capacity (add V W U, 4 fields); found 3 fields"),
+    ("add 1 2", "wrong number of fields", f"{ADD_FORM}; found 3 fields"),
     ("close", "wrong number of fields", "close takes an arc (close I, 2 fields); found 1 field"),
     ("shut 1 2", "wrong number of fields", "shut takes a node (shut V, 2 fields); found 3 fields"),
     ("solve 1", "wrong number of fields", "solve takes nothing (1 field); found 2 fields"),

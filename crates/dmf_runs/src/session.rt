@@ -49,7 +49,8 @@ pub fn run_commands<H: History + Drop, C: Source, W: Sink>(
     )
 }
 
-/// Does the same with solves answered as wanted, and tells the watch of each path along which a solve augments the flow.
+/// Does the same with solves answered as wanted, and tells the watch of each state that is solved, and of each path along which a solve
+/// augments the flow.
 pub fn run_commands_watched<H: History + Drop, C: Source, W: Sink, V: Watch>(
     alloc: Global,
     session: Session<H>,
@@ -147,7 +148,8 @@ pub fn run_session_bounded<P: Source, C: Source, W: Sink>(
     )
 }
 
-/// Does the same with solves answered as wanted, and tells the watch of each path along which a solve augments the flow.
+/// Does the same with solves answered as wanted, and tells the watch of each state that is solved, and of each path along which a solve
+/// augments the flow.
 pub fn run_session_watched<P: Source, C: Source, W: Sink, V: Watch>(
     alloc: Global,
     problem: &mut P,
@@ -219,11 +221,19 @@ fn answer_command<H: History, W: Sink, V: Watch>(
     ensures { WritesLine wanted (W.written out.old) (W.written out.new) number
         (H.timeline session.old) (Ok (Some command)) (H.timeline session.new) result }
 {
+    tell_solve(session, command, watch);
     match session.step_watched(alloc, command, wanted.cut, watch) {
         Ok(reply) => {
             show(command, &reply, session.present(), wanted.brief, out)?;
             Ok(Answer::Accepted)
         }
         Err(refusal) => refuse(number, &refusal, out),
+    }
+}
+
+/// Tells the watch of the state that is solved, where the command asks for a solve.
+fn tell_solve<H: History, V: Watch>(session: &Session<H>, command: Command, watch: &mut V) {
+    if let Command::Solve = command {
+        watch.begun(session.present());
     }
 }

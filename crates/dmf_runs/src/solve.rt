@@ -33,7 +33,7 @@ pub fn run_solve<P: Source, W: Sink>(
     run_solve_watched(alloc, problem, out, want_cut, &mut Unwatched)
 }
 
-/// Does the same, and tells the watch of each path along which the flow is augmented.
+/// Does the same, and tells the watch of the state that is solved, and of each path along which the flow is augmented.
 pub fn run_solve_watched<P: Source, W: Sink, V: Watch>(
     alloc: Global,
     problem: &mut P,
@@ -70,6 +70,7 @@ fn solve<V: Watch>(
     ensures becomes { IfOk result (λ solved. Becomes state Solve solved.state) }
     ensures side { IfOk result (λ solved. IsSideWanted want_cut solved.state.network solved.side) }
 {
+    watch.begun(&state);
     let Ok((edit, side)) = plan_solve_watched(alloc, &state, want_cut, watch) else {
         return Err(NoMemory);
     };

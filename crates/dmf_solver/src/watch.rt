@@ -1,11 +1,19 @@
 ghost use Rattle.std.specs.Prelude.{◌∷◌, List, [], Option, None, pos};
 ghost use Rattle.dmf_solver.specs.Told.{Told, AreTold};
 
-/// Is told how far a solve is: of each path that augments the flow, in turn, and of nothing else. Whatever it does with that, the
-/// solve gives the same. The contracts of plans and of a session's step say what is told; of runs that is tested alone.
+use dmf_state::State;
+
+/// Is told how far a solve is: of each path that augments the flow, in turn, and of nothing else; and by a run, from which state
+/// each solve begins. Whatever it does with that, the solve gives the same. The contracts of plans and of a session's step say
+/// what is told; of runs that is tested alone.
 pub trait Watch {
     // What it was told, in order, as far as that is known. A watch that keeps no record knows nothing of it.
     ghost told: { Self → Option (List Told) } = { λ _. None };
+
+    /// A run begins to solve this state. No path is told by that.
+    fn begun(&mut self, _state: &State)
+        ensures { AreTold (told self.old) (told self.new) [] }
+    {}
 
     /// The flow was augmented along one path more, of so many links, and its value is this now. No path of a solve has fewer
     /// links than the one before: one that has more begins a phase.

@@ -136,7 +136,7 @@ fn path_of<'a>(origin: Origin<'a>) -> &'a str {
 }
 
 /// How many bytes a regular file has.
-pub fn file_size(rt: &HostRuntime, origin: Origin<'_>) -> Option<u64> {
+fn file_size(rt: &HostRuntime, origin: Origin<'_>) -> Option<u64> {
     match fs::metadata(rt, path_of(origin)) {
         Ok(told) if told.is_file() => Some(told.len()),
         _ => None,

@@ -1,8 +1,7 @@
-//! What the program says on a terminal beyond its fixed texts: how far a run is, and what explains a fault or a refusal.
+//! What the program says on a terminal beyond its fixed texts: what explains a fault, a refusal or wrong words.
 #![tactic(auto)]
 
 mod advice;
-mod bound;
 mod dialogue;
 mod explain;
 mod fields;
@@ -13,16 +12,13 @@ mod page;
 mod part;
 mod place;
 mod problem;
-mod progress;
 mod refusal;
 mod solution;
 mod typed;
 mod usage;
-mod word;
 
 pub use dialogue::{Dialogue, HeardSink, KeptCommands};
 pub use explain::{
     Origin, explain_open, explain_problem, explain_read, explain_solution, explain_words, invite,
 };
 pub use page::help_without_page;
-pub use progress::{Progress, WatchedCommands, WatchedSink, WatchedSolve, WatchedSource};

@@ -1,4 +1,5 @@
 //! Names that comments of a problem text give to its nodes and arcs (docs/FORMATS.md, Names).
+use crate::fields::count;
 use dmf_text::{Fields, Lines, number};
 
 /// What a comment names.
@@ -56,6 +57,66 @@ fn numbered_as(line: &[u8], thing: Thing, name: &[u8]) -> Option<u64> {
     } else {
         None
     }
+}
+
+/// The two nodes that an arc is to lead from and to.
+#[derive(Clone, Copy)]
+pub struct Ends {
+    pub tail: u64,
+    pub head: u64,
+}
+
+/// Two names have so many fields at most that it is tried where the first one ends.
+const MOST_FIELDS: u64 = 12;
+
+/// The two nodes whose names or numbers stand one behind the other, where there is one way alone to part them.
+pub fn find_ends(text: &[u8], names: &[u8]) -> Option<Ends> {
+    let mut found: Option<Ends> = None;
+    for fields in 1..count(names).min(MOST_FIELDS) {
+        if let Some(ends) = ends_at(text, names, fields as usize) {
+            if found.is_some() {
+                return None;
+            }
+            found = Some(ends);
+        }
+    }
+    found
+}
+
+/// The two nodes, where the name of the first has so many fields.
+fn ends_at(text: &[u8], names: &[u8], fields: usize) -> Option<Ends> {
+    let head = behind(names, fields);
+    let end = names.len().saturating_sub(head.len());
+    let tail = (&names[..end]).trim_ascii();
+    Some(Ends {
+        tail: node_of(text, tail)?,
+        head: node_of(text, head)?,
+    })
+}
+
+/// The only node with this name or number.
+fn node_of(text: &[u8], name: &[u8]) -> Option<u64> {
+    if let Ok(number) = number(name) {
+        return Some(number);
+    }
+    let named = find_named(text, Thing::Node, name)?;
+    if named.is_only {
+        Some(named.number)
+    } else {
+        None
+    }
+}
+
+/// What stands before the last field, without the blanks around it.
+pub fn without_last_field(bytes: &[u8]) -> &[u8] {
+    let mut end = 0;
+    for (i, byte) in bytes.iter().enumerate() {
+        if *byte == b' ' || *byte == b'\t' {
+            end = i;
+        }
+    }
+    let end = end.min(bytes.len());
+    (&bytes[..end]).trim_ascii()
 }
 
 /// What stands behind so many fields of a line, without the blanks around it.

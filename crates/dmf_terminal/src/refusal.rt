@@ -2,7 +2,7 @@
 use crate::advice::way_on;
 use crate::fields::{Places, count, field_at, first_fault};
 use crate::front::Front;
-use crate::names::{Named, Thing, behind, find_named};
+use crate::names::{Named, Thing, behind, find_ends, find_named, without_last_field};
 use crate::part::{Part, Parts, about, numbered, words};
 use crate::problem::found;
 use dmf_text::{NumberFault, number};
@@ -146,9 +146,45 @@ fn is_asking(word: &[u8]) -> bool {
 }
 
 fn field_count<'a>(word: &[u8], line: &'a [u8], known: Known<'_>) -> Parts<'a> {
-    match named_at(word, line, known) {
-        Some(named) => by_name(Thing::Arc, behind(line, 1), named),
+    match known.text {
+        Some(text) => by_names(word, line, text),
         None => wrong_count(word, line),
+    }
+}
+
+/// What explains names of several words behind the first word of a command, or else how many fields it takes.
+fn by_names<'a>(word: &[u8], line: &'a [u8], text: &[u8]) -> Parts<'a> {
+    let names = behind(line, 1);
+    let otherwise = wrong_count(word, line);
+    match word {
+        b"close" => one_name(text, Thing::Arc, names, otherwise),
+        b"shut" => one_name(text, Thing::Node, names, otherwise),
+        b"cap" => one_name(text, Thing::Arc, without_last_field(names), otherwise),
+        b"add" => two_names(text, without_last_field(names), otherwise),
+        _ => otherwise,
+    }
+}
+
+fn one_name<'a>(text: &[u8], thing: Thing, name: &'a [u8], otherwise: Parts<'a>) -> Parts<'a> {
+    if name.is_empty() {
+        return otherwise;
+    }
+    match find_named(text, thing, name) {
+        Some(named) => by_name(thing, name, named),
+        None => otherwise,
+    }
+}
+
+fn two_names<'a>(text: &[u8], names: &[u8], otherwise: Parts<'a>) -> Parts<'a> {
+    match find_ends(text, names) {
+        Some(ends) => [
+            Part::Words("nodes go by number here: the two are "),
+            Part::Number(ends.tail),
+            Part::Words(" and "),
+            Part::Number(ends.head),
+            Part::Words(""),
+        ],
+        None => otherwise,
     }
 }
 
@@ -166,14 +202,6 @@ fn form_of<'a>(word: &[u8]) -> &'a str {
         b"solve" => "solve takes nothing (1 field)",
         b"undo" | b"redo" => "undo and redo take a count or nothing (1 or 2 fields)",
         _ => "print takes problem, flow or cut (2 fields)",
-    }
-}
-
-/// The arc that the fields behind `close` name.
-fn named_at(word: &[u8], line: &[u8], known: Known<'_>) -> Option<Named> {
-    match (word, known.text) {
-        (b"close", Some(text)) => find_named(text, Thing::Arc, behind(line, 1)),
-        _ => None,
     }
 }
 

@@ -3,12 +3,13 @@
 //! told, the run goes on.
 ghost use Rattle.std.specs.Prelude.{◌≡◌};
 
-use crate::bound::value_bound;
-use crate::explain::{Origin, file_size, text_of};
+use crate::limit::value_limit;
 use crate::word::Word;
 use dmf_solver::Watch;
+use dmf_state::State;
 use dmf_text::{Failed, Sink, Source};
 use std::cell::Cell;
+use std::fs;
 use std::io::IsTerminal;
 use std::rt::HostRuntime;
 use std::time::{Duration, Instant};
@@ -22,8 +23,8 @@ const PAUSE: u64 = 250;
 /// So many calls go by for each look at the clock.
 const CALLS: u64 = 64;
 
-/// A problem of so many bytes is read again for what its value cannot pass.
-const MOST_AGAIN: u64 = 67_108_864;
+/// Under this name the system knows the file on standard input.
+const INPUT: &str = "/proc/self/fd/0";
 
 /// The line on standard error. What it tells of is a task: to read a text, to solve, or to write an answer.
 #[derive(Drop)]
@@ -36,9 +37,6 @@ pub struct Progress<'a> {
     /// When the next word may come.
     due: Cell<Option<Instant>>,
     is_shown: Cell<bool>,
-    /// How many bytes standard input had, until it is read again for what the value cannot pass.
-    whole: Cell<Option<u64>>,
-    most: Cell<Option<u64>>,
     /// Whether a task has begun that has not ended.
     is_busy: Cell<bool>,
 }
@@ -61,36 +59,34 @@ impl<'a> Progress<'a> {
             patience,
             due: Cell::new(None),
             is_shown: Cell::new(false),
-            whole: Cell::new(None),
-            most: Cell::new(None),
             is_busy: Cell::new(false),
         }
     }
 
-    /// How many bytes a text has, where something is told and it is that of a regular file.
-    fn size_of(&self, origin: Origin<'_>) -> Option<u64> {
+    /// How many bytes the file at this path has, where something is told and it is a regular one.
+    fn size_of(&self, path: &str) -> Option<u64> {
         self.patience?;
-        file_size(self.rt, origin)
-    }
-
-    /// What the value cannot pass, where the problem on standard input can be read again.
-    fn most(&self) -> Option<u64> {
-        if let Some(bytes) = self.whole.take() {
-            self.most.set(most_of_input(self.rt, bytes));
+        match fs::metadata(self.rt, path) {
+            Ok(told) if told.is_file() => Some(told.len()),
+            _ => None,
         }
-        self.most.get()
     }
 
-    /// Begins a task, unless one goes on. Whether it is a new one.
-    fn begin(&self) -> bool {
+    /// What the value of this state's flows cannot pass, where something is told.
+    fn most_of(&self, state: &State) -> Option<u64> {
+        self.patience?;
+        Some(value_limit(state))
+    }
+
+    /// Begins a task, unless one goes on.
+    fn begin(&self) {
         if self.is_busy.get() {
-            return false;
+            return;
         }
         self.is_busy.set(true);
         if let Some(patience) = self.patience {
             self.due.set(after(self.rt, patience));
         }
-        true
     }
 
     /// The task has ended: the line is erased, if there is one.
@@ -128,16 +124,6 @@ impl<'a> Progress<'a> {
     }
 }
 
-/// What the value of the problem on standard input cannot pass, if that is a file of just so many bytes, and not too large a one.
-fn most_of_input(rt: &HostRuntime, bytes: u64) -> Option<u64> {
-    let text = text_of(rt, Origin::Input, MOST_AGAIN)?;
-    if text.len() as u64 == bytes {
-        Some(value_bound(&text))
-    } else {
-        None
-    }
-}
-
 /// The time that it is so many milliseconds later, if the clock tells.
 fn after(rt: &HostRuntime, wait: u64) -> Option<Instant> {
     Instant::now(rt)
@@ -154,7 +140,6 @@ pub struct WatchedSource<'a, S> {
     bytes: u64,
     /// How many bytes there are, where that is known.
     size: Option<u64>,
-    is_input: bool,
 }
 
 impl<'a, S: Source> WatchedSource<'a, S> {
@@ -165,8 +150,7 @@ impl<'a, S: Source> WatchedSource<'a, S> {
             progress,
             is_told: true,
             bytes: 0,
-            size: progress.size_of(Origin::File(path)),
-            is_input: false,
+            size: progress.size_of(path),
         }
     }
 
@@ -177,17 +161,7 @@ impl<'a, S: Source> WatchedSource<'a, S> {
             progress,
             is_told: !progress.rt.stdin().is_terminal(),
             bytes: 0,
-            size: progress.size_of(Origin::Input),
-            is_input: true,
-        }
-    }
-}
-
-impl<S> WatchedSource<'_, S> {
-    /// The text was read to its end.
-    fn end_text(&self) {
-        if self.is_input {
-            self.progress.whole.set(Some(self.bytes));
+            size: progress.size_of(INPUT),
         }
     }
 }
@@ -202,9 +176,7 @@ impl<S: Source> Source for WatchedSource<'_, S> {
         self.progress.begin();
         let given = self.source.read(buffer)?;
         self.bytes = self.bytes.saturating_add(given as u64);
-        if given == 0 {
-            self.end_text();
-        } else if self.progress.is_due() {
+        if given > 0 && self.progress.is_due() {
             self.progress.tell(Word::Reading {
                 bytes: self.bytes,
                 size: self.size,
@@ -240,6 +212,8 @@ impl<S: Source> Source for WatchedCommands<'_, S> {
 #[derive(Drop)]
 pub struct WatchedSolve<'a> {
     progress: &'a Progress<'a>,
+    /// What the value cannot pass, where it is told.
+    most: Option<u64>,
     paths: u64,
     phases: u32,
     /// The number of links of the last path.
@@ -250,6 +224,7 @@ impl<'a> WatchedSolve<'a> {
     pub fn new(progress: &'a Progress<'a>) -> Self {
         WatchedSolve {
             progress,
+            most: None,
             paths: 0,
             phases: 0,
             links: 0,
@@ -258,10 +233,13 @@ impl<'a> WatchedSolve<'a> {
 }
 
 impl Watch for WatchedSolve<'_> {
+    fn begun(&mut self, state: &State) {
+        self.progress.begin();
+        *self = WatchedSolve::new(self.progress);
+        self.most = self.progress.most_of(state);
+    }
+
     fn augmented(&mut self, value: u64, links: u32) {
-        if self.progress.begin() {
-            *self = WatchedSolve::new(self.progress);
-        }
         let is_new_phase = links != self.links;
         self.paths = self.paths.saturating_add(1);
         self.phases = self.phases.saturating_add(u32::from(is_new_phase));
@@ -269,7 +247,7 @@ impl Watch for WatchedSolve<'_> {
         if (is_new_phase || self.paths % CALLS == 1) && self.progress.is_due() {
             self.progress.tell(Word::Solving {
                 value,
-                most: self.progress.most(),
+                most: self.most,
                 phases: self.phases,
                 paths: self.paths,
             });
