@@ -23,6 +23,16 @@ WORD = re.compile(r"dmf: (?:(reading|writing), \d+ MB(?: of \d+ MB)?|(solving), 
 INVITATION = "dmf: reads a problem from the terminal; Ctrl-D ends it (dmf --help says more)\n"
 SMALL = b"p max 2 1\nn 1 s\nn 2 t\na 1 2 3\n"
 SMALL_SOLUTION = b"s 3\nf 1 2 3\n"
+TWO_PIPES = b"p max 3 2\nn 1 s\nn 3 t\na 1 2 7\na 2 3 4\n"
+# What is changed before each solve after the first, and what the value of each solve that finds a path cannot pass.
+BOUNDED_SESSIONS = [
+    ("a wider pipe to the sink", [b"cap 2 9"], [4, 7]),
+    ("one narrower than what leaves the source", [b"cap 2 2", b"cap 2 3"], [4, 3]),
+    ("a pipe beside them", [b"add 1 3 5"], [4, 9]),
+    ("a pipe from the source to itself, which lets nothing out", [b"add 1 1 50\ncap 2 99"], [4, 7]),
+    ("a shut node and an undo", [b"shut 2\nundo 2"], [4, 4]),
+    ("a change that is undone", [b"cap 2 9", b"undo 3"], [4, 7, 4]),
+]
 
 
 def network(*words):
@@ -238,22 +248,34 @@ def most_of(problem):
     return min(leaving, sum(int(cap) for _, _, head, cap in arcs if head == ends[b"t"]))
 
 
+def bounds_of(told):
+    """What each word of a solve tells of the value and of what it cannot pass, in their order, without repetitions."""
+    return [*dict.fromkeys(re.findall(rb"value \d+( of at most \d+)?, phase", told))]
+
+
 def expect_of_bounds(expect):
-    """What the value cannot pass is told where the problem is a file that is read from its beginning."""
+    """What the value cannot pass is told wherever the problem comes from, and in a session of the state that is solved."""
     with open("long.max", "rb") as file:
         problem = file.read()
+    most = [b" of at most %d" % most_of(problem)]
     with open("long.max", "rb") as file:
         asked = subprocess.run([BUILT, "solve", "--progress"], stdin=file, capture_output=True)
-    told = set(re.findall(rb"value \d+( of at most \d+)?, phase", asked.stderr))
-    expect("of a file it is told what the value cannot pass", told == {b" of at most %d" % most_of(problem)})
+    expect("of a file it is told what the value cannot pass", bounds_of(asked.stderr) == most)
     asked = subprocess.run([BUILT, "solve", "--progress"], input=problem, capture_output=True)
-    expect("of a pipe it is not", set(re.findall(rb"value \d+( of at most \d+)?, phase", asked.stderr)) == {b""})
+    expect("of a pipe too", bounds_of(asked.stderr) == most)
     with open("bounded.max", "wb") as file:
         file.write(b"c a line before\n" + problem)
     with open("bounded.max", "rb") as file:
         os.lseek(file.fileno(), len(b"c a line before\n"), os.SEEK_SET)
         asked = subprocess.run([BUILT, "solve", "--progress"], stdin=file, capture_output=True)
-    expect("nor of a file that is read from its middle", b"at most" not in asked.stderr and b"value" in asked.stderr)
+    expect("and of a file that is read from its middle", bounds_of(asked.stderr) == most)
+    for name, changes, bounds in BOUNDED_SESSIONS:
+        with open("changed.max", "wb") as file:
+            file.write(TWO_PIPES)
+        commands = b"".join(b"%s\nsolve\n" % change for change in (b"c the problem as it is", *changes))
+        asked = subprocess.run([BUILT, "session", "--progress", "changed.max"], input=commands, capture_output=True)
+        told = re.findall(rb"value \d+ of at most (\d+), phase", asked.stderr)
+        expect(f"in a session, after {name}", told == [b"%d" % bound for bound in bounds])
 
 
 def main():
