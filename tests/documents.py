@@ -11,7 +11,7 @@ import re
 import sys
 from pathlib import Path
 
-CRATES = ["dmf_arguments", "dmf_node", "dmf_path", "dmf_state", "dmf_solver", "dmf_text", "dmf_history", "dmf_session", "dmf_runs"]
+CRATES = ["dmf_arguments", "dmf_node", "dmf_path", "dmf_state", "dmf_solver", "dmf_text", "dmf_history", "dmf_session", "dmf_runs", "dmf_progress"]
 # The test that each library's example is.
 EXAMPLES = {
     "dmf_net": "dmf_interface/src/examples/net.rt",
