@@ -2,7 +2,6 @@
 
 import os
 import signal
-import threading
 import time
 import unittest
 from collections.abc import Callable
@@ -10,7 +9,7 @@ from concurrent.futures import ProcessPoolExecutor, ThreadPoolExecutor
 from random import Random
 from typing import Any
 
-from shared import PIPES, dmf, pipes
+from shared import dmf, pipes
 from ends import is_running
 from oracle.network import smallest_side
 from oracle.session import Session, SolveReply

@@ -31,7 +31,7 @@ from .board_picture import NoPicture, Picture
 from .desk import Desk, DeskFault, Trial
 from .desk_text import near as near_arcs
 from .desk_text import problem, table
-from .errors import Error, Refused, SessionEnded
+from .errors import Refused, SessionEnded
 from .tables import whole_number
 
 LOOPBACK = "127.0.0.1"
