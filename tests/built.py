@@ -80,8 +80,10 @@ def wanted(case: Case, refusals: Refusals | None = None) -> Outcome:
 
 
 def heed_interrupts() -> None:
-    """Has a child heed Ctrl-C, before it begins: where a script runs in the background, as those of `./test` do, it would not."""
+    """Has a child heed Ctrl-C and a hang-up, before it begins: where a script runs in the background, as those of `./test` do, or under
+    nohup, it would not."""
     signal.signal(signal.SIGINT, signal.SIG_DFL)
+    signal.signal(signal.SIGHUP, signal.SIG_DFL)
 
 
 def tell(said: list[object]) -> bool:
