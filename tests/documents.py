@@ -1,6 +1,6 @@
 """Compares what stands twice in the repository, and looks for definitions and lemmas that nothing uses:
 
-- the examples of README.md and of each library's README are the tests that they are;
+- the example of each library's README is the test that it is;
 - docs/FILES.md has each file of definitions and lemmas with its first words (--write puts them there);
 - each link between pages leads to a file, and to a heading of it where it names one;
 - each definition and lemma is named by the rest of its file, or by a file that names its file.
@@ -125,7 +125,7 @@ def unused():
 def main():
     if sys.argv[1:] == ["--write"]:
         FILES.write_text(files_text())
-    pages = [("dmf_session", Path("README.md")), *((it, Path(f"crates/{it}/README.md")) for it in EXAMPLES)]
+    pages = [(it, Path(f"crates/{it}/README.md")) for it in EXAMPLES]
     checks = [*([*wrong_examples(*page)] for page in pages), [*wrong_files()], [*dead_links()], [*unused()]]
     for found in checks:
         print(*found, sep="\n", end="\n" if found else "")
