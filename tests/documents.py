@@ -14,10 +14,10 @@ from pathlib import Path
 CRATES = ["dmf_arguments", "dmf_node", "dmf_path", "dmf_state", "dmf_solver", "dmf_text", "dmf_history", "dmf_session", "dmf_runs", "dmf_progress"]
 # The test that each library's example is.
 EXAMPLES = {
-    "dmf_net": "dmf_interface/src/examples/net.rt",
-    "dmf_text": "dmf_interface/src/examples/text.rt",
-    "dmf_session": "dmf_interface/src/examples/session.rt",
-    "dmf_run": "dmf_interface/src/examples/run.rt",
+    "dmf_net": "test_interface/src/examples/net.rt",
+    "dmf_text": "test_interface/src/examples/text.rt",
+    "dmf_session": "test_interface/src/examples/session.rt",
+    "dmf_run": "test_interface/src/examples/run.rt",
 }
 FILES = Path("docs/FILES.md")
 CODE = re.compile(r"^```rust\n(.*?)^```$", re.MULTILINE | re.DOTALL)

@@ -71,5 +71,5 @@ def test_listed(command: Command) -> None:
     assert re.search(rf"^  {command.word}\b", told, re.MULTILINE)
     names = {"print": "cut"}
     assert hasattr(Network, names.get(command.word, command.word))
-    for path in "crates/dmf_calls/src/main.rt", "crates/dmf_sessions/src/histories.rt":
+    for path in "crates/test_calls/src/main.rt", "crates/test_sessions/src/histories.rt":
         assert re.search(rf"(?i)\b{command.word}", Path(path).read_text()), path

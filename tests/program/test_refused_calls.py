@@ -1,4 +1,4 @@
-"""Refuses the program of crates/dmf_calls each request for memory in turn, and each two in a row, by the preloaded library of
+"""Refuses the program of crates/test_calls each request for memory in turn, and each two in a row, by the preloaded library of
 tests/faults.c: a vector that is refused room to grow asks again, for just the room that it needs.
 
 After each call the program tells all that then stands. A call that is refused memory has changed nothing, and each other call
@@ -23,8 +23,8 @@ from oracle.network import Arc, State
 from oracle.session import MOST_KEPT, Session, SolveReply
 from oracle.texts import Fault
 
-CRATE = ROOT / "crates" / "dmf_calls"
-BUILT = CRATE / "out" / "dmf_calls"
+CRATE = ROOT / "crates" / "test_calls"
+BUILT = CRATE / "out" / "test_calls"
 STDOUT = CRATE / "stdout"
 
 ARCS = (Arc(1, 2, 3), Arc(1, 3, 2), Arc(2, 3, 5), Arc(2, 4, 2), Arc(3, 4, 3))
@@ -169,8 +169,8 @@ def is_old() -> bool:
 
 @pytest.fixture
 def calls_program(tmp_path_factory: pytest.TempPathFactory) -> None:
-    """The program of crates/dmf_calls, which is built where it is missing or older than a source: by one worker alone."""
-    with open(tmp_path_factory.getbasetemp().parent / "dmf_calls", "w") as lock:
+    """The program of crates/test_calls, which is built where it is missing or older than a source: by one worker alone."""
+    with open(tmp_path_factory.getbasetemp().parent / "test_calls", "w") as lock:
         fcntl.flock(lock, fcntl.LOCK_EX)
         if is_old():
             ran = subprocess.run(["rt", "run"], cwd=CRATE, capture_output=True, text=True)
@@ -179,7 +179,7 @@ def calls_program(tmp_path_factory: pytest.TempPathFactory) -> None:
 
 
 def test_stdout(writes: bool) -> None:
-    """The text of crates/dmf_calls/stdout is what the second implementation tells."""
+    """The text of crates/test_calls/stdout is what the second implementation tells."""
     if writes:
         STDOUT.write_text(ample())
     assert STDOUT.read_text() == ample()

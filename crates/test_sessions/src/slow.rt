@@ -1,8 +1,8 @@
 //! Runs whose bytes come and go one by one, and a run whose writer fails.
-use dmf_fixtures::{ByteReader, LENIENT, SlowWriter, is_front};
 use dmf_runs::{EngineFault, Status, run_check, run_session, run_solve};
 use dmf_text::{StdSink, StdSource};
 use std::test::Fail;
+use test_fixtures::{ByteReader, LENIENT, SlowWriter, is_front};
 
 /// What is written of [`LENIENT`] solved with its cut.
 const SOLUTION_AND_CUT: &[u8] =

@@ -1,5 +1,5 @@
 //! The problems and commands of worked sessions. What each writes is tested on the built program.
-use dmf_fixtures::{FULL_ARC, LENIENT, NETWORK_A, NETWORK_B, NO_ARCS, PARALLEL};
+use test_fixtures::{FULL_ARC, LENIENT, NETWORK_A, NETWORK_B, NO_ARCS, PARALLEL};
 
 /// A problem, and the commands of a session on it.
 pub const WORKED: &[(&[u8], &[u8])] = &[

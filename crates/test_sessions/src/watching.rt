@@ -1,12 +1,12 @@
 //! What a watch is told of the solves of a session.
 ghost use Rattle.std.specs.Prelude.{map, pos, Some, None, if◌then◌else◌};
 
-use dmf_fixtures::NETWORK_A;
 use dmf_history::MAX_BOUND;
 use dmf_runs::{SolveReply, Status, run_session_watched};
 use dmf_solver::Watch;
 use dmf_text::{StdSink, StdSource};
 use std::test::Fail;
+use test_fixtures::NETWORK_A;
 
 /// Keeps the paths that it is told of: the value that each leads to, and how many links it has.
 #[derive(Drop)]

@@ -6,7 +6,6 @@ ghost use Rattle.dmf_state.specs.Edit.{applied, Fits};
 ghost use Rattle.dmf_state.specs.Revert.{reverted, Stands};
 
 use crate::networks::{example, flowing};
-use dmf_fixtures::Draws;
 use dmf_solver::{
     PlanFault, ResidualNetwork, Unwatched, plan_add, plan_cap, plan_close, plan_shut, plan_solve,
 };
@@ -14,6 +13,7 @@ use dmf_state::{Edit, NoMemory, State, reverting_gives_back};
 use std::alloc::{AllocError, Global};
 use std::process::Abort;
 use std::test::Fail;
+use test_fixtures::Draws;
 
 /// A change that is asked for.
 #[derive(Clone, Copy)]

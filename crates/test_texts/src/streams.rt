@@ -1,8 +1,8 @@
 //! Tests of what texts are read from and written to.
-use dmf_fixtures::{ByteReader, Counted, SlowWriter, is_front};
 use dmf_text::{Sink, Source, StdSink, StdSource, WriteFault, put_all};
 use std::alloc::Global;
 use std::test::Fail;
+use test_fixtures::{ByteReader, Counted, SlowWriter, is_front};
 
 /// 5,000 bytes, of which no two neighbours are equal.
 fn long_text(rt: &HostRuntime) -> Result<Vec<u8>, Fail> {

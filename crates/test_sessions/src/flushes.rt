@@ -1,9 +1,9 @@
 //! Which lines of a session flush the writer.
-use dmf_fixtures::{FlushCounter, NO_ARCS};
 use dmf_runs::{EngineFault, Status, run_session};
 use dmf_text::{StdSink, StdSource};
 use std::alloc::Global;
 use std::test::Fail;
+use test_fixtures::{FlushCounter, NO_ARCS};
 
 /// How a session of these commands ends, and how often it flushes. Each flush fails, or none.
 fn run_counted(

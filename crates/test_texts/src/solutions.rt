@@ -1,11 +1,11 @@
 //! Tests of solution texts: which flows single arcs have where several lead from the one node to the other. All else is tested on
 //! the built program.
-use dmf_fixtures::LENIENT;
 use dmf_text::{
     ProblemFault, ProblemFaultKind, SolutionFault, SolutionFaultKind, read_problem, read_solution,
 };
 use std::alloc::Global;
 use std::test::Fail;
+use test_fixtures::LENIENT;
 
 /// Parallel arcs that can carry the largest number together, beside one of capacity 0.
 const FULL: &[u8] = b"p max 2 3\nn 1 s\nn 2 t\na 1 2 18446744073709551614\na 1 2 0\na 1 2 1\n";

@@ -2,13 +2,13 @@
 ghost use Rattle.std.specs.Prelude.{◌≤◌};
 
 use crate::worked::WORKED;
-use dmf_fixtures::{Draws, FULL_ARC, LENIENT, NETWORK_A, NETWORK_B, PARALLEL, TWO_SHORTEST};
 use dmf_history::{DeltaHistory, WholeHistory};
 use dmf_runs::{EngineFault, Status, run_commands};
 use dmf_session::Session;
 use dmf_text::{StdSink, StdSource, read_problem};
 use std::alloc::{AllocError, Global};
 use std::test::Fail;
+use test_fixtures::{Draws, FULL_ARC, LENIENT, NETWORK_A, NETWORK_B, PARALLEL, TWO_SHORTEST};
 
 /// How many random scripts are tried on each network, and how many commands each has.
 const SCRIPTS: u32 = 20;
