@@ -93,6 +93,8 @@ def dead_names():
     said = set().union(*(re.findall(r"\w+", text) for text in [*code, *places]))
     for page in pages():
         for name in names(page):
+            if re.search("[*!]|^out/", name):
+                continue
             if re.fullmatch(r"[\w./-]+\.(rt|antt|py|sh|cpp|hpp|max|csv)|[\w.-]+/[\w./-]*", name):
                 is_there = any(place.endswith("/" + name.removeprefix("./").rstrip("/")) for place in places)
             else:
