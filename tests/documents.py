@@ -1,17 +1,19 @@
 """Compares what stands twice in the repository, and looks for definitions and lemmas that nothing uses:
 
 - the example of each library's README is the test that it is;
-- docs/FILES.md has each file of definitions and lemmas with its first words (--write puts them there);
+- each file of definitions and of lemmas begins with a comment, and one of definitions says whether it is public or private;
+- the program's version is the one of the Python package, of the manual pages and of CHANGELOG.md's newest release;
 - each link between pages leads to a file, and to a heading of it where it names one;
+- each name of code and of a file that a page has in backquotes stands in the repository;
 - each definition and lemma is named by the rest of its file, or by a file that names its file.
 
 Prints what it finds, and then 'N passed, M failed'."""
 
 import re
+import subprocess
 import sys
 from pathlib import Path
 
-CRATES = ["dmf_arguments", "dmf_node", "dmf_path", "dmf_state", "dmf_solver", "dmf_text", "dmf_history", "dmf_session", "dmf_runs", "dmf_progress"]
 # The test that each library's example is.
 EXAMPLES = {
     "dmf_net": "test_interface/src/examples/net.rt",
@@ -19,7 +21,6 @@ EXAMPLES = {
     "dmf_session": "test_interface/src/examples/session.rt",
     "dmf_run": "test_interface/src/examples/run.rt",
 }
-FILES = Path("docs/FILES.md")
 CODE = re.compile(r"^```rust\n(.*?)^```$", re.MULTILINE | re.DOTALL)
 # A definition or lemma begins in the first column with its name and its type.
 HEAD = re.compile(r"^(?:[a-z]+ )*([^\s:(]+)(?= *[:(])")
@@ -34,37 +35,28 @@ def wrong_examples(library, page):
         yield f"the example of {page} is not {test}"
 
 
-def first_words(file):
-    """The comment at the head of a file, in two parts: what the file is, and whether it is public, where it says so."""
-    comment = re.match(r"(?:--.*\n)*", file.read_text())[0]
-    text = " ".join(line.removeprefix("--").strip() for line in comment.splitlines())
-    what, kind, _ = re.split(r"\s*\b(Public|Private): ", text + " Private: ", maxsplit=1)[:3]
-    return what, kind
+def headless_files():
+    """The files of definitions and of lemmas that do not say what they are."""
+    for file in sorted(it for part in ("specs", "proofs") for it in Path("crates").glob(f"*/{part}/*.antt") if it.stem != "Lib"):
+        comment = re.match(r"(?:--.*\n)*", file.read_text())[0]
+        if not comment:
+            yield f"{file} begins with no comment"
+        elif file.parent.name == "specs" and not re.search("^-- (Public|Private): ", comment, re.MULTILINE):
+            yield f"{file} does not say whether it is public or private"
 
 
-def table(head, rows):
-    return "\n".join([head, re.sub(r"[^|]+", "---", head), *rows, ""])
-
-
-def files_text():
-    """What docs/FILES.md is to have."""
-    parts = [FILES.read_text().split("\n## ")[0]]
-    for crate in CRATES:
-        for part, head in ("specs", "| Definitions | What | |"), ("proofs", "| Lemmas | What |"):
-            files = [it for it in sorted(Path(f"crates/{crate}/{part}").glob("*.antt")) if it.stem != "Lib"]
-            told = [(file.stem, *first_words(file)) for file in files]
-            if not told:
-                continue
-            rows = [f"| `{name}` | {what} |" + (f" {kind.lower()} |" if part == "specs" else "") for name, what, kind in told]
-            title = f"## `{crate}`\n\n" if part == "specs" else ""
-            parts.append(title + table(head, rows))
-    return "\n".join(parts)
-
-
-def wrong_files():
-    """Whether docs/FILES.md is another text."""
-    if FILES.read_text() != files_text():
-        yield f"{FILES} has not what the files say: python3 tests/documents.py --write"
+def wrong_versions():
+    """Where another version stands than the program's."""
+    (version,) = re.findall(r'VERSION: &str = "(.*)"', Path("crates/dmf_arguments/src/help.rt").read_text())
+    told = {
+        "clients/python/dmf/__init__.py": r'^__version__ = "(.*)"',
+        "CHANGELOG.md": r"^## (\d\S*)",
+        **{str(page): r'^\.TH \S+ 1 "" "dmf (.*?)"' for page in sorted(Path("docs").glob("*.1"))},
+    }
+    for page, form in told.items():
+        found = re.search(form, Path(page).read_text(), re.MULTILINE)
+        if not found or found[1] != version:
+            yield f"{page} has not the version {version}"
 
 
 def headings(page):
@@ -75,11 +67,40 @@ def headings(page):
 
 def dead_links():
     """The links between pages that lead nowhere."""
-    for page in sorted(it for it in Path().rglob("*.md") if "out" not in it.parts):
+    for page in pages():
         for path, heading in LINK.findall(page.read_text()):
             file = page.parent / path if path else page
             if not file.exists() or heading and heading not in headings(file):
                 yield f"{page}: nothing is at {path}{heading and '#' + heading}"
+
+
+def pages():
+    return sorted(it for it in Path().rglob("*.md") if not {"out", ".git"} & set(it.parts))
+
+
+def names(page):
+    """What stands in backquotes on a page, but in its examples."""
+    prose = re.sub(r"^    .*$|^```.*?^```$", "", page.read_text(), flags=re.MULTILINE | re.DOTALL)
+    return sorted(set(re.findall(r"`([^`\n]+)`", prose)))
+
+
+def dead_names():
+    """The names of code and of files that pages have in backquotes, and that stand nowhere else in the repository."""
+    tracked = subprocess.run(["git", "ls-files"], capture_output=True, text=True, check=True).stdout.splitlines()
+    files = [Path(it) for it in tracked if Path(it).is_file()]
+    places = {f"/{place}" for file in files for place in (file, *file.parents)}
+    code = [file.read_text() for file in files if file.suffix in (".rt", ".antt", ".py", ".sh", ".cpp", ".hpp", "")]
+    said = set().union(*(re.findall(r"\w+", text) for text in [*code, *places]))
+    for page in pages():
+        for name in names(page):
+            if re.search("[*!]|^out/", name):
+                continue
+            if re.fullmatch(r"[\w./-]+\.(rt|antt|py|sh|cpp|hpp|max|csv)|[\w.-]+/[\w./-]*", name):
+                is_there = any(place.endswith("/" + name.removeprefix("./").rstrip("/")) for place in places)
+            else:
+                is_there = not re.search("_|::|[a-z][A-Z]", name) or said.issuperset(re.findall(r"[A-Za-z]\w*", name))
+            if not is_there:
+                yield f"{page}: nothing is called {name}"
 
 
 def words(text):
@@ -123,10 +144,7 @@ def unused():
 
 
 def main():
-    if sys.argv[1:] == ["--write"]:
-        FILES.write_text(files_text())
-    pages = [(it, Path(f"crates/{it}/README.md")) for it in EXAMPLES]
-    checks = [*([*wrong_examples(*page)] for page in pages), [*wrong_files()], [*dead_links()], [*unused()]]
+    checks = [*([*wrong_examples(it, Path(f"crates/{it}/README.md"))] for it in EXAMPLES), [*headless_files()], [*wrong_versions()], [*dead_links()], [*dead_names()], [*unused()]]
     for found in checks:
         print(*found, sep="\n", end="\n" if found else "")
     failed = sum(map(bool, checks))
