@@ -98,7 +98,7 @@ HELPS: list[tuple[str, tuple[str, ...]]] = [
     ("--help wash", HELP),
     ("solve --help", (SOLVE, "--cut       Write the smallest minimum cut after the solution\n", "--progress  Tell on standard error how far it is\n")),
     ("solve --help", ("\n  $ dmf solve --cut <network.max\n  s 5\n",)),
-    ("session --help", (SESSION, "PROBLEM  The file with the problem\n")),
+    ("session --help", (SESSION, "<PROBLEM>  The file with the problem\n")),
     ("session --help", ("--brief        Answer a solve by its value in place of the solution\n",)),
     ("session --help", ("--cut          Write the smallest minimum cut after each solution\n",)),
     ("session --help", ("--history <N>  Keep at most N changes for undo [default: 1000000]\n",)),
