@@ -1,5 +1,5 @@
 // Writes a problem of a family to standard output: generate FAMILY ARCS SEED. It has about ARCS arcs, and the seed
-// determines it. README.md says what the families are.
+// determines it. The function of each family says what it is.
 #include "dimacs.hpp"
 
 #include <cmath>
