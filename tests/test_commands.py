@@ -8,7 +8,7 @@ import subprocess
 from pathlib import Path
 
 import pytest
-from commands import COMMANDS, OF_FORM, PRINTED, Command
+from commands import CAPACITY, COMMANDS, OF_FORM, PRINTED, STEPS, WHAT, Command
 from conftest import BUILT, ROOT
 from dmf import Network
 from oracle import session
@@ -66,9 +66,11 @@ def test_counts(command: Command) -> None:
 
 @rows
 def test_listed(command: Command) -> None:
-    """The help, the client and the tests of the crates know the command."""
+    """The help has the command with its fields and its reply, and the client and the tests of the crates know it."""
     told = subprocess.run([BUILT, "session", "--help"], capture_output=True, text=True).stdout
-    assert re.search(rf"^  {command.word}\b", told, re.MULTILINE)
+    for what in PRINTED if WHAT in command.fields else [""]:
+        fields = [{CAPACITY: "CAP", STEPS: r"\[K\]", WHAT: what}.get(field, "[A-Z]+") for field in command.fields]
+        assert re.search(rf"^  {' '.join([command.word, *fields])}  .*  {command.reply}", told, re.MULTILINE)
     names = {"print": "cut"}
     assert hasattr(Network, names.get(command.word, command.word))
     for path in "crates/test_calls/src/main.rt", "crates/test_sessions/src/histories.rt":
