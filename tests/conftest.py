@@ -14,6 +14,7 @@ import pytest
 from _pytest.terminal import TerminalReporter
 from hypothesis import settings
 from hypothesis.database import DirectoryBasedExampleDatabase
+from tool_runs import Tools
 
 ROOT = Path(__file__).resolve().parent.parent
 # So many tests with random cases are to meet each text of the documents together.
@@ -108,6 +109,14 @@ def faults(tmp_path_factory: pytest.TempPathFactory) -> str:
 def writes(request: pytest.FixtureRequest) -> bool:
     """Whether a file that is made of others is made anew."""
     return bool(request.config.getoption("--write"))
+
+
+@pytest.fixture(scope="session")
+def tools() -> Iterator[Tools]:
+    """What runs the tools in Python."""
+    tools = Tools()
+    yield tools
+    tools.close()
 
 
 @pytest.fixture(scope="session")
