@@ -1,5 +1,7 @@
 """What tools/dmf-dot draws of problems, answers and sessions, and what it says of those that it does not draw, worked out by hand."""
 
+from __future__ import annotations
+
 HEAD = 'digraph dmf {\n  rankdir=LR\n  node [fontname="Helvetica"]\n  edge [fontname="Helvetica", fontsize=11]\n'
 SIDE = 'style="filled", fillcolor="#d3e4f5"'
 CUT = 'color="#c62828", fontcolor="#c62828"'
@@ -9,7 +11,7 @@ PARALLEL = "p max 3 4\nn 1 s\nn 3 t\na 1 2 2\na 1 2 3\na 2 2 9\na 2 3 4\n"
 CHAIN = "p max 5 4\nn 1 s\nn 5 t\na 1 2 9\na 2 3 1\na 3 4 9\na 4 5 9\n"
 
 
-def parallel(first, second):
+def parallel(first: str, second: str) -> str:
     """What is drawn of the parallel arcs, by what is said of the first two arcs."""
     return f"""  1 [label="1", peripheries=2]
   2 [label="2"]
@@ -22,7 +24,7 @@ def parallel(first, second):
 
 
 # What is drawn of a problem and answers: the nodes' lines and the arcs'.
-DRAWN = {
+DRAWN: dict[str, tuple[str, list[str], list[str], str]] = {
     "the crossing with its cut": (
         "p max 4 5\nn 1 s\nn 4 t\na 1 2 3\na 1 3 2\na 2 3 5\na 2 4 2\na 3 4 3\n",
         ["s 5\nf 1 2 3\nf 1 3 2\nf 2 3 1\nf 2 4 2\nf 3 4 3\nc cut 5\nc side 1\n"],
@@ -109,7 +111,7 @@ SHUT_ARC = f'  1 -> 3 [label="Lower\\nclosed", style="dashed", {UNUSED}]\n'
 SHUT_END = f'  3 -> 4 [label="closed", style="dashed", {UNUSED}]\n'
 AFTER_FLOWS, AFTER_CUT = "the network was changed after these flows", "the network was changed after this cut"
 # What is drawn of a session on these ways: its commands (None where they stand among its replies), what it wrote, and notes.
-SESSIONS = {
+SESSIONS: dict[str, tuple[str | None, str, list[str], str]] = {
     "a node is shut and an arc added": (
         "shut 3\nadd 1 4 4\nsolve\nprint cut\n",
         f"c shut value 0\nc add 5 value 0\n{SHUT_FLOW}c cut 7\nc side 1\n",
@@ -135,7 +137,7 @@ SESSIONS = {
     ),
 }
 # What is said of a session that is drawn no picture of: its commands, what it wrote, and the fault.
-SESSION_FAULTS = [
+SESSION_FAULTS: list[tuple[str | None, str, str]] = [
     (
         None,
         "s 7\nf 1 2 7\nc cap value 3\n",

@@ -1,25 +1,22 @@
-"""Tests the reader of texts and the follower of sessions that the tools in Python stand on: against rows that were worked out by
-hand, and on random texts and sessions against the second implementation, which keeps whole states.
+"""Tests the reader of texts and the follower of sessions that the tools in Python stand on: against rows that were worked out by hand,
+and on random texts and sessions against the second implementation, which keeps whole states."""
 
-    python3 tests/followed.py [SEED]    prints what failed, and then 'N passed, M failed'
-"""
+from __future__ import annotations
 
-import sys
-from collections.abc import Callable, Iterable, Iterator
+from collections.abc import Callable, Iterable, Mapping
 from dataclasses import dataclass
 from random import Random
 from typing import Any
 
-sys.path.insert(0, "clients/python")
-
+import pytest
 import random_cases
-from built import tell
 from dmf.replies import Cut, Event, Printed, Solution
 from dmf.text import Fault, display, fields, lines, number, read_names, read_problem
 from dmf.transcript import Follower, TranscriptFault
-from oracle import session, texts
 from oracle import problem as oracle_problem
+from oracle import session, texts
 from oracle.network import State, smallest_side
+from worked_forms import Worked
 from worked_once import ONCE
 from worked_sessions import HISTORIES, SESSIONS
 
@@ -43,8 +40,6 @@ FIELDS = {
     b"\ta  b\t c ": [b"a", b"b", b"c"],
     **{b"a" + odd + b"b c": [b"a" + odd + b"b", b"c"] for odd in ODD_ENDS},
 }
-# What is wrong with a case, or nothing where it is as it should be.
-Wrong = Iterator["str | bool | None"]
 NOT, LARGE = "not a number", "number too large"
 NUMBERS = {
     b"0": 0,
@@ -86,21 +81,34 @@ SHOWN = {
     "\u202eabc\u2069\u2028\u200f": "\\u202eabc\\u2069\\u2028\\u200f",
     "\ud800": "\\ud800",
 }
+FUNCTIONS: list[tuple[Callable[..., Any], Mapping[Any, Any]]] = [
+    (lines, LINES),
+    (fields, FIELDS),
+    (number, NUMBERS),
+    (read_names, NAMES),
+    (display, SHOWN),
+]
+ROWS = [(function, given, wanted) for function, rows in FUNCTIONS for given, wanted in rows.items()]
+# The random cases: so many in a test, and so many tests.
+PROBLEMS, SCRIPTS, ODD_REPLIES, BATCHES = 300, 30, 60, 10
+batches = pytest.mark.parametrize("batch", range(BATCHES))
 
 
-def outcome(function: Callable[..., Any], *words: bytes) -> Any:
+def outcome(function: Callable[..., Any], given: bytes) -> Any:
     """What a function gives, or the text of its fault."""
     try:
-        return function(*words)
+        return function(given)
     except (Fault, texts.Fault) as fault:
         return str(fault)
 
 
-def wrong_rows() -> Wrong:
-    for function, rows in (lines, LINES), (fields, FIELDS), (number, NUMBERS), (read_names, NAMES), (display, SHOWN):
-        for row, wanted in rows.items():
-            got = outcome(function, row)
-            yield got != wanted and f"{function.__name__} of {row[:60]!r}: {got!r}, and not {wanted!r}"
+def row_name(row: Any) -> str:
+    return str(row.__name__) if callable(row) else repr(row)[:30]
+
+
+@pytest.mark.parametrize(("function", "given", "wanted"), ROWS, ids=row_name)
+def test_rows(function: Callable[..., Any], given: Any, wanted: Any) -> None:
+    assert outcome(function, given) == wanted
 
 
 def read(text: bytes) -> tuple[Any, ...]:
@@ -113,18 +121,20 @@ def read_by_oracle(text: bytes) -> tuple[Any, ...]:
     return state.nodes, state.source, state.sink, [arc[:3] for arc in state.arcs]
 
 
-def wrong_problems(random: Random) -> Wrong:
-    """Problems that were worked out by hand, right ones and faulty ones, and random ones."""
-    for case, wanted in ONCE:
-        if b"solve" in case.words:
-            told = f"dmf: {outcome(read, case.problem)}\n".encode()
-            yield wanted.status == 3 and wanted.told != told and f"{case.problem!r}: {told!r}"
-            yield wanted.status == 0 and isinstance(outcome(read, case.problem), str) and f"{case.problem!r}: refused"
-    for _ in range(3000):
+@pytest.mark.parametrize("worked", [pytest.param(it, id=it.case.name) for it in ONCE if b"solve" in it.case.words])
+def test_worked_problems(worked: Worked) -> None:
+    told = outcome(read, worked.case.problem)
+    assert worked.wanted.status in (0, 3)
+    assert worked.wanted.told == f"dmf: {told}\n".encode() if worked.wanted.status else not isinstance(told, str)
+
+
+@batches
+def test_problems(batch: int) -> None:
+    random = Random(f"problems/{batch}")
+    for _ in range(PROBLEMS):
         network = random_cases.network(random, 10)
         text = random_cases.text_of(random_cases.problem_lines(network, random), random, b"cx", 0.7)
-        got, wanted = outcome(read, text), outcome(read_by_oracle, text)
-        yield got != wanted and f"{text!r}: {str(got)[:100]}, and not {str(wanted)[:100]}"
+        assert outcome(read, text) == outcome(read_by_oracle, text), text
 
 
 @dataclass
@@ -135,31 +145,28 @@ class Told:
     events: list[Event]
     state: State
 
-    def wrong(self) -> str | None:
+    def judge(self) -> None:
         timeline, state = self.follower.timeline, self.state
-        if not self.follower.is_known:
-            return "the network is not known"
-        if [tuple(arc) for arc in timeline.arcs] != [tuple(arc) for arc in state.arcs]:
-            return f"the arcs are {timeline.arcs}, and not {state.arcs}"
-        if (timeline.value, timeline.capacity_sum) != (state.value(), state.capacity_sum()):
-            return f"the value is {timeline.value}, and the sum of the capacities {timeline.capacity_sum}"
-        return next(filter(None, map(self.wrong_event, self.events)), None)
+        assert self.follower.is_known
+        assert [tuple(arc) for arc in timeline.arcs] == [tuple(arc) for arc in state.arcs]
+        assert (timeline.value, timeline.capacity_sum) == (state.value(), state.capacity_sum())
+        for event in self.events:
+            self.judge_event(event)
 
-    def wrong_event(self, event: Event) -> str | bool | None:
+    def judge_event(self, event: Event) -> None:
         numbers = [at for at, arc in enumerate(self.state.arcs, 1) if not arc.is_closed]
         if isinstance(event, Solution):
-            told = event.is_told, event.value, list(event.numbers), list(event.flows)
-            return told != (True, self.state.value(), numbers, [flow for _, flow in self.state.open_arcs()]) and f"told {told}"
-        if isinstance(event, Printed):
-            return event.numbers != numbers and f"the printed arcs have the numbers {event.numbers}"
-        if isinstance(event, Cut):
+            assert (event.is_told, event.value, list(event.numbers)) == (True, self.state.value(), numbers)
+            assert list(event.flows) == [flow for _, flow in self.state.open_arcs()]
+        elif isinstance(event, Printed):
+            assert event.numbers == numbers
+        elif isinstance(event, Cut):
             side, capacity = smallest_side(self.state)
             crossing = [at for at in numbers if self.state.arcs[at - 1].tail in side and self.state.arcs[at - 1].head not in side]
-            return (event.side, event.capacity, event.arcs) != (side, capacity, crossing) and f"the cut is {event}"
-        return None
+            assert (event.side, event.capacity, event.arcs) == (side, capacity, crossing)
 
 
-def followed(state: State, commands: list[bytes], wanted: session.SolveReply, bound: int, is_given: bool) -> str | bool:
+def follow(state: State, commands: list[bytes], wanted: session.SolveReply, bound: int, is_given: bool) -> None:
     """Follows a session, and judges what is known after each command. Every reply is told whole before the next one begins."""
     held = session.Session(state, wanted, bound)
     follower = Follower(read_problem(oracle_problem.problem_text(state)), iter(commands) if is_given else None)
@@ -174,58 +181,58 @@ def followed(state: State, commands: list[bytes], wanted: session.SolveReply, bo
         for reply_line in told:
             events += follower.take(reply_line)
         whole = sum(isinstance(event, (Solution, Cut, Printed)) for event in events)
-        if whole != sum(reply_line.startswith((b"s ", b"c cut ", b"p max ")) for reply_line in told):
-            return f"{whole} replies were told whole at {line!r}"
-        if wrong := Told(follower, events, held.present()).wrong():
-            return f"{line!r}: {wrong}"
-    return "the end tells more" if follower.end() else ""
+        assert whole == sum(reply_line.startswith((b"s ", b"c cut ", b"p max ")) for reply_line in told), line
+        Told(follower, events, held.present()).judge()
+    assert not follower.end()
 
 
-def wrong_sessions(random: Random) -> Wrong:
+def scripted(random: Random, most_nodes: int) -> tuple[State, list[list[bytes]]]:
+    """A random network that dmf takes, and the lines of a script for it."""
+    while True:
+        state = random_cases.network(random, most_nodes)
+        if state.source != state.sink and state.capacity_sum() <= texts.LARGEST:
+            return state, random_cases.command_lines(state, random)
+
+
+@batches
+def test_sessions(batch: int) -> None:
     """Random sessions, whose commands are given, or stand among the replies as a terminal shows them."""
-    for _ in range(300):
-        state = random_cases.network(random, 12)
-        if state.source == state.sink or state.capacity_sum() > texts.LARGEST:
-            continue
-        commands = [b" ".join(line) + b"\n" for line in random_cases.command_lines(state, random)]
+    random = Random(f"followed sessions/{batch}")
+    for _ in range(SCRIPTS):
+        state, script = scripted(random, 12)
+        commands = [b" ".join(line) + b"\n" for line in script]
         wanted, bound = session.SolveReply(cut=random.random() < 0.5), random.choice([0, 1, 3, session.MOST_KEPT])
         for is_given in True, False:
-            try:
-                wrong = followed(state, commands, wanted, bound, is_given)
-            except TranscriptFault as fault:
-                wrong = f"{fault.text}, {fault}"
-            yield wrong and f"{b''.join(commands)!r}: {wrong}"
+            follow(state, commands, wanted, bound, is_given)
 
 
-def wrong_worked() -> Wrong:
-    """Sessions that were worked out by hand fit their commands, and do not fit once a command or a reply is left out."""
-    for case, wanted in SESSIONS + HISTORIES:
-        commands, replies = lines_with_ends(case.input), lines_with_ends(wanted.written)
-        if not replies:
-            continue
-        yield (fault := fault_of(case.problem, commands, replies)) and f"{case.name}: {fault}"
-        yield not fault_of(case.problem, commands, replies[:-1]) and f"{case.name}: without its last reply"
-        yield not fault_of(case.problem, commands, replies + replies[:1]) and f"{case.name}: with a reply too many"
+def replying() -> list[Worked]:
+    """Worked sessions that reply something."""
+    return [it for it in SESSIONS + HISTORIES if it.wanted.written]
 
 
-def wrong_odd_replies(random: Random) -> Wrong:
+@pytest.mark.parametrize("worked", [pytest.param(it, id=it.case.name) for it in replying()])
+def test_worked_sessions(worked: Worked) -> None:
+    """A session fits its commands, and does not fit once a command or a reply is left out."""
+    assert isinstance(worked.wanted.written, bytes)
+    commands, replies = lines_with_ends(worked.case.input), lines_with_ends(worked.wanted.written)
+    assert fault_of(worked.case.problem, commands, replies) is None
+    assert fault_of(worked.case.problem, commands, replies[:-1])
+    assert fault_of(worked.case.problem, commands, replies + replies[:1])
+
+
+@batches
+def test_odd_replies(batch: int) -> None:
     """Replies of random sessions with a fault put into them, and any commands for them: what does not fit is a fault of the
     transcript, and nothing else is raised."""
-    for _ in range(600):
-        state = random_cases.network(random, 6)
-        if state.source == state.sink or state.capacity_sum() > texts.LARGEST:
-            continue
-        problem = oracle_problem.problem_text(state)
-        script = random_cases.plain_text(random_cases.command_lines(state, random)[:30])
+    random = Random(f"odd replies/{batch}")
+    for _ in range(ODD_REPLIES):
+        state, lines_of_script = scripted(random, 6)
+        script = random_cases.plain_text(lines_of_script[:30])
         replies, _ = session.run_lines(state, script, session.SolveReply(cut=random.random() < 0.5), session.Refusals())
         odd = random_cases.text_of([fields(line) for line in lines(replies)], random, b"cx", 1)
         commands = random.choice([None, lines_with_ends(script)])
-        try:
-            fault_of(problem, commands, lines_with_ends(odd))
-        except Exception as error:  # noqa: BLE001 - whatever it is, it is reported
-            yield f"{problem!r}, {commands!r}, {odd!r}: {error!r}"
-        else:
-            yield None
+        fault_of(oracle_problem.problem_text(state), commands, lines_with_ends(odd))
 
 
 def lines_with_ends(text: bytes) -> list[bytes]:
@@ -243,12 +250,3 @@ def fault_of(problem: bytes, commands: Iterable[bytes] | None, replies: list[byt
     except TranscriptFault as fault:
         return f"{fault.text}, {fault}"
     return None
-
-
-def main(words: list[str]) -> bool:
-    random = Random(int(words[0]) if words else 1990)
-    said = [*wrong_rows(), *wrong_problems(random), *wrong_sessions(random), *wrong_worked(), *wrong_odd_replies(random)]
-    return tell(said)
-
-
-sys.exit(main(sys.argv[1:]))

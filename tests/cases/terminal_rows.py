@@ -1,4 +1,4 @@
-"""What the program is to say on a terminal: rows for tests/terminal.py, worked out by hand. The texts of problems are such as other
+"""What the program is to say on a terminal: rows for tests/program/test_terminal.py, worked out by hand. The texts of problems are such as other
 programs and people write them."""
 
 from dataclasses import dataclass

@@ -4,16 +4,29 @@
 - each file of definitions and of lemmas begins with a comment, and one of definitions says whether it is public or private;
 - the program's version is the one of the Python package, of the manual pages and of CHANGELOG.md's newest release;
 - each link between pages leads to a file, and to a heading of it where it names one;
+<<<<<<< HEAD:tests/documents.py
 - each name of code and of a file that a page has in backquotes stands in the repository;
 - each definition and lemma is named by the rest of its file, or by a file that names its file.
+=======
+- each definition and lemma is named by the rest of its file, or by a file that names its file."""
+>>>>>>> 1b07bec6864845ba5bc27838c64f88e184300dc2:tests/documents/test_documents.py
 
-Prints what it finds, and then 'N passed, M failed'."""
+from __future__ import annotations
 
 import re
+<<<<<<< HEAD:tests/documents.py
 import subprocess
 import sys
 from pathlib import Path
 
+=======
+from collections.abc import Iterator
+from pathlib import Path
+
+import pytest
+
+CRATES = ["dmf_arguments", "dmf_node", "dmf_path", "dmf_state", "dmf_solver", "dmf_text", "dmf_history", "dmf_session", "dmf_runs", "dmf_progress"]
+>>>>>>> 1b07bec6864845ba5bc27838c64f88e184300dc2:tests/documents/test_documents.py
 # The test that each library's example is.
 EXAMPLES = {
     "dmf_net": "test_interface/src/examples/net.rt",
@@ -28,13 +41,13 @@ LINK = re.compile(r"\]\((?![a-z]+:)([^)#]*)#?([^)]*)\)")
 WORD = re.compile(r"[^\s(){}\[\],;.`\"]+")
 
 
-def wrong_examples(library, page):
-    """What is wrong with the example on a page, which is that of a library."""
-    test = Path("crates") / EXAMPLES[library]
-    if CODE.findall(page.read_text()) != [test.read_text()]:
-        yield f"the example of {page} is not {test}"
+@pytest.mark.parametrize("library", EXAMPLES)
+def test_example_of_library(library: str) -> None:
+    page, example = Path(f"crates/{library}/README.md"), Path("crates") / EXAMPLES[library]
+    assert CODE.findall(page.read_text()) == [example.read_text()], f"the example of {page} is not {example}"
 
 
+<<<<<<< HEAD:tests/documents.py
 def headless_files():
     """The files of definitions and of lemmas that do not say what they are."""
     for file in sorted(it for part in ("specs", "proofs") for it in Path("crates").glob(f"*/{part}/*.antt") if it.stem != "Lib"):
@@ -57,15 +70,48 @@ def wrong_versions():
         found = re.search(form, Path(page).read_text(), re.MULTILINE)
         if not found or found[1] != version:
             yield f"{page} has not the version {version}"
+=======
+def first_words(file: Path) -> tuple[str, str]:
+    """The comment at the head of a file, in two parts: what the file is, and whether it is public, where it says so."""
+    comment = re.match(r"(?:--.*\n)*", file.read_text())
+    assert comment
+    text = " ".join(line.removeprefix("--").strip() for line in comment[0].splitlines())
+    what, kind, _ = re.split(r"\s*\b(Public|Private): ", text + " Private: ", maxsplit=1)[:3]
+    return what, kind
 
 
-def headings(page):
+def table(head: str, rows: list[str]) -> str:
+    return "\n".join([head, re.sub(r"[^|]+", "---", head), *rows, ""])
+
+
+def files_text() -> str:
+    """What docs/FILES.md is to have."""
+    parts = [FILES.read_text().split("\n## ")[0]]
+    for crate in CRATES:
+        for part, head in ("specs", "| Definitions | What | |"), ("proofs", "| Lemmas | What |"):
+            files = [it for it in sorted(Path(f"crates/{crate}/{part}").glob("*.antt")) if it.stem != "Lib"]
+            told = [(file.stem, *first_words(file)) for file in files]
+            if told:
+                rows = [f"| `{name}` | {what} |" + (f" {kind.lower()} |" if part == "specs" else "") for name, what, kind in told]
+                title = f"## `{crate}`\n\n" if part == "specs" else ""
+                parts.append(title + table(head, rows))
+    return "\n".join(parts)
+
+
+def test_list_of_files(writes: bool) -> None:
+    if writes:
+        FILES.write_text(files_text())
+    assert FILES.read_text() == files_text(), f"{FILES} has not what the files say: --write makes it anew"
+>>>>>>> 1b07bec6864845ba5bc27838c64f88e184300dc2:tests/documents/test_documents.py
+
+
+def headings(page: Path) -> Iterator[str]:
     """The names of the headings of a page in links."""
     for heading in re.findall(r"^#+ (.*)$", page.read_text(), re.MULTILINE):
         yield re.sub(r"[^\w -]", "", heading.lower()).replace(" ", "-")
 
 
-def dead_links():
+def dead_links() -> Iterator[str]:
     """The links between pages that lead nowhere."""
     for page in pages():
         for path, heading in LINK.findall(page.read_text()):
@@ -74,6 +120,7 @@ def dead_links():
                 yield f"{page}: nothing is at {path}{heading and '#' + heading}"
 
 
+<<<<<<< HEAD:tests/documents.py
 def pages():
     return sorted(it for it in Path().rglob("*.md") if not {"out", ".git"} & set(it.parts))
 
@@ -104,33 +151,40 @@ def dead_names():
 
 
 def words(text):
+=======
+def test_links() -> None:
+    assert not [*dead_links()]
+
+
+def words(text: str) -> set[str]:
+>>>>>>> 1b07bec6864845ba5bc27838c64f88e184300dc2:tests/documents/test_documents.py
     """The words of a text, those of its comments left out."""
     return set(WORD.findall(re.sub(r"^\s*(--|//).*$", "", text, flags=re.MULTILINE)))
 
 
-def definitions(text):
+def definitions(text: str) -> Iterator[tuple[str, int, str]]:
     """Each definition of a file, with the number of its line and the rest of the file."""
     lines = text.split("\n")
     firsts = [at for at, line in enumerate(lines) if re.match(r"[^\s-]", line) and not line.startswith("use ")]
-    name, begin = None, 0
+    name, begin = "", 0
     for at in [*firsts, len(lines)]:
         line = lines[at] if at < len(lines) else ""
         # The clauses of a definition begin with its name.
         if name and line.split(" ")[0] == name:
             continue
-        if name and name != "_":
+        if name not in ("", "_"):
             yield name, begin + 1, "\n".join(lines[:begin] + lines[at:])
         head = HEAD.match(line)
-        name, begin = head and head[1], at
+        name, begin = head[1] if head else "", at
 
 
-def sources():
+def sources() -> Iterator[Path]:
     for part in "src", "specs", "proofs":
         for end in "rt", "antt":
             yield from Path("crates").glob(f"*/{part}/**/*.{end}")
 
 
-def unused():
+def unused() -> Iterator[str]:
     """The definitions and lemmas that nothing names."""
     texts = {file: file.read_text() for file in sources()}
     said = {file: words(text) for file, text in texts.items()}
@@ -143,6 +197,7 @@ def unused():
                 yield f"nothing uses {name} ({file}:{line})"
 
 
+<<<<<<< HEAD:tests/documents.py
 def main():
     checks = [*([*wrong_examples(it, Path(f"crates/{it}/README.md"))] for it in EXAMPLES), [*headless_files()], [*wrong_versions()], [*dead_links()], [*dead_names()], [*unused()]]
     for found in checks:
@@ -154,3 +209,8 @@ def main():
 
 if __name__ == "__main__":
     sys.exit(main())
+=======
+@pytest.mark.seconds(10)
+def test_unused() -> None:
+    assert not [*unused()]
+>>>>>>> 1b07bec6864845ba5bc27838c64f88e184300dc2:tests/documents/test_documents.py

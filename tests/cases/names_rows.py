@@ -1,7 +1,9 @@
 """What tools/dmf-names tells of answers, sessions and transcripts, and what it says of those that do not fit, worked out by hand.
 Between lines stands a slash."""
 
-from names_run import text
+from __future__ import annotations
+
+from tool_runs import Text, text
 
 # Six lorries an hour at most: the Hill's road lets four through, and the Old Road two.
 ROADS = (
@@ -72,7 +74,7 @@ WARNED = {
 LOST = "c cap value 6 / s 7 / f 1 2 5 / f 2 3 5 / f 1 3 2 / c cut 7 / c side 1"
 
 # What is told of a problem, commands (None where none are given) and an answer.
-TOLD_OF = {
+TOLD_OF: dict[str, tuple[Text, Text | None, Text, Text]] = {
     "a solution and its cut": (ROADS, None, f"{ANSWER} / {CUT}", f"{TOLD} / {LIMIT}"),
     "a cut alone": (ROADS, None, CUT, LIMIT),
     "a solution whose flows were filtered out": (ROADS, None, f"s 6 / {CUT}", f"value 6 / {LIMIT}"),
@@ -184,7 +186,7 @@ TOLD_OF = {
 }
 ANSWER_7 = "f 1 2 5 / f 2 3 5 / f 1 3 2"
 # What is said of an answer that does not fit the problem or the commands, and the lines of it that are told before that.
-FAULTS = [
+FAULTS: list[tuple[Text, Text | None, Text, str]] = [
     (
         ROADS,
         None,
@@ -267,7 +269,7 @@ LATER = [
 ]
 TITLES = ["number", "name", "from", "to", "flow", "capacity", "full", "in cut"]
 MILL, HILL, OLD = (1, "Mill Lane", "Quarry", "Hill"), (2, "", "Hill", "Site"), (3, "Old Road", "Quarry", "Site")
-TABLES = [
+TABLES: list[tuple[str, tuple[Text, Text | None, Text], list[tuple[object, ...]]]] = [
     (
         "a solution and its cut",
         (ROADS, None, f"{ANSWER} / {CUT}"),
@@ -295,7 +297,7 @@ TABLES = [
         [(1, "x\\x0dy", 'a, "b"', "2", 5, 5, "yes", "")],
     ),
 ]
-NO_TABLES = [
+NO_TABLES: list[tuple[Text, Text | None, Text, str]] = [
     (ROADS, None, CUT, "the answer ends without a solution and its flows"),
     (ROADS, None, f"{ANSWER} / s 6", "the answer ends without a solution and its flows"),
     (ROADS, None, f"{ANSWER} / {LOST}", "the arcs of the last solution are not known; give the commands by --commands FILE"),
@@ -306,3 +308,61 @@ NO_TABLES = [
         "the arcs of the last solution are not known; give the commands by --commands FILE",
     ),
 ]
+# The roads of examples/town.max: commands, the plan of today, what is told once they are changed, and the picture of that.
+TOWN_CHANGES = "solve\nprint cut\ncap 6 9\nadd 2 6 3\nclose 7\nsolve\nprint cut\n"
+TOWN_PLAN = """value 11
+  1 Quarry -> Hill: 5 of 8
+  2 Quarry -> Valley: 6 of 7
+  3 Hill -> Bridge: 5 of 5
+  4 Hill -> Valley: 0 of 4
+  5 Valley -> Bridge: 2 of 2
+  6 Valley -> Tunnel: 4 of 4
+  7 Bridge -> Site: 7 of 9
+  8 Tunnel -> Site: 4 of 6
+"""
+TOWN_TOLD = """limit 11
+  source's side: Quarry, Hill, Valley
+  3 Hill -> Bridge: 5
+  5 Valley -> Bridge: 2
+  6 Valley -> Tunnel: 4
+c cap value 11
+c add 9 value 11
+c close value 4
+value 9
+  1 Quarry -> Hill: 3 of 8
+  2 Quarry -> Valley: 6 of 7
+  3 Hill -> Bridge: 0 of 5
+  4 Hill -> Valley: 0 of 4
+  5 Valley -> Bridge: 0 of 2
+  6 Valley -> Tunnel: 6 of 9
+  8 Tunnel -> Site: 6 of 6
+  9 Hill -> Site: 3 of 3
+limit 9
+  source's side: Quarry, Hill, Valley, Bridge, Tunnel
+  8 Tunnel -> Site: 6
+  9 Hill -> Site: 3
+"""
+_GREY = 'color="#8f8f8f", fontcolor="#8f8f8f"'
+_RED = 'color="#c62828", fontcolor="#c62828"'
+_SIDE = 'style="filled", fillcolor="#d3e4f5"'
+TOWN_DRAWN = f"""digraph dmf {{
+  rankdir=LR
+  node [fontname="Helvetica"]
+  edge [fontname="Helvetica", fontsize=11]
+  1 [label="Quarry", peripheries=2, {_SIDE}]
+  2 [label="Hill", {_SIDE}]
+  3 [label="Valley", {_SIDE}]
+  4 [label="Bridge", {_SIDE}]
+  5 [label="Tunnel", {_SIDE}]
+  6 [label="Site", peripheries=2]
+  1 -> 2 [label="3/8"]
+  1 -> 3 [label="6/7"]
+  2 -> 4 [label="0/5", {_GREY}]
+  2 -> 3 [label="0/4", {_GREY}]
+  3 -> 4 [label="0/2", {_GREY}]
+  3 -> 5 [label="6/9"]
+  4 -> 6 [label="closed", style="dashed", {_GREY}]
+  5 -> 6 [label="6/6", penwidth=2.5, {_RED}]
+  2 -> 6 [label="3/3", penwidth=2.5, {_RED}]
+}}
+"""

@@ -1,7 +1,11 @@
-"""What the program is to say on a terminal in a session and of words that it does not take: rows for tests/terminal.py, worked out
+"""What the program is to say on a terminal in a session and of words that it does not take: rows for tests/program/test_terminal.py, worked out
 by hand."""
 
+from __future__ import annotations
+
 from dataclasses import dataclass
+
+from commands import LISTED, LISTED_PRINTS
 
 # Arcs and nodes with names, a name that two arcs have, and some of several words.
 NETWORK = b"""c arc 2 Tunnel
@@ -23,10 +27,7 @@ a 3 4 3
 """
 SOLVED = "s 5\nf 1 2 3\nf 1 3 2\nf 2 3 1\nf 2 4 2\nf 3 4 3\n"
 INVITATION = "dmf: reads a problem from the terminal; Ctrl-D ends it (dmf --help says more)\n"
-COMMANDS = (
-    "the commands are cap I U, add V W U, close I, shut V, solve, undo [K], redo [K] and "
-    "print problem, print flow, print cut; Ctrl-D ends the session"
-)
+COMMANDS = f"the commands are {', '.join(LISTED)} and {', '.join(LISTED_PRINTS)}; Ctrl-D ends the session"
 ADD_FORM = "add takes two nodes and a capacity (add V W U, 4 fields)"
 BOUNDS = "is no whole number from 0 to 18446744073709551615"
 

@@ -1,4 +1,4 @@
-"""The cases of tests/tables.py: tables with the problems, values and messages that are worked out by hand."""
+"""The cases of tests/tools/test_dmf_problem.py: tables with the problems, values and messages that are worked out by hand."""
 
 from __future__ import annotations
 
