@@ -13,8 +13,6 @@ from conftest import ROOT
 
 # Files that have no type hints yet, and those of others: mypy follows what they import, and does not judge them.
 UNTYPED = {
-    "board.py",
-    "board_browser.py",
     "completions.py",
     "documents.py",
     "examples.py",
@@ -31,12 +29,11 @@ UNTYPED = {
     "names.py",
     "names_live.py",
     "names_rows.py",
-    "plan.py",
 }
 
 
 def typed() -> list[Path]:
-    folders = (ROOT / "tests" / name for name in ("", "cases", "oracle", "program"))
+    folders = (ROOT / "tests" / name for name in ("", "cases", "client", "oracle", "program"))
     return sorted(path for folder in folders for path in folder.glob("*.py") if path.name not in UNTYPED)
 
 
