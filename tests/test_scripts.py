@@ -11,7 +11,7 @@ import pytest
 
 FOLDER = Path(__file__).parent
 # About how many seconds the longest take.
-LONG = {"failures": 60, "progress": 50, "fuzz": 40, "install": 40, "terminal": 20, "client": 20, "names": 20, "friends": 10}
+LONG = {"failures": 60, "progress": 50, "fuzz": 40, "install": 40, "terminal": 20, "names": 20, "friends": 10}
 SCRIPTS = [pytest.param(it, id=it.stem, marks=pytest.mark.seconds(LONG.get(it.stem, 5))) for it in sorted(FOLDER.glob("*.sh"))]
 
 
