@@ -21,7 +21,7 @@ END = "\x1e"
 ROFF = {"\\[aq]": "'", "\\[rs]": "\\", "\\-": "-", "\\fB": "", "\\fP": ""}
 SECONDS = 60
 STORIES = [str(page.relative_to(ROOT)) for page in sorted((ROOT / "examples").glob("*/README.md"))] + ["docs/TUTORIAL.md"]
-HELPS = ["solve", "session", "check"]
+HELPS = ["--help", "solve --help", "session --help", "check --help"]
 
 
 def of_manual(path: str) -> Iterator[str]:
@@ -37,8 +37,8 @@ def indented(text: str, indent: str) -> Iterator[str]:
         yield line.removeprefix(indent) if line.startswith(indent) else ""
 
 
-def of_help(command: str) -> Iterator[str]:
-    ran = subprocess.run([BUILT, command, "--help"], capture_output=True, text=True, timeout=SECONDS, check=True)
+def of_help(words: str) -> Iterator[str]:
+    ran = subprocess.run([BUILT, *words.split()], capture_output=True, text=True, timeout=SECONDS, check=True)
     return indented(ran.stdout, "  ")
 
 
@@ -105,9 +105,9 @@ def test_manual(top: Path) -> None:
     judge(of_manual("docs/dmf.1"), top, BUILT)
 
 
-@pytest.mark.parametrize("command", HELPS)
-def test_help(top: Path, command: str) -> None:
-    judge(of_help(command), top, BUILT)
+@pytest.mark.parametrize("words", HELPS)
+def test_help(top: Path, words: str) -> None:
+    judge(of_help(words), top, BUILT)
 
 
 @pytest.mark.seconds(4)
