@@ -12,9 +12,6 @@ from pathlib import Path
 import pytest
 from conftest import ROOT
 
-# Files whose types are not judged yet; mypy follows what they import.
-UNTYPED = {"tests/board.py", "tests/board_browser.py", "tests/plan.py", *(f"tests/client/{it.name}" for it in (ROOT / "tests/client").glob("*.py"))}
-
 
 def scripts(pattern: bytes, *folders: str) -> Iterator[Path]:
     """The files of these folders that a program of this name runs."""
@@ -36,8 +33,7 @@ def judge_types(cache: Path, *words: object) -> None:
 @pytest.mark.seconds(30)
 def test_types(tmp_path: Path) -> None:
     """The tests, the package and the tools."""
-    files = sorted(path for path in (ROOT / "tests").rglob("*.py") if str(path.relative_to(ROOT)) not in UNTYPED)
-    judge_types(tmp_path, *files, "clients/python/dmf")
+    judge_types(tmp_path, *sorted((ROOT / "tests").rglob("*.py")), "clients/python/dmf")
     judge_types(tmp_path, "--scripts-are-modules", *scripts(b"python3", "tools"))
 
 
@@ -53,7 +49,7 @@ def test_names() -> None:
     judge(sys.executable, "-m", "flake8", "tests", "tools", "clients", *scripts(b"python3", "tools", "tools/friends"))
 
 
-SHELL = [*scripts(b"(?:ba)?sh", ".", ".ci", "tests", "tools", "tools/friends", "bench")]
+SHELL = [*scripts(b"(?:ba)?sh", ".", ".ci", "tests/install", "tools", "tools/friends", "bench")]
 
 
 @pytest.mark.parametrize("script", [pytest.param(it, id=str(it.relative_to(ROOT))) for it in SHELL])

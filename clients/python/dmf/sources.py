@@ -9,7 +9,7 @@ from collections import Counter
 from typing import Any
 
 from .arcs import AMOUNTS, NODES, Columns, Node
-from .arrays import PIECE, is_missing, no_capacity
+from .arrays import PIECE, is_missing, no_capacity, read_lines
 from .kept import Kept, Whole
 from .network import Network
 from .process import Child, FilePath, Program, bound, session_words, start
@@ -47,17 +47,14 @@ def _kept(child: Child, node_names: dict[int, str], arc_names: dict[int, str], m
         node_count, arc_count = map(int, child.line()[2:])
         source, sink = (int(child.line()[1]) for _ in range(2))
         for begin in range(0, arc_count, PIECE):
-            # The letters of the lines are left out, so that numbers alone remain.
-            lines = child.lines(min(PIECE, arc_count - begin)).replace(b"a", b"")
-            numbers = array(AMOUNTS, map(int, lines.split()))
-            tails.extend(iter(numbers[0::3]))
-            heads.extend(iter(numbers[1::3]))
-            capacities.extend(numbers[2::3])
+            read = read_lines(child.lines(min(PIECE, arc_count - begin)))
+            for column, more in zip((tails, heads, capacities), read):
+                column.extend(more)
     used = Counter(name for number, name in node_names.items() if 1 <= number <= node_count)
     named = {number: name for number, name in node_names.items() if used[name] == 1}
     nodes: dict[int | str, int] = {named.get(number, number): number for number in range(1, node_count + 1)}
     names = list(nodes)
-    keys: dict[int, Any] = {number: name for number, name in sorted(arc_names.items()) if 1 <= number <= arc_count}
+    keys: dict[int, Any] = {number: arc_names[number] for number in sorted(arc_names) if 1 <= number <= arc_count}
     return Kept(Columns(nodes, tails, heads, keys), capacities, names[source - 1], names[sink - 1], most)
 
 

@@ -1,22 +1,35 @@
 """What the tests of the client share: the client, where the repository is, networks, and programs that stand in for dmf."""
 
 import contextlib
+import importlib
 import os
-import sys
 import tempfile
 from collections.abc import Iterable, Iterator
 from typing import Any
 
-ROOT = os.path.dirname(os.path.dirname(os.path.dirname(os.path.abspath(__file__))))
-CLIENT = f"{ROOT}/clients/python"
-sys.path[1:1] = [CLIENT, f"{ROOT}/tests"]
+import dmf as dmf
+import pytest
 
-import dmf as dmf  # noqa: E402
+ROOT = os.path.dirname(os.path.dirname(os.path.abspath(__file__)))
+CLIENT = f"{ROOT}/clients/python"
 
 # The program that is tested, whichever else is installed.
 BUILT = f"{ROOT}/crates/dmf/out/dmf"
 os.environ["DMF"] = BUILT
 PIPES = [("lake", "mill", 3), ("lake", "town", 2), ("mill", "town", 5), ("mill", "sea", 2), ("town", "sea", 3)]
+
+
+def there(name: str) -> Any:
+    """A package that some tests need, or None where it is not there."""
+    try:
+        return importlib.import_module(name)
+    except ImportError:
+        return None
+
+
+def needs(is_there: object, package: str, so: str) -> pytest.MarkDecorator:
+    """Skips a test where a package of Debian is not there, and tells what was not tested."""
+    return pytest.mark.skipif(not is_there, reason=f"{package} is not there, so {so}")
 
 
 def pipes(**options: Any) -> dmf.Network[str]:
@@ -53,3 +66,12 @@ def written(text: bytes) -> Iterator[str]:
         file.write(text)
         file.flush()
         yield file.name
+
+
+def is_running(process: int) -> bool:
+    """Whether a process is there that has not ended."""
+    try:
+        with open(f"/proc/{process}/stat") as stat:
+            return stat.read().rsplit(")", 1)[1].split()[0] != "Z"
+    except FileNotFoundError:
+        return False

@@ -1,7 +1,4 @@
-"""Tests the planner's desk and tools/dmf-plan: steps, names, sweeps, scripts, and a person at a terminal.
-
-    python3 tests/plan.py    prints what failed, and then 'N passed, M failed'
-"""
+"""Tests the planner's desk and tools/dmf-plan: steps, names, sweeps, scripts, and a person at a terminal."""
 
 from __future__ import annotations
 
@@ -12,21 +9,17 @@ import re
 import select
 import signal
 import subprocess
-import sys
 import tempfile
 import time
-from collections.abc import Callable, Iterator
+from collections.abc import Callable
 from pathlib import Path
-from typing import Union
 
-from built import tell
-from desk_shared import ODD, PIPES, ROOT, SECONDS, STORY, greatest, run, swept, water
+import pytest
+from desk_shared import ODD, PIPES, ROOT, SCRIPT, SECONDS, STORY, greatest, run, sessions_of, swept, water
+from dmf.desk import Desk, DeskFault, Place
+from dmf.desk_file import Subject
+from dmf.errors import SessionEnded
 
-from dmf.desk import Desk, DeskFault, Place  # noqa: E402
-from dmf.desk_file import Subject  # noqa: E402
-from dmf.errors import SessionEnded  # noqa: E402
-
-Wrong = Iterator[Union[str, bool]]
 WATER = subprocess.run(
     [ROOT / "tools/dmf-problem", "Reservoir", "Harbour"], stdin=open(ROOT / PIPES), capture_output=True, check=True, timeout=SECONDS
 ).stdout
@@ -64,20 +57,20 @@ def refused(make: Callable[[], object]) -> str:
     return f"not refused: {made}"
 
 
-def wrong_sweep() -> Wrong:
+def test_sweep() -> None:
     desk = desk_of(WATER)
     wanted = swept()
     found = {desk.names.arc_name(it.arc): (it.closed, it.doubled) for it in desk.sweep(range(1, 15))}
-    yield found != wanted and f"a sweep: {found}, and not {wanted}"
-    yield (desk.value, desk.at, list(desk.cut_arcs())) != (165, 1, [3, 9, 14]) and f"after a sweep: {desk.value}, {desk.cut_arcs()}"
+    assert found == wanted, f"a sweep: {found}, and not {wanted}"
+    assert (desk.value, desk.at, list(desk.cut_arcs())) == (165, 1, [3, 9, 14]), f"after a sweep: {desk.value}, {desk.cut_arcs()}"
     desk.end()
     idle = desk_of(WATER, with_solve=False)
     told = refused(lambda: list(idle.sweep([1])))
-    yield "solve" not in told and f"a sweep before a solve: {told}"
+    assert "solve" in told, f"a sweep before a solve: {told}"
     idle.end()
 
 
-def wrong_random() -> Wrong:
+def test_random() -> None:
     """Random steps, undone and made again, give what all sets of places give of the pipes that are open then."""
     chance = random.Random(35)
     desk = desk_of(WATER)
@@ -109,52 +102,43 @@ def wrong_random() -> Wrong:
         try:
             chance.choice(acts)()
         except (DeskFault, IndexError):
-            yield desk.at != place and f"turn {turn}: a refused step was made"
+            assert desk.at == place, f"turn {turn}: a refused step was made"
             continue
         wanted = value()
         seen.append(wanted)
-        yield desk.value != wanted and f"turn {turn}, {desk.steps[desk.at - 1].text}: {desk.value}, and not {wanted}"
-    yield len(set(seen)) < 10 and f"the random steps reach {len(set(seen))} values alone"
+        assert desk.value == wanted, f"turn {turn}, {desk.steps[desk.at - 1].text}: {desk.value}, and not {wanted}"
+    assert len(set(seen)) >= 10, f"the random steps reach {len(set(seen))} values alone"
     steps, at, lines = [(it.text, it.value) for it in desk.steps[: desk.at]], desk.at, list(desk.lines)
     desk.begin_again()
     again = [(it.text, it.value) for it in desk.steps[: desk.at]]
-    yield (again, desk.at, desk.lines) != (steps, at, lines) and f"begun again: {again}, and not {steps}"
+    assert (again, desk.at, desk.lines) == (steps, at, lines), f"begun again: {again}, and not {steps}"
     desk.go_to(1)
-    yield (desk.value, len(desk.lines), any(it.is_closed for it in desk.lines)) != (165, 14, False) and "all undone is not the first plan"
+    assert (desk.value, len(desk.lines), any(it.is_closed for it in desk.lines)) == (165, 14, False)
     desk.end()
 
 
-def wrong_ended() -> Wrong:
+def test_ended() -> None:
     """A session that ends by itself is told, and is begun again with the steps."""
     desk = desk_of(WATER)
     desk.close(10)
     end_session()
-    try:
+    with pytest.raises(SessionEnded):
         desk.close(1)
-        yield "a session that was killed answers"
-    except SessionEnded:
-        pass
     desk.begin_again()
-    yield (desk.value, desk.at) != (155, 2) and f"begun again: {desk.value}, {desk.at}"
+    assert (desk.value, desk.at) == (155, 2), f"begun again: {desk.value}, {desk.at}"
     desk.end()
 
 
 def end_session(of: int | None = None) -> None:
     """Kills the one session that a process has, and waits until it is gone."""
     pid = of or os.getpid()
-    for child in children(pid):
+    for child in sessions_of(pid):
         os.kill(child, signal.SIGKILL)
         while (Path("/proc") / str(child) / "stat").exists() and b") Z " not in (Path("/proc") / str(child) / "stat").read_bytes():
             os.sched_yield()
 
 
-def children(pid: int) -> list[int]:
-    """The sessions of the program that a process has."""
-    found = [int(it) for task in Path(f"/proc/{pid}/task").glob("*/children") for it in task.read_text().split()]
-    return [it for it in found if b"session" in Path(f"/proc/{it}/cmdline").read_bytes().split(b"\0")]
-
-
-def wrong_names() -> Wrong:
+def test_names() -> None:
     desk = desk_of(ALIKE)
     for text, wanted in {
         "A-B-C": "'A-B-C' may be #1 (A -> B-C), #2 (A-B -> C); say one by its number",
@@ -165,40 +149,27 @@ def wrong_names() -> Wrong:
         "a-d": "no arc is called 'a-d'; is it 'A-D' or 'A-B'?",
     }.items():
         told = refused(lambda: desk.the_arc(text))  # noqa: B023
-        yield not told.startswith(wanted.split("; is it 'A-D'")[0]) and f"the arc {text}: {told}"
-    yield desk.the_arc("A -> B-C") != 1 and "A -> B-C"
-    yield desk.the_arc("#2") != 2 and "#2"
+        assert told.startswith(wanted.split("; is it 'A-D'")[0]), f"the arc {text}: {told}"
+    assert desk.the_arc("A -> B-C") == 1
+    assert desk.the_arc("#2") == 2
     told = refused(lambda: desk.names.place("b-c"))
-    yield told != "no place is called 'b-c'; is it 'B-C'?" and f"a place of another case: {told}"
+    assert told == "no place is called 'b-c'; is it 'B-C'?", f"a place of another case: {told}"
     desk.end()
     mill = desk_of(LIMITED)
     place = mill.names.place("Mill")
-    yield place != Place(5, 10) and f"a place with a limit: {place}"
+    assert place == Place(5, 10), f"a place with a limit: {place}"
     mill.add(mill.names.place("Reservoir"), place, 7)
     mill.add(place, mill.names.place("Station"), 25)
     ends = [tuple(it[:2]) for it in mill.lines[-2:]]
-    yield ends != [(1, 5), (10, 8)] and f"arcs at a place with a limit: {ends}"
+    assert ends == [(1, 5), (10, 8)], f"arcs at a place with a limit: {ends}"
     mill.shut(place)
     is_open = [line for line in mill.lines if not line.is_closed and {5, 10} & {line.tail, line.head}]
-    yield bool(is_open) and f"open at a place that is shut: {is_open}"
+    assert not is_open, f"open at a place that is shut: {is_open}"
     mill.open_place(place)
-    yield mill.steps[-1].value != mill.steps[-3].value and f"opened again: {mill.value}"
+    assert mill.steps[-1].value == mill.steps[-3].value, f"opened again: {mill.value}"
     mill.end()
 
 
-SCRIPT = """solve
-cap "Market Street" 120
-solve
-undo 2
-add Mill Station 25
-solve
-undo 2
-close Market link
-solve
-undo 2
-close "Mill-South Tower"
-solve
-"""
 # Lines that are refused before a solve, and what is said of each.
 LINES = {
     "close Mil Lane": "no arc is called 'Mil Lane'; is it 'Mill Lane'",
@@ -225,34 +196,34 @@ def values(text: str) -> list[int]:
     return [int(it) for it in re.findall("^value ([0-9]+).*, the greatest$", text, re.MULTILINE)]
 
 
-def wrong_scripts() -> Wrong:
+def test_scripts() -> None:
     ran = run("dmf-plan", PIPES, typed=SCRIPT)
     solved = [found for line, found in zip(SCRIPT.splitlines(), re.findall("value ([0-9]+)", ran.stdout)) if line == "solve"]
-    yield (list(map(int, solved)), ran.returncode) != (STORY, 0) and f"the story: {solved}, {ran}"
+    assert (list(map(int, solved)), ran.returncode) == (STORY, 0), f"the story: {solved}, {ran}"
     ran = run("dmf-plan", PIPES, typed="".join(f"{line}\n" for line in LINES))
     told = [line for line in ran.stderr.splitlines() if line.startswith("dmf-plan: line")]
-    yield (ran.returncode, ran.stdout, len(told)) != (1, "", len(LINES)) and f"refused lines: {ran}"
+    assert (ran.returncode, ran.stdout, len(told)) == (1, "", len(LINES)), f"refused lines: {ran}"
     for number, ((line, wanted), found) in enumerate(zip(LINES.items(), told), 1):
-        yield (not found.startswith(f"dmf-plan: line {number}: ") or wanted not in found) and f"{line}: {found}"
+        assert found.startswith(f"dmf-plan: line {number}: ") and wanted in found, f"{line}: {found}"
     ran = run("dmf-plan", PIPES, typed="solve\nwhat-if each pipe of the cut\nwhat-if close Mill Lane\nsteps\n")
-    wanted = swept()
+    trials = swept()
     for name in ("North rise", "Mill Lane", "South main"):
-        found = re.search(f"^  #[0-9]+ {name}, .*: closed ([0-9]+) .*, a second one ([0-9]+)", ran.stdout, re.MULTILINE)
-        yield (found and tuple(map(int, found.groups()))) != wanted[name] and f"what-if {name}: {ran.stdout}"
-    yield "it would be 120 litres per second: 45 less" not in ran.stdout and f"what-if close: {ran.stdout}"
-    yield ran.stdout.count("solve: value 165") != 1 and f"what-if leaves steps: {ran.stdout}"
+        row = re.search(f"^  #[0-9]+ {name}, .*: closed ([0-9]+) .*, a second one ([0-9]+)", ran.stdout, re.MULTILINE)
+        assert row and tuple(map(int, row.groups())) == trials[name], f"what-if {name}: {ran.stdout}"
+    assert "it would be 120 litres per second: 45 less" in ran.stdout, f"what-if close: {ran.stdout}"
+    assert ran.stdout.count("solve: value 165") == 1, f"what-if leaves steps: {ran.stdout}"
 
 
-def wrong_page() -> Wrong:
+def test_page() -> None:
     """The session on the page of documents is one."""
     lines = [line[4:] for line in (ROOT / "docs/PLAN.md").read_text().splitlines() if line.startswith("    ")]
     typed = [line.partition("> ")[2] for line in lines if re.match("[0-9]+, .*greatest> ", line)]
     ran = run("dmf-plan", PIPES, typed="".join(f"{line}\n" for line in typed))
     told = [line for line in lines if line.startswith(("value ", "  #"))]
-    yield (ran.stdout.splitlines(), ran.returncode, len(typed)) != (told, 0, 5) and f"the session of docs/PLAN.md: {ran}"
+    assert (ran.stdout.splitlines(), ran.returncode, len(typed)) == (told, 0, 5), f"the session of docs/PLAN.md: {ran}"
 
 
-def wrong_files() -> Wrong:
+def test_files() -> None:
     """What is saved is a problem, a table and a picture; and which files are refused."""
     with tempfile.TemporaryDirectory() as folder:
         table = Path(folder, "odd.csv")
@@ -260,14 +231,14 @@ def wrong_files() -> Wrong:
         quoted = ODD.replace('"', '""')
         typed = f'solve\nshut "{quoted}"\nopen "{quoted}"\nsolve\nsave {folder}/plan.max\nsave {folder}/plan.csv\ndraw {folder}/plan.dot\n'
         ran = run("dmf-plan", str(table), typed=typed)
-        yield (ran.returncode, values(ran.stdout)[-1:]) != (0, [3]) and f"an odd name: {ran}"
+        assert (ran.returncode, values(ran.stdout)[-1:]) == (0, [3]), f"an odd name: {ran}"
         saved = Path(folder, "plan.max").read_bytes()
-        yield f"c node 2 {ODD}".encode() not in saved and f"the names of a saved problem: {saved!r}"
+        assert f"c node 2 {ODD}".encode() in saved, f"the names of a saved problem: {saved!r}"
         again = run("dmf-plan", f"{folder}/plan.max", typed="solve\n")
-        yield values(again.stdout) != [3] and f"a saved problem: {again}"
-        yield b"digraph" not in Path(folder, "plan.dot").read_bytes() and "a drawn text"
+        assert values(again.stdout) == [3], f"a saved problem: {again}"
+        assert b"digraph" in Path(folder, "plan.dot").read_bytes()
         rows = Path(folder, "plan.csv").read_text().splitlines()
-        yield (len(rows), rows[0]) != (3, "number,name,from,to,flow,capacity,full,in cut") and f"a saved table: {rows}"
+        assert (len(rows), rows[0]) == (3, "number,name,from,to,flow,capacity,full,in cut"), f"a saved table: {rows}"
         for name, text, status, told in (
             ("two.csv", "A,C,1\nB,C,1\n", 3, "--source \"A\", as often"),
             ("ring.csv", "A,B,1\nB,A,1\n", 3, "there is no place that nothing leads to"),
@@ -276,12 +247,12 @@ def wrong_files() -> Wrong:
         ):
             Path(folder, name).write_text(text)
             ran = run("dmf-plan", f"{folder}/{name}")
-            yield (ran.returncode != status or told not in ran.stderr or "Traceback" in ran.stderr) and f"{name}: {ran}"
+            assert ran.returncode == status and told in ran.stderr and "Traceback" not in ran.stderr, f"{name}: {ran}"
         ran = run("dmf-plan", f"{folder}/missing.csv")
-        yield ran.returncode != 4 and f"a missing file: {ran}"
+        assert ran.returncode == 4, f"a missing file: {ran}"
         ran = run("dmf-plan", f"{folder}/two.csv", "--source", "A", "--source", "B", typed="solve\n")
-        yield values(ran.stdout) != [2] and f"two sources: {ran}"
-    yield run("dmf-plan").returncode != 2 and "no file is named"
+        assert values(ran.stdout) == [2], f"two sources: {ran}"
+    assert run("dmf-plan").returncode == 2
 
 
 class Terminal:
@@ -318,7 +289,7 @@ class Terminal:
         return status
 
 
-def wrong_typed() -> Wrong:
+def test_typed() -> None:
     """A person completes names, breaks off a line, finds yesterday's lines, and goes on where the session ended by itself."""
     with tempfile.TemporaryDirectory() as folder:
         terminal = Terminal(folder)
@@ -329,7 +300,7 @@ def wrong_typed() -> Wrong:
         terminal.wait("165, greatest> ")
         terminal.type("close Bri\t\n")
         told = terminal.wait("155, greatest> ")
-        yield '"Bridge pipe"' not in told and f"a name is completed: {told!r}"
+        assert '"Bridge pipe"' in told, f"a name is completed: {told!r}"
         terminal.type("close rubbish\x03")
         terminal.wait("155, greatest> ")
         terminal.type("try\n")
@@ -341,31 +312,17 @@ def wrong_typed() -> Wrong:
         end_session(terminal.pid)
         terminal.type("close Mill Lane\n")
         told = terminal.wait("155, greatest> ")
-        yield ("begun again" not in told or "SIGKILL" not in told) and f"a session that ended: {told!r}"
+        assert "begun again" in told and "SIGKILL" in told, f"a session that ended: {told!r}"
         terminal.type("undo\n")
         terminal.wait("165, greatest> ")
         terminal.type("quit\n")
         status = terminal.end()
-        yield status != 0 and f"the end of a typed session: {status}"
+        assert status == 0, f"the end of a typed session: {status}"
         history = Path(folder, "dmf", "plan_history").read_text()
-        yield ('close "Bridge pipe"' not in history) and f"the history: {history}"
+        assert 'close "Bridge pipe"' in history, f"the history: {history}"
         again = Terminal(folder)
         again.wait("0, not greatest> ")
         again.type("\x10")
         told = again.wait("quit")
         again.type("\n")
-        yield again.end() != 0 and f"yesterday's lines: {told!r}"
-
-
-def main() -> bool:
-    said: list[str | bool] = []
-    for wrong in (wrong_sweep, wrong_random, wrong_ended, wrong_names, wrong_scripts, wrong_page, wrong_files, wrong_typed):
-        try:
-            said += wrong()
-        except Exception as error:
-            said.append(f"{wrong.__name__}: {error!r}")
-    return bool(tell(said))
-
-
-if __name__ == "__main__":
-    sys.exit(main())
+        assert again.end() == 0, f"yesterday's lines: {told!r}"

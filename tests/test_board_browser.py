@@ -1,37 +1,47 @@
 """Shows tools/dmf-board by headless Chromium: the water story by clicks, compared with the same story from the shell and from dmf-plan; a
-reload; the page's end. Runs with Debian's /usr/bin/python3, which has selenium.
-
-    /usr/bin/python3 tests/board_browser.py [--pictures]    prints what failed, and then 'N passed, M failed'; or makes
-                                                            docs/pictures/board.png and board-small.png anew
-"""
+reload; the page's end; and what the documents show of it, which `--write` makes anew."""
 
 from __future__ import annotations
 
 import os
 import re
+import shutil
 import signal
 import subprocess
-import sys
 import tempfile
-import traceback
 from collections.abc import Callable, Iterator
 from pathlib import Path
-from typing import Any, Union
+from typing import Any
 
-sys.path.append("/usr/lib/python3/dist-packages")
-from board import Board, board  # noqa: E402
-from built import tell  # noqa: E402
-from desk_shared import ODD, PIPES, ROOT, STORY, run, swept  # noqa: E402
-from plan import SCRIPT  # noqa: E402
+import pytest
+from board_running import Board, board
+from desk_shared import ODD, PIPES, ROOT, SCRIPT, STORY, run, swept
+
+for program in "chromium", "chromedriver", "dot":
+    if not shutil.which(program):
+        pytest.skip(f"{program} is not there, so the board was not shown by a browser", allow_module_level=True)
+pytest.importorskip("selenium", reason="python3-selenium is not there, so the board was not shown by a browser")
+
 from selenium import webdriver  # noqa: E402
 from selenium.webdriver.chrome.service import Service  # noqa: E402
 from selenium.webdriver.common.by import By  # noqa: E402
 from selenium.webdriver.common.keys import Keys  # noqa: E402
-from selenium.webdriver.support.ui import WebDriverWait  # noqa: E402
+from selenium.webdriver.support.wait import WebDriverWait  # noqa: E402
 
+pytestmark = pytest.mark.seconds(20)
 # How long the page is waited for, in seconds.
 SECONDS = 20
-Wrong = Iterator[Union[str, bool]]
+
+
+@pytest.fixture(scope="module")
+def driver() -> Iterator[Any]:
+    options: Any = webdriver.ChromeOptions()
+    for word in ("--headless=new", "--no-sandbox", "--disable-gpu", "--disable-dev-shm-usage", "--window-size=1280,1000"):
+        options.add_argument(word)
+    options.set_capability("goog:loggingPrefs", {"browser": "ALL"})
+    made = webdriver.Chrome(service=Service("/usr/bin/chromedriver"), options=options)
+    yield made
+    made.quit()
 
 
 class Page:
@@ -90,7 +100,7 @@ class Page:
         return self.after(lambda: self.click("#undo"))
 
 
-def wrong_story(driver: Any) -> Wrong:
+def test_story(driver: Any) -> None:
     """The water story, told three ways."""
     commands = ROOT / "examples/water/tomorrow.txt"
     with tempfile.NamedTemporaryFile() as problem:
@@ -106,27 +116,27 @@ def wrong_story(driver: Any) -> Wrong:
         page.choose("arc-11", "Market Street")
         page.write("#capacity", "120")
         clicked.append(page.after(lambda: page.press("Set")))
-        yield page.undo() != 165 and "undo of a wider street"
+        assert page.undo() == 165
         page.choose("node-5", "Mill")
         page.write("#new-head", "Station")
         page.write("#new-capacity", "25")
         clicked.append(page.after(lambda: page.press("Add it")))
-        yield page.undo() != 165 and "undo of a new pipe"
+        assert page.undo() == 165
         for arc, name in ("arc-12", "Market link"), ("arc-10", "Bridge pipe"):
             page.choose(arc, name)
             clicked.append(page.after(lambda: page.press("Close it")))
             page.wait(lambda: "closed" in page.text("#what"))  # noqa: B023
             if name == "Market link":
-                yield page.undo() != 165 and "undo of a closed link"
-        yield (shell, typed, clicked) != (STORY, STORY, STORY) and f"the story: {shell}, {typed}, {clicked}, and not {STORY}"
+                assert page.undo() == 165
+        assert (shell, typed, clicked) == (STORY, STORY, STORY), f"the story: {shell}, {typed}, {clicked}, and not {STORY}"
         limit = page.text("#limit-table")
-        yield not all(name in limit for name in ("North rise", "South rise", "Mill Lane")) and f"the limit: {limit}"
+        assert all(name in limit for name in ("North rise", "South rise", "Mill Lane")), f"the limit: {limit}"
         driver.refresh()
         page.ready()
-        yield (page.value(), "Bridge pipe" in page.text("#way")) != (155, True) and "a reload"
+        assert (page.value(), "Bridge pipe" in page.text("#way")) == (155, True)
         page.after(lambda: page.press("as in the file: 165"))
-        yield page.after(lambda: page.click("#redo")) != 155 and "redo"
-        yield page.undo() != 165 and "undo once more"
+        assert page.after(lambda: page.click("#redo")) == 155
+        assert page.undo() == 165
         page.press("Try each pipe")
         page.wait(lambda: "Worst" in page.text("#verdict"))
         wanted = swept()
@@ -134,18 +144,18 @@ def wrong_story(driver: Any) -> Wrong:
         best = max(wanted, key=lambda name: wanted[name][1])
         said = f"Worst to lose: {worst}, {165 - wanted[worst][0]} litres per second less. "
         said += f"Best to have a second of: {best}, {wanted[best][1] - 165} litres per second more."
-        yield page.text("#verdict") != said and f"the verdict: {page.text('#verdict')}"
-        yield from wrong_keys(page)
-        yield from wrong_sessions(page, it)
+        assert page.text("#verdict") == said, f"the verdict: {page.text('#verdict')}"
+        judge_keys(page)
+        judge_sessions(page, it)
         # What is refused, and a session that has ended, a browser tells as well.
         logged = [one["message"] for one in driver.get_log("browser") if not re.search("status of (409|410)", one["message"])]
-        yield logged != [] and f"the browser says {logged}"
+        assert logged == [], f"the browser says {logged}"
         driver.get("about:blank")
         status = it.ended()
-        yield status != 0 and f"the end of the page: {status}"
+        assert status == 0, f"the end of the page: {status}"
 
 
-def wrong_keys(page: Page) -> Wrong:
+def judge_keys(page: Page) -> None:
     """The keyboard alone chooses an arc, and each control has a name."""
     picture = page.driver.find_element(By.ID, "picture")
     picture.send_keys(Keys.ARROW_LEFT)
@@ -157,7 +167,7 @@ def wrong_keys(page: Page) -> Wrong:
         "return [...document.querySelectorAll('button, input, a, g.arc, g.node')].filter((it) => it.checkVisibility() && "
         "!(it.textContent.trim() || it.getAttribute('aria-label') || it.labels?.length)).map((it) => it.outerHTML)"
     )
-    yield unnamed != [] and f"controls without a name: {unnamed}"
+    assert unnamed == [], f"controls without a name: {unnamed}"
     page.write("#text", "mill l")
     page.wait(lambda: page.text("#found button") == "Mill Lane, Mill -> Market")
     page.click("#found button")
@@ -165,10 +175,10 @@ def wrong_keys(page: Page) -> Wrong:
     page.write("#capacity", "1.5")
     page.press("Set")
     page.wait(lambda: "is no whole number" in page.text("#trouble"))
-    yield page.value() != 165 and "a number that is refused"
+    assert page.value() == 165
 
 
-def wrong_sessions(page: Page, it: Board) -> Wrong:
+def judge_sessions(page: Page, it: Board) -> None:
     """Where the session ends by itself, the page says so, and begins again with the steps."""
     page.after(lambda: page.press("Close it"))
     (session,) = it.sessions()
@@ -178,10 +188,10 @@ def wrong_sessions(page: Page, it: Board) -> Wrong:
     page.wait(lambda: "ended by itself" in page.text("#trouble"))
     page.after(lambda: page.press("Begin again, with the steps made so far (1)"))
     page.wait(lambda: page.text("#trouble") == "")
-    yield page.value() != 120 and f"begun again: {page.value()}"
+    assert page.value() == 120, f"begun again: {page.value()}"
 
 
-def wrong_names(driver: Any) -> Wrong:
+def test_names(driver: Any) -> None:
     """A name of HTML and quotes is shown as it is, wherever it stands."""
     with tempfile.TemporaryDirectory() as folder:
         quoted = ODD.replace('"', '""')
@@ -190,15 +200,15 @@ def wrong_names(driver: Any) -> Wrong:
         with board(str(table)) as it:
             page = Page(driver, it.address)
             page.choose("arc-1", ODD)
-            yield page.after(lambda: page.press("Close it")) != 0 and "an odd name is closed"
-            yield page.after(lambda: page.press("Open it again")) != 3 and "an odd name is opened"
+            assert page.after(lambda: page.press("Close it")) == 0
+            assert page.after(lambda: page.press("Open it again")) == 3
             made = driver.find_elements(By.CSS_SELECTOR, "img, b, main script")
-            yield (made != [] or driver.title == "1") and f"a name became markup: {made}"
-            yield ODD not in page.text("#way") and f"the steps: {page.text('#way')}"
+            assert made == [] and driver.title != "1", f"a name became markup: {made}"
+            assert ODD in page.text("#way"), f"the steps: {page.text('#way')}"
             driver.get("about:blank")
 
 
-def wrong_widths(driver: Any) -> Wrong:
+def test_widths(driver: Any) -> None:
     """Nothing but the picture and the tables goes past a narrow page."""
     with board(PIPES) as it:
         for width in 400, 1280:
@@ -209,13 +219,13 @@ def wrong_widths(driver: Any) -> Wrong:
             page.press("Try each pipe")
             page.wait(lambda: "Worst" in page.text("#verdict"))  # noqa: B023
             wide = driver.execute_script("return document.documentElement.scrollWidth")
-            yield wide > width and f"at {width} pixels the page has {wide}"
+            assert wide <= width, f"at {width} pixels the page has {wide}"
         driver.execute_cdp_cmd("Emulation.clearDeviceMetricsOverride", {})
         driver.get("about:blank")
 
 
-def take_pictures(driver: Any) -> None:
-    """Makes the pictures of the documents."""
+def test_pictures(driver: Any, writes: bool) -> None:
+    """The pictures of the documents, which are made at least, and with --write put."""
     with board(PIPES) as it:
         for name, width, height in ("board", 1280, 860), ("board-small", 400, 800):
             metrics = {"width": width, "height": height, "deviceScaleFactor": 1, "mobile": width == 400}
@@ -225,31 +235,9 @@ def take_pictures(driver: Any) -> None:
             page.wait(lambda: "Worst" in page.text("#verdict"))  # noqa: B023
             page.choose("arc-9", "Mill Lane")
             driver.execute_script("scrollTo(0, 0)")
-            driver.save_screenshot(str(ROOT / f"docs/pictures/{name}.png"))
+            picture = driver.get_screenshot_as_png()
+            assert int.from_bytes(picture[16:20], "big") == width
+            if writes:
+                (ROOT / f"docs/pictures/{name}.png").write_bytes(picture)
+        driver.execute_cdp_cmd("Emulation.clearDeviceMetricsOverride", {})
         driver.get("about:blank")
-
-
-def main(words: list[str]) -> int:
-    options = webdriver.ChromeOptions()
-    for word in ("--headless=new", "--no-sandbox", "--disable-gpu", "--disable-dev-shm-usage", "--window-size=1280,1000"):
-        options.add_argument(word)
-    options.set_capability("goog:loggingPrefs", {"browser": "ALL"})
-    driver = webdriver.Chrome(service=Service("/usr/bin/chromedriver"), options=options)
-    said: list[str | bool] = []
-    try:
-        if words == ["--pictures"]:
-            take_pictures(driver)
-            return 0
-        for wrong in (wrong_story, wrong_names, wrong_widths):
-            try:
-                said += wrong(driver)
-            except Exception as error:
-                place = [frame.lineno for frame in traceback.extract_tb(error.__traceback__) if frame.filename == __file__]
-                said.append(f"{wrong.__name__}, lines {place}: {error!r:.600}")
-    finally:
-        driver.quit()
-    return bool(tell(said))
-
-
-if __name__ == "__main__":
-    sys.exit(main(sys.argv[1:]))
