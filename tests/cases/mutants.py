@@ -19,9 +19,9 @@ MAIN, PROGRESS, HELP = "crates/dmf/src/main.rt", "crates/dmf_progress/src/progre
 TESTS = "tests/program/"
 MUTANTS = [
     Mutant("cuts and brief replies are taken for each other", MAIN, "SolveReply { cut, brief },", "SolveReply { cut: brief, brief: cut },",
-           TESTS + "test_random_cases.py::test_sessions"),
+           TESTS + "test_random_cases.py::test_drawn[a session]"),
     Mutant("a solve tells no cut", MAIN, "Mode::Solve { cut } => solve(rt, cut, progress),", "Mode::Solve { cut } => solve(rt, cut && progress, progress),",
-           TESTS + "test_random_cases.py::test_solves"),
+           TESTS + "test_random_cases.py::test_drawn[a solve]"),
     Mutant("the problem has the descriptor of standard input", MAIN, "File::open(rt, path).and_then(|file| file.try_clone())", "File::open(rt, path)",
            TESTS + "test_streams.py::test_closed"),
     Mutant("nothing says that a problem is typed", MAIN, "    invite(rt);\n", "    if want_cut {\n        invite(rt);\n    }\n",
