@@ -55,15 +55,20 @@ def test_formats() -> None:
         assert re.search(rf"\b{text}\b", refusals), text
 
 
+# What the help calls the fields of a command.
+HELP_NAMES = {"ARC": "I", "CAP": "U", "FROM": "V", "TO": "W", "NODE": "V"}
+
+
 def test_help() -> None:
-    """The help lists these lines. What a terminal lists where a line is no command is tried by program/test_terminal.py."""
+    """The help lists these lines with their replies. What a terminal lists where a line is no command is tried by
+    program/test_terminal.py."""
     told = subprocess.run([BUILT, "session", "--help"], capture_output=True, text=True).stdout
-    section = told.partition("\nCommands, one a line on standard input, and their replies:\n")[2].partition("\n\n")[0]
+    section = told.partition("\nCommands, one a line on standard input, each with its reply:\n")[2].partition("\n\n")[0]
     found = [re.split("  +", line.strip()) for line in section.splitlines()]
-    # The help calls nodes A and B.
-    lines = [line.replace(" A", " V").replace(" B", " W") for line, *_ in found]
-    assert lines == [it.form for it in COMMANDS.values()]
-    assert all(row[2] == it.reply for row, it in zip(found, COMMANDS.values()) if it.reply.startswith("c "))
+    lines = [" ".join(HELP_NAMES.get(field, field) for field in line.split()) for line, *_ in found]
+    assert lines == [*LISTED, *LISTED_PRINTS]
+    replies_told = [reply.replace(" ARC", " I") for _, _, reply in found]
+    assert all(told.startswith(it.reply) for told, it in zip(replies_told, COMMANDS.values()))
 
 
 def test_errors() -> None:

@@ -1,19 +1,22 @@
 """Compares what stands twice in the repository, and looks for definitions and lemmas that nothing uses:
 
 - the example of each library's README is the test that it is;
-- docs/FILES.md has each file of definitions and lemmas with its first words (--write puts them there);
+- each file of definitions and of lemmas begins with a comment, and one of definitions says whether it is public or private;
+- the program's version is the one of the Python package, of the manual pages and of CHANGELOG.md's newest release;
 - each link between pages leads to a file, and to a heading of it where it names one;
+- each name of code and of a file that a page has in backquotes stands in the repository;
 - each definition and lemma is named by the rest of its file, or by a file that names its file."""
 
 from __future__ import annotations
 
 import re
+import subprocess
 from collections.abc import Iterator
+from itertools import takewhile
 from pathlib import Path
 
 import pytest
 
-CRATES = ["dmf_arguments", "dmf_node", "dmf_path", "dmf_state", "dmf_solver", "dmf_text", "dmf_history", "dmf_session", "dmf_runs", "dmf_progress"]
 # The test that each library's example is.
 EXAMPLES = {
     "dmf_net": "test_interface/src/examples/net.rt",
@@ -21,7 +24,6 @@ EXAMPLES = {
     "dmf_session": "test_interface/src/examples/session.rt",
     "dmf_run": "test_interface/src/examples/run.rt",
 }
-FILES = Path("docs/FILES.md")
 CODE = re.compile(r"^```rust\n(.*?)^```$", re.MULTILINE | re.DOTALL)
 # A definition or lemma begins in the first column with its name and its type.
 HEAD = re.compile(r"^(?:[a-z]+ )*([^\s:(]+)(?= *[:(])")
@@ -35,37 +37,36 @@ def test_example_of_library(library: str) -> None:
     assert CODE.findall(page.read_text()) == [example.read_text()], f"the example of {page} is not {example}"
 
 
-def first_words(file: Path) -> tuple[str, str]:
-    """The comment at the head of a file, in two parts: what the file is, and whether it is public, where it says so."""
-    comment = re.match(r"(?:--.*\n)*", file.read_text())
-    assert comment
-    text = " ".join(line.removeprefix("--").strip() for line in comment[0].splitlines())
-    what, kind, _ = re.split(r"\s*\b(Public|Private): ", text + " Private: ", maxsplit=1)[:3]
-    return what, kind
+def headless_files() -> Iterator[str]:
+    """The files of definitions and of lemmas that do not say what they are."""
+    for file in sorted(it for part in ("specs", "proofs") for it in Path("crates").glob(f"*/{part}/*.antt") if it.stem != "Lib"):
+        comment = "".join(takewhile(lambda line: line.startswith("--"), file.open()))
+        if not comment:
+            yield f"{file} begins with no comment"
+        elif file.parent.name == "specs" and not re.search("^-- (Public|Private): ", comment, re.MULTILINE):
+            yield f"{file} does not say whether it is public or private"
 
 
-def table(head: str, rows: list[str]) -> str:
-    return "\n".join([head, re.sub(r"[^|]+", "---", head), *rows, ""])
+def wrong_versions() -> Iterator[str]:
+    """Where another version stands than the program's."""
+    (version,) = re.findall(r'VERSION: &str = "(.*)"', Path("crates/dmf_arguments/src/help.rt").read_text())
+    told = {
+        "clients/python/dmf/__init__.py": r'^__version__ = "(.*)"',
+        "CHANGELOG.md": r"^## (\d\S*)",
+        **{str(page): r'^\.TH \S+ 1 "" "dmf (.*?)"' for page in sorted(Path("docs").glob("*.1"))},
+    }
+    for page, form in told.items():
+        found = re.search(form, Path(page).read_text(), re.MULTILINE)
+        if not found or found[1] != version:
+            yield f"{page} has not the version {version}"
 
 
-def files_text() -> str:
-    """What docs/FILES.md is to have."""
-    parts = [FILES.read_text().split("\n## ")[0]]
-    for crate in CRATES:
-        for part, head in ("specs", "| Definitions | What | |"), ("proofs", "| Lemmas | What |"):
-            files = [it for it in sorted(Path(f"crates/{crate}/{part}").glob("*.antt")) if it.stem != "Lib"]
-            told = [(file.stem, *first_words(file)) for file in files]
-            if told:
-                rows = [f"| `{name}` | {what} |" + (f" {kind.lower()} |" if part == "specs" else "") for name, what, kind in told]
-                title = f"## `{crate}`\n\n" if part == "specs" else ""
-                parts.append(title + table(head, rows))
-    return "\n".join(parts)
+def test_heads() -> None:
+    assert not [*headless_files()]
 
 
-def test_list_of_files(writes: bool) -> None:
-    if writes:
-        FILES.write_text(files_text())
-    assert FILES.read_text() == files_text(), f"{FILES} has not what the files say: --write makes it anew"
+def test_versions() -> None:
+    assert not [*wrong_versions()]
 
 
 def headings(page: Path) -> Iterator[str]:
@@ -76,7 +77,7 @@ def headings(page: Path) -> Iterator[str]:
 
 def dead_links() -> Iterator[str]:
     """The links between pages that lead nowhere."""
-    for page in sorted(it for it in Path().rglob("*.md") if "out" not in it.parts):
+    for page in pages():
         for path, heading in LINK.findall(page.read_text()):
             file = page.parent / path if path else page
             if not file.exists() or heading and heading not in headings(file):
@@ -85,6 +86,39 @@ def dead_links() -> Iterator[str]:
 
 def test_links() -> None:
     assert not [*dead_links()]
+
+
+def pages() -> list[Path]:
+    return sorted(it for it in Path().rglob("*.md") if not {"out", ".git"} & set(it.parts))
+
+
+def names(page: Path) -> list[str]:
+    """What stands in backquotes on a page, but in its examples."""
+    prose = re.sub(r"^    .*$|^```.*?^```$", "", page.read_text(), flags=re.MULTILINE | re.DOTALL)
+    return sorted(set(re.findall(r"`([^`\n]+)`", prose)))
+
+
+def dead_names() -> Iterator[str]:
+    """The names of code and of files that pages have in backquotes, and that stand nowhere else in the repository."""
+    tracked = subprocess.run(["git", "ls-files"], capture_output=True, text=True, check=True).stdout.splitlines()
+    files = [Path(it) for it in tracked if Path(it).is_file()]
+    places = {f"/{place}" for file in files for place in (file, *file.parents)}
+    code = [file.read_text() for file in files if file.suffix in (".rt", ".antt", ".py", ".sh", ".cpp", ".hpp", "")]
+    said: set[str] = set().union(*(re.findall(r"\w+", text) for text in [*code, *places]))
+    for page in pages():
+        for name in names(page):
+            if re.search("[*!]|^out/", name):
+                continue
+            if re.fullmatch(r"[\w./-]+\.(rt|antt|py|sh|cpp|hpp|max|csv)|[\w.-]+/[\w./-]*", name):
+                is_there = any(place.endswith("/" + name.removeprefix("./").rstrip("/")) for place in places)
+            else:
+                is_there = not re.search("_|::|[a-z][A-Z]", name) or said.issuperset(re.findall(r"[A-Za-z]\w*", name))
+            if not is_there:
+                yield f"{page}: nothing is called {name}"
+
+
+def test_names() -> None:
+    assert not [*dead_names()]
 
 
 def words(text: str) -> set[str]:
