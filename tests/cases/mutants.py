@@ -36,7 +36,7 @@ MUTANTS = [
            TESTS + "test_progress.py::test_size"),
     Mutant("a bound is told of nothing", PROGRESS, "        Some(value_limit(state))\n", "        Some(value_limit(state) / 2)\n",
            TESTS + "test_progress.py::test_bound_in_session"),
-    Mutant("the help tells another reply", HELP, "c add I value VALUE\n", "c add value VALUE\n", "tests/test_commands.py::test_help"),
-    Mutant("the help tells another status", HELP, "  0  all is well\n", "  0  well\n", TESTS + "test_worked.py::test_words"),
+    Mutant("the help tells another reply", HELP, "c add ARC value VALUE\n", "c add value VALUE\n", "tests/test_commands.py::test_help"),
+    Mutant("the help tells another status", HELP, "  0  success\n", "  0  good\n", TESTS + "test_worked.py::test_words"),
     Mutant("another version", HELP, 'VERSION: &str = "0.1.0"', 'VERSION: &str = "0.1.1"', TESTS + "test_program.py::test_ends"),
 ]  # fmt: skip
