@@ -21,7 +21,7 @@ END = "\x1e"
 ROFF = {"\\[aq]": "'", "\\[rs]": "\\", "\\-": "-", "\\fB": "", "\\fP": ""}
 SECONDS = 60
 STORIES = [str(page.relative_to(ROOT)) for page in sorted((ROOT / "examples").glob("*/README.md"))] + ["docs/TUTORIAL.md"]
-HELPS = ["--help", "solve --help", "session --help", "check --help"]
+HELPS = ["", "solve", "session", "check"]
 
 
 def of_manual(path: str) -> Iterator[str]:
@@ -37,8 +37,8 @@ def indented(text: str, indent: str) -> Iterator[str]:
         yield line.removeprefix(indent) if line.startswith(indent) else ""
 
 
-def of_help(words: str) -> Iterator[str]:
-    ran = subprocess.run([BUILT, *words.split()], capture_output=True, text=True, timeout=SECONDS, check=True)
+def of_help(command: str) -> Iterator[str]:
+    ran = subprocess.run([BUILT, *command.split(), "--help"], capture_output=True, text=True, timeout=SECONDS, check=True)
     return indented(ran.stdout, "  ")
 
 
