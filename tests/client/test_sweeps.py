@@ -138,7 +138,7 @@ def test_it_is_lazy_and_leaves_nothing() -> None:
         results = dmf.sweep(network, endless(), jobs=2)
         assert [next(results).value for _ in range(5)] == [2, 3, 4, 5, 5]
         assert len(taken) < 30
-        results.close()  # type: ignore[attr-defined]
+        results.close()
     assert children() == before
 
 

@@ -9,7 +9,7 @@ import pickle
 import threading
 import time
 from collections import deque
-from collections.abc import Callable, Hashable, Iterable, Iterator
+from collections.abc import Callable, Generator, Hashable, Iterable, Iterator
 from concurrent.futures import Executor, Future, ThreadPoolExecutor
 from dataclasses import dataclass
 from itertools import islice
@@ -102,7 +102,7 @@ def sweep(
     *,
     jobs: int | None = None,
     progress: bool = False,
-) -> Iterator[SweepResult[Node]]:
+) -> Generator[SweepResult[Node], None, None]:
     """The result of each case in order, as it comes. Each case is tried on a solved copy of the network as it is now, and taken back;
     the network itself is not changed, and can be used meanwhile. Cases are taken as they are needed, so there may be any number.
 
@@ -127,7 +127,7 @@ def sweep(
 
 def _results(
     network: Network[Node], cases: Iterator[Case], executor: Executor | None, want_cut: bool, jobs: int | None
-) -> Iterator[SweepResult[Node]]:
+) -> Generator[SweepResult[Node], None, None]:
     before = network.value
     kept = network._kept.copy()
     program: Any = network._child.process.args
@@ -424,10 +424,12 @@ def _end_idle() -> None:
                 del _free[name]
 
 
-def _shown(results: Iterator[SweepResult[Node]]) -> Iterator[SweepResult[Node]]:
+def _shown(results: Generator[SweepResult[Node], None, None]) -> Generator[SweepResult[Node], None, None]:
     """The results, with a bar that shows how many there are, where tqdm is there."""
-    try:
-        bar = package("tqdm", "a bar")
-    except ImportError:
-        return results
-    return iter(bar.tqdm(results, unit="case"))
+    with contextlib.closing(results):
+        try:
+            bar = package("tqdm", "a bar")
+        except ImportError:
+            yield from results
+        else:
+            yield from bar.tqdm(results, unit="case")
