@@ -5,6 +5,8 @@
 FILE has the completions for SHELL (bash, zsh or fish) of `dmf`, or of a tool, which are found by PATH. Each case types a line and
 asks what is offered there. Prints what is wrong, and then 'N passed, M failed'."""
 
+from __future__ import annotations
+
 import os
 import pty
 import re
@@ -14,6 +16,8 @@ import subprocess
 import sys
 import tempfile
 import time
+from collections.abc import Callable, Iterator
+from typing import Set, Tuple
 
 from built import tell
 
@@ -24,25 +28,27 @@ PREPARE = {
     "bash": "bind 'set show-all-if-ambiguous on' 'set completion-query-items 0' 'set enable-bracketed-paste off'; source {file}",
     "zsh": "fpath=({folder} $fpath); autoload -U compinit; compinit -u -D; LISTMAX=0; setopt no_auto_menu",
 }
+# A line that is typed, with the words that are to be offered at its end, and those that are not.
+Offer = Tuple[str, Set[str], Set[str]]
 PLAIN = {"bash": ["bash", "--norc", "--noprofile", "-i"], "zsh": ["zsh", "-f", "-i"]}
 
 
-def help_of(*command, program="dmf"):
+def help_of(*command: str, program: str = "dmf") -> str:
     return subprocess.run([program, *command, "--help"], capture_output=True, text=True, timeout=SECONDS, check=True).stdout
 
 
-def listed(title, text):
+def listed(title: str, text: str) -> list[str]:
     """What stands in the first column of a section of a help."""
     section = re.search(rf"^{title}:\n((?:  .*\n)*)", text, re.MULTILINE)
     return [re.split(r"\s{2,}", line.strip())[0] for line in section[1].splitlines()] if section else []
 
 
-def options_of(text):
+def options_of(text: str) -> dict[str, bool]:
     """Each option, and whether it takes a value."""
     return {name: "<" in entry for entry in listed("Options", text) for name in re.findall(r"--?\w[-\w]*", entry)}
 
 
-def cases():
+def cases() -> Iterator[Offer]:
     """Each line that is typed, with the words that are to be offered at its end, and those that are not."""
     whole = help_of()
     commands = set(listed("Commands", whole))
@@ -68,7 +74,7 @@ def cases():
                 yield f"dmf {command} {option} 7 a", offered, other
 
 
-def tool_cases(tool):
+def tool_cases(tool: str) -> Iterator[Offer]:
     """The same for a tool, by what argparse lists."""
     text = help_of(program=tool)
     options = {name: entry.partition(name)[2].partition(",")[0].strip() for entry in listed("options", text)
@@ -89,37 +95,37 @@ def tool_cases(tool):
 class Terminal:
     """A shell that is typed to, and what it shows."""
 
-    def __init__(self, words):
+    def __init__(self, words: list[str]) -> None:
         self.child, self.file = pty.fork()
         if self.child == 0:
             os.environ.update(TERM="dumb", COLUMNS="200", LINES="50")
             os.execvp(words[0], words)
         self.shown = ""
 
-    def type(self, text):
+    def type(self, text: str) -> None:
         self.shown = ""
         os.write(self.file, text.encode())
 
-    def wait(self, is_enough, seconds=SECONDS):
+    def wait(self, is_enough: Callable[[str], bool], seconds: float = SECONDS) -> None:
         """Reads what is shown until it is enough, or so many seconds are over."""
         end = time.monotonic() + seconds
         while not is_enough(self.shown) and time.monotonic() < end:
             if select.select([self.file], [], [], 0.05)[0]:
                 self.shown += os.read(self.file, 65536).decode(errors="replace")
 
-    def end(self):
+    def end(self) -> None:
         os.close(self.file)
         os.waitpid(self.child, 0)
 
 
-def words_shown(shown, line):
+def words_shown(shown: str, line: str) -> set[str]:
     """The words that a terminal shows beside the line that was typed: of each line those before a description."""
     text = shown.replace("\\", "").replace("\a", "")
     words = {word for shown_line in text.splitlines() for word in re.split(r"\s+-- ", shown_line)[0].split()}
     return words - set(line.split()) | ({PROBLEM} if PROBLEM in text else set())
 
 
-def offered_at_terminal(shell, file, line, wanted):
+def offered_at_terminal(shell: str, file: str, line: str, wanted: set[str]) -> set[str]:
     """What is offered where a line is typed, and tab twice."""
     terminal = Terminal(PLAIN[shell])
     prepare = PREPARE[shell].format(file=shlex.quote(file), folder=shlex.quote(os.path.dirname(file)))
@@ -131,13 +137,13 @@ def offered_at_terminal(shell, file, line, wanted):
     return words_shown(terminal.shown, line)
 
 
-def offered_by_fish(file, line):
+def offered_by_fish(file: str, line: str) -> set[str]:
     command = f"source {shlex.quote(file)}; complete -C {shlex.quote(line)}"
     ran = subprocess.run(["fish", "--no-config", "-c", command], capture_output=True, text=True, timeout=SECONDS)
     return {offer.split("\t")[0] for offer in ran.stdout.splitlines()}
 
 
-def judge(shell, file, line, wanted, others):
+def judge(shell: str, file: str, line: str, wanted: set[str], others: set[str]) -> str | None:
     """What is wrong with what is offered at the end of a line."""
     offered = offered_by_fish(file, line) if shell == "fish" else offered_at_terminal(shell, file, line, wanted)
     missing, wrong = wanted - offered, others & offered
@@ -146,7 +152,7 @@ def judge(shell, file, line, wanted, others):
     return None
 
 
-def main(shell, file, tool=None):
+def main(shell: str, file: str, tool: str | None = None) -> bool:
     file = os.path.abspath(file)
     with tempfile.TemporaryDirectory() as folder:
         os.chdir(folder)

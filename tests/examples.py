@@ -37,8 +37,8 @@ def of_file(path):
         yield from indented(text.read(), "    ")
 
 
-def of_help(command):
-    ran = subprocess.run(["./dmf", command, "--help"], capture_output=True, text=True, timeout=20, check=True)
+def of_help(*command):
+    ran = subprocess.run(["./dmf", *command, "--help"], capture_output=True, text=True, timeout=20, check=True)
     yield from indented(ran.stdout, "  ")
 
 
@@ -91,6 +91,7 @@ def sources(pages):
         return
     yield "README.md", of_file("README.md")
     yield "docs/dmf.1", of_manual("docs/dmf.1")
+    yield "dmf --help", of_help()
     for command in "solve", "session", "check":
         yield f"dmf {command} --help", of_help(command)
 

@@ -27,44 +27,82 @@ fn words_ask_to_solve(rt: HostRuntime) -> Result<(), Fail> {
     Ok(())
 }
 
-/// Words that ask for a session, each with whether cuts and the progress are told, the bound, and the problem.
-type Session = (&'static str, bool, bool, u32, &'static str);
+/// Words that ask for a session, each with whether cuts, brief replies and the progress are told, the bound, and the problem.
+type Session = (&'static str, bool, bool, bool, u32, &'static str);
 
-const SESSIONS: [Session; 9] = [
-    ("session P", false, false, 1_000_000, "P"),
-    ("session --cut P", true, false, 1_000_000, "P"),
-    ("session P --cut", true, false, 1_000_000, "P"),
+const PLAIN: [Session; 5] = [
+    ("session P", false, false, false, 1_000_000, "P"),
     (
         "session nets/day-1.max",
+        false,
         false,
         false,
         1_000_000,
         "nets/day-1.max",
     ),
-    ("session -", false, false, 1_000_000, "-"),
-    ("session -- --cut", false, false, 1_000_000, "--cut"),
-    ("session solve", false, false, 1_000_000, "solve"),
-    ("session --progress P", false, true, 1_000_000, "P"),
-    ("session --cut P --progress", true, true, 1_000_000, "P"),
+    ("session -", false, false, false, 1_000_000, "-"),
+    ("session -- --cut", false, false, false, 1_000_000, "--cut"),
+    ("session solve", false, false, false, 1_000_000, "solve"),
 ];
 
-const BOUNDED: [Session; 5] = [
-    ("session --history 0 P", false, false, 0, "P"),
-    ("session P --history 1", false, false, 1, "P"),
-    ("session --history=+7 P", false, false, 7, "P"),
+const FLAGGED: [Session; 8] = [
+    ("session --cut P", true, false, false, 1_000_000, "P"),
+    ("session P --cut", true, false, false, 1_000_000, "P"),
+    ("session --brief P", false, true, false, 1_000_000, "P"),
+    ("session P --brief", false, true, false, 1_000_000, "P"),
+    ("session --progress P", false, false, true, 1_000_000, "P"),
+    (
+        "session --cut P --progress",
+        true,
+        false,
+        true,
+        1_000_000,
+        "P",
+    ),
+    ("session --cut P --brief", true, true, false, 1_000_000, "P"),
+    (
+        "session --progress --brief P --cut",
+        true,
+        true,
+        true,
+        1_000_000,
+        "P",
+    ),
+];
+
+const BOUNDED: [Session; 6] = [
+    ("session --history 0 P", false, false, false, 0, "P"),
+    ("session P --history 1", false, false, false, 1, "P"),
+    ("session --history=+7 P", false, false, false, 7, "P"),
     (
         "session --cut --history 1000000 P",
         true,
         false,
+        false,
         1_000_000,
         "P",
     ),
-    ("session --history 3 --progress P --cut", true, true, 3, "P"),
+    (
+        "session --history 3 --progress P --cut",
+        true,
+        false,
+        true,
+        3,
+        "P",
+    ),
+    (
+        "session --progress --brief --history 3 P",
+        false,
+        true,
+        true,
+        3,
+        "P",
+    ),
 ];
 
 /// Each row's words are to ask for its session.
 fn expect_sessions(alloc: Global, rows: &[Session]) -> Result<(), Fail> {
-    for (line, cut, progress, history, problem) in rows {
+    for (line, cut, brief, progress, history, problem) in rows {
         let mode = Mode::Session {
             cut: *cut,
             history: *history,
@@ -73,42 +111,17 @@ fn expect_sessions(alloc: Global, rows: &[Session]) -> Result<(), Fail> {
         let wanted = Arguments {
             mode,
             progress: *progress,
-            brief: false,
+            brief: *brief,
         };
         expect(alloc, line, wanted)?;
     }
     Ok(())
 }
 
-/// Words that ask for a session on the problem P with brief replies, each with whether cuts and the progress are told, and the bound.
-const BRIEF: [(&str, bool, bool, u32); 4] = [
-    ("session --brief P", false, false, 1_000_000),
-    ("session --brief --cut P", true, false, 1_000_000),
-    ("session --cut P --brief", true, false, 1_000_000),
-    ("session --progress --brief --history 3 P", false, true, 3),
-];
-
-#[test]
-fn words_ask_for_brief_replies(rt: HostRuntime) -> Result<(), Fail> {
-    for (line, cut, progress, history) in &BRIEF {
-        let mode = Mode::Session {
-            cut: *cut,
-            history: *history,
-            problem: String::from_str(rt.alloc(), "P")?,
-        };
-        let wanted = Arguments {
-            mode,
-            progress: *progress,
-            brief: true,
-        };
-        expect(rt.alloc(), line, wanted)?;
-    }
-    Ok(())
-}
-
 #[test]
 fn words_ask_for_a_session(rt: HostRuntime) -> Result<(), Fail> {
-    expect_sessions(rt.alloc(), &SESSIONS)
+    expect_sessions(rt.alloc(), &PLAIN)?;
+    expect_sessions(rt.alloc(), &FLAGGED)
 }
 
 #[test]
