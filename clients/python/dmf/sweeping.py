@@ -4,6 +4,7 @@ from __future__ import annotations
 
 import contextlib
 import hashlib
+import operator
 import os
 import pickle
 import threading
@@ -122,7 +123,7 @@ def sweep(
     """
     made = cases(network) if callable(cases) else cases
     results = _results(network, iter(made), executor, want_cut, jobs)
-    return _shown(results) if progress else results
+    return _shown(results, operator.length_hint(made) or None) if progress else results
 
 
 def _results(
@@ -424,12 +425,12 @@ def _end_idle() -> None:
                 del _free[name]
 
 
-def _shown(results: Generator[SweepResult[Node], None, None]) -> Generator[SweepResult[Node], None, None]:
-    """The results, with a bar that shows how many there are, where tqdm is there."""
+def _shown(results: Generator[SweepResult[Node], None, None], total: int | None) -> Generator[SweepResult[Node], None, None]:
+    """The results, with a bar that shows how many there are, of how many where that is known, where tqdm is there."""
     with contextlib.closing(results):
         try:
             bar = package("tqdm", "a bar")
         except ImportError:
             yield from results
         else:
-            yield from bar.tqdm(results, unit="case")
+            yield from bar.tqdm(results, total=total, unit="case")
