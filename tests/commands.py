@@ -105,11 +105,13 @@ CALLS = (
     "add 1 4 1 / solve / add 1 4 2 / add 1 4 3 / undo 2 / redo 2 / cap 5 1 / add 1 4 4 / undo 3 / add 1 4 5 / add 1 4 6 / "
     "close 1 / print cut / undo 4 / redo 3 / solve / print cut / shut 3 / undo 1 / redo 1 / add 1 4 7"
 ).split(" / ")
-NOTE = "// `tests/commands.py` has the commands: /usr/bin/python3 -m pytest --write tests/test_commands.py makes this file.\n"
+MADE = "/usr/bin/python3 -m pytest --write tests/test_commands.py makes"
+NOTE = f"// `tests/commands.py` has the commands: {MADE} this file.\n"
+LISTS, LISTS_END = f"# tests/commands.py has the commands: {MADE} these lists.\n", "# Here these lists end.\n"
 
 
-def calls_text() -> str:
-    """The commands of crates/test_calls."""
+def calls_text(old: str) -> str:
+    """The commands of crates/test_calls, in place of the old text."""
     rows = "".join(f"    Command::{variant_of(line)},\n" for line in CALLS)
     return (
         "//! The commands that a session is given.\n\n"
@@ -117,7 +119,7 @@ def calls_text() -> str:
     )
 
 
-def words_text() -> str:
+def words_text(old: str) -> str:
     """The words of crates/test_fixtures, each with how many numbers follow it. One that comes more often in random scripts stands twice."""
     commands = [it for it in COMMANDS.values() if it.word != "print"]
     words = [(it.word, len(it.fields)) for it in commands for _ in range(1 + (it.weight > 1))] + [(it, 0) for it in LISTED_PRINTS]
@@ -130,4 +132,21 @@ def words_text() -> str:
     )
 
 
-GENERATED = {"crates/test_calls/src/commands.rt": calls_text, "crates/test_fixtures/src/words.rt": words_text}
+def lists_text(old: str) -> str:
+    """The client's file of commands with its lists, which its tools follow sessions by."""
+    counts = "".join(f'    b"{it.word}": ({", ".join(map(str, sorted(it.counts())))}{"," * (len(it.counts()) == 1)}),\n' for it in COMMANDS.values())
+    printed = ", ".join(f'b"{it}"' for it in PRINTED)
+    valued = ", ".join(f'b"{it.word}"' for it in COMMANDS.values() if it.reply.startswith("c "))
+    front, _, rest = old.partition(LISTS)
+    return (
+        f"{front}{LISTS}# How many fields may stand behind each command's word.\nFIELD_COUNTS = {{\n{counts}}}\n"
+        f"PRINTED = ({printed})\n# The commands whose replies tell the value.\nCHANGES = ({valued})\n{LISTS_END}{rest.partition(LISTS_END)[2]}"
+    )
+
+
+# What makes each file that has the commands, of the text that stands there.
+GENERATED = {
+    "crates/test_calls/src/commands.rt": calls_text,
+    "crates/test_fixtures/src/words.rt": words_text,
+    "clients/python/dmf/commands.py": lists_text,
+}

@@ -33,8 +33,7 @@ def judge_types(cache: Path, *words: object) -> None:
 @pytest.mark.seconds(30)
 def test_types(tmp_path: Path) -> None:
     """The tests, the package and the tools."""
-    files = sorted((ROOT / "tests").rglob("*.py"))
-    judge_types(tmp_path, *files, "clients/python/dmf")
+    judge_types(tmp_path, *sorted((ROOT / "tests").rglob("*.py")), "clients/python/dmf")
     judge_types(tmp_path, "--scripts-are-modules", *scripts(b"python3", "tools"))
 
 
@@ -50,7 +49,7 @@ def test_names() -> None:
     judge(sys.executable, "-m", "flake8", "tests", "tools", "clients", *scripts(b"python3", "tools", "tools/friends"))
 
 
-SHELL = [*scripts(b"(?:ba)?sh", ".", ".ci", "tests", "tools", "tools/friends", "bench")]
+SHELL = [*scripts(b"(?:ba)?sh", ".", ".ci", "tests/install", "tools", "tools/friends", "bench")]
 
 
 @pytest.mark.parametrize("script", [pytest.param(it, id=str(it.relative_to(ROOT))) for it in SHELL])

@@ -19,9 +19,9 @@ MAIN, PROGRESS, HELP = "crates/dmf/src/main.rt", "crates/dmf_progress/src/progre
 TESTS = "tests/program/"
 MUTANTS = [
     Mutant("cuts and brief replies are taken for each other", MAIN, "SolveReply { cut, brief },", "SolveReply { cut: brief, brief: cut },",
-           TESTS + "test_random_cases.py::test_sessions"),
+           TESTS + "test_random_cases.py::test_drawn[a session]"),
     Mutant("a solve tells no cut", MAIN, "Mode::Solve { cut } => solve(rt, cut, progress),", "Mode::Solve { cut } => solve(rt, cut && progress, progress),",
-           TESTS + "test_random_cases.py::test_solves"),
+           TESTS + "test_random_cases.py::test_drawn[a solve]"),
     Mutant("the problem has the descriptor of standard input", MAIN, "File::open(rt, path).and_then(|file| file.try_clone())", "File::open(rt, path)",
            TESTS + "test_streams.py::test_closed"),
     Mutant("nothing says that a problem is typed", MAIN, "    invite(rt);\n", "    if want_cut {\n        invite(rt);\n    }\n",
@@ -36,7 +36,7 @@ MUTANTS = [
            TESTS + "test_progress.py::test_size"),
     Mutant("a bound is told of nothing", PROGRESS, "        Some(value_limit(state))\n", "        Some(value_limit(state) / 2)\n",
            TESTS + "test_progress.py::test_bound_in_session"),
-    Mutant("the help tells another reply", HELP, "c add I value VALUE\n", "c add value VALUE\n", "tests/test_commands.py::test_help"),
-    Mutant("the help tells another status", HELP, "  0  all is well\n", "  0  well\n", TESTS + "test_worked.py::test_words"),
+    Mutant("the help tells another reply", HELP, "c add ARC value VALUE\n", "c add value VALUE\n", "tests/test_commands.py::test_help"),
+    Mutant("the help tells another status", HELP, "  0  success\n", "  0  good\n", TESTS + "test_worked.py::test_words"),
     Mutant("another version", HELP, 'VERSION: &str = "0.1.0"', 'VERSION: &str = "0.1.1"', TESTS + "test_program.py::test_ends"),
 ]  # fmt: skip

@@ -21,7 +21,7 @@ END = "\x1e"
 ROFF = {"\\[aq]": "'", "\\[rs]": "\\", "\\-": "-", "\\fB": "", "\\fP": ""}
 SECONDS = 60
 STORIES = [str(page.relative_to(ROOT)) for page in sorted((ROOT / "examples").glob("*/README.md"))] + ["docs/TUTORIAL.md"]
-HELPS = ["solve", "session", "check"]
+HELPS = ["", "solve", "session", "check"]
 
 
 def of_manual(path: str) -> Iterator[str]:
@@ -38,7 +38,7 @@ def indented(text: str, indent: str) -> Iterator[str]:
 
 
 def of_help(command: str) -> Iterator[str]:
-    ran = subprocess.run([BUILT, command, "--help"], capture_output=True, text=True, timeout=SECONDS, check=True)
+    ran = subprocess.run([BUILT, *command.split(), "--help"], capture_output=True, text=True, timeout=SECONDS, check=True)
     return indented(ran.stdout, "  ")
 
 
@@ -105,9 +105,9 @@ def test_manual(top: Path) -> None:
     judge(of_manual("docs/dmf.1"), top, BUILT)
 
 
-@pytest.mark.parametrize("command", HELPS)
-def test_help(top: Path, command: str) -> None:
-    judge(of_help(command), top, BUILT)
+@pytest.mark.parametrize("words", HELPS)
+def test_help(top: Path, words: str) -> None:
+    judge(of_help(words), top, BUILT)
 
 
 @pytest.mark.seconds(4)

@@ -21,7 +21,7 @@ def test_place(mutant: Mutant) -> None:
     """The text stands once in its file, and the test is there."""
     assert (ROOT / mutant.file).read_text().count(mutant.old) == 1
     path, _, name = mutant.test.partition("::")
-    assert f"\ndef {name}(" in (ROOT / path).read_text()
+    assert f"\ndef {name.partition('[')[0]}(" in (ROOT / path).read_text()
 
 
 @pytest.fixture(scope="session")

@@ -27,7 +27,7 @@ from reduced import reduced
 from refused import REFUSED, wanted_without, ways_of
 
 # The random cases that a seed determines: so many in a test, and so many tests.
-BATCH, BATCHES, LONG_BATCHES, SEED = 50, 120, 12_000, 1
+BATCH, BATCHES, LONG_BATCHES, SEED = 50, 60, 12_000, 1
 # Texts of the documents, each of which some of these cases is to meet: all but want of memory and the limits of size.
 TEXTS = """problem line expected, second problem line, unknown line, not a max problem, wrong number of fields, not a number,
     number too large, count out of range, no such node, neither source nor sink, terminal named twice,
@@ -92,34 +92,22 @@ def test_seeded(batch: int, faults: str, record_property: Callable[[str, object]
     record_property("unmet", sorted(ALL_TEXTS - met))
 
 
-def expect(case: Case, room: Path) -> None:
-    with contextlib.chdir(room):
+KINDS = {
+    "a solve": strategies.solves(),
+    "a session": strategies.sessions(),
+    "a check": strategies.checks(),
+    "any words": strategies.any_words(),
+}
+
+
+@pytest.mark.seconds(8)
+@pytest.mark.parametrize("kind", KINDS)
+@given(data=st.data())
+def test_drawn(case_room: Path, kind: str, data: st.DataObject) -> None:
+    case = data.draw(KINDS[kind])
+    with contextlib.chdir(case_room):
         wrong = difference(case)
     assert not wrong, shown(case, wrong)
-
-
-@pytest.mark.seconds(8)
-@given(case=strategies.solves())
-def test_solves(case_room: Path, case: Case) -> None:
-    expect(case, case_room)
-
-
-@pytest.mark.seconds(10)
-@given(case=strategies.sessions())
-def test_sessions(case_room: Path, case: Case) -> None:
-    expect(case, case_room)
-
-
-@pytest.mark.seconds(8)
-@given(case=strategies.checks())
-def test_checks(case_room: Path, case: Case) -> None:
-    expect(case, case_room)
-
-
-@pytest.mark.seconds(3)
-@given(case=strategies.any_words())
-def test_words(case_room: Path, case: Case) -> None:
-    expect(case, case_room)
 
 
 @pytest.mark.seconds(10)

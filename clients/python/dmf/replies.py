@@ -8,12 +8,9 @@ from dataclasses import dataclass
 from enum import Enum, auto
 from typing import Union
 
-from .commands import FIELD_COUNTS, Command
+from .commands import CHANGES, FIELD_COUNTS, Command
 from .text import MOST_ARCS, Fault, Problem, TextFault, number, read_problem
 from .timeline import Arc
-
-# The changes that are answered by a value.
-CHANGES = (b"cap", b"add", b"close", b"shut", b"undo", b"redo")
 
 
 class Kind(Enum):

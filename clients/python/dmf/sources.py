@@ -50,12 +50,22 @@ def _kept(child: Child, node_names: dict[int, str], arc_names: dict[int, str], m
             read = read_lines(child.lines(min(PIECE, arc_count - begin)))
             for column, more in zip((tails, heads, capacities), read):
                 column.extend(more)
-    used = Counter(name for number, name in node_names.items() if 1 <= number <= node_count)
-    named = {number: name for number, name in node_names.items() if used[name] == 1}
+    named = _of(node_count, node_names)
+    if len(set(named.values())) < len(named):
+        used = Counter(named.values())
+        named = {number: name for number, name in named.items() if used[name] == 1}
     nodes: dict[int | str, int] = {named.get(number, number): number for number in range(1, node_count + 1)}
     names = list(nodes)
-    keys: dict[int, Any] = {number: arc_names[number] for number in sorted(arc_names) if 1 <= number <= arc_count}
+    keys: Any = _of(arc_count, arc_names)
     return Kept(Columns(nodes, tails, heads, keys), capacities, names[source - 1], names[sink - 1], most)
+
+
+def _of(count: int, names: dict[int, str]) -> dict[int, str]:
+    """The names of the numbers from 1 to so many, in their order."""
+    numbers = sorted(names)
+    if numbers == list(names) and (not numbers or 1 <= numbers[0] and numbers[-1] <= count):
+        return names
+    return {number: names[number] for number in numbers if 1 <= number <= count}
 
 
 def from_networkx(

@@ -11,7 +11,6 @@ A tool without `.py` in its name finds this package beside itself, in the reposi
 
 from __future__ import annotations
 
-import contextlib
 import re
 from collections.abc import Iterator
 from dataclasses import dataclass, field
@@ -28,7 +27,7 @@ _FIELD = re.compile(rb"[^ \t]+")
 # A line feed, and then a comment that names: what, its number, and the rest of the line, which may be blank.
 _NAMING = re.compile(rb"\n[ \t]*c[ \t]+(node|arc)[ \t]+([0-9]+)([ \t][^\n]*|\r?(?=\n)|\Z)")
 # The same in a text without carriage returns, where the name is not blank.
-_NAMED = re.compile(r"^[ \t]*c[ \t]+(node|arc)[ \t]+([0-9]+)[ \t]+([^ \t\n](?:[^\n]*[^ \t\n])?)", re.MULTILINE)
+_NAMED = re.compile(r"^[ \t]*c[ \t]+(node|arc)[ \t]+0*([0-9]{1,19})[ \t]+([^ \t\n](?:[^\n]*[^ \t\n])?)", re.MULTILINE)
 # In how large pieces a text is looked through for names, in bytes.
 PIECE = 1 << 16
 # Controls of a terminal, ends of lines, and marks that turn the direction in which text is shown; halves of characters.
@@ -131,15 +130,11 @@ def namings(text: bytes) -> Iterator[Naming]:
 
 def read_names(text: bytes) -> tuple[dict[int, str], dict[int, str]]:
     """The names that the comments of a problem text give to nodes and to arcs. Of two names for one the last counts. The rest of
-    the text is not judged, and a comment of another form names nothing."""
+    the text is not judged, and a comment of another form names nothing, nor does one whose number is past 10^19, as none of these is."""
     names: dict[str, dict[int, str]] = {NODE: {}, ARC: {}}
     for piece in _pieces(text):
         for kind, digits, name in _names_of(piece):
-            if len(digits) < LONGEST:
-                names[kind][int(digits)] = name
-                continue
-            with contextlib.suppress(Fault):
-                names[kind][number(digits.encode())] = name
+            names[kind][int(digits)] = name
     return names[NODE], names[ARC]
 
 
@@ -155,7 +150,8 @@ def _pieces(text: bytes) -> Iterator[bytes]:
 def _names_of(piece: bytes) -> list[tuple[str, str, str]]:
     """What each comment of some lines names, by which digits, and how, but for names that are blank."""
     if b"\r" in piece:
-        return [(kind, digits.decode(), name) for _, kind, digits, name in namings(piece) if name]
+        found = ((kind, digits.lstrip(b"0").decode() or "0", name) for _, kind, digits, name in namings(piece) if name)
+        return [(kind, digits, name) for kind, digits, name in found if len(digits) < LONGEST]
     # Without a carriage return all are found at once, which is several times as quick.
     return _NAMED.findall(piece.decode(errors="replace"))
 

@@ -1,9 +1,5 @@
-"""Compares what the completions of a shell offer with what the help of each command lists.
-
-    python3 tests/completions.py SHELL FILE [TOOL]
-
-FILE has the completions for SHELL (bash, zsh or fish) of `dmf`, or of a tool, which are found by PATH. Each case types a line and
-asks what is offered there. Prints what is wrong, and then 'N passed, M failed'."""
+"""Compares what the completions of a shell offer, once installed, with what the help of each command lists. Each case types a line and
+asks what is offered there."""
 
 from __future__ import annotations
 
@@ -12,14 +8,15 @@ import pty
 import re
 import select
 import shlex
+import shutil
 import subprocess
-import sys
-import tempfile
 import time
 from collections.abc import Callable, Iterator
+from pathlib import Path
 from typing import Set, Tuple
 
-from built import tell
+import pytest
+from conftest import ROOT
 
 SECONDS = 20
 PROBLEM = "an odd.max"
@@ -69,9 +66,14 @@ def cases() -> Iterator[Offer]:
         yield f"dmf {command} one.max a", set(), {PROBLEM}
         for option, has_value in options.items():
             if option.startswith("--"):
-                yield f"dmf {command} {option} a", *((set(), {PROBLEM}) if has_value else (offered, other))
+                yield (f"dmf {command} {option} a", set(), {PROBLEM}) if has_value else (f"dmf {command} {option} a", offered, other)
             if has_value:
                 yield f"dmf {command} {option} 7 a", offered, other
+
+
+def file_offer(line: str, is_file: bool) -> Offer:
+    """At the end of a line a file is to be offered, or not."""
+    return (line, {PROBLEM}, set()) if is_file else (line, set(), {PROBLEM})
 
 
 def tool_cases(tool: str) -> Iterator[Offer]:
@@ -86,10 +88,10 @@ def tool_cases(tool: str) -> Iterator[Offer]:
     with_value = next(option for option, value in options.items() if value)
     yield f"{tool} {with_value} 7 -", {"--help"}, {PROBLEM}
     takes_files = any(it.split()[0] in ("PROBLEM", "FILE") for it in listed("positional arguments", text))
-    yield f"{tool} a", *(({PROBLEM}, set()) if takes_files else (set(), {PROBLEM}))
+    yield file_offer(f"{tool} a", takes_files)
     for option, value in options.items():
         if value:
-            yield f"{tool} {option} a", *(({PROBLEM}, set()) if value == "FILE" else (set(), {PROBLEM}))
+            yield file_offer(f"{tool} {option} a", value == "FILE")
 
 
 class Terminal:
@@ -132,7 +134,7 @@ def offered_at_terminal(shell: str, file: str, line: str, wanted: set[str]) -> s
     terminal.type(f"{prepare}; PS1=; echo rea''dy\n")
     terminal.wait(lambda shown: "ready\r\n" in shown)
     terminal.type(f"{line}\t\t")
-    terminal.wait(lambda shown: wanted and wanted <= words_shown(shown, line), SECONDS if wanted else 0.5)
+    terminal.wait(lambda shown: bool(wanted) and wanted <= words_shown(shown, line), SECONDS if wanted else 0.5)
     terminal.end()
     return words_shown(terminal.shown, line)
 
@@ -143,24 +145,33 @@ def offered_by_fish(file: str, line: str) -> set[str]:
     return {offer.split("\t")[0] for offer in ran.stdout.splitlines()}
 
 
-def judge(shell: str, file: str, line: str, wanted: set[str], others: set[str]) -> str | None:
-    """What is wrong with what is offered at the end of a line."""
-    offered = offered_by_fish(file, line) if shell == "fish" else offered_at_terminal(shell, file, line, wanted)
-    missing, wrong = wanted - offered, others & offered
-    if missing or wrong:
-        return f"{shell}: {line!r}: not offered: {sorted(missing)}, offered: {sorted(wrong)}"
-    return None
+TOOLS = ["dmf", "dmf-problem", "dmf-names", "dmf-dot", "dmf-sweep", "dmf-plan", "dmf-board"]
+FILES = {
+    "bash": "share/bash-completion/completions/{tool}",
+    "zsh": "share/zsh/site-functions/{zsh}",
+    "fish": "share/fish/vendor_completions.d/{tool}.fish",
+}
 
 
-def main(shell: str, file: str, tool: str | None = None) -> bool:
-    file = os.path.abspath(file)
-    with tempfile.TemporaryDirectory() as folder:
-        os.chdir(folder)
-        for name in PROBLEM, "one.max":
-            open(name, "w").close()
-        said = [judge(shell, file, *case) for case in (tool_cases(tool) if tool else cases())]
-    return tell(said)
+@pytest.fixture(scope="session")
+def installed(tmp_path_factory: pytest.TempPathFactory) -> Path:
+    """Where all is installed."""
+    folder = tmp_path_factory.mktemp("installed")
+    subprocess.run([ROOT / "install", "--prefix", folder], capture_output=True, check=True)
+    return folder
 
 
-if __name__ == "__main__":
-    sys.exit(main(*sys.argv[1:]))
+@pytest.mark.seconds(6)
+@pytest.mark.parametrize("tool", TOOLS)
+@pytest.mark.parametrize("shell", FILES)
+def test_offered(installed: Path, tmp_path: Path, monkeypatch: pytest.MonkeyPatch, shell: str, tool: str) -> None:
+    if not shutil.which(shell):
+        pytest.skip(f"{shell} is not there, so its completions were not tried")
+    file = str(installed / FILES[shell].format(tool=tool, zsh="_dmf" if tool == "dmf" else "_dmf-tools"))
+    monkeypatch.setenv("PATH", f"{installed / 'bin'}:{os.environ['PATH']}")
+    monkeypatch.chdir(tmp_path)
+    for name in PROBLEM, "one.max":
+        (tmp_path / name).touch()
+    for line, wanted, others in cases() if tool == "dmf" else tool_cases(tool):
+        offered = offered_by_fish(file, line) if shell == "fish" else offered_at_terminal(shell, file, line, wanted)
+        assert (wanted - offered, others & offered) == (set(), set()), line

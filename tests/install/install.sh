@@ -1,9 +1,41 @@
 #!/usr/bin/env bash
 # Tests ./install in folders of its own: what it puts, replaces, refuses, leaves and removes, with a stand-in for rt that makes a
-# program which writes its version; then the built program, the tools, the package, and what the completions offer, once installed.
-. "$(dirname "$0")/cases.bash"
+# program which writes its version; then the built program, the tools and the package, once installed. Each failed case is named. The
+# last line is 'N passed, M failed', and the status is 0 only if nothing failed.
+set -u
+cd "$(dirname "$0")/../.." || exit 1
 
-home=$PWD
+work=$(mktemp -d)
+trap 'rm -rf "$work"' EXIT
+passed=0
+failed=0
+
+pass() {
+    passed=$((passed + 1))
+}
+
+fail() {
+    failed=$((failed + 1))
+    echo "failed: $*"
+}
+
+# Judges a run that left its output in the files out and err: the case's name, its status and the wanted one, and what
+# is wanted on standard output and on standard error.
+judge() {
+    local name=$1 status=$2 wanted=$3
+    printf '%s' "$4" >"$work/wanted_out"
+    printf '%s' "$5" >"$work/wanted_err"
+    if [ "$status" -ne "$wanted" ]; then
+        fail "$name: status $status, and not $wanted"
+    elif ! cmp -s "$work/out" "$work/wanted_out"; then
+        fail "$name: standard output: $(head -c 300 "$work/out")"
+    elif ! cmp -s "$work/err" "$work/wanted_err"; then
+        fail "$name: standard error: $(head -c 300 "$work/err")"
+    else
+        pass
+    fi
+}
+
 chmod 755 "$work"
 root="$work/a clone"
 prefix="$work/a place"
@@ -74,7 +106,7 @@ told() {
 
 putting="$(told "$prefix")
 "
-first="$first_call
+first="dmf: the program is proved and built. This happens once, and takes some 10 minutes on 4 idle processors.
 "
 built="dmf: 1 of 1: dmf is built
 "
@@ -336,7 +368,7 @@ call "without a home" 2 "" "$(printf 'install: no folder: HOME is not set, or --
 env -i PATH=/usr/bin:/bin ./install --prefix "$work/real" >"$work/out" 2>"$work/err"
 judge "the program is installed" "$?" 0 "$(told "$work/real")"$'\n' ""
 env -i "$work/real/bin/dmf" solve <examples/a.max >"$work/out" 2>"$work/err"
-judge "the installed program runs" "$?" 0 "$solution_a" ""
+judge "the installed program runs" "$?" 0 $'s 5\nf 1 2 3\nf 1 3 2\nf 2 3 1\nf 2 4 2\nf 3 4 3\n' ""
 same "it needs libc alone" "$(ldd "$work/real/bin/dmf" | sed -n 's/^\t\(lib[^ ]*\.so\).*/\1/p')" libc.so
 
 # The tools, from elsewhere and by a link, and the package.
@@ -351,31 +383,5 @@ same "dmf-dot is installed" "$? $(head -n 1 "$work/out")" "0 digraph dmf {"
 (cd / && PYTHONPATH=$work/real/share/dmf/python python3 -c 'import dmf; print(dmf.__file__)') >"$work/out" 2>"$work/err"
 judge "the package is installed" "$?" 0 "$work/real/share/dmf/python/dmf/__init__.py"$'\n' ""
 
-# The completions.
-export PATH=$work/real/bin:$PATH
-if ! python3 -c 'import pty; pty.openpty()' 2>/dev/null; then
-    echo "skipped: no terminal can be had, so completions were not tried"
-    finish
-fi
-
-# The file with the completions of a tool for a shell.
-tool_completions() {
-    case $2 in
-    bash) echo "$work/real/share/bash-completion/completions/$1" ;;
-    zsh) echo "$work/real/share/zsh/site-functions/_dmf-tools" ;;
-    fish) echo "$work/real/share/fish/vendor_completions.d/$1.fish" ;;
-    esac
-}
-
-for pair in bash=bash-completion/completions/dmf zsh=zsh/site-functions/_dmf fish=fish/vendor_completions.d/dmf.fish; do
-    if command -v "${pair%%=*}" >/dev/null; then
-        count_script "$home/tests/completions.py" "${pair%%=*}" "$work/real/share/${pair#*=}"
-        for tool in dmf-problem dmf-names dmf-dot dmf-sweep dmf-plan dmf-board; do
-            count_script "$home/tests/completions.py" "${pair%%=*}" "$(tool_completions "$tool" "${pair%%=*}")" "$tool"
-        done
-    else
-        echo "skipped: ${pair%%=*} is not there, so its completions were not tried"
-    fi
-done
-
-finish
+echo "$passed passed, $failed failed"
+[ "$failed" -eq 0 ]
