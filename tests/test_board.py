@@ -215,6 +215,26 @@ def test_sweep() -> None:
         assert {row["name"]: (int(row["closed"]), int(row["doubled"])) for row in rows} == swept()
 
 
+def test_sweep_in_portions(tmp_path: Path) -> None:
+    """The copies of the network go on from portion to portion, and end with the next change."""
+    table = tmp_path / "large.csv"
+    table.write_text("".join(f"S,P{n},{n % 7 + 1}\nP{n},T,{n % 5 + 1}\n" for n in range(2000)))
+    with board(str(table)) as it:
+        arcs = list(range(1, 4001))
+        told = json.loads(it.ask(it.root + "sweep", json.dumps({"arcs": arcs}).encode(), **JSON)[2])
+        assert 0 < len(told["left"]) == 4000 - len(told["trials"])
+        copies = it.sessions()[1:]
+        assert copies
+        again = json.loads(it.ask(it.root + "sweep", json.dumps({"arcs": told["left"]}).encode(), **JSON)[2])
+        assert (it.sessions()[1:], again["trials"][0]["number"]) == (copies, told["left"][0])
+        # What flows on an arc alone is what is lost without it.
+        value = int(told["value"])
+        for row in told["trials"] + again["trials"]:
+            assert int(row["closed"]) == value - int(row["flow"])
+        it.do(what="close", arc=1)
+        assert len(it.sessions()) == 1
+
+
 def test_session_that_ends() -> None:
     """It is told, and begun again with the steps; and what can be taken along is of the present plan."""
     with board(PIPES) as it:

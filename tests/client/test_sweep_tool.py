@@ -5,12 +5,15 @@ from __future__ import annotations
 import csv
 import io
 import os
+import signal
 import subprocess
 import sys
+import time
 from pathlib import Path
 
 import pytest
-from client_shared import ROOT, there
+from built import heed_interrupts
+from client_shared import ROOT, is_running, there
 
 # The pipes of the other tests, whose greatest value is 5.
 PROBLEM = "c node 1 lake\nc node 4 sea\nc arc 5 the \"canal\"\np max 4 5\nn 1 s\nn 4 t\n"
@@ -89,12 +92,64 @@ def test_it_goes_on_where_its_table_ends() -> None:
         assert (run_tool("--close-each", "--table", "table.csv").returncode, table.read_text()) == (3, other)
 
 
+def large() -> list[list[str]]:
+    """A problem of so many arcs side by side that a sweep of them takes a while, and the rows of its table."""
+    rooms = [number % 7 + 1 for number in range(1500)]
+    Path("net.max").write_text(f"p max 2 {len(rooms)}\nn 1 s\nn 2 t\n" + "".join(f"a 1 2 {room}\n" for room in rooms))
+    value = sum(rooms)
+    return [[str(at), f"close {at}", "1 -> 2", str(value - room), str(-room), ""] for at, room in enumerate(rooms, 1)]
+
+
+def test_an_interrupt() -> None:
+    """It ends the tool and its programs, the table has whole lines, and the next run goes on behind them."""
+    wanted = large()
+    command = [sys.executable, f"{ROOT}/tools/dmf-sweep", "net.max", "--close-each", "--table", "table.csv", "--jobs", "2"]
+    table = Path("table.csv")
+    with subprocess.Popen(command, stderr=subprocess.PIPE, preexec_fn=heed_interrupts) as process:
+        deadline = time.monotonic() + 60
+        while not (table.exists() and table.read_bytes().count(b"\n") > 20) and time.monotonic() < deadline:
+            time.sleep(0.01)
+        programs = programs_of(process.pid)
+        process.send_signal(signal.SIGINT)
+        told = process.communicate(timeout=60)[1]
+    assert (process.returncode, told, len(programs)) == (130, b"", 3)
+    assert not [program for program in programs if is_running(program)]
+    text = table.read_text()
+    rows = list(csv.reader(io.StringIO(text)))[1:]
+    assert text.endswith("\n") and 20 <= len(rows) < len(wanted) and rows == wanted[: len(rows)]
+    assert run_tool("--close-each", "--table", "table.csv").returncode == 0
+    assert list(csv.reader(io.StringIO(table.read_text())))[1:] == wanted
+
+
+def programs_of(process: int) -> list[int]:
+    """The programs that a process began."""
+    tasks = Path(f"/proc/{process}/task").glob("*/children")
+    return [int(child) for task in tasks for child in task.read_text().split()]
+
+
+def test_a_bar() -> None:
+    """On a terminal the bar tells how many cases were tried of how many; else nothing is told."""
+    if not there("tqdm"):
+        pytest.skip("python3-tqdm is not there, so no bar was shown")
+    ours, theirs = os.openpty()
+    command = [sys.executable, f"{ROOT}/tools/dmf-sweep", "net.max", "--close-each"]
+    ran = subprocess.run(command, stdout=subprocess.PIPE, stderr=theirs, text=True, timeout=60)
+    os.close(theirs)
+    seen = os.read(ours, 1 << 16).decode()
+    os.close(ours)
+    assert (ran.returncode, list(csv.reader(io.StringIO(ran.stdout)))[1:]) == (0, CLOSED)
+    assert "5/5" in seen and "case" in seen
+    assert run_tool("--close-each").stderr == ""
+
+
 def test_faults() -> None:
     assert run_tool().returncode == 2
     assert run_tool("--close-each", "--top", "0").returncode == 2
     Path("net.max").write_text("p max 2 1\n")
     ran = run_tool("--close-each")
     assert (ran.returncode, ran.stderr) == (3, "dmf-sweep: net.max: source or sink missing: line 2 of the problem\n")
+    ran = subprocess.run([sys.executable, f"{ROOT}/tools/dmf-sweep", f"{ROOT}/examples/water/pipes.csv", "--close-each"], capture_output=True, text=True)
+    assert (ran.returncode, ran.stderr.endswith("; dmf-problem makes a problem of a table\n")) == (3, True)
     os.remove("net.max")
     ran = run_tool("--close-each")
     assert (ran.returncode, ran.stderr) == (4, "dmf-sweep: cannot read net.max: No such file or directory\n")

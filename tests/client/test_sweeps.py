@@ -138,7 +138,7 @@ def test_it_is_lazy_and_leaves_nothing() -> None:
         results = dmf.sweep(network, endless(), jobs=2)
         assert [next(results).value for _ in range(5)] == [2, 3, 4, 5, 5]
         assert len(taken) < 30
-        results.close()  # type: ignore[attr-defined]
+        results.close()
     assert children() == before
 
 
@@ -217,16 +217,23 @@ def test_executors() -> None:
 
 @needs(distributed, "python3-distributed", "no sweep was held over a cluster")
 def test_a_cluster() -> None:
-    cases = [[("cap", ("lake", "mill"), turn % 5)] for turn in range(400)]
+    """With two workers, of which one is killed: each result is that of one process, refusals and cuts among them."""
+    cases: list[Any] = [[("cap", ("lake", "mill"), turn % 5)] for turn in range(300)]
+    cases += [[("close", ("lake", "pond"))], [("shut", "mill"), ("add", "lake", "sea", 4)], close_mill] * 30
     with pipes() as network:
         network.solve()
-        wanted = [result.value for result in dmf.sweep(network, cases, jobs=1)]
+        wanted = [(result.value, result.difference, result.cut, str(result.refusal)) for result in dmf.sweep(network, cases, None, True, jobs=1)]
         with distributed.LocalCluster(n_workers=2, threads_per_worker=1, dashboard_address=None, silence_logs=50) as cluster:
             with distributed.Client(cluster) as client:
-                values = []
+                results = []
                 workers = [worker.pid for worker in cluster.workers.values()]
-                for turn, result in enumerate(dmf.sweep(network, cases, client.get_executor())):
-                    values.append(result.value)
+                for turn, result in enumerate(dmf.sweep(network, cases, client.get_executor(), True)):
+                    results.append(result)
                     if turn == 20:
                         os.kill(workers[0], signal.SIGKILL)
-        assert values == wanted
+        for place, (result, one) in enumerate(zip(results, wanted)):
+            told = (result.value, result.difference, result.cut, str(result.refusal))
+            # An arc that a case added is one of its copy alone.
+            assert (told[:2], told[3], len(told[2] or ())) == (one[:2], one[3], len(one[2] or ())), place
+            assert [arc for arc in told[2] or () if arc.number <= 5] == [arc for arc in one[2] or () if arc.number <= 5]
+        assert len(results) == len(cases)

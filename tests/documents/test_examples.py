@@ -105,9 +105,9 @@ def test_manual(top: Path) -> None:
     judge(of_manual("docs/dmf.1"), top, BUILT)
 
 
-@pytest.mark.parametrize("command", HELPS)
-def test_help(top: Path, command: str) -> None:
-    judge(of_help(command), top, BUILT)
+@pytest.mark.parametrize("words", HELPS)
+def test_help(top: Path, words: str) -> None:
+    judge(of_help(words), top, BUILT)
 
 
 @pytest.mark.seconds(4)

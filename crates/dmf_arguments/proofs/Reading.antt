@@ -1,5 +1,6 @@
 -- From what clap's parse finds to what the words ask for.
 use Rattle.std.proofs.Common.{ℕ, ◌≡◌, ◌⊎◌, ap, inl, inr, refl, subst, Bool, true, false, [], ◌∷◌, Err, List, Option, Some, None, codes, option_map}
+use Rattle.std.specs.Prelude.{option_and_then}
 use Rattle.clap.specs.Kinds.{IsAmong, Kinds}
 use Rattle.clap.specs.Words.{Row, Text, first_of, is_simple, is_simple_and_free, one_of}
 use Rattle.clap.specs.Values.{bool_text}
@@ -58,14 +59,12 @@ pub asked_rows : (found : Option (Text × List Row)) (rows : List Row) (name : T
 asked_rows None rows name flag brief progress bound path has asked = cc
 asked_rows (Some p) rows name flag brief progress bound path has asked =
     let same : rows ≡ p.1 = cc in
-    let parts : (p.0, one_of (codes "cut") p.1, one_of (codes "brief") p.1, one_of (codes "progress") p.1, one_of (codes "history") p.1, first_of (codes "problem") p.1)
-    ≡ (name, flag, brief, progress, bound, path) = cc in
     rw same (record {
-      flag_is = ap (λ (q : Parts). q.1) parts;
-      brief_is = ap (λ (q : Parts). q.2) parts;
-      progress_is = ap (λ (q : Parts). q.3) parts;
-      bound_is = ap (λ (q : Parts). q.4) parts;
-      path_is = ap (λ (q : Parts). q.5) parts;
+      flag_is = ap (option_and_then (λ (q : Parts). q.1)) asked;
+      brief_is = ap (option_and_then (λ (q : Parts). q.2)) asked;
+      progress_is = ap (option_and_then (λ (q : Parts). q.3)) asked;
+      bound_is = ap (option_and_then (λ (q : Parts). q.4)) asked;
+      path_is = ap (option_and_then (λ (q : Parts). q.5)) asked;
     })
 
 pub same-holding : {cut wanted brief short progress told : Bool} {n bound : ℕ} {problem path : Text} → cut ≡ wanted → brief ≡ short → progress ≡ told

@@ -40,11 +40,15 @@ session_of cut brief progress path =
 abbrev pub check_of : Text → Asked
 check_of path = Some (codes "check", None, None, None, None, Some path)
 
--- words with an option in a wrong place: alone, whatever stands behind it, and behind a command that does not take it
-abbrev pub misplaced : List Text → Text → List (List Text)
-misplaced rest word = (codes "--cut" ∷ rest) ∷ (codes "--brief" ∷ rest) ∷ (codes "--progress" ∷ rest) ∷ (codes "--history" ∷ rest)
-    ∷ (codes "solve" ∷ codes "--brief" ∷ []) ∷ (codes "solve" ∷ codes "--history" ∷ word ∷ []) ∷ (codes "check" ∷ codes "--cut" ∷ word ∷ [])
-    ∷ (codes "check" ∷ codes "--brief" ∷ word ∷ []) ∷ (codes "check" ∷ codes "--progress" ∷ word ∷ []) ∷ (codes "check" ∷ codes "--history" ∷ word ∷ []) ∷ []
+-- words that begin with an option, whatever stands behind it
+abbrev pub misplaced : List Text → List (List Text)
+misplaced rest = (codes "--cut" ∷ rest) ∷ (codes "--brief" ∷ rest) ∷ (codes "--progress" ∷ rest) ∷ (codes "--history" ∷ rest) ∷ []
+
+-- words with an option behind a command that does not take it
+abbrev pub strange : Text → List (List Text)
+strange word = (codes "solve" ∷ codes "--brief" ∷ []) ∷ (codes "solve" ∷ codes "--history" ∷ word ∷ [])
+    ∷ (codes "check" ∷ codes "--cut" ∷ word ∷ []) ∷ (codes "check" ∷ codes "--brief" ∷ word ∷ [])
+    ∷ (codes "check" ∷ codes "--progress" ∷ word ∷ []) ∷ (codes "check" ∷ codes "--history" ∷ word ∷ []) ∷ []
 
 -- words that say an option twice
 abbrev pub repeated : Text → List (List Text)
@@ -71,7 +75,8 @@ pub record PlainWords : Type 0 where
   pub no_path : HasFaults (MissingRequiredArgument ∷ []) (codes "session" ∷ []) × HasFaults (MissingRequiredArgument ∷ []) (codes "check" ∷ [])
   pub solve_path : (path : Text) → IsPlain path → HasFaults (UnknownArgument ∷ []) (codes "solve" ∷ path ∷ [])
   pub second_path : (path other : Text) → IsPlain path → IsPlain other → HasFaults (UnknownArgument ∷ []) (codes "check" ∷ path ∷ other ∷ [])
-  pub misplaced_option : (rest : List Text) (word : Text) → AllByRecursion (HasFaults (UnknownArgument ∷ [])) (misplaced rest word)
+  pub misplaced_option : (rest : List Text) → AllByRecursion (HasFaults (UnknownArgument ∷ [])) (misplaced rest)
+  pub strange_option : (word : Text) → AllByRecursion (HasFaults (UnknownArgument ∷ [])) (strange word)
   pub second_option : (word : Text) → AllByRecursion (HasFaults (ArgumentConflict ∷ [])) (repeated word)
   pub no_command : (word : Text) (rest : List Text) → IsNoCommand word → HasFaults (UnknownArgument ∷ InvalidSubcommand ∷ []) (word ∷ rest)
   pub help : (rest : List Text) → AllByRecursion (HasFaults (DisplayHelp ∷ [])) (helps rest)
