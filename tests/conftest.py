@@ -2,11 +2,13 @@
 
 from __future__ import annotations
 
+import fcntl
 import os
 import re
 import shutil
 import subprocess
 from collections.abc import Iterator
+from contextlib import contextmanager
 from itertools import islice
 from pathlib import Path
 
@@ -97,14 +99,25 @@ def pytest_terminal_summary(terminalreporter: TerminalReporter) -> None:
     terminalreporter.write_line(f"{passed} passed, {failed} failed")
 
 
+@contextmanager
+def shared(factory: pytest.TempPathFactory, name: str) -> Iterator[Path]:
+    """A path that all workers have in common, for one of them at a time: the first makes what is to be there."""
+    base = factory.getbasetemp()
+    folder = base.parent if "PYTEST_XDIST_WORKER" in os.environ else base
+    with open(folder / f"{name}.lock", "w") as lock:
+        fcntl.flock(lock, fcntl.LOCK_EX)
+        yield folder / name
+
+
 @pytest.fixture(scope="session")
 def faults(tmp_path_factory: pytest.TempPathFactory) -> str:
     """The library of tests/faults.c, which is preloaded to refuse memory and to let reads and writes fail."""
     if not shutil.which("gcc"):
         pytest.skip("no gcc, so no request for memory was refused, and no read or write failed")
-    library = tmp_path_factory.mktemp("library") / "faults.so"
-    source = ROOT / "tests" / "faults.c"
-    subprocess.run(["gcc", "-shared", "-fPIC", "-O1", "-Wall", "-o", library, source], check=True)
+    with shared(tmp_path_factory, "faults.so") as library:
+        if not library.exists():
+            source = ROOT / "tests" / "faults.c"
+            subprocess.run(["gcc", "-shared", "-fPIC", "-O1", "-Wall", "-o", library, source], check=True)
     return str(library)
 
 

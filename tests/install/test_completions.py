@@ -16,7 +16,7 @@ from pathlib import Path
 from typing import Set, Tuple
 
 import pytest
-from conftest import ROOT
+from conftest import ROOT, shared
 
 SECONDS = 20
 PROBLEM = "an odd.max"
@@ -156,8 +156,9 @@ FILES = {
 @pytest.fixture(scope="session")
 def installed(tmp_path_factory: pytest.TempPathFactory) -> Path:
     """Where all is installed."""
-    folder = tmp_path_factory.mktemp("installed")
-    subprocess.run([ROOT / "install", "--prefix", folder], capture_output=True, check=True)
+    with shared(tmp_path_factory, "installed") as folder:
+        if not folder.exists():
+            subprocess.run([ROOT / "install", "--prefix", folder], capture_output=True, check=True)
     return folder
 
 

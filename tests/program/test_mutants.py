@@ -3,13 +3,14 @@ minutes, so only `--long` does this. That each fault can still be put in is trie
 
 from __future__ import annotations
 
+import os
 import shutil
 import subprocess
 import sys
 from pathlib import Path
 
 import pytest
-from conftest import ROOT
+from conftest import ROOT, shared
 from mutants import MUTANTS, Mutant
 
 FAILED = 1
@@ -24,25 +25,28 @@ def test_place(mutant: Mutant) -> None:
     assert f"\ndef {name.partition('[')[0]}(" in (ROOT / path).read_text()
 
 
-@pytest.fixture(scope="session")
-def copy(tmp_path_factory: pytest.TempPathFactory) -> Path:
-    """A copy of the repository with what was built."""
-    copy = tmp_path_factory.mktemp("mutants") / "copy"
-    shutil.copytree(ROOT, copy, symlinks=True, ignore=shutil.ignore_patterns(".git", ".hypothesis", "__pycache__"))
-    return copy
-
-
 @pytest.mark.long
 @pytest.mark.seconds(300)
 @mutants
-def test_killed(copy: Path, mutant: Mutant) -> None:
-    file = copy / mutant.file
-    whole = file.read_text()
-    file.write_text(whole.replace(mutant.old, mutant.new))
-    try:
-        built = subprocess.run([copy / "dmf", "--version"], stdin=subprocess.DEVNULL, capture_output=True, text=True)
-        assert built.returncode == 0, built.stderr[-3000:]
-        ran = subprocess.run([sys.executable, "-m", "pytest", "-p", "no:xdist", mutant.test], cwd=copy, capture_output=True, text=True)
-        assert ran.returncode == FAILED, f"{mutant.test} passes:\n{ran.stdout[-3000:]}{ran.stderr[-3000:]}"
-    finally:
-        file.write_text(whole)
+def test_killed(tmp_path_factory: pytest.TempPathFactory, mutant: Mutant) -> None:
+    """In one copy of the repository with what was built, one fault after the other."""
+    with shared(tmp_path_factory, "copy") as copy:
+        if not copy.exists():
+            shutil.copytree(ROOT, copy, symlinks=True, ignore=shutil.ignore_patterns(".git", ".hypothesis", "__pycache__"))
+        file = copy / mutant.file
+        whole = file.read_text()
+        file.write_text(whole.replace(mutant.old, mutant.new))
+        try:
+            judge(copy, mutant.test)
+        finally:
+            file.write_text(whole)
+
+
+def judge(copy: Path, test: str) -> None:
+    """Builds the program of a copy. The test has to fail there."""
+    built = subprocess.run([copy / "dmf", "--version"], stdin=subprocess.DEVNULL, capture_output=True, text=True)
+    assert built.returncode == 0, built.stderr[-3000:]
+    environment = {name: value for name, value in os.environ.items() if not name.startswith("PYTEST_")}
+    words = [sys.executable, "-m", "pytest", "-p", "no:xdist", test]
+    ran = subprocess.run(words, cwd=copy, env=environment, capture_output=True, text=True)
+    assert ran.returncode == FAILED, f"{test} passes:\n{ran.stdout[-3000:]}{ran.stderr[-3000:]}"

@@ -7,7 +7,6 @@ requests. What the program writes with ample memory stands in its file `stdout`;
 
 from __future__ import annotations
 
-import fcntl
 import os
 import re
 import subprocess
@@ -18,7 +17,7 @@ from typing import Any
 
 import pytest
 from commands import CALLS, COMMANDS, variant_of
-from conftest import ROOT
+from conftest import ROOT, shared
 from oracle import changes
 from oracle.network import Arc, State
 from oracle.session import MOST_KEPT, Session, SolveReply
@@ -151,8 +150,7 @@ def is_old() -> bool:
 @pytest.fixture
 def calls_program(tmp_path_factory: pytest.TempPathFactory) -> None:
     """The program of crates/test_calls, which is built where it is missing or older than a source: by one worker alone."""
-    with open(tmp_path_factory.getbasetemp().parent / "test_calls", "w") as lock:
-        fcntl.flock(lock, fcntl.LOCK_EX)
+    with shared(tmp_path_factory, "test_calls"):
         if is_old():
             ran = subprocess.run(["rt", "run"], cwd=CRATE, capture_output=True, text=True)
             assert ran.returncode == 0, ran.stderr[-2000:]
