@@ -4,6 +4,7 @@
 - the program's version is the one of the Python package, of the manual pages and of CHANGELOG.md's newest release;
 - each link between pages leads to a file, and to a heading of it where it names one;
 - each name of code and of a file that a page has in backquotes stands in the repository;
+- the pages together have at most 24,000 words, and each names its reader in its first lines;
 - each definition and lemma is named by the rest of its file, or by a file that names its file."""
 
 from __future__ import annotations
@@ -106,6 +107,15 @@ def dead_names() -> Iterator[str]:
 
 def test_names() -> None:
     assert not [*dead_names()]
+
+
+def test_length() -> None:
+    assert sum(len(page.read_text().split()) for page in pages()) <= 24_000
+
+
+def test_readers() -> None:
+    reader = re.compile("planner|Python user|[Ee]ngineer|sceptic|everyone")
+    assert not [page for page in pages() if not reader.search("".join(page.open().readlines()[:8]))]
 
 
 def words(text: str) -> set[str]:
