@@ -4,11 +4,14 @@
 - the program's version is the one of the Python package, of the manual pages and of CHANGELOG.md's newest release;
 - each link between pages leads to a file, and to a heading of it where it names one;
 - each name of code and of a file that a page has in backquotes stands in the repository;
+- the pages together have at most 24,000 words, and each names its reader in its first lines;
+- the pictures of docs/SEARCH.md are those of their sources;
 - each definition and lemma is named by the rest of its file, or by a file that names its file."""
 
 from __future__ import annotations
 
 import re
+import shutil
 import subprocess
 from collections.abc import Iterator
 from itertools import takewhile
@@ -106,6 +109,25 @@ def dead_names() -> Iterator[str]:
 
 def test_names() -> None:
     assert not [*dead_names()]
+
+
+def test_length() -> None:
+    assert sum(len(page.read_text().split()) for page in pages()) <= 24_000
+
+
+def test_readers() -> None:
+    reader = re.compile("planner|Python user|[Ee]ngineer|sceptic|everyone")
+    assert not [page for page in pages() if not reader.search("".join(page.open().readlines()[:8]))]
+
+
+@pytest.mark.parametrize("source", sorted(Path(__file__).parents[2].glob("docs/pictures/*.dot")), ids=lambda source: str(source.stem))
+def test_picture(source: Path) -> None:
+    """A picture says what its source says. Versions of Graphviz place things differently."""
+    if not shutil.which("dot"):
+        pytest.skip("dot is not there (graphviz), so no picture was drawn")
+    drawn = subprocess.run(["dot", "-Tsvg", source], capture_output=True, text=True, check=True).stdout
+    texts = re.compile("<text[^>]*>(.*?)</text>")
+    assert texts.findall(source.with_suffix(".svg").read_text()) == texts.findall(drawn)
 
 
 def words(text: str) -> set[str]:
