@@ -7,7 +7,6 @@ from __future__ import annotations
 import fcntl
 import json
 import os
-import runpy
 import subprocess
 import sys
 import termios
@@ -15,6 +14,7 @@ import time
 import traceback
 from collections.abc import Mapping, Sequence
 from pathlib import Path
+from types import CodeType
 from typing import NamedTuple, NoReturn, Union
 
 ROOT = Path(__file__).resolve().parents[1]
@@ -75,8 +75,8 @@ class Tools:
         self.answers.close()
 
 
-def run_tool(tool: str, folder: str, words: list[str]) -> NoReturn:
-    """Runs a tool in this process."""
+def run_tool(tool: str, code: CodeType, folder: str, words: list[str]) -> NoReturn:
+    """Runs a tool, whose code this is, in this process."""
     os.chdir(folder)
     for number, (name, flags) in enumerate(STREAMS.items()):
         file = os.open(name, flags, 0o600)
@@ -87,7 +87,7 @@ def run_tool(tool: str, folder: str, words: list[str]) -> NoReturn:
         setattr(sys, name, open(number, "w" if number else "r", encoding=encoding, closefd=False, buffering=1))
     sys.argv = [tool, *words]
     try:
-        runpy.run_path(tool, run_name="__main__")
+        exec(code, {"__name__": "__main__", "__file__": tool})
     except SystemExit as end:
         # The end of a tool that its words end. All others end by `dmf.tool.run`.
         sys.stdout.flush()
@@ -104,10 +104,14 @@ def serve() -> None:
     sys.path.insert(0, str(ROOT / "clients" / "python"))
     for module in MODULES:
         __import__(module)
+    codes: dict[str, CodeType] = {}
     for line in sys.stdin:
+        tool, folder, words = json.loads(line)
+        if tool not in codes:
+            codes[tool] = compile(Path(tool).read_bytes(), tool, "exec")
         child = os.fork()
         if not child:
-            run_tool(*json.loads(line))
+            run_tool(tool, codes[tool], folder, words)
         print(os.waitstatus_to_exitcode(os.waitpid(child, 0)[1]), flush=True)
 
 
