@@ -1,4 +1,4 @@
-use Rattle.std.proofs.Common.{◌≡◌, ◌+◌, ◌||◌, Bool, true, false, length, refl, sym, ◌∙◌, arith, get_or, drop, Vec, Global, true≢false}
+use Rattle.std.proofs.Common.{◌≡◌, ◌+◌, ◌||◌, Bool, true, false, length, refl, sym, ◌∙◌, arith, get_or, drop, Vec, Global, true≢false, List, ℕ, subst}
 use Rattle.std.proofs.lemmas.List.{with_items_is}
 use Rattle.std.proofs.lemmas.Result.{IfOk-weaker}
 use Rattle.std.proofs.lemmas.Slice.Zip.{AllZip-long}
@@ -6,9 +6,10 @@ use Rattle.dmf_path.specs.Search.{indices_of}
 use Rattle.dmf_path.proofs.Covering.{covers-below}
 use Rattle.dmf_state.specs.declared.edit.Move.{Move}
 use Rattle.dmf_state.specs.Edit.{numbers}
+use Rattle.dmf_solver.specs.Moves.{DrainsInTurn}
 use Rattle.dmf_solver.specs.Pairs.{Along, flows_read}
 use Rattle.dmf_state.proofs.ClosedArcs.{no_shutting, open-at, numbers-next, numbers-end, HasArcs-open}
-use Rattle.dmf_solver.proofs.DrainedInTurn.{drained-none_in_turn, drained-next_arc, drained-every_arc, shutting-moves}
+use Rattle.dmf_solver.proofs.DrainedInTurn.{AreDrainedUpTo, drained-none_in_turn, drained-next_arc, drained-every_arc, shutting-moves}
 use Rattle.dmf_solver.proofs.DrainingSearch.{differences-covered}
 use Rattle.dmf_solver.proofs.DrainingWalk.{differences-none}
 use Rattle.dmf_solver.proofs.shut.shutting_moves.Goals.{then-are_loops_drained, else-are_loops_drained}
@@ -22,6 +23,23 @@ returns-then-are_without_flow c =
     shutting-moves s js s.flows c.new.result.items c.flows-before.ensures.state (HasArcs-open 0 c.args.arcs.now s.network c.requires)
     (drained-none_in_turn s.network js s.flows none)
     (c.new.ensures.items ∙ sym (differences-none 1 s.flows))
+
+pub loop-shutting-init : goal.loop-shutting-init
+loop-shutting-init c =
+    let s = c.args.state.now in
+    let js = numbers c.args.arcs.now in
+    let same : c.in_ok-unpaired.unpaired.items ≡ s.flows = c.in_ok-unpaired.ensures.items ∙ c.flows-before.ensures.value in
+    let begun : AreDrainedUpTo s js js s.flows c.in_ok-search.search = record {
+      carrying = c.in_ok-search.ensures.carrying;
+      onward = λ last more. subst (λ flows. DrainsInTurn s.network js flows last) c.in_ok-search.ensures.flows more;
+    } in
+    record {
+      drained = subst (λ (unpaired : List ℕ). AreDrainedUpTo s js js unpaired c.in_ok-search.search) (sym same) begun;
+      list_stays = λ none. same;
+    }
+
+pub drain_in_turn-are_loops_drained-requires-clause-carrying : goal.drain_in_turn-are_loops_drained-requires-clause-carrying
+drain_in_turn-are_loops_drained-requires-clause-carrying c = rw c.deref_mut.ensures.value c.loop-shutting.invariant.drained.carrying
 
 pub drain_in_turn-are_loops_drained-requires-clause-is_there : goal.drain_in_turn-are_loops_drained-requires-clause-is_there
 drain_in_turn-are_loops_drained-requires-clause-is_there c =
