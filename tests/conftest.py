@@ -14,10 +14,11 @@ import pytest
 from _pytest.terminal import TerminalReporter
 from hypothesis import settings
 from hypothesis.database import DirectoryBasedExampleDatabase
+from tool_runs import Tools
 
 ROOT = Path(__file__).resolve().parent.parent
 # So many tests with random cases are to meet each text of the documents together.
-ALL_BATCHES = 120
+ALL_BATCHES = 60
 BUILT = ROOT / "crates" / "dmf" / "out" / "dmf"
 
 
@@ -65,7 +66,10 @@ def dealt(items: list[pytest.Item], workers: int) -> list[pytest.Item]:
     return order
 
 
-def pytest_collection_modifyitems(items: list[pytest.Item]) -> None:
+def pytest_collection_modifyitems(config: pytest.Config, items: list[pytest.Item]) -> None:
+    if not config.getoption("--long"):
+        config.hook.pytest_deselected(items=[item for item in items if item.get_closest_marker("long")])
+        items[:] = [item for item in items if not item.get_closest_marker("long")]
     items[:] = dealt(items, int(os.environ.get("PYTEST_XDIST_WORKER_COUNT", "1")))
 
 
@@ -108,6 +112,14 @@ def faults(tmp_path_factory: pytest.TempPathFactory) -> str:
 def writes(request: pytest.FixtureRequest) -> bool:
     """Whether a file that is made of others is made anew."""
     return bool(request.config.getoption("--write"))
+
+
+@pytest.fixture(scope="session")
+def tools() -> Iterator[Tools]:
+    """What runs the tools in Python."""
+    tools = Tools()
+    yield tools
+    tools.close()
 
 
 @pytest.fixture(scope="session")

@@ -26,6 +26,10 @@ FIELD_COUNTS = {b"p": 4, b"n": 3, b"a": 4}
 _FIELD = re.compile(rb"[^ \t]+")
 # A line feed, and then a comment that names: what, its number, and the rest of the line, which may be blank.
 _NAMING = re.compile(rb"\n[ \t]*c[ \t]+(node|arc)[ \t]+([0-9]+)([ \t][^\n]*|\r?(?=\n)|\Z)")
+# The same in a text without carriage returns, where the name is not blank.
+_NAMED = re.compile(r"^[ \t]*c[ \t]+(node|arc)[ \t]+0*([0-9]{1,19})[ \t]+([^ \t\n](?:[^\n]*[^ \t\n])?)", re.MULTILINE)
+# In how large pieces a text is looked through for names, in bytes.
+PIECE = 1 << 16
 # Controls of a terminal, ends of lines, and marks that turn the direction in which text is shown; halves of characters.
 _UNSHOWN = re.compile("[\x00-\x1f\x7f-\x9f\u061c\u200e\u200f\u2028-\u202e\u2066-\u2069\ud800-\udfff]")
 
@@ -126,26 +130,30 @@ def namings(text: bytes) -> Iterator[Naming]:
 
 def read_names(text: bytes) -> tuple[dict[int, str], dict[int, str]]:
     """The names that the comments of a problem text give to nodes and to arcs. Of two names for one the last counts. The rest of
-    the text is not judged, and a comment of another form names nothing."""
-    node_names: dict[int, str] = {}
-    arc_names: dict[int, str] = {}
-    for kind, digits, name in _names_of(text):
-        if not name:
-            continue
-        try:
-            (node_names if kind == NODE else arc_names)[number(digits)] = name
-        except Fault:
-            continue
-    return node_names, arc_names
+    the text is not judged, and a comment of another form names nothing, nor does one whose number is past 10^19, as none of these is."""
+    names: dict[str, dict[int, str]] = {NODE: {}, ARC: {}}
+    for piece in _pieces(text):
+        for kind, digits, name in _names_of(piece):
+            names[kind][int(digits)] = name
+    return names[NODE], names[ARC]
 
 
-def _names_of(text: bytes) -> Iterator[tuple[str, bytes, str]]:
-    """What each comment that names says. Where no carriage return is in the text, all of them are found at once, which is quicker."""
-    if b"\r" in text:
-        return ((kind, digits, name) for _, kind, digits, name in namings(text))
-    kinds = {kind.encode(): kind for kind in (NODE, ARC)}
-    found = (match.groups() for match in _NAMING.finditer(b"\n" + text))
-    return ((kinds[kind], digits, str(rest.strip(b" \t"), "utf-8", "replace")) for kind, digits, rest in found)
+def _pieces(text: bytes) -> Iterator[bytes]:
+    """The text in pieces of whole lines."""
+    begin = 0
+    while begin < len(text):
+        end = text.find(b"\n", begin + PIECE) + 1 or len(text)
+        yield text[begin:end]
+        begin = end
+
+
+def _names_of(piece: bytes) -> list[tuple[str, str, str]]:
+    """What each comment of some lines names, by which digits, and how, but for names that are blank."""
+    if b"\r" in piece:
+        found = ((kind, digits.lstrip(b"0").decode() or "0", name) for _, kind, digits, name in namings(piece) if name)
+        return [(kind, digits, name) for kind, digits, name in found if len(digits) < LONGEST]
+    # Without a carriage return all are found at once, which is several times as quick.
+    return _NAMED.findall(piece.decode(errors="replace"))
 
 
 def read_problem(text: bytes) -> Problem:

@@ -56,15 +56,12 @@ loop-found-preserved-then-left-eq0 g c =
       kept = rw c.clear.ensures.items (keeps-unmarked c.augment.new.passed _ _ told);
     }
 
-pub returns-clause-passed : goal.returns-clause-passed
-returns-clause-passed g c =
-    let told = keeps-next c.loop-found.passed.items c.augment.new.passed _ c.loop-found.search.pairs c.augment.new.self.pairs c.loop-found.invariant.kept (rw c.deref_mut.ensures.value at c.augment.ensures.passed) in
-    rw (with_items_is c.loop-found.passed c.augment.new.passed (c.augment.auto.passed ∙ c.deref_mut.ensures.len)) told
-
 pub returns-clause-solved : goal.returns-clause-solved
 returns-clause-solved g c =
     let none = c.in_default.ensures.found in
-    solving-done c.args.state.now c.loop-found.value c.loop-found.search c.augment.new.self c.value-value.ensures.state c.loop-found.invariant.solving none.0 none.1
+    let told = keeps-next c.loop-found.passed.items c.augment.new.passed _ c.loop-found.search.pairs c.augment.new.self.pairs c.loop-found.invariant.kept (rw c.deref_mut.ensures.value at c.augment.ensures.passed) in
+    solving-done c.args.state.now _ c.loop-found.search c.value-value.ensures.state c.loop-found.invariant.solving none.0 none.1
+    (rw (with_items_is c.loop-found.passed c.augment.new.passed (c.augment.auto.passed ∙ c.deref_mut.ensures.len)) told)
 
 pub returns-clause-told : goal.returns-clause-told
 returns-clause-told g c =
