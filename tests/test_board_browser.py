@@ -142,7 +142,8 @@ def test_story(driver: Any) -> None:
         wanted = swept()
         worst = min(wanted, key=lambda name: wanted[name][0])
         best = max(wanted, key=lambda name: wanted[name][1])
-        said = f"Worst to lose: {worst}, {165 - wanted[worst][0]} litres per second less. "
+        second = f"{wanted[worst][1] - 165} more" if wanted[worst][1] > 165 else "nothing"
+        said = f"Worst to lose: {worst}, {165 - wanted[worst][0]} litres per second less; a second one brings {second}. "
         said += f"Best to have a second of: {best}, {wanted[best][1] - 165} litres per second more."
         assert page.text("#verdict") == said, f"the verdict: {page.text('#verdict')}"
         judge_keys(page)
@@ -219,6 +220,8 @@ def test_widths(driver: Any) -> None:
             page.press("Try each pipe")
             page.wait(lambda: "Worst" in page.text("#verdict"))  # noqa: B023
             wide = driver.execute_script("return document.documentElement.scrollWidth")
+            cut = driver.execute_script("const it = at('trials').parentElement; return it.scrollWidth - it.clientWidth")
+            assert cut <= 0, f"at {width} pixels the table of trials is cut by {cut}"
             assert wide <= width, f"at {width} pixels the page has {wide}"
         driver.execute_cdp_cmd("Emulation.clearDeviceMetricsOverride", {})
         driver.get("about:blank")

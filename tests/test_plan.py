@@ -214,6 +214,19 @@ def test_scripts() -> None:
     assert ran.stdout.count("solve: value 165") == 1, f"what-if leaves steps: {ran.stdout}"
 
 
+def test_what_is_typed_otherwise() -> None:
+    """Commands in capitals, ends as they are told, and the number that an arc had before it was opened again."""
+    typed = "SOLVE\nsolve\nadd Mill -> Station 25\nsolve\nclose #9\nopen Mill Lane\nclose #9\nclose #16\n"
+    ran = run("dmf-plan", PIPES, typed=typed)
+    told = [line.partition(": line ")[2] for line in ran.stderr.splitlines() if ": line " in line]
+    assert told == [
+        "1: no command is called 'SOLVE'; is it 'solve' or 'save'?",
+        "7: Mill Lane was closed as #9 and opened again as #16",
+    ]
+    # With the new pipe, 180 litres are the greatest value.
+    assert (ran.returncode, values(ran.stdout)[1], len(ran.stdout.splitlines())) == (1, STORY[2], 6)
+
+
 def test_page() -> None:
     """The session on the page of documents is one."""
     lines = [line[4:] for line in (ROOT / "docs/PLAN.md").read_text().splitlines() if line.startswith("    ")]

@@ -30,18 +30,14 @@ def judge_types(cache: Path, *words: object) -> None:
     judge(sys.executable, "-m", "mypy", "--cache-dir", cache, *words)
 
 
-@pytest.mark.seconds(30)
+@pytest.mark.seconds(50)
 def test_types(tmp_path: Path) -> None:
-    """The tests, the package and the tools."""
+    """The tests, the package and the tools; and each of those that have the name of what they import, by itself. What mypy read once
+    it keeps in the folder."""
     judge_types(tmp_path, *sorted((ROOT / "tests").rglob("*.py")), "clients/python/dmf")
     judge_types(tmp_path, "--scripts-are-modules", *scripts(b"python3", "tools"))
-
-
-@pytest.mark.seconds(10)
-@pytest.mark.parametrize("script", [pytest.param(it, id=it.name) for it in scripts(b"python3", "tools/friends")])
-def test_types_of_friends(tmp_path: Path, script: Path) -> None:
-    """Scripts that have the names of what they import."""
-    judge_types(tmp_path, script)
+    for script in scripts(b"python3", "tools/friends"):
+        judge_types(tmp_path, script)
 
 
 @pytest.mark.seconds(5)
@@ -49,10 +45,14 @@ def test_names() -> None:
     judge(sys.executable, "-m", "flake8", "tests", "tools", "clients", *scripts(b"python3", "tools", "tools/friends"))
 
 
-SHELL = [*scripts(b"(?:ba)?sh", ".", ".ci", "tests/install", "tools", "tools/friends", "bench")]
+SHELL = [
+    *scripts(b"(?:ba)?sh", ".", ".ci", "tests/install", "tools", "tools/friends", "bench"),
+    *sorted((ROOT / "completions").glob("*.bash")),
+]
 
 
 @pytest.mark.parametrize("script", [pytest.param(it, id=str(it.relative_to(ROOT))) for it in SHELL])
 def test_shell(script: Path) -> None:
     # A script of tests/ may source what stands beside it.
-    judge("shellcheck", "-x", "--source-path=SCRIPTDIR", script)
+    dialect = ["--shell=bash"] if script.suffix == ".bash" else []
+    judge("shellcheck", "-x", "--source-path=SCRIPTDIR", *dialect, script)

@@ -1,6 +1,5 @@
 """Compares what stands twice in the repository, and looks for definitions and lemmas that nothing uses:
 
-- the example of each library's README is the test that it is;
 - each file of definitions and of lemmas begins with a comment, and one of definitions says whether it is public or private;
 - the program's version is the one of the Python package, of the manual pages and of CHANGELOG.md's newest release;
 - each link between pages leads to a file, and to a heading of it where it names one;
@@ -17,24 +16,10 @@ from pathlib import Path
 
 import pytest
 
-# The test that each library's example is.
-EXAMPLES = {
-    "dmf_net": "test_interface/src/examples/net.rt",
-    "dmf_text": "test_interface/src/examples/text.rt",
-    "dmf_session": "test_interface/src/examples/session.rt",
-    "dmf_run": "test_interface/src/examples/run.rt",
-}
-CODE = re.compile(r"^```rust\n(.*?)^```$", re.MULTILINE | re.DOTALL)
 # A definition or lemma begins in the first column with its name and its type.
 HEAD = re.compile(r"^(?:[a-z]+ )*([^\s:(]+)(?= *[:(])")
 LINK = re.compile(r"\]\((?![a-z]+:)([^)#]*)#?([^)]*)\)")
 WORD = re.compile(r"[^\s(){}\[\],;.`\"]+")
-
-
-@pytest.mark.parametrize("library", EXAMPLES)
-def test_example_of_library(library: str) -> None:
-    page, example = Path(f"crates/{library}/README.md"), Path("crates") / EXAMPLES[library]
-    assert CODE.findall(page.read_text()) == [example.read_text()], f"the example of {page} is not {example}"
 
 
 def headless_files() -> Iterator[str]:

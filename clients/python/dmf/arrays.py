@@ -3,6 +3,7 @@ of these packages is needed until its function is called."""
 
 from __future__ import annotations
 
+import contextlib
 import functools
 import importlib
 import re
@@ -17,6 +18,8 @@ from .kept import columns_of, whole
 
 # How many lines of a text are made or read at once.
 PIECE = 1 << 14
+# How many arcs are read before numpy is worth loading.
+MOST_PLAIN = 200_000
 # How many letters of a text are read at once.
 LETTERS = 1 << 18
 _FLOW = re.compile(rb"^f [0-9]+ [0-9]+ ([0-9]+)$", re.MULTILINE)
@@ -82,12 +85,19 @@ def _four_digits(np: Any) -> Any:
     return np.frombuffer(b"".join(map(b"%04d".__mod__, range(10_000))), "u4")
 
 
-def read_lines(lines: bytes) -> tuple[array[int], array[int], array[int]]:
-    """The tails, the heads and the capacities of arc lines. Raises a ValueError for other lines."""
+def numpy_for(count: int) -> Any:
+    """numpy, where it is loaded, or where it is there and so many arcs are read that it is worth loading."""
+    if count >= MOST_PLAIN:
+        with contextlib.suppress(ImportError):
+            return importlib.import_module("numpy")
+    return loaded()
+
+
+def read_lines(lines: bytes, np: Any) -> tuple[array[int], array[int], array[int]]:
+    """The tails, the heads and the capacities of arc lines, by numpy where that is given. Raises a ValueError for other lines."""
     count = lines.count(b"\n")
     # The letters of the lines are left out, so that numbers alone remain.
     text = lines.replace(b"a", b"")
-    np = loaded()
     if np is None:
         numbers = list(map(int, text.split()))
         columns = array(NODES, numbers[0::3]), array(NODES, numbers[1::3]), array(AMOUNTS, numbers[2::3])

@@ -557,7 +557,11 @@ class Desk:
 
     def the_arc(self, text: str, *, is_closed: bool = False) -> int:
         """The arc that a text means: the open one, or the closed one. Raises a `DeskFault` where there is none, or more than one."""
-        found = [number for number in self.names.arcs(text) if not self.lines[number - 1].is_replaced]
+        meant = self.names.arcs(text)
+        found = [number for number in meant if not self.lines[number - 1].is_replaced]
+        if not found:
+            was, now = self.names.short(meant[0]), self._replacing(meant[0])
+            raise DeskFault(f"{was} was closed as #{meant[0]} and opened again as #{now}")
         fitting = [number for number in found if self.lines[number - 1].is_closed == is_closed]
         if len(fitting) == 1:
             return fitting[0]
@@ -565,6 +569,15 @@ class Desk:
             raise DeskFault(f"{shown(cleaned(text))} may be {self.names.list(fitting)}; say one by its number")
         arcs = self.names.list(found)
         raise DeskFault(f"{arcs} is open" if is_closed else f"{arcs} is closed; `open` opens it")
+
+    def _replacing(self, number: int) -> int:
+        """The arc as which one was opened again, which is the last with its name and its ends."""
+        line, name = self.lines[number - 1], self.names.arc_name(number)
+        return max(
+            other
+            for other, it in enumerate(self.lines, 1)
+            if (it.tail, it.head, self.names.arc_name(other)) == (line.tail, line.head, name)
+        )
 
     def _open_line(self, number: int) -> Line:
         line = self.line(number)

@@ -9,11 +9,11 @@ from collections import Counter
 from typing import Any
 
 from .arcs import AMOUNTS, NODES, Columns, Node
-from .arrays import PIECE, is_missing, no_capacity, read_lines
+from .arrays import PIECE, is_missing, no_capacity, numpy_for, read_lines
 from .kept import Kept, Whole
 from .network import Network
 from .process import Child, FilePath, Program, bound, session_words, start
-from .text import read_names
+from .text import ARC, NODE, names_in, naming_pieces
 
 
 def read(path: FilePath, *, program: Program = None, history: int | None = None) -> Network[int | str]:
@@ -33,31 +33,30 @@ def read(path: FilePath, *, program: Program = None, history: int | None = None)
         copy.write(text)
         copy.flush()
         child = start(copy.name, program, session_words(most))
-    node_names, arc_names = read_names(text)
-    del text
     network: Network[int | str] = Network.__new__(Network)
-    network._begin(child, _kept(child, node_names, arc_names, most))
+    network._begin(child, _kept(child, text, most))
     return network
 
 
-def _kept(child: Child, node_names: dict[int, str], arc_names: dict[int, str], most: int) -> Kept[int | str]:
-    """What is kept of the problem that a session has read."""
+def _kept(child: Child, text: bytes, most: int) -> Kept[int | str]:
+    """What is kept of the problem that a session has read of a text. The names of arcs are read when one is asked for."""
     tails, heads, capacities = array(NODES), array(NODES), array(AMOUNTS)
     with child.exchange("print problem"):
         node_count, arc_count = map(int, child.line()[2:])
         source, sink = (int(child.line()[1]) for _ in range(2))
         for begin in range(0, arc_count, PIECE):
-            read = read_lines(child.lines(min(PIECE, arc_count - begin)))
+            read = read_lines(child.lines(min(PIECE, arc_count - begin)), numpy_for(arc_count))
             for column, more in zip((tails, heads, capacities), read):
                 column.extend(more)
-    named = _of(node_count, node_names)
+    named = _of(node_count, names_in(naming_pieces(text, NODE), NODE))
     if len(set(named.values())) < len(named):
         used = Counter(named.values())
         named = {number: name for number, name in named.items() if used[name] == 1}
     nodes: dict[int | str, int] = {named.get(number, number): number for number in range(1, node_count + 1)}
     names = list(nodes)
-    keys: Any = _of(arc_count, arc_names)
-    return Kept(Columns(nodes, tails, heads, keys), capacities, names[source - 1], names[sink - 1], most)
+    pieces = naming_pieces(text, ARC)
+    columns = Columns(nodes, tails, heads, lambda: {**_of(arc_count, names_in(pieces, ARC))})
+    return Kept(columns, capacities, names[source - 1], names[sink - 1], most)
 
 
 def _of(count: int, names: dict[int, str]) -> dict[int, str]:

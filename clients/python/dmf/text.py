@@ -12,7 +12,7 @@ A tool without `.py` in its name finds this package beside itself, in the reposi
 from __future__ import annotations
 
 import re
-from collections.abc import Iterator
+from collections.abc import Iterable, Iterator
 from dataclasses import dataclass, field
 from typing import NamedTuple
 
@@ -26,8 +26,11 @@ FIELD_COUNTS = {b"p": 4, b"n": 3, b"a": 4}
 _FIELD = re.compile(rb"[^ \t]+")
 # A line feed, and then a comment that names: what, its number, and the rest of the line, which may be blank.
 _NAMING = re.compile(rb"\n[ \t]*c[ \t]+(node|arc)[ \t]+([0-9]+)([ \t][^\n]*|\r?(?=\n)|\Z)")
-# The same in a text without carriage returns, where the name is not blank.
-_NAMED = re.compile(r"^[ \t]*c[ \t]+(node|arc)[ \t]+0*([0-9]{1,19})[ \t]+([^ \t\n](?:[^\n]*[^ \t\n])?)", re.MULTILINE)
+# The same by what it names, in a text without carriage returns, where the name is not blank.
+_NAMED = {
+    kind: re.compile(rf"^[ \t]*c[ \t]+{kind}[ \t]+0*([0-9]{{1,19}})[ \t]+([^ \t\n](?:[^\n]*[^ \t\n])?)", re.MULTILINE)
+    for kind in (NODE, ARC)
+}
 # In how large pieces a text is looked through for names, in bytes.
 PIECE = 1 << 16
 # Controls of a terminal, ends of lines, and marks that turn the direction in which text is shown; halves of characters.
@@ -131,29 +134,35 @@ def namings(text: bytes) -> Iterator[Naming]:
 def read_names(text: bytes) -> tuple[dict[int, str], dict[int, str]]:
     """The names that the comments of a problem text give to nodes and to arcs. Of two names for one the last counts. The rest of
     the text is not judged, and a comment of another form names nothing, nor does one whose number is past 10^19, as none of these is."""
-    names: dict[str, dict[int, str]] = {NODE: {}, ARC: {}}
-    for piece in _pieces(text):
-        for kind, digits, name in _names_of(piece):
-            names[kind][int(digits)] = name
-    return names[NODE], names[ARC]
+    return names_in(naming_pieces(text, NODE), NODE), names_in(naming_pieces(text, ARC), ARC)
 
 
-def _pieces(text: bytes) -> Iterator[bytes]:
-    """The text in pieces of whole lines."""
-    begin = 0
+def naming_pieces(text: bytes, kind: str) -> list[bytes]:
+    """Pieces of whole lines of a text, which have all comments that name nodes, or arcs."""
+    found, begin = [], 0
     while begin < len(text):
         end = text.find(b"\n", begin + PIECE) + 1 or len(text)
-        yield text[begin:end]
+        piece = text[begin:end]
+        if kind.encode() in piece:
+            found.append(piece)
         begin = end
+    return found
 
 
-def _names_of(piece: bytes) -> list[tuple[str, str, str]]:
-    """What each comment of some lines names, by which digits, and how, but for names that are blank."""
-    if b"\r" in piece:
-        found = ((kind, digits.lstrip(b"0").decode() or "0", name) for _, kind, digits, name in namings(piece) if name)
-        return [(kind, digits, name) for kind, digits, name in found if len(digits) < LONGEST]
-    # Without a carriage return all are found at once, which is several times as quick.
-    return _NAMED.findall(piece.decode(errors="replace"))
+def names_in(pieces: Iterable[bytes], kind: str) -> dict[int, str]:
+    """The names that the comments of such pieces give to nodes, or to arcs, but for blank ones."""
+    names: dict[int, str] = {}
+    for piece in pieces:
+        if b"\r" not in piece:
+            # Without a carriage return all are found at once, which is several times as quick.
+            for significant, name in _NAMED[kind].findall(piece.decode(errors="replace")):
+                names[int(significant)] = name
+            continue
+        for naming in namings(piece):
+            digits = naming.number.lstrip(b"0") or b"0"
+            if naming.kind == kind and naming.name and len(digits) < LONGEST:
+                names[int(digits)] = naming.name
+    return names
 
 
 def read_problem(text: bytes) -> Problem:

@@ -1,16 +1,19 @@
 -- What labels found backwards from the goal tell of links with room: no link falls by more than one, and from each node with
 -- a label a walk leads to the goal.
-use Rattle.std.proofs.Common.{ℕ, ◌≡◌, ◌≢◌, ◌<◌, ⊎_elim, List, [], ◌∷◌, length, slice_index, zero, suc, ap, sym, refl, subst, ◌∙◌, arith, true, false, ◌==◌}
+use Rattle.std.proofs.Common.{ℕ, ◌≡◌, ◌≢◌, ◌<◌, inl, inr, ⊎_elim, List, [], ◌∷◌, length, slice_index, zero, suc, ap, sym, refl, subst, ◌∙◌, arith, true, false, ◌==◌}
 use Rattle.std.proofs.lemmas.Bool.Decides.{eqb_tells}
+use Rattle.std.proofs.lemmas.List.{ext_get_or, get_or-map, length-map}
 use Rattle.dmf_node.specs.Node.{IsNode}
 use Rattle.dmf_path.specs.Links.{Links, LiesAt, AreLinks, AreFlags, open_flag, tail_of}
 use Rattle.dmf_path.specs.Labels.{no_label, AreLabels}
 use Rattle.dmf_path.specs.Walk.{IsWalk, AreValid}
+use Rattle.dmf_path.specs.BothEnds.{IsLabelled, filled, filled_label}
 use Rattle.dmf_path.proofs.LinkPlaces.{lies-within, lies-partner}
 use Rattle.dmf_path.proofs.Flags.{room-of_flag, flag-of_room}
 
 -- No link with room falls by more than one.
-pub valid-labelled : (l : Links) (rooms flags labels : List ℕ) (start goal : ℕ) → AreLinks l → AreFlags l rooms flags → AreLabels l flags goal start labels → AreValid l labels rooms (slice_index labels start)
+pub valid-labelled : (l : Links) (rooms flags labels : List ℕ) (start goal : ℕ) → AreLinks l → AreFlags l rooms flags → AreLabels l flags goal start labels
+    → AreValid l labels rooms (slice_index labels start)
 valid-labelled l rooms flags labels start goal are flagged labelled v p node lies room below =
     let within : p < length l.heads = lies-within l v p are node lies in
     let link = are.each p within in
@@ -21,7 +24,8 @@ valid-labelled l rooms flags labels start goal are flagged labelled v p node lie
     omega (arith, most, ap (λ u. slice_index labels u) (are.at_tail v p node lies))
 
 -- From a node whose label is `n` a walk leads to the goal.
-walk-from : (l : Links) (rooms flags labels : List ℕ) (start goal : ℕ) → AreLinks l → AreFlags l rooms flags → AreLabels l flags goal start labels → (n v : ℕ) → slice_index labels v ≡ n → IsNode l.nodes v → slice_index labels v ≢ no_label → (ps : List ℕ) × IsWalk l labels rooms goal v ps
+walk-from : (l : Links) (rooms flags labels : List ℕ) (start goal : ℕ) → AreLinks l → AreFlags l rooms flags → AreLabels l flags goal start labels
+    → (n v : ℕ) → slice_index labels v ≡ n → IsNode l.nodes v → slice_index labels v ≢ no_label → (ps : List ℕ) × IsWalk l labels rooms goal v ps
 walk-from l rooms flags labels start goal are flagged labelled zero v is node has =
     ⊎_elim
     (λ (here : ((v == goal) ≡ true) × (v ≡ goal)). ([], here.1))
@@ -44,6 +48,46 @@ walk-from l rooms flags labels start goal are flagged labelled (suc n) v is node
     (p ∷ on.0, (record { lies = lies; room = room; falls = back.label }, on.1)))
     (eqb_tells v goal)
 
-pub walk-labelled : (l : Links) (rooms flags labels : List ℕ) (start goal : ℕ) → AreLinks l → AreFlags l rooms flags → AreLabels l flags goal start labels → (v : ℕ) → IsNode l.nodes v → slice_index labels v ≢ no_label → (ps : List ℕ) × IsWalk l labels rooms goal v ps
+walk-labelled : (l : Links) (rooms flags labels : List ℕ) (start goal : ℕ) → AreLinks l → AreFlags l rooms flags → AreLabels l flags goal start labels
+    → (v : ℕ) → IsNode l.nodes v → slice_index labels v ≢ no_label → (ps : List ℕ) × IsWalk l labels rooms goal v ps
 walk-labelled l rooms flags labels start goal are flagged labelled v node has =
     walk-from l rooms flags labels start goal are flagged labelled (slice_index labels v) v refl node has
+
+-- Where no label is made up for nodes without one, each node counts as its label.
+filled_label-none : (label : ℕ) → filled_label no_label label ≡ label
+filled_label-none label = ⊎_elim
+    (λ (none : ((label == no_label) ≡ true) × (label ≡ no_label)). ap (filled_label no_label) none.1 ∙ sym none.1)
+    (λ (other : ((label == no_label) ≡ false) × (label ≢ no_label)). rw other.0 refl)
+    (eqb_tells label no_label)
+
+filled-none : (labels : List ℕ) → filled no_label labels ≡ labels
+filled-none labels =
+    ext_get_or 0 (filled no_label labels) labels (length-map labels (filled_label no_label))
+    (λ v within. get_or-map (filled_label no_label) labels v 0 0 (omega (arith, within, length-map labels (filled_label no_label))) ∙ filled_label-none (slice_index labels v))
+
+-- A start that has a label found backwards from the goal is labelled.
+pub labelled-one : (l : Links) (rooms flags labels : List ℕ) (start goal : ℕ) → AreLinks l → AreFlags l rooms flags → AreLabels l flags goal start labels
+    → IsNode l.nodes start → slice_index labels start ≢ no_label → IsLabelled l rooms labels start goal
+labelled-one l rooms flags labels start goal are flagged labelled node has = record {
+  sound = record {
+    beyond = no_label;
+    small = (
+      labelled.one_each,
+      λ v is. elim (labelled.small v is) [
+        | inl none ↦ inl none
+        | inr below ↦ inr (omega (arith, below))
+      ],
+    );
+    valid = subst (λ ls. AreValid l ls rooms (slice_index labels start)) (sym (filled-none labels)) (valid-labelled l rooms flags labels start goal are flagged labelled);
+    gated = λ v p is lies room label none. elim (labelled.small v is) [
+      | inl same ↦ omega (arith, label, same)
+      | inr below ↦ omega (arith, label, below, are.at_most_nodes)
+    ];
+  };
+  start_label = elim (labelled.small start node) [
+    | inl none ↦ absurd (has none)
+    | inr below ↦ omega (arith, below)
+  ];
+  goal_label = labelled.root_is;
+  walk = walk-labelled l rooms flags labels start goal are flagged labelled start node has;
+}

@@ -1,33 +1,14 @@
 -- Spreading labels from a root, node by node in the order of a queue.
-use Rattle.std.proofs.Common.{ℕ, ◌≡◌, ◌≢◌, ◌+◌, ◌≤◌, ◌<◌, ◌⊎◌, ⊎_elim, inl, inr, List, [], ◌∷◌, length, set, replicate, slice_index, refl, ap, sym, subst, ◌∙◌, arith, true, false, ◌==◌, cond, Contains}
+use Rattle.std.proofs.Common.{ℕ, ◌≡◌, ◌≢◌, ◌+◌, ◌≤◌, ◌<◌, ◌⊎◌, ⊎_elim, inl, inr, List, [], ◌∷◌, length, set, replicate, slice_index, refl, ap, sym, subst, ◌∙◌, arith, true, false, ◌==◌, cond}
 use Rattle.std.proofs.lemmas.Bool.Decides.{eqb_tells}
 use Rattle.std.proofs.lemmas.Bool.{cases_lt}
 use Rattle.std.proofs.lemmas.List.{get_or-replicate, get_or-set_same, length-set, length-replicate, get_or_default, ext_get_or}
 use Rattle.std.proofs.lemmas.List.Folds.{sum_by-replicate}
 use Rattle.dmf_node.specs.Node.{IsNode}
 use Rattle.dmf_path.specs.Links.{Links, LiesAt, AreLinks}
-use Rattle.dmf_path.specs.Labels.{no_label, unlabelled_count, IsBacked, AreLabels, AreQueued}
+use Rattle.dmf_path.specs.Labels.{no_label, unlabelled_count, AreLabels, AreQueued}
+use Rattle.dmf_path.specs.Frontier.{AreSpread}
 use Rattle.dmf_path.proofs.Spreading.{unlabelled_count-set, cases-set}
-
--- At this place of the queue stands a node whose label is at most the place.
-pub record IsQueued (l : Links) (labels queue : List ℕ) (k : ℕ) : Type 0 where
-  pub node : IsNode l.nodes (slice_index queue k)
-  pub small : slice_index labels (slice_index queue k) ≤ k
-
--- The queue lists the nodes with labels, in the order of the labels. The open links of the nodes before place `done` are
--- looked at, and no label is more than that of the node looked at last and one.
-pub record AreSpread (l : Links) (opens : List ℕ) (root : ℕ) (labels queue : List ℕ) (done : ℕ) : Type 0 where
-  pub one_each : length labels ≡ l.nodes + 1
-  pub root_is : slice_index labels root ≡ 0
-  pub zero : slice_index labels 0 ≡ no_label
-  pub counted : length queue + unlabelled_count labels ≡ l.nodes + 1
-  pub come : done ≤ length queue
-  pub queued : (k : ℕ) → k < length queue → IsQueued l labels queue k
-  pub listed : (v : ℕ) → IsNode l.nodes v → slice_index labels v ≢ no_label → Contains queue v
-  pub ascending : (i j : ℕ) → i ≤ j → j < length queue → slice_index labels (slice_index queue i) ≤ slice_index labels (slice_index queue j)
-  pub close : (i j : ℕ) → done ≤ i + 1 → i < length queue → j < length queue → slice_index labels (slice_index queue j) ≤ slice_index labels (slice_index queue i) + 1
-  pub scanned : (k p : ℕ) → k < done → LiesAt l (slice_index queue k) p → slice_index opens p ≡ 1 → slice_index labels (slice_index l.heads p) ≤ slice_index labels (slice_index queue k) + 1
-  pub backed : (v : ℕ) → IsNode l.nodes v → v ≢ root → slice_index labels v ≢ no_label → IsBacked l opens labels v
 
 -- Number 0 is never in the queue, so that its capacity is enough for the nodes.
 pub queue-short : (l : Links) (opens : List ℕ) (root : ℕ) (labels queue : List ℕ) (done : ℕ) → AreSpread l opens root labels queue done → length queue ≤ l.nodes
@@ -36,7 +17,8 @@ queue-short l opens root labels queue done so_far =
     omega (arith, one, so_far.counted)
 
 -- A node with a label stands in the queue, at a place no less than its label.
-pub queued-at : (l : Links) (opens : List ℕ) (root : ℕ) (labels queue : List ℕ) (done v : ℕ) → AreSpread l opens root labels queue done → IsNode l.nodes v → slice_index labels v ≢ no_label → (k : ℕ) × (k < length queue) × (slice_index queue k ≡ v) × (slice_index labels v ≤ k)
+pub queued-at : (l : Links) (opens : List ℕ) (root : ℕ) (labels queue : List ℕ) (done v : ℕ) → AreSpread l opens root labels queue done → IsNode l.nodes v
+    → slice_index labels v ≢ no_label → (k : ℕ) × (k < length queue) × (slice_index queue k ≡ v) × (slice_index labels v ≤ k)
 queued-at l opens root labels queue done v so_far node has =
     let here = so_far.listed v node has in
     let is : slice_index queue here.0 ≡ v = get_or_default queue here.0 0 v here.1 ∙ here.2 in
@@ -49,7 +31,8 @@ unlabelled_count-replicate n =
     omega (arith, sum_by-replicate f n no_label)
 
 -- the labels at first: 0 at the root, and no others
-first-cases : (nodes root v : ℕ) → IsNode nodes root → v ≤ nodes → ((v ≡ root) × (slice_index (set (replicate (nodes + 1) no_label) root 0) v ≡ 0)) ⊎ ((v ≢ root) × (slice_index (set (replicate (nodes + 1) no_label) root 0) v ≡ no_label))
+first-cases : (nodes root v : ℕ) → IsNode nodes root → v ≤ nodes
+    → ((v ≡ root) × (slice_index (set (replicate (nodes + 1) no_label) root 0) v ≡ 0)) ⊎ ((v ≢ root) × (slice_index (set (replicate (nodes + 1) no_label) root 0) v ≡ no_label))
 first-cases nodes root v at_root within =
     ⊎_elim
     (λ (here : (v ≡ root) × (slice_index (set (replicate (nodes + 1) no_label) root 0) v ≡ 0)). inl here)
@@ -57,7 +40,8 @@ first-cases nodes root v at_root within =
     inr (elsewhere.0, elsewhere.1 ∙ get_or-replicate (nodes + 1) v no_label 0 (omega arith)))
     (cases-set (replicate (nodes + 1) no_label) root v 0 (omega (arith, length-replicate {A = ℕ} (nodes + 1) no_label, at_root.to_last)))
 
-pub spread-first : (l : Links) (opens : List ℕ) (root : ℕ) → IsNode l.nodes root → AreSpread l opens root (set (replicate (l.nodes + 1) no_label) root 0) (root ∷ []) 0
+pub spread-first : (l : Links) (opens : List ℕ) (root : ℕ) → IsNode l.nodes root
+    → AreSpread l opens root (set (replicate (l.nodes + 1) no_label) root 0) (root ∷ []) 0
 spread-first l opens root at_root =
     let labels : List ℕ = set (replicate (l.nodes + 1) no_label) root 0 in
     let at : (v : ℕ) → v ≤ l.nodes → ((v ≡ root) × (slice_index labels v ≡ 0)) ⊎ ((v ≢ root) × (slice_index labels v ≡ no_label)) = λ v within. first-cases l.nodes root v at_root within in
@@ -87,7 +71,8 @@ spread-first l opens root at_root =
     }
 
 -- A number with a label is a node.
-label-node : (l : Links) (opens : List ℕ) (root : ℕ) (labels queue : List ℕ) (done v : ℕ) → AreSpread l opens root labels queue done → v ≤ l.nodes → slice_index labels v ≢ no_label → IsNode l.nodes v
+label-node : (l : Links) (opens : List ℕ) (root : ℕ) (labels queue : List ℕ) (done v : ℕ) → AreSpread l opens root labels queue done → v ≤ l.nodes
+    → slice_index labels v ≢ no_label → IsNode l.nodes v
 label-node l opens root labels queue done v spread within has = record {
   from_one = ⊎_elim
       (λ (above : 0 < v). omega arith)
@@ -97,7 +82,8 @@ label-node l opens root labels queue done v spread within has = record {
 }
 
 -- No label is more than what stands for none.
-label-most : (l : Links) (opens : List ℕ) (root : ℕ) (labels queue : List ℕ) (done v : ℕ) → AreLinks l → AreSpread l opens root labels queue done → v ≤ l.nodes → slice_index labels v ≤ no_label
+label-most : (l : Links) (opens : List ℕ) (root : ℕ) (labels queue : List ℕ) (done v : ℕ) → AreLinks l → AreSpread l opens root labels queue done
+    → v ≤ l.nodes → slice_index labels v ≤ no_label
 label-most l opens root labels queue done v are spread within =
     ⊎_elim
     (λ (none : ((slice_index labels v == no_label) ≡ true) × (slice_index labels v ≡ no_label)). omega (arith, none.1))
@@ -117,7 +103,8 @@ left-first labels queue queued v within has =
     (here.0, omega arith, here.1, get_or_default queue here.0 0 v here.1 ∙ here.2)
 
 -- The label of the next one is taken off.
-pub left-next : (labels queue : List ℕ) (k : ℕ) → slice_index queue k < length labels → AreLeft labels queue k → AreLeft (set labels (slice_index queue k) no_label) queue (k + 1)
+pub left-next : (labels queue : List ℕ) (k : ℕ) → slice_index queue k < length labels → AreLeft labels queue k
+    → AreLeft (set labels (slice_index queue k) no_label) queue (k + 1)
 left-next labels queue k inside left v within has =
     ⊎_elim
     (λ (here : (v ≡ slice_index queue k) × (slice_index (set labels (slice_index queue k) no_label) v ≡ no_label)). absurd (has here.1))
@@ -139,7 +126,8 @@ left-last labels queue k all left =
     none ∙ sym (get_or-replicate (length labels) v no_label 0 within))
 
 -- The labels once the queue is used up, or the node `stop` has a label.
-pub labels-spread : (l : Links) (opens : List ℕ) (root stop : ℕ) (labels queue : List ℕ) (done : ℕ) → AreLinks l → AreSpread l opens root labels queue done → stop ≤ l.nodes → (done ≡ length queue) ⊎ (slice_index labels stop ≢ no_label) → AreLabels l opens root stop labels
+pub labels-spread : (l : Links) (opens : List ℕ) (root stop : ℕ) (labels queue : List ℕ) (done : ℕ) → AreLinks l → AreSpread l opens root labels queue done
+    → stop ≤ l.nodes → (done ≡ length queue) ⊎ (slice_index labels stop ≢ no_label) → AreLabels l opens root stop labels
 labels-spread l opens root stop labels queue done are spread within ended =
     let find : (v : ℕ) → IsNode l.nodes v → slice_index labels v ≢ no_label → (k : ℕ) × (k < length queue) × (slice_index queue k ≡ v) × (slice_index labels v ≤ k) = λ v node has. queued-at l opens root labels queue done v spread node has in
     record {
@@ -170,3 +158,10 @@ labels-spread l opens root stop labels queue done are spread within ended =
           (eqb_tells (slice_index labels v) no_label);
       backed = spread.backed;
     }
+
+-- A search begins at its root.
+pub starts-spread : (l : Links) (opens : List ℕ) (root : ℕ) (clean labels queue : List ℕ) (done : ℕ) → IsNode l.nodes root
+    → clean ≡ replicate (l.nodes + 1) no_label
+    → labels ≡ set clean root 0 → queue ≡ root ∷ [] → done ≡ 0 → AreSpread l opens root labels queue done
+starts-spread l opens root clean labels queue done node clean_is labels_are queue_is done_is =
+    rw (labels_are, clean_is, queue_is, done_is) (spread-first l opens root node)

@@ -8,7 +8,8 @@ use Rattle.dmf_node.specs.Node.{IsNode}
 use Rattle.dmf_path.specs.Links.{Links, LiesAt, AreLinks, tail_of}
 use Rattle.dmf_path.specs.Labels.{no_label, IsBacked, Spreads}
 use Rattle.dmf_path.proofs.LinkPlaces.{lies-within, end-within}
-use Rattle.dmf_path.proofs.Labelling.{IsQueued, AreSpread, queue-short, queued-at}
+use Rattle.dmf_path.specs.Frontier.{IsQueued, AreSpread, Expands}
+use Rattle.dmf_path.proofs.Labelling.{queue-short, queued-at}
 
 -- One turn: the open links of the node that is next in the queue are looked at.
 pub record Turn : Type 0 where
@@ -250,3 +251,12 @@ spread-turn l opens root old queue done new after heads node from end are so_far
       long = long;
       spreads = rw (is_node, from_is, end_is, ← same_heads) spreads.2;
     }))
+
+-- What a turn does, where what is read has names of its own.
+pub expands-turn : (l : Links) (opens : List ℕ) (root : ℕ) (old queue : List ℕ) (done : ℕ) (new after heads : List ℕ) (node from end : ℕ) → AreLinks l → AreSpread l opens root old queue done → done < length queue → heads ≡ l.heads → node ≡ get_or queue done node → from ≡ get_or l.first node from → end ≡ get_or l.first (node + 1) end → (fresh : List ℕ) × (after ≡ queue ++ fresh) × Spreads heads opens from end (slice_index old node + 1) old new fresh → Expands l opens old queue done new after
+expands-turn l opens root old queue done new after heads node from end are so_far ahead same_heads node_read from_read end_read spreads =
+    let read = node-read l opens root old queue done node are so_far ahead node_read in
+    let is_node : slice_index queue done ≡ node = read.0 in
+    let from_is : slice_index l.first node ≡ from = get_or_default l.first node 0 from (omega (arith, read.1.to_last, are.first_long)) ∙ sym from_read in
+    let end_is : slice_index l.first (node + 1) ≡ end = get_or_default l.first (node + 1) 0 end (omega (arith, read.1.to_last, are.first_long)) ∙ sym end_read in
+    record { fresh = spreads.0; queued = spreads.1; spreads = rw (is_node, from_is, end_is, ← same_heads) spreads.2 }

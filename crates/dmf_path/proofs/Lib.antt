@@ -36,6 +36,13 @@ pub mod UnderWayWhole
 pub mod Splitting
 pub mod SearchTurns
 pub mod Labelled
+pub mod BothEnds
+pub mod Expanding
+pub mod Meeting
+pub mod Gated
+pub mod Joining
+pub mod Beginning
+pub mod Currents
 pub mod Marks
 pub mod Counting
 pub mod CountingLinks

@@ -9,7 +9,8 @@ use Rattle.dmf_path.specs.Walk.{IsTrail, pushed_once}
 use Rattle.dmf_path.specs.Held.{Way, places_of, walked_slots, rest_slots, filled_slots, held_for, settled, rooms_with, IsOff}
 use Rattle.dmf_path.specs.Search.{HasAlong, with_pairs, lowered_along}
 use Rattle.dmf_path.specs.Searching.{IsHolding, IsUnderWay, IsSearch, searched}
-use Rattle.dmf_path.proofs.Pushed.{OpensUpwards, AreValid-opens, ArePassed-opens}
+use Rattle.dmf_path.proofs.Pushed.{OpensUpwards, ArePassed-opens}
+use Rattle.dmf_path.proofs.Gated.{sound-opens}
 use Rattle.dmf_path.proofs.Descending.{off-rising}
 use Rattle.dmf_path.proofs.Settled.{length-settled, room-settled, held-off, held-rooms, places-append}
 use Rattle.dmf_path.proofs.SettledRoom.{room-along}
@@ -111,8 +112,8 @@ IsSearch-lowered {is_fresh = is_fresh} l takes_back places rooms flags labels cu
       one_slot_each = way.one_slot_each;
       goal_label = way.goal_label;
     } in
-    let valid = AreValid-opens l labels before after (get_or labels w.start 0) opens is.valid in
-    let search = IsSearch-next l takes_back places rooms flags labels current w queue_capacity slots_capacity new_rooms new_flags labels current after w queue_capacity slots_capacity is_fresh is refl is.start_label holding refl valid goes_on refl refl refl refl is.marked in
+    let sound = sound-opens l labels before after (get_or labels w.start 0) is.links opens is.sound in
+    let search = IsSearch-next l takes_back places rooms flags labels current w queue_capacity slots_capacity new_rooms new_flags labels current after w queue_capacity slots_capacity is_fresh is refl is.start_label holding refl sound goes_on refl refl refl refl is.marked in
     (search, lowered)
 
 -- The room of the link along a pair is lowered, once the link is in no slot.

@@ -54,7 +54,7 @@ can-augment l takes_back places rooms flags labels current w queue_capacity slot
       opens = subst (OpensUpwards l labels after) (sym made) (opens-pushed l takes_back amount labels after w.start (places_of w.slots) is.links after_long falls);
       augments = record {
         path = path_on l places after (places_of w.slots);
-        least = least-trail l places after labels current (places_of w.slots) w.start w.goal is.links is.places_are is.start_is is.valid walking whole.ends;
+        least = least-trail l places after labels current (places_of w.slots) w.start w.goal is.links is.places_are is.start_is is.goal_is is.sound is.start_label way.goal_label walking whole.ends;
         amount_is = least ∙ sym (bottleneck-settled l takes_back labels w.sent limit rooms w.slots (get_or labels w.start 0) 0 is.links long descends have)
             ∙ ap (λ rs. bottleneck_on rs limit (places_of w.slots)) (sym told) ∙ sym (bottleneck_up_to-path_on l places after (places_of w.slots) limit);
         links_are = sym (length-map (places_of w.slots) (step_on l places after) ∙ length-map w.slots (λ s. s.place));

@@ -1,10 +1,10 @@
 -- All links leave, and nothing is held any more.
-use Rattle.std.proofs.Common.{ℕ, ◌≡◌, ◌+◌, ◌^◌, ◌<◌, ◌≤◌, Bool, List, [], ◌++◌, length, take, drop, get_or, ap, sym, ◌∙◌, subst, arith}
-use Rattle.std.proofs.lemmas.List.{append-nil, ext_get_or, get_or-take, length-take-le, drop_all}
+use Rattle.std.proofs.Common.{ℕ, ◌≡◌, ◌^◌, ◌<◌, Bool, List, [], ◌++◌, length, drop, get_or, ap, sym, ◌∙◌, subst, arith}
+use Rattle.std.proofs.lemmas.List.{append-nil, ext_get_or, drop_all}
 use Rattle.dmf_path.specs.declared.trail.Slot.{Slot}
 use Rattle.dmf_node.specs.Node.{IsNode}
 use Rattle.dmf_path.specs.Links.{Links, AreLinks, AreRooms, AreFlags}
-use Rattle.dmf_path.specs.Walk.{IsTrail, end_of}
+use Rattle.dmf_path.specs.Walk.{AreCurrent, ArePassed, IsTrail, end_of}
 use Rattle.dmf_path.specs.Held.{Way, places_of, walked_slots, rest_slots, settled, rooms_with, HaveLeft, put_each, CanPut, emptied, with_slots}
 use Rattle.dmf_path.specs.Searching.{IsUnderWay, IsHolding, IsSearch}
 use Rattle.dmf_path.proofs.Descending.{Descends, descends-behind}
@@ -62,21 +62,13 @@ holding-free l w slots rooms flags sums told small = record {
   have = subst (HaveLeft w.sent rooms) (sym (drop_all (length slots) slots (omega arith))) tt;
 }
 
--- and with the current links of all nodes at their first ones the search begins.
-pub way-free : (l : Links) (labels after current : List ℕ) (w : Way) (slots : List Slot) → AreLinks l → IsNode l.nodes w.goal → current ≡ take (l.nodes + 1) l.first → length slots ≡ get_or labels w.start 0 → get_or labels w.goal 0 ≡ 0 → IsUnderWay l labels after current (with_slots w slots)
-way-free l labels after current w slots links goal first count label =
-    let at_first : (v : ℕ) → v ≤ l.nodes → get_or current v 0 ≡ get_or l.first v 0 = λ v h. ap (λ cs. get_or cs v 0) first ∙ get_or-take (l.nodes + 1) l.first v 0 (omega (arith, h)) in
+-- and where nothing was passed that leads to the goal the walk begins.
+pub way-free : (l : Links) (labels after current : List ℕ) (w : Way) (slots : List Slot) → IsNode l.nodes w.goal → AreCurrent l current → ArePassed l labels after w.goal current
+    → length slots ≡ get_or labels w.start 0 → get_or labels w.goal 0 ≡ 0 → IsUnderWay l labels after current (with_slots w slots)
+way-free l labels after current w slots goal current_is passed count label =
     let none : drop (length slots) slots ≡ [] = drop_all (length slots) slots (omega arith) in
     record {
-      walking = record {
-        current_is = record {
-          one_each = ap length first ∙ length-take-le (l.nodes + 1) l.first (omega (arith, links.first_long));
-          from = λ v node. omega (arith, at_first v node.to_last);
-          to = λ v node. omega (arith, at_first v node.to_last, links.ascending v node.to_last);
-        };
-        passed = λ v p ps node lies before walk. omega (arith, at_first v node.to_last, lies.from, before);
-        trail_is = tt;
-      };
+      walking = record { current_is = current_is; passed = passed; trail_is = tt };
       rest_is = subst (λ (ss : List Slot). IsTrail l labels after current w.goal (places_of ss)) (sym none) tt;
       ends = ap (λ (ss : List Slot). end_of l w.goal (places_of ss)) none;
       joint_is = goal;

@@ -12,4 +12,6 @@ pub mod Held
 pub mod Search
 pub mod Passed
 pub mod Searching
+pub mod BothEnds
+pub mod Frontier
 pub mod Passing

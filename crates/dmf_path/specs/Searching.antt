@@ -1,11 +1,15 @@
 -- What a search keeps.
 -- Private: only contracts inside the crate and proofs use this.
-use Rattle.std.specs.Prelude.{ℕ, ◌≡◌, ◌≢◌, ◌+◌, ◌^◌, ◌<◌, ◌≤◌, Bool, true, false, List, length, slice_index, take}
+use Rattle.std.specs.Prelude.{ℕ, ◌≡◌, ◌≢◌, ◌+◌, ◌^◌, ◌<◌, ◌≤◌, ◌⊎◌, Bool, true, false, List, length, replicate, slice_index, slice_set, vec_capacity}
 use Rattle.dmf_node.specs.Node.{IsNode}
 use Rattle.dmf_path.specs.Links.{Links, LiesAt, AreLinks, ArePlaces, AreRooms, AreFlags, pairs_at}
-use Rattle.dmf_path.specs.Walk.{AreValid, IsTrail, IsWalking, end_of}
+use Rattle.dmf_path.specs.Walk.{IsTrail, IsWalking, end_of}
 use Rattle.dmf_path.specs.Held.{Way, places_of, walked_slots, rest_slots, filled_slots, rooms_with, HaveLeft}
 use Rattle.dmf_path.specs.Search.{Searched}
+use Rattle.dmf_path.specs.declared.frontier.Frontier.{Frontier}
+use Rattle.dmf_path.specs.Labels.{no_label, AreQueued}
+use Rattle.dmf_path.specs.Frontier.{IsClean}
+use Rattle.dmf_path.specs.BothEnds.{AreSound}
 
 -- How far the search for the next path has come: the walk, and the end of the last path, which leads on to the goal along
 -- admissible current links. There is a slot for each label below that of the start.
@@ -26,33 +30,43 @@ pub record IsHolding (l : Links) (w : Way) (rooms flags : List ℕ) : Type 0 whe
   pub small : w.sent < 2 ^ 64
   pub have : HaveLeft w.sent rooms (filled_slots w)
 
--- The search has not begun: nothing falls to the label of the start, so that there are no slots, and the current link of each node
--- is its first one. So it stands whatever the rooms are.
-pub record IsFresh (l : Links) (labels current : List ℕ) (start : ℕ) : Type 0 where
+-- The labels of a search that has not begun: 0 at both ends, and no others.
+abbrev pub fresh_labels : ℕ → ℕ → ℕ → List ℕ
+fresh_labels nodes start goal = slice_set (slice_set (replicate (nodes + 1) no_label) start 0) goal 0
+
+-- The search has not begun: no link falls, whatever the rooms are, and there are no slots.
+pub record IsFresh (l : Links) (labels : List ℕ) (start : ℕ) : Type 0 where
   pub label : slice_index labels start ≡ 0
-  pub first : current ≡ take (l.nodes + 1) l.first
+  pub others : (v : ℕ) → IsNode l.nodes v → (slice_index labels v ≡ no_label) ⊎ (slice_index labels v ≡ 0)
 
 -- What is said of a search by whether it is marked as fresh.
-pub data IsMarked (l : Links) (labels current : List ℕ) (start : ℕ) (is_fresh : Bool) : Type 0 where
-  begun : is_fresh ≡ false → IsMarked l labels current start is_fresh
-  fresh : IsFresh l labels current start → IsMarked l labels current start is_fresh
+pub data IsMarked (l : Links) (labels : List ℕ) (start : ℕ) (is_fresh : Bool) : Type 0 where
+  begun : is_fresh ≡ false → IsMarked l labels start is_fresh
+  fresh : IsFresh l labels start → IsMarked l labels start is_fresh
+
+-- The labels can be taken off: the queue of the search from the goal has all nodes with one, and the search from the start has none.
+pub record IsReady (nodes : ℕ) (near far : Frontier) : Type 0 where
+  pub one_label_each : length near.labels.items ≡ nodes + 1
+  pub queued : AreQueued near.labels.items near.queue.items
+  pub capacity : nodes + 1 ≤ vec_capacity near.queue
+  pub clean : IsClean nodes far
 
 -- The vectors of a search fit together: links, the places of the pairs, rooms and flags, with what is held, labels that are
--- valid, how far it has come, and whether it has not begun.
+-- sound, how far it has come, and whether it has not begun.
 pub record IsSearch (l : Links) (takes_back : Bool) (places rooms flags labels current : List ℕ) (w : Way) (queue_capacity slots_capacity : ℕ) (is_fresh : Bool) : Type 0 where
   pub links : AreLinks l
   pub places_are : ArePlaces l places
   pub holding : IsHolding l w rooms flags
   pub one_label_each : length labels ≡ l.nodes + 1
   pub start_label : slice_index labels w.start ≤ l.nodes
-  pub valid : AreValid l labels (rooms_with l takes_back w rooms) (slice_index labels w.start)
+  pub sound : AreSound l labels (rooms_with l takes_back w rooms) (slice_index labels w.start)
   pub under_way : IsUnderWay l labels (rooms_with l takes_back w rooms) current w
   pub start_is : IsNode l.nodes w.start
   pub goal_is : IsNode l.nodes w.goal
   pub apart : w.start ≢ w.goal
   pub queue_capacity_is : l.nodes + 1 ≤ queue_capacity
   pub slots_capacity_is : l.nodes ≤ slots_capacity
-  pub marked : IsMarked l labels current w.start is_fresh
+  pub marked : IsMarked l labels w.start is_fresh
 
 -- what callers see of it
 abbrev pub searched : Links → List ℕ → List ℕ → ℕ → ℕ → Bool → Searched

@@ -26,6 +26,7 @@ pub fn label_nodes<O: OpenLinks>(
     requires root { IsNode table.now.nodes root }
     requires stop { stop ≤ table.now.nodes }
     ensures labels { AreLabels (links_of table.now) (O.flags opens.now) root stop labels.new }
+    ensures queued { AreQueued labels.new queue.new.items }
     ensures queue_capacity { vec_capacity queue.new ≡ vec_capacity queue.old }
 {
     label_most(table, opens, root, stop, u64::MAX, labels, queue).unwrap()
@@ -72,7 +73,7 @@ pub fn label_most<O: OpenLinks>(
 }
 
 /// Takes off every label.
-pub fn clear(labels: &mut [u32])
+fn clear(labels: &mut [u32])
     ensures { labels.new ≡ replicate (length labels.old) no_label }
 {
     for label in labels.iter_mut() {
@@ -80,8 +81,20 @@ pub fn clear(labels: &mut [u32])
     }
 }
 
+/// Takes off the labels, where all nodes that have one are in the queue. Where these are many, it goes over all nodes.
+pub fn take_off(labels: &mut [u32], queue: &[u32])
+    requires queued { AreQueued labels.old queue.now }
+    ensures { labels.new ≡ replicate (length labels.old) no_label }
+{
+    if queue.len() > labels.len() / 8 {
+        clear(labels);
+    } else {
+        clear_queued(labels, queue);
+    }
+}
+
 /// Takes off the labels, where all nodes that have one are in the queue.
-pub fn clear_queued(labels: &mut [u32], queue: &[u32])
+fn clear_queued(labels: &mut [u32], queue: &[u32])
     requires queued { AreQueued labels.old queue.now }
     ensures { labels.new ≡ replicate (length labels.old) no_label }
 {
@@ -91,7 +104,7 @@ pub fn clear_queued(labels: &mut [u32], queue: &[u32])
 }
 
 /// Labels the nodes without a label to which the open links at the places from `from` up to `end` lead, and queues them.
-fn spread<O: OpenLinks>(
+pub fn spread<O: OpenLinks>(
     heads: &[u32],
     opens: &O,
     from: u32,

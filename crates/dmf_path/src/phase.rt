@@ -1,15 +1,16 @@
 //! The search for the next path: the walk goes on, or the nodes are labelled anew and it begins again.
-ghost use Rattle.std.specs.Prelude.{◌≡◌, ◌≢◌, ℕ, List, ◌+◌, ◌≤◌, true, false, [], length, take, replicate, slice_index, slice_set, vec_capacity};
+ghost use Rattle.std.specs.Prelude.{◌≡◌, ◌≢◌, ℕ, List, ◌≤◌, true, false, [], length, slice_index, vec_capacity};
 ghost use Rattle.dmf_node.specs.Node.{IsNode};
 ghost use Rattle.dmf_path.specs.Links.{AreRooms, AreFlags};
 ghost use Rattle.dmf_path.specs.LinkTable.{links_of};
-ghost use Rattle.dmf_path.specs.Labels.{no_label};
-ghost use Rattle.dmf_path.specs.Walk.{AreValid, IsWalk, end_of};
+ghost use Rattle.dmf_path.specs.BothEnds.{AreSound};
+ghost use Rattle.dmf_path.specs.Walk.{AreCurrent, IsWalk, end_of};
 ghost use Rattle.dmf_path.specs.Held.{way_of, places_of, walked_slots, rest_slots, rooms_with, with_slots, CanPut, put_each};
-ghost use Rattle.dmf_path.specs.Searching.{IsHolding, IsUnderWay, IsSeparated};
+ghost use Rattle.dmf_path.specs.Searching.{IsHolding, IsReady, IsUnderWay, IsSeparated, fresh_labels};
 
-use crate::label::{NO_LABEL, clear, clear_queued, label_most, label_nodes};
-use crate::open::{Flagged, Roomy};
+use crate::frontier::unlabel;
+use crate::levels::{Levels, set_current};
+use crate::relabel::label_anew;
 use crate::table::LinkTable;
 use crate::trail::{Trail, free_slots, settle};
 use crate::walk::walk;
@@ -19,47 +20,61 @@ use crate::walk::walk;
 pub fn find(
     table: &LinkTable,
     takes_back: bool,
-    labels: &mut [u32],
-    current: &mut [u32],
-    queue: &mut Vec<u32>,
+    levels: &mut Levels,
     rooms: &mut [u64],
     flags: &mut [u8],
     trail: &mut Trail,
 ) -> bool
-    requires one_label_each { length labels.old ≡ table.now.nodes + 1 }
-    requires start_label { slice_index labels.old trail.old.start ≤ table.now.nodes }
+    requires ready { IsReady table.now.nodes levels.old.near levels.old.far }
+    requires start_label { slice_index levels.old.near.labels.items trail.old.start ≤ table.now.nodes }
     requires holding { IsHolding (links_of table.now) (way_of trail.old) rooms.old flags.old }
-    requires valid { AreValid (links_of table.now) labels.old
-        (rooms_with (links_of table.now) takes_back (way_of trail.old) rooms.old) (slice_index labels.old trail.old.start) }
-    requires under_way { IsUnderWay (links_of table.now) labels.old
-        (rooms_with (links_of table.now) takes_back (way_of trail.old) rooms.old) current.old (way_of trail.old) }
+    requires sound { AreSound (links_of table.now) levels.old.near.labels.items
+        (rooms_with (links_of table.now) takes_back (way_of trail.old) rooms.old) (slice_index levels.old.near.labels.items trail.old.start) }
+    requires under_way { IsUnderWay (links_of table.now) levels.old.near.labels.items
+        (rooms_with (links_of table.now) takes_back (way_of trail.old) rooms.old) levels.old.current.items (way_of trail.old) }
     requires start { IsNode table.now.nodes trail.old.start }
     requires goal { IsNode table.now.nodes trail.old.goal }
     requires apart { trail.old.start ≢ trail.old.goal }
-    requires queue_capacity { table.now.nodes + 1 ≤ vec_capacity queue.old }
     requires slots_capacity { table.now.nodes ≤ vec_capacity trail.old.slots }
-    ensures start_label { slice_index labels.new trail.old.start ≤ table.now.nodes }
+    ensures ready { IsReady table.now.nodes levels.new.near levels.new.far }
+    ensures start_label { slice_index levels.new.near.labels.items trail.old.start ≤ table.now.nodes }
     ensures holding { IsHolding (links_of table.now) (way_of trail.new) rooms.new flags.new }
     ensures same { rooms_with (links_of table.now) takes_back (way_of trail.new) rooms.new
         ≡ rooms_with (links_of table.now) takes_back (way_of trail.old) rooms.old }
-    ensures valid { AreValid (links_of table.now) labels.new
-        (rooms_with (links_of table.now) takes_back (way_of trail.old) rooms.old) (slice_index labels.new trail.old.start) }
-    ensures under_way { IsUnderWay (links_of table.now) labels.new
-        (rooms_with (links_of table.now) takes_back (way_of trail.old) rooms.old) current.new (way_of trail.new) }
+    ensures sound { AreSound (links_of table.now) levels.new.near.labels.items
+        (rooms_with (links_of table.now) takes_back (way_of trail.old) rooms.old) (slice_index levels.new.near.labels.items trail.old.start) }
+    ensures under_way { IsUnderWay (links_of table.now) levels.new.near.labels.items
+        (rooms_with (links_of table.now) takes_back (way_of trail.old) rooms.old) levels.new.current.items (way_of trail.new) }
     ensures start { trail.new.start ≡ trail.old.start }
     ensures goal { trail.new.goal ≡ trail.old.goal }
-    ensures queue_capacity { vec_capacity queue.new ≡ vec_capacity queue.old }
+    ensures queue_capacity { vec_capacity levels.new.near.queue ≡ vec_capacity levels.old.near.queue }
     ensures slots_capacity { vec_capacity trail.new.slots ≡ vec_capacity trail.old.slots }
     ensures found { result ≡ true → end_of (links_of table.now) trail.new.start (places_of (walked_slots (way_of trail.new))) ≡ trail.new.joint }
     ensures none { result ≡ false → IsSeparated (links_of table.now)
         (rooms_with (links_of table.now) takes_back (way_of trail.old) rooms.old) trail.old.start trail.old.goal }
 {
-    if walk(table, labels, takes_back, current, rooms, flags, trail) {
+    if walk(
+        table,
+        &levels.near.labels,
+        takes_back,
+        &mut levels.current,
+        rooms,
+        flags,
+        trail,
+    ) {
         return true;
     }
     settle(table, takes_back, rooms, flags, trail);
-    if relabel(table, rooms, flags, labels, current, queue, trail) {
-        return walk(table, labels, takes_back, current, rooms, flags, trail);
+    if relabel(table, rooms, flags, levels, trail) {
+        return walk(
+            table,
+            &levels.near.labels,
+            takes_back,
+            &mut levels.current,
+            rooms,
+            flags,
+            trail,
+        );
     }
     false
 }
@@ -69,73 +84,36 @@ fn relabel(
     table: &LinkTable,
     rooms: &[u64],
     flags: &[u8],
-    labels: &mut [u32],
-    current: &mut [u32],
-    queue: &mut Vec<u32>,
+    levels: &mut Levels,
     trail: &mut Trail,
 ) -> bool
+    requires ready { IsReady table.now.nodes levels.old.near levels.old.far }
+    requires current { AreCurrent (links_of table.now) levels.old.current.items }
     requires rooms { AreRooms (links_of table.now) rooms.now }
     requires flags { AreFlags (links_of table.now) rooms.now flags.now }
-    requires one_label_each { length labels.old ≡ table.now.nodes + 1 }
-    requires one_current_each { length current.old ≡ table.now.nodes + 1 }
     requires start { IsNode table.now.nodes trail.old.start }
     requires goal { IsNode table.now.nodes trail.old.goal }
     requires apart { trail.old.start ≢ trail.old.goal }
-    requires queue_capacity { table.now.nodes + 1 ≤ vec_capacity queue.old }
     requires slots_capacity { table.now.nodes ≤ vec_capacity trail.old.slots }
-    ensures start_label { slice_index labels.new trail.old.start ≤ table.now.nodes }
-    ensures valid { AreValid (links_of table.now) labels.new rooms.now (slice_index labels.new trail.old.start) }
+    ensures ready { IsReady table.now.nodes levels.new.near levels.new.far }
+    ensures start_label { slice_index levels.new.near.labels.items trail.old.start ≤ table.now.nodes }
+    ensures sound { AreSound (links_of table.now) levels.new.near.labels.items rooms.now (slice_index levels.new.near.labels.items trail.old.start) }
     ensures way { way_of trail.new ≡ with_slots (way_of trail.old) trail.new.slots.items }
-    ensures under_way { IsUnderWay (links_of table.now) labels.new rooms.now current.new (with_slots (way_of trail.old) trail.new.slots.items) }
-    ensures queue_capacity { vec_capacity queue.new ≡ vec_capacity queue.old }
+    ensures under_way { IsUnderWay (links_of table.now) levels.new.near.labels.items rooms.now levels.new.current.items (with_slots (way_of trail.old) trail.new.slots.items) }
+    ensures queue_capacity { vec_capacity levels.new.near.queue ≡ vec_capacity levels.old.near.queue }
     ensures slots_capacity { vec_capacity trail.new.slots ≡ vec_capacity trail.old.slots }
-    ensures labelled { result ≡ true → (ps : List ℕ) × IsWalk (links_of table.now) labels.new rooms.now trail.old.goal trail.old.start ps }
+    ensures labelled { result ≡ true → (ps : List ℕ) × IsWalk (links_of table.now) levels.new.near.labels.items rooms.now trail.old.goal trail.old.start ps }
     ensures none { result ≡ false → IsSeparated (links_of table.now) rooms.now trail.old.start trail.old.goal }
 {
-    clear(labels);
-    if is_enclosed(table, rooms, trail, labels, queue) {
-        make_fresh(table, labels, current, trail);
+    unlabel(&mut levels.near);
+    if !label_anew(table, rooms, flags, levels, trail.start, trail.goal) {
+        make_fresh(table, levels, trail);
         return false;
     }
-    let opens = Flagged(flags);
-    trail.looked = label_nodes(table, &opens, trail.goal, trail.start, labels, queue);
-    let start_label = labels[trail.start as usize];
-    if start_label == NO_LABEL {
-        make_fresh(table, labels, current, trail);
-        return false;
-    }
-    current.copy_from_slice(&table.first[..current.len()]);
+    set_current(table, &levels.near.queue, &mut levels.current);
+    let start_label = levels.near.labels[trail.start as usize];
     free_slots(trail, start_label);
     true
-}
-
-/// Whether few links are enough to see that those with room lead from the start nowhere near the goal. Else no node has a label.
-///
-/// Few are a part of those that labelling from the goal looked at the last time, which are often nearly all.
-fn is_enclosed(
-    table: &LinkTable,
-    rooms: &[u64],
-    trail: &Trail,
-    labels: &mut [u32],
-    queue: &mut Vec<u32>,
-) -> bool
-    requires rooms { AreRooms (links_of table.now) rooms.now }
-    requires clean { labels.old ≡ replicate (table.now.nodes + 1) no_label }
-    requires start { IsNode table.now.nodes trail.now.start }
-    requires goal { IsNode table.now.nodes trail.now.goal }
-    requires queue_capacity { table.now.nodes + 1 ≤ vec_capacity queue.old }
-    ensures separated { result ≡ true → IsSeparated (links_of table.now) rooms.now trail.now.start trail.now.goal }
-    ensures clean { result ≡ false → labels.new ≡ labels.old }
-    ensures queue_capacity { vec_capacity queue.new ≡ vec_capacity queue.old }
-{
-    let few = trail.looked / 32;
-    let (opens, start, goal) = (Roomy(rooms), trail.start, trail.goal);
-    let looked = label_most(table, &opens, start, goal, few, labels, queue);
-    if looked.is_some() && labels[goal as usize] == NO_LABEL {
-        return true;
-    }
-    clear_queued(labels, queue);
-    false
 }
 
 /// Begins anew: all links leave, and the next walk ends at once.
@@ -144,14 +122,12 @@ pub fn begin_anew(
     takes_back: bool,
     rooms: &mut [u64],
     flags: &mut [u8],
-    labels: &mut [u32],
-    current: &mut [u32],
+    levels: &mut Levels,
     trail: &mut Trail,
 )
+    requires ready { IsReady table.now.nodes levels.old.near levels.old.far }
     requires rooms { AreRooms (links_of table.now) rooms.old }
     requires flags { AreFlags (links_of table.now) rooms.old flags.old }
-    requires one_label_each { length labels.old ≡ table.now.nodes + 1 }
-    requires one_current_each { length current.old ≡ table.now.nodes + 1 }
     requires start { IsNode table.now.nodes trail.old.start }
     requires goal { IsNode table.now.nodes trail.old.goal }
     requires order { trail.old.walked ≤ trail.old.rest }
@@ -159,35 +135,39 @@ pub fn begin_anew(
     requires walked { CanPut (links_of table.now) takes_back trail.old.sent (walked_slots (way_of trail.old)) rooms.old }
     requires rest { CanPut (links_of table.now) takes_back trail.old.sent (rest_slots (way_of trail.old))
         (put_each (links_of table.now) takes_back trail.old.sent (walked_slots (way_of trail.old)) rooms.old) }
+    ensures ready { IsReady table.now.nodes levels.new.near levels.new.far }
     ensures rooms { rooms.new ≡ put_each (links_of table.now) takes_back trail.old.sent (rest_slots (way_of trail.old))
         (put_each (links_of table.now) takes_back trail.old.sent (walked_slots (way_of trail.old)) rooms.old) }
     ensures sums { AreRooms (links_of table.now) rooms.new }
     ensures flags { AreFlags (links_of table.now) rooms.new flags.new }
-    ensures labels { labels.new ≡ slice_set (slice_set labels.old trail.old.start 0) trail.old.goal 0 }
-    ensures current { current.new ≡ take (table.now.nodes + 1) table.now.first.items }
+    ensures labels { levels.new.near.labels.items ≡ fresh_labels table.now.nodes trail.old.start trail.old.goal }
+    ensures current { levels.new.current ≡ levels.old.current }
     ensures none { trail.new.slots.items ≡ [] }
     ensures way { way_of trail.new ≡ with_slots (way_of trail.old) [] }
+    ensures queue_capacity { vec_capacity levels.new.near.queue ≡ vec_capacity levels.old.near.queue }
     ensures slots_capacity { vec_capacity trail.new.slots ≡ vec_capacity trail.old.slots }
 {
     settle(table, takes_back, rooms, flags, trail);
-    make_fresh(table, labels, current, trail);
+    make_fresh(table, levels, trail);
 }
 
-/// Makes the first link of each node its current one, and gives the start a label that nothing falls to, which ends the next
-/// walk at once.
-fn make_fresh(table: &LinkTable, labels: &mut [u32], current: &mut [u32], trail: &mut Trail)
-    requires one_label_each { length labels.old ≡ table.now.nodes + 1 }
-    requires one_current_each { length current.old ≡ table.now.nodes + 1 }
+/// Takes off all labels, and gives both ends one that nothing falls to, which ends the next walk at once.
+pub fn make_fresh(table: &LinkTable, levels: &mut Levels, trail: &mut Trail)
+    requires ready { IsReady table.now.nodes levels.old.near levels.old.far }
     requires start { IsNode table.now.nodes trail.old.start }
     requires goal { IsNode table.now.nodes trail.old.goal }
-    ensures labels { labels.new ≡ slice_set (slice_set labels.old trail.old.start 0) trail.old.goal 0 }
-    ensures current { current.new ≡ take (table.now.nodes + 1) table.now.first.items }
+    ensures ready { IsReady table.now.nodes levels.new.near levels.new.far }
+    ensures labels { levels.new.near.labels.items ≡ fresh_labels table.now.nodes trail.old.start trail.old.goal }
+    ensures current { levels.new.current ≡ levels.old.current }
     ensures none { trail.new.slots.items ≡ [] }
     ensures way { way_of trail.new ≡ with_slots (way_of trail.old) [] }
+    ensures queue_capacity { vec_capacity levels.new.near.queue ≡ vec_capacity levels.old.near.queue }
     ensures slots_capacity { vec_capacity trail.new.slots ≡ vec_capacity trail.old.slots }
 {
-    labels[trail.start as usize] = 0;
-    labels[trail.goal as usize] = 0;
-    current.copy_from_slice(&table.first[..current.len()]);
+    unlabel(&mut levels.near);
+    levels.near.labels[trail.start as usize] = 0;
+    levels.near.labels[trail.goal as usize] = 0;
+    levels.near.queue.push_reserved(trail.start);
+    levels.near.queue.push_reserved(trail.goal);
     free_slots(trail, 0);
 }

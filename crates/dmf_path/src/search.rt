@@ -6,6 +6,7 @@ ghost use Rattle.dmf_path.specs.Pair.{steps_of};
 ghost use Rattle.dmf_path.specs.Passed.{Passes};
 ghost use Rattle.dmf_path.specs.Search.{Augments, Covers, HasAlong, indices_of, pair_number, along_at, against_at, aimed, lowered_along, with_rooms, with_pairs};
 
+use crate::levels::Levels;
 use crate::passed::mark_ends;
 use crate::phase::{begin_anew, find};
 use crate::places::{Indices, Places};
@@ -33,16 +34,15 @@ pub struct AugmentingPath {
 /// is taken.
 ///
 /// It goes by phases (Dinic): the nodes are labelled by their distances to the goal, and as long as paths of that length
-/// are left, each is found by going on from where the one before was split.
+/// are left, each is found by going on from where the one before was split. Once the search has been begun anew, nodes are
+/// labelled from both ends, which looks at few of them where few paths are left.
 #[derive(Drop)]
 pub struct Search {
     table: LinkTable,
     places: Places,
     rooms: Vec<u64>,
     flags: Vec<u8>,
-    labels: Vec<u32>,
-    current: Vec<u32>,
-    queue: Vec<u32>,
+    levels: Levels,
     trail: Trail,
     takes_back: bool,
     /// Whether no path was looked for since the search began, or began anew: then nothing is held, and no link is passed.
@@ -54,15 +54,16 @@ impl Model for Search {
     ghost use Rattle.dmf_path.specs.LinkTable.{links_of};
     ghost use Rattle.dmf_path.specs.Held.{way_of, rooms_with};
     ghost use Rattle.dmf_path.specs.Search.{Searched};
-    ghost use Rattle.dmf_path.specs.Searching.{searched, IsSearch};
+    ghost use Rattle.dmf_path.specs.Searching.{searched, IsReady, IsSearch};
 
     ghost Value = { Searched };
 
     ghost view = { λ a. searched (links_of a.table) a.places (rooms_with (links_of a.table) a.takes_back (way_of a.trail) a.rooms.items)
         a.trail.start a.trail.goal a.takes_back };
 
-    ghost invariant = { λ a. IsSearch (links_of a.table) a.takes_back a.places a.rooms.items a.flags.items a.labels.items
-        a.current.items (way_of a.trail) (vec_capacity a.queue) (vec_capacity a.trail.slots) a.is_fresh };
+    ghost invariant = { λ a. IsReady a.table.nodes a.levels.near a.levels.far
+        × IsSearch (links_of a.table) a.takes_back a.places a.rooms.items a.flags.items a.levels.near.labels.items
+        a.levels.current.items (way_of a.trail) (vec_capacity a.levels.near.queue) (vec_capacity a.trail.slots) a.is_fresh };
 }
 
 impl Search {
@@ -79,9 +80,7 @@ impl Search {
         let found = find(
             &self.table,
             self.takes_back,
-            &mut self.labels,
-            &mut self.current,
-            &mut self.queue,
+            &mut self.levels,
             &mut self.rooms,
             &mut self.flags,
             &mut self.trail,
@@ -161,7 +160,7 @@ impl Search {
         release(
             &self.table,
             self.takes_back,
-            &self.labels,
+            &self.levels.near.labels,
             place,
             &mut self.rooms,
             &mut self.flags,
@@ -205,15 +204,15 @@ impl Search {
             self.takes_back,
             &mut self.rooms,
             &mut self.flags,
-            &mut self.labels,
-            &mut self.current,
+            &mut self.levels,
             &mut self.trail,
         );
+        self.levels.both = true;
         self.is_fresh = true;
     }
 
     /// Gives both links of the pair at index `k` these rooms, where there is one. Takes no memory. The first call after a path was
-    /// looked for takes time for each node, since the search then begins anew; each further one takes constant time.
+    /// looked for takes time for each node that has a label, since the search then begins anew; each further one takes constant time.
     pub fn set_rooms(&mut self, k: usize, along: u64, against: u64)
         requires number { k < length self.old.pairs }
         requires fits { along + against < 2 ^ 64 }
@@ -225,10 +224,10 @@ impl Search {
                 self.takes_back,
                 &mut self.rooms,
                 &mut self.flags,
-                &mut self.labels,
-                &mut self.current,
+                &mut self.levels,
                 &mut self.trail,
             );
+            self.levels.both = true;
             self.is_fresh = true;
         }
         let Some(place) = self.places.place_of(k) else {

@@ -33,8 +33,6 @@ pub struct Trail {
     pub start: u32,
     /// The node at which they end.
     pub goal: u32,
-    /// How many links were looked at when nodes were labelled from the goal the last time.
-    pub looked: u64,
 }
 
 /// The room that is left to a link.

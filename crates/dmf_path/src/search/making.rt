@@ -5,9 +5,12 @@ ghost use Rattle.dmf_path.specs.Pair.{ArePairs};
 ghost use Rattle.dmf_path.specs.Links.{AreBuilt};
 ghost use Rattle.dmf_path.specs.LinkTable.{links_of};
 
+use crate::frontier::Frontier;
+use crate::levels::Levels;
 use crate::links::{build, opposite_flags};
 use crate::listed::list_pairs;
 use crate::pair::Pairs;
+use crate::phase::make_fresh;
 use crate::places::Places;
 use crate::search::Search;
 use crate::table::LinkTable;
@@ -52,27 +55,35 @@ impl Search {
             rooms,
             places,
         } = link(alloc, nodes, pairs)?;
-        let nodes = table.nodes as usize;
         let flags = opposite_flags(alloc, &table, &rooms)?;
-        let current = Vec::from_slice(alloc, &table.first[..nodes + 1])?;
+        let near = Frontier::new(alloc, table.nodes)?;
+        let far = Frontier::new(alloc, table.nodes)?;
+        let current = Vec::from_slice(alloc, &table.first[..table.nodes as usize + 1])?;
+        let slots = Vec::with_capacity(alloc, table.nodes as usize)?;
+        let mut levels = Levels {
+            near,
+            far,
+            current,
+            both: false,
+            looked: 0,
+        };
+        let mut trail = Trail {
+            slots,
+            walked: 0,
+            rest: 0,
+            joint: goal,
+            sent: 0,
+            start,
+            goal,
+        };
+        make_fresh(&table, &mut levels, &mut trail);
         Ok(Search {
             table,
             places,
             rooms,
             flags,
-            labels: vec![in alloc; 0u32; nodes + 1]?,
-            current,
-            queue: Vec::with_capacity(alloc, nodes + 1)?,
-            trail: Trail {
-                slots: Vec::with_capacity(alloc, nodes)?,
-                walked: 0,
-                rest: 0,
-                joint: goal,
-                sent: 0,
-                start,
-                goal,
-                looked: 0,
-            },
+            levels,
+            trail,
             takes_back,
             is_fresh: true,
         })

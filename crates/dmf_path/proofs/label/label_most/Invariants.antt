@@ -1,6 +1,6 @@
 use Rattle.std.proofs.Common.{◌≡◌, ◌+◌, ◌-◌, ◌*◌, ◌^◌, ◌≤◌, vec_capacity}
 use Rattle.dmf_path.specs.LinkTable.{links_of}
-use Rattle.dmf_path.proofs.Labelling.{AreSpread}
+use Rattle.dmf_path.specs.Frontier.{AreSpread}
 use Rattle.dmf_path.proofs.label.label_most.Given as goal
 
 abbrev pub invariant-loop-done : goal.invariant-loop-done

@@ -26,16 +26,16 @@ index-partner-requires c =
     let of = c.self.inside in
     let l = links_of of.table in
     let index = index-within l of.places (rooms_with l of.takes_back (way_of of.trail) of.rooms.items) c.args.k (rw (← c.self.view_is) at c.requires) in
-    let within = place-within l of.places c.args.k c.in_ok-place.place c.self.invariant.places_are index c.in_ok-place.ensures in
-    omega (arith, within, c.self.invariant.links.partners_long, of.table.partners.ok.0)
+    let within = place-within l of.places c.args.k c.in_ok-place.place c.self.invariant.1.places_are index c.in_ok-place.ensures in
+    omega (arith, within, c.self.invariant.1.links.partners_long, of.table.partners.ok.0)
 
 pub settled_room-against-requires-clause-place : goal.settled_room-against-requires-clause-place
 settled_room-against-requires-clause-place c =
     let of = c.self.inside in
     let l = links_of of.table in
     let index = index-within l of.places (rooms_with l of.takes_back (way_of of.trail) of.rooms.items) c.args.k (rw (← c.self.view_is) at c.requires) in
-    let within = place-within l of.places c.args.k c.in_ok-place.place c.self.invariant.places_are index c.in_ok-place.ensures in
-    opposite-within l c.in_ok-place.place c.index-partner.result.now c.self.invariant.links within c.index-partner.ensures
+    let within = place-within l of.places c.args.k c.in_ok-place.place c.self.invariant.1.places_are index c.in_ok-place.ensures in
+    opposite-within l c.in_ok-place.place c.index-partner.result.now c.self.invariant.1.links within c.index-partner.ensures
 
 pub returns : goal.returns
 returns c =
@@ -43,7 +43,7 @@ returns c =
     let l = links_of of.table in
     let rooms = rooms_with l of.takes_back (way_of of.trail) of.rooms.items in
     let index = index-within l of.places rooms c.args.k (rw (← c.self.view_is) at c.requires) in
-    let within = place-within l of.places c.args.k c.in_ok-place.place c.self.invariant.places_are index c.in_ok-place.ensures in
+    let within = place-within l of.places c.args.k c.in_ok-place.place c.self.invariant.1.places_are index c.in_ok-place.ensures in
     let room : c.settled_room-against.result ≡ get_or rooms (get_or l.partners c.in_ok-place.place 0) 0 =
-    rw (c.deref.ensures.value, opposite-is l c.in_ok-place.place c.index-partner.result.now c.self.invariant.links within c.index-partner.ensures) at c.settled_room-against.ensures in
+    rw (c.deref.ensures.value, opposite-is l c.in_ok-place.place c.index-partner.result.now c.self.invariant.1.links within c.index-partner.ensures) at c.settled_room-against.ensures in
     rw (← c.self.view_is) (ap Some room ∙ sym (ap (option_map (λ (p : Pair). p.against)) (its-pair l of.places rooms c.args.k c.in_ok-place.place index c.in_ok-place.ensures)))

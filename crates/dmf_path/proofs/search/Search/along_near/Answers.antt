@@ -25,7 +25,7 @@ settled_room-along-requires-clause-place c =
     let of = c.self.inside in
     let l = links_of of.table in
     let index = index-within l of.places (rooms_with l of.takes_back (way_of of.trail) of.rooms.items) c.args.k (rw (← c.self.view_is) at c.requires) in
-    place-within l of.places c.args.k c.in_ok-place.place c.self.invariant.places_are index c.in_ok-place.ensures
+    place-within l of.places c.args.k c.in_ok-place.place c.self.invariant.1.places_are index c.in_ok-place.ensures
 
 pub returns : goal.returns
 returns c =

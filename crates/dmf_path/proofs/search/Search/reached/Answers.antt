@@ -10,7 +10,7 @@ use Rattle.dmf_path.proofs.search.Search.reached.Goals as goal
 
 pub returns-clause-marks : goal.returns-clause-marks
 returns-clause-marks c =
-    let i = c.self.invariant in
+    let i = c.self.invariant.1 in
     let l = links_of c.self.inside.table in
     let w = way_of c.self.inside.trail in
     let rooms = rooms_with l c.self.inside.takes_back w c.self.inside.rooms.items in

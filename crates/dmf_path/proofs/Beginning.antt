@@ -1,0 +1,111 @@
+-- Where a search begins: what its labels and current links say.
+use Rattle.std.proofs.Common.{ℕ, ◌≡◌, ◌≢◌, ◌+◌, ◌<◌, inl, inr, List, [], length, get_or, set, replicate, ap, subst, ◌∙◌, arith}
+use Rattle.std.proofs.lemmas.List.{get_or_default, get_or-replicate, length-replicate, get_or-set_same, get_or-set_other, length-set}
+use Rattle.dmf_node.specs.Node.{IsNode}
+use Rattle.dmf_path.specs.Links.{Links, AreLinks}
+use Rattle.dmf_path.specs.Labels.{no_label, AreQueued}
+use Rattle.dmf_path.specs.declared.frontier.Frontier.{Frontier}
+use Rattle.dmf_path.specs.Frontier.{IsClean}
+use Rattle.dmf_path.specs.Walk.{ArePassed}
+use Rattle.dmf_path.specs.BothEnds.{AreSmall, AreSound}
+use Rattle.dmf_path.specs.Searching.{IsFresh, IsReady, fresh_labels}
+use Rattle.dmf_path.proofs.LinkPlaces.{lies-within}
+use Rattle.dmf_path.proofs.Spreading.{cases-set}
+
+-- Nothing is passed where the current link of each node with a label is its first one: from a node without one nothing falls.
+pub passed-first : (l : Links) (labels rooms : List ℕ) (goal : ℕ) (current : List ℕ) → AreLinks l → AreSmall l.nodes labels
+    → ((v : ℕ) → IsNode l.nodes v → get_or labels v 0 ≢ no_label → get_or current v 0 ≡ get_or l.first v 0) → ArePassed l labels rooms goal current
+passed-first l labels rooms goal current links small first v p ps node lies before walk = elim (small.1 v node) [
+  | inl none ↦ elim (small.1 (get_or l.heads p 0) (links.each p (lies-within l v p links node lies)).head) [
+    | inl same ↦ omega (arith, walk.0.falls, none, same)
+    | inr least ↦ omega (arith, walk.0.falls, none, least, links.at_most_nodes)
+  ]
+  | inr least ↦ omega (arith, first v node (λ none. omega (arith, none, least, links.at_most_nodes)), lies.from, before)
+]
+
+-- Nor is it in a fresh search, where nothing falls at all.
+pub passed-fresh : (l : Links) (labels rooms : List ℕ) (start goal : ℕ) (current : List ℕ) → AreLinks l → IsFresh l labels start
+    → ArePassed l labels rooms goal current
+passed-fresh l labels rooms start goal current links fresh v p ps node lies before walk =
+    let head = fresh.others (get_or l.heads p 0) (links.each p (lies-within l v p links node lies)).head in
+    elim (fresh.others v node) [
+      | inl none ↦ elim head [
+        | inl same ↦ omega (arith, walk.0.falls, none, same)
+        | inr zero ↦ omega (arith, walk.0.falls, none, zero)
+      ]
+      | inr zero ↦ omega (arith, walk.0.falls, zero)
+    ]
+
+-- Labels of a fresh search are sound, whatever the rooms are.
+pub sound-fresh : (l : Links) (labels rooms : List ℕ) (start : ℕ) → length labels ≡ l.nodes + 1 → IsFresh l labels start
+    → AreSound l labels rooms (get_or labels start 0)
+sound-fresh l labels rooms start long fresh = record {
+  beyond = no_label;
+  small = (
+    long,
+    λ v node. elim (fresh.others v node) [
+      | inl none ↦ inl none
+      | inr zero ↦ inr (omega (arith, zero))
+    ],
+  );
+  valid = λ v p node lies room below. absurd (omega (arith, below, fresh.label));
+  gated = λ v p node lies room is none. elim (fresh.others v node) [
+    | inl same ↦ omega (arith, is, same)
+    | inr zero ↦ omega (arith, is, zero)
+  ];
+}
+
+-- The labels with which a fresh search begins
+pub record BeginsFresh (l : Links) (labels : List ℕ) (start goal : ℕ) : Type 0 where
+  pub long : length labels ≡ l.nodes + 1
+  pub goal_label : get_or labels goal 0 ≡ 0
+  pub fresh : IsFresh l labels start
+
+pub begins-fresh : (l : Links) (start goal : ℕ) → IsNode l.nodes start → IsNode l.nodes goal → start ≢ goal
+    → BeginsFresh l (fresh_labels l.nodes start goal) start goal
+begins-fresh l start goal start_is goal_is apart =
+    let none : List ℕ = replicate (l.nodes + 1) no_label in
+    let one : List ℕ = set none start 0 in
+    let none_long : length none ≡ l.nodes + 1 = length-replicate (l.nodes + 1) no_label in
+    let one_long : length one ≡ length none = length-set none start 0 in
+    record {
+      long = length-set one goal 0 ∙ one_long ∙ none_long;
+      goal_label = get_or-set_same one goal 0 0 (omega (arith, goal_is.to_last, one_long, none_long));
+      fresh = record {
+        label = get_or-set_other one goal start 0 0 apart ∙ get_or-set_same none start 0 0 (omega (arith, start_is.to_last, none_long));
+        others = λ v node. elim (cases-set one goal v 0 (omega (arith, goal_is.to_last, one_long, none_long))) [
+          | inl here ↦ inr here.1
+          | inr there ↦ elim (cases-set none start v 0 (omega (arith, start_is.to_last, none_long))) [
+            | inl here ↦ inr (there.1 ∙ here.1)
+            | inr other ↦ inl (there.1 ∙ other.1 ∙ get_or-replicate (l.nodes + 1) v no_label 0 (omega (arith, node.to_last)))
+          ]
+        ];
+      };
+    }
+
+-- The queue has all nodes with labels, and its nodes begin with their first links: so do all nodes with labels.
+pub first-queued : (l : Links) (labels queue current : List ℕ) → length labels ≡ l.nodes + 1 → AreQueued labels queue
+    → ((i : ℕ) → i < length queue → get_or current (get_or queue i 0) 0 ≡ get_or l.first (get_or queue i 0) 0)
+    → (v : ℕ) → IsNode l.nodes v → get_or labels v 0 ≢ no_label → get_or current v 0 ≡ get_or l.first v 0
+first-queued l labels queue current long queued first v node has =
+    let at = queued.listed v (omega (arith, node.to_last, long)) has in
+    let is : get_or queue at.0 0 ≡ v = get_or_default queue at.0 0 v at.1 ∙ at.2 in
+    let P : ℕ → Type 0 = λ u. get_or current u 0 ≡ get_or l.first u 0 in
+    subst P is (first at.0 at.1)
+
+-- Where no node has a label, the queue has none.
+queued-none : (nodes : ℕ) (labels queue : List ℕ) → labels ≡ replicate (nodes + 1) no_label → queue ≡ [] → AreQueued labels queue
+queued-none nodes labels queue clean none = record {
+  within = λ k before. absurd (omega (arith, before, ap length none));
+  listed = λ v within has. absurd (has (ap (λ ls. get_or ls v 0) clean ∙ get_or-replicate (nodes + 1) v no_label 0
+      (omega (arith, within, ap length clean, length-replicate {A = ℕ} (nodes + 1) no_label))));
+}
+
+-- Two searches that have not begun are ready.
+pub ready-clean : (nodes : ℕ) (near far : Frontier) → IsClean nodes near → near.queue.items ≡ [] → IsClean nodes far → IsReady nodes near far
+ready-clean nodes near far clean empty other = record {
+  one_label_each = ap length clean.labels_are ∙ length-replicate (nodes + 1) no_label;
+  queued = queued-none nodes near.labels.items near.queue.items clean.labels_are empty;
+  capacity = clean.capacity;
+  clean = other;
+}

@@ -1,0 +1,39 @@
+//! What a search keeps of each node: its label and its current link.
+ghost use Rattle.std.specs.Prelude.{◌≡◌, ℕ, ◌+◌, ◌≤◌, ◌<◌, length, slice_index};
+ghost use Rattle.dmf_path.specs.LinkTable.{links_of};
+ghost use Rattle.dmf_path.specs.Walk.{AreCurrent};
+
+use crate::frontier::Frontier;
+use crate::table::LinkTable;
+
+/// The labels and the current links of the nodes.
+#[derive(Drop)]
+pub struct Levels {
+    /// The search from the goal. Its labels are those that a walk follows, and its queue has all nodes with one.
+    pub near: Frontier,
+    /// The search from the start. It has no labels but while nodes are labelled.
+    pub far: Frontier,
+    /// Of each node the place of its current link.
+    pub current: Vec<u32>,
+    /// Whether nodes are labelled from both ends, and not from the goal alone.
+    pub both: bool,
+    /// How many links were looked at when nodes were labelled from the goal alone the last time.
+    pub looked: u64,
+}
+
+/// Makes the first link of each of these nodes its current one.
+pub fn set_current(table: &LinkTable, nodes: &[u32], current: &mut [u32])
+    requires nodes { (i : ℕ) → i < length nodes.now → slice_index nodes.now i ≤ table.now.nodes }
+    requires current { AreCurrent (links_of table.now) current.old }
+    ensures current { AreCurrent (links_of table.now) current.new }
+    ensures first { (i : ℕ) → i < length nodes.now
+        → slice_index current.new (slice_index nodes.now i) ≡ slice_index table.now.first.items (slice_index nodes.now i) }
+{
+    if nodes.len() > current.len() / 8 {
+        current.copy_from_slice(&table.first[..current.len()]);
+        return;
+    }
+    for node in nodes {
+        current[*node as usize] = table.first[*node as usize];
+    }
+}

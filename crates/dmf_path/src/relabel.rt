@@ -1,0 +1,186 @@
+//! The nodes are labelled anew: from the goal alone, or from both ends.
+ghost use Rattle.std.specs.Prelude.{◌≡◌, ◌≢◌, ℕ, ◌+◌, ◌≤◌, ◌<◌, true, false, length, replicate, slice_index, vec_capacity};
+ghost use Rattle.dmf_node.specs.Node.{IsNode};
+ghost use Rattle.dmf_path.specs.Links.{AreRooms, AreFlags};
+ghost use Rattle.dmf_path.specs.LinkTable.{links_of};
+ghost use Rattle.dmf_path.specs.Labels.{AreQueued, no_label, unlabelled_count};
+ghost use Rattle.dmf_path.specs.BothEnds.{AreJoined, IsLabelled};
+ghost use Rattle.dmf_path.specs.Frontier.{IsClean};
+ghost use Rattle.dmf_path.specs.Searching.{IsReady, IsSeparated};
+
+use crate::frontier::{Frontier, begin, unlabel};
+use crate::label::{NO_LABEL, label_most, label_nodes, take_off};
+use crate::levels::Levels;
+use crate::meet::meet;
+use crate::open::{Flagged, Roomy};
+use crate::table::LinkTable;
+
+/// Labels the nodes, of which none has a label. Whether the start has one then: else no path is left.
+pub fn label_anew(
+    table: &LinkTable,
+    rooms: &[u64],
+    flags: &[u8],
+    levels: &mut Levels,
+    start: u32,
+    goal: u32,
+) -> bool
+    requires rooms { AreRooms (links_of table.now) rooms.now }
+    requires flags { AreFlags (links_of table.now) rooms.now flags.now }
+    requires near { IsClean table.now.nodes levels.old.near }
+    requires far { IsClean table.now.nodes levels.old.far }
+    requires start { IsNode table.now.nodes start }
+    requires goal { IsNode table.now.nodes goal }
+    requires apart { start ≢ goal }
+    ensures ready { IsReady table.now.nodes levels.new.near levels.new.far }
+    ensures labelled { result ≡ true → IsLabelled (links_of table.now) rooms.now levels.new.near.labels.items start goal }
+    ensures none { result ≡ false → IsSeparated (links_of table.now) rooms.now start goal }
+    ensures current { levels.new.current ≡ levels.old.current }
+    ensures capacity { vec_capacity levels.new.near.queue ≡ vec_capacity levels.old.near.queue }
+{
+    if levels.both {
+        return label_from_both(
+            table,
+            rooms,
+            flags,
+            &mut levels.near,
+            &mut levels.far,
+            start,
+            goal,
+        );
+    }
+    let few = levels.looked / 32;
+    if is_enclosed(table, rooms, start, goal, few, &mut levels.near) {
+        return false;
+    }
+    levels.looked = label_from_goal(table, rooms, flags, &mut levels.near, start, goal);
+    levels.near.labels[start as usize] != NO_LABEL
+}
+
+/// Labels the nodes from the goal, until the start has a label. Answers how many links were looked at.
+fn label_from_goal(
+    table: &LinkTable,
+    rooms: &[u64],
+    flags: &[u8],
+    near: &mut Frontier,
+    start: u32,
+    goal: u32,
+) -> u64
+    requires flags { AreFlags (links_of table.now) rooms.now flags.now }
+    requires near { IsClean table.now.nodes near.old }
+    requires start { IsNode table.now.nodes start }
+    requires goal { IsNode table.now.nodes goal }
+    ensures long { length near.new.labels.items ≡ table.now.nodes + 1 }
+    ensures queued { AreQueued near.new.labels.items near.new.queue.items }
+    ensures labelled { slice_index near.new.labels.items start ≢ no_label → IsLabelled (links_of table.now) rooms.now near.new.labels.items start goal }
+    ensures none { slice_index near.new.labels.items start ≡ no_label → IsSeparated (links_of table.now) rooms.now start goal }
+    ensures capacity { vec_capacity near.new.queue ≡ vec_capacity near.old.queue }
+{
+    label_nodes(
+        table,
+        &Flagged(flags),
+        goal,
+        start,
+        &mut near.labels,
+        &mut near.queue,
+    )
+}
+
+/// Whether few links are enough to see that those with room lead from the start nowhere near the goal. Else no node has a label.
+///
+/// Few are a part of those that labelling from the goal looked at the last time, which are often nearly all.
+fn is_enclosed(
+    table: &LinkTable,
+    rooms: &[u64],
+    start: u32,
+    goal: u32,
+    few: u64,
+    near: &mut Frontier,
+) -> bool
+    requires rooms { AreRooms (links_of table.now) rooms.now }
+    requires near { IsClean table.now.nodes near.old }
+    requires start { IsNode table.now.nodes start }
+    requires goal { IsNode table.now.nodes goal }
+    ensures separated { result ≡ true → IsSeparated (links_of table.now) rooms.now start goal }
+    ensures long { length near.new.labels.items ≡ table.now.nodes + 1 }
+    ensures queued { AreQueued near.new.labels.items near.new.queue.items }
+    ensures clean { result ≡ false → near.new.labels.items ≡ near.old.labels.items }
+    ensures capacity { vec_capacity near.new.queue ≡ vec_capacity near.old.queue }
+{
+    let looked = label_most(
+        table,
+        &Roomy(rooms),
+        start,
+        goal,
+        few,
+        &mut near.labels,
+        &mut near.queue,
+    );
+    if looked.is_some() && near.labels[goal as usize] == NO_LABEL {
+        return true;
+    }
+    unlabel(near);
+    false
+}
+
+/// Labels the nodes from the goal and from the start until both meet, and joins the labels to those of the goal's side. Whether they
+/// meet.
+fn label_from_both(
+    table: &LinkTable,
+    rooms: &[u64],
+    flags: &[u8],
+    near: &mut Frontier,
+    far: &mut Frontier,
+    start: u32,
+    goal: u32,
+) -> bool
+    requires rooms { AreRooms (links_of table.now) rooms.now }
+    requires flags { AreFlags (links_of table.now) rooms.now flags.now }
+    requires near { IsClean table.now.nodes near.old }
+    requires far { IsClean table.now.nodes far.old }
+    requires start { IsNode table.now.nodes start }
+    requires goal { IsNode table.now.nodes goal }
+    requires apart { start ≢ goal }
+    ensures long { length near.new.labels.items ≡ table.now.nodes + 1 }
+    ensures queued { AreQueued near.new.labels.items near.new.queue.items }
+    ensures clean { IsClean table.now.nodes far.new }
+    ensures labelled { result ≡ true → IsLabelled (links_of table.now) rooms.now near.new.labels.items start goal }
+    ensures none { result ≡ false → IsSeparated (links_of table.now) rooms.now start goal }
+    ensures capacity { vec_capacity near.new.queue ≡ vec_capacity near.old.queue }
+{
+    begin(near, goal);
+    begin(far, start);
+    let Some(node) = meet(table, rooms, flags, near, far) else {
+        unlabel(far);
+        return false;
+    };
+    let long = near.labels[node as usize] + far.labels[node as usize];
+    join(
+        &far.labels,
+        &far.queue,
+        long,
+        &mut near.labels,
+        &mut near.queue,
+    );
+    unlabel(far);
+    true
+}
+
+/// Gives each node that has a label of the start's side alone one of the goal's: what is left of the length of a shortest path.
+fn join(from_start: &[u32], nodes: &[u32], long: u32, labels: &mut [u32], queue: &mut Vec<u32>)
+    requires one_label_each { length labels.old ≡ length from_start.now }
+    requires far_queued { AreQueued from_start.now nodes.now }
+    requires at_most { (i : ℕ) → i < length nodes.now → slice_index from_start.now (slice_index nodes.now i) ≤ long }
+    requires small { long < no_label }
+    requires near_queued { AreQueued labels.old queue.old.items }
+    requires queue_capacity { length queue.old.items + unlabelled_count labels.old ≤ vec_capacity queue.old }
+    ensures joined { AreJoined long labels.old from_start.now labels.new }
+    ensures queued { AreQueued labels.new queue.new.items }
+    ensures queue_capacity { vec_capacity queue.new ≡ vec_capacity queue.old }
+{
+    for node in nodes {
+        if labels[*node as usize] == NO_LABEL {
+            labels[*node as usize] = long - from_start[*node as usize];
+            queue.push_reserved(*node);
+        }
+    }
+}
