@@ -36,7 +36,8 @@ pub sum-next : (has : ℕ → Bool) (arcs : List Arc) (i sum x : ℕ) → i < le
 sum-next has arcs i sum x h x_is is = omega (arith, is, x_is, sum_by_more (carried_out has) arcs i no_arc h)
 
 -- all arcs
-pub sum-whole : (has : ℕ → Bool) (arcs : List Arc) (i sum : ℕ) → length arcs ≤ i → sum ≡ sum_by (carried_out has) (take i arcs) → sum ≡ sum_by (carried_out has) arcs
+pub sum-whole : (has : ℕ → Bool) (arcs : List Arc) (i sum : ℕ) → length arcs ≤ i → sum ≡ sum_by (carried_out has) (take i arcs)
+    → sum ≡ sum_by (carried_out has) arcs
 sum-whole has arcs i sum h is = is ∙ ap (sum_by (carried_out has)) (take_all i arcs h)
 
 -- The capacity of the arcs that lead out of a set with the source and without the sink is a limit.

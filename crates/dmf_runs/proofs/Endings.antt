@@ -33,17 +33,21 @@ Appends-known None text = tt
 Appends-known (Some xs) text = refl
 
 -- what was given, by what was taken
-Consumes-given : (p q : Pending) (known after : Option (List ℕ)) (bytes : List ℕ) → p.bytes ≡ [] → Consumes (left p known) (left q after) bytes → Consumes known after (bytes ++ q.bytes)
+Consumes-given : (p q : Pending) (known after : Option (List ℕ)) (bytes : List ℕ) → p.bytes ≡ [] → Consumes (left p known) (left q after) bytes
+    → Consumes known after (bytes ++ q.bytes)
 Consumes-given p q None after bytes none c = tt
 Consumes-given p q (Some xs) None bytes none c = absurd c
 Consumes-given p q (Some xs) (Some ys) bytes none c =
     sym (ap (λ front. front ++ xs) none) ∙ c ∙ sym (append_assoc bytes q.bytes ys)
 
-given-by : (before now : InputState) (bytes : List ℕ) → IsFresh before → Takes before now bytes → Consumes before.reader.known now.reader.known (bytes ++ now.pending.bytes)
+given-by : (before now : InputState) (bytes : List ℕ) → IsFresh before → Takes before now bytes
+    → Consumes before.reader.known now.reader.known (bytes ++ now.pending.bytes)
 given-by before now bytes fresh takes = Consumes-given before.pending now.pending before.reader.known now.reader.known bytes fresh.none_pending takes.consumes
 
 -- the lines so far are all
-abbrev all-so-far : (wanted : SolveReply) (t : Timeline) (lines : List (List ℕ)) (written : List ℕ) (is_refused : Bool) (u : Timeline) → All HasNoLineFeed lines → Runs wanted.brief (Answers wanted.cut) 1 t lines written is_refused u → RunsAll wanted.brief (Answers wanted.cut) t (with_line_feeds lines) written is_refused
+abbrev all-so-far : (wanted : SolveReply) (t : Timeline) (lines : List (List ℕ)) (written : List ℕ) (is_refused : Bool) (u : Timeline) → All HasNoLineFeed lines
+    → Runs wanted.brief (Answers wanted.cut) 1 t lines written is_refused u
+    → RunsAll wanted.brief (Answers wanted.cut) t (with_line_feeds lines) written is_refused
 all-so-far wanted t lines written is_refused u each runs = record {
   lines = lines;
   rest = [];
@@ -60,7 +64,8 @@ all-so-far wanted t lines written is_refused u each runs = record {
 }
 
 -- What carrying out a line wrote that succeeded.
-pub Carried-told : (wanted : SolveReply) (u : Timeline) (meaning : Result (Option Command) Refusal) (number : ℕ) (holds next : Writer) (answer : Answer) (refused : Bool) (v : Timeline)
+pub Carried-told : (wanted : SolveReply) (u : Timeline) (meaning : Result (Option Command) Refusal) (number : ℕ) (holds next : Writer) (answer : Answer)
+    (refused : Bool) (v : Timeline)
     → refused ≡ is_refusal answer → WritesLine wanted holds next number u meaning v (Ok answer) → Carried wanted u meaning number holds next refused v
 Carried-told wanted u meaning number holds next answer refused v is told = record {
   text = told.0;
@@ -82,7 +87,8 @@ pub record Broken (wanted : SolveReply) (u : Timeline) (meaning : Result (Option
   pub writer : next.has_failed ≡ true
 
 -- What carrying out a line wrote whose reply could not be written.
-pub Broken-told : (wanted : SolveReply) (u : Timeline) (meaning : Result (Option Command) Refusal) (number : ℕ) (holds next : Writer) (fault : WriteFault) (v : Timeline)
+pub Broken-told : (wanted : SolveReply) (u : Timeline) (meaning : Result (Option Command) Refusal) (number : ℕ) (holds next : Writer) (fault : WriteFault)
+    (v : Timeline)
     → HasReply meaning → WritesLine wanted holds next number u meaning v (Err fault) → Broken wanted u meaning number holds next v
 Broken-told wanted u meaning number holds next fault v replies told = record {
   text = told.0;
@@ -97,7 +103,9 @@ Broken-told wanted u meaning number holds next fault v replies told = record {
 }
 
 -- the rest is a line that no line feed ended
-rest-runs : (wanted : SolveReply) (number : ℕ) (u : Timeline) (line text : List ℕ) (refused : Bool) (v : Timeline) → 0 < length line → LineRuns wanted.brief (Answers wanted.cut) number u (line_meaning false line) text refused v → RestRuns wanted.brief (Answers wanted.cut) number u line text refused
+rest-runs : (wanted : SolveReply) (number : ℕ) (u : Timeline) (line text : List ℕ) (refused : Bool) (v : Timeline) → 0 < length line
+    → LineRuns wanted.brief (Answers wanted.cut) number u (line_meaning false line) text refused v
+    → RestRuns wanted.brief (Answers wanted.cut) number u line text refused
 rest-runs wanted number u [] text refused v some runs = absurd (omega (arith, some))
 rest-runs wanted number u (byte ∷ line) text refused v some runs = (v, runs)
 
@@ -110,8 +118,11 @@ count-le lines [] = omega arith
 count-le lines (byte ∷ rest) = omega arith
 
 -- the lines so far, and a last line
-abbrev all-with-last : (wanted : SolveReply) (t : Timeline) (lines : List (List ℕ)) (line : List ℕ) (written text : List ℕ) (is_refused refused : Bool) (u v : Timeline) → All HasNoLineFeed lines → HasNoLineFeed line → 0 < length line
-    → Runs wanted.brief (Answers wanted.cut) 1 t lines written is_refused u → LineRuns wanted.brief (Answers wanted.cut) (length lines + 1) u (line_meaning false line) text refused v → RunsAll wanted.brief (Answers wanted.cut) t (with_line_feeds lines ++ line) (written ++ text) (is_refused || refused)
+abbrev all-with-last : (wanted : SolveReply) (t : Timeline) (lines : List (List ℕ)) (line : List ℕ) (written text : List ℕ) (is_refused refused : Bool)
+    (u v : Timeline) → All HasNoLineFeed lines → HasNoLineFeed line → 0 < length line
+    → Runs wanted.brief (Answers wanted.cut) 1 t lines written is_refused u → LineRuns wanted.brief (Answers wanted.cut) (length lines + 1) u
+    (line_meaning false line) text refused v → RunsAll wanted.brief (Answers wanted.cut) t (with_line_feeds lines ++ line) (written ++ text)
+    (is_refused || refused)
 all-with-last wanted t lines line written text is_refused refused u v each no_line_feed some runs then = record {
   lines = lines;
   rest = line;
@@ -137,7 +148,8 @@ module _ (wanted : SolveReply) (t : Timeline) (before now then : InputState) (he
 
   -- These bytes were given, where no more are pending.
   all-given : (all : List ℕ) → Takes before then all → then.pending.bytes ≡ [] → Consumes before.reader.known then.reader.known all
-  all-given all takes none = subst (λ x. Consumes before.reader.known then.reader.known x) (ap (λ x. all ++ x) none ∙ append-nil all) (given-by before then all p.fresh takes)
+  all-given all takes none = subst (λ x. Consumes before.reader.known then.reader.known x) (ap (λ x. all ++ x) none ∙ append-nil all)
+      (given-by before then all p.fresh takes)
 
   -- the end of the input
   pub RunsCommands-end : (status : Status) → number ≤ 1000000 + 1 → status ≡ status_if is_refused → Takes now then [] → HasEnded now then
@@ -181,7 +193,8 @@ module _ (wanted : SolveReply) (t : Timeline) (before now then : InputState) (he
   }
 
   -- What was read is past a limit: as many lines as may be and one byte more, or as many bytes as may be before the next line ends.
-  RunsCommands-past_limit : (rest : List ℕ) → number ≤ 1000000 + 1 → Takes now then rest → then.pending.count ≤ 2 ^ 30 → then.reader.has_failed ≡ now.reader.has_failed
+  RunsCommands-past_limit : (rest : List ℕ) → number ≤ 1000000 + 1 → Takes now then rest → then.pending.count ≤ 2 ^ 30
+      → then.reader.has_failed ≡ now.reader.has_failed
       → ((length p.lines ≡ 1000000) × (0 < length (rest ++ then.pending.bytes)))
       ⊎ ((2 ^ 30 < length ((bytes ++ rest) ++ then.pending.bytes)) × HasNoLineFeed (take (2 ^ 30 - length bytes) (rest ++ then.pending.bytes)))
       → RunsCommandsWith wanted t (streams before held) (streams then holds) (Err fault.TooMuchInput)
@@ -237,7 +250,8 @@ module _ (wanted : SolveReply) (t : Timeline) (before now then : InputState) (he
 
   module _ (next : Writer) (meaning : Result (Option Command) Refusal) (kept : Kept) (v : Timeline) where
     -- a last line has run
-    last-runs : (line text : List ℕ) (refused : Bool) → meaning ≡ line_meaning false line → LineRuns wanted.brief (Answers wanted.cut) number u meaning text refused v
+    last-runs : (line text : List ℕ) (refused : Bool) → meaning ≡ line_meaning false line
+        → LineRuns wanted.brief (Answers wanted.cut) number u meaning text refused v
         → LineRuns wanted.brief (Answers wanted.cut) (length p.lines + 1) u (line_meaning false line) text refused v
     last-runs line text refused means runs =
         subst (λ n. LineRuns wanted.brief (Answers wanted.cut) n u (line_meaning false line) text refused v) (sym p.counted)
@@ -259,7 +273,8 @@ module _ (wanted : SolveReply) (t : Timeline) (before now then : InputState) (he
           appends = Appends-trans _ _ _ p.written c.text p.appends c.appends;
           gave = record {
             refused = is_refused || refused;
-            all = all-with-last wanted t p.lines line p.written c.text is_refused refused u v p.each gave.no_line_feed last.0 p.runs (last-runs line c.text refused (means line gave.keeps) c.runs);
+            all = all-with-last wanted t p.lines line p.written c.text is_refused refused u v p.each gave.no_line_feed last.0 p.runs
+                (last-runs line c.text refused (means line gave.keeps) c.runs);
             told = told;
             within = record { at_end = ended.at_end; bytes = omega (arith, all.counts, p.fresh.none_taken, ended.within); lines = omega (arith, count-le p.lines line, p.counted) };
             none_failed = record { reader = ended.mark ∙ p.reader; writer = c.writer ∙ p.writer };

@@ -25,7 +25,8 @@ or-assoc true b c = refl
 or-assoc false b c = refl
 
 -- one line more
-pub Runs-push : (wanted : SolveReply) (number : ℕ) (t : Timeline) (lines : List (List ℕ)) (text : List ℕ) (refused : Bool) (u : Timeline) (line more : List ℕ) (later : Bool) (v : Timeline)
+pub Runs-push : (wanted : SolveReply) (number : ℕ) (t : Timeline) (lines : List (List ℕ)) (text : List ℕ) (refused : Bool) (u : Timeline) (line more : List ℕ)
+    (later : Bool) (v : Timeline)
     → Runs wanted.brief (Answers wanted.cut) number t lines text refused u
     → LineRuns wanted.brief (Answers wanted.cut) (number + length lines) u (line_meaning true line) more later v
     → Runs wanted.brief (Answers wanted.cut) number t (lines ++ line ∷ []) (text ++ more) (refused || later) v
@@ -37,7 +38,8 @@ Runs-push wanted number t [] text refused u line more later v runs then =
       here = later;
       more = [];
       later = false;
-      runs = subst (λ n. LineRuns wanted.brief (Answers wanted.cut) n t (line_meaning true line) more later v) here (subst (λ w. LineRuns wanted.brief (Answers wanted.cut) (number + 0) w (line_meaning true line) more later v) runs.2 then);
+      runs = subst (λ n. LineRuns wanted.brief (Answers wanted.cut) n t (line_meaning true line) more later v) here
+          (subst (λ w. LineRuns wanted.brief (Answers wanted.cut) (number + 0) w (line_meaning true line) more later v) runs.2 then);
       goes_on = (refl, refl, refl);
       text_is = ap (λ x. x ++ more) runs.0 ∙ sym (append-nil more);
       refused_is = ap (λ b. b || later) runs.1 ∙ or-false later;
@@ -51,7 +53,8 @@ Runs-push wanted number t (x ∷ lines) text refused u line more later v runs th
       more = runs.more ++ more;
       later = runs.later || later;
       runs = runs.runs;
-      goes_on = Runs-push wanted (number + 1) runs.between lines runs.more runs.later u line more later v runs.goes_on (subst (λ n. LineRuns wanted.brief (Answers wanted.cut) n u (line_meaning true line) more later v) place then);
+      goes_on = Runs-push wanted (number + 1) runs.between lines runs.more runs.later u line more later v runs.goes_on
+          (subst (λ n. LineRuns wanted.brief (Answers wanted.cut) n u (line_meaning true line) more later v) place then);
       text_is = ap (λ y. y ++ more) runs.text_is ∙ append_assoc runs.first runs.more more;
       refused_is = ap (λ b. b || later) runs.refused_is ∙ or-assoc runs.here runs.later later;
     }

@@ -42,7 +42,8 @@ pub record Progress (wanted : SolveReply) (t : Timeline) (before now : InputStat
   pub writer : holds.has_failed ≡ held.has_failed
   pub runs : Runs wanted.brief (Answers wanted.cut) 1 t lines written is_refused u
 
-pub Progress-none : (wanted : SolveReply) (t : Timeline) (input : InputState) (held : Writer) → IsFresh input → Progress wanted t input input held held 1 t false
+pub Progress-none : (wanted : SolveReply) (t : Timeline) (input : InputState) (held : Writer) → IsFresh input
+    → Progress wanted t input input held held 1 t false
 Progress-none wanted t input held fresh = record {
   fresh = fresh;
   lines = [];
@@ -66,7 +67,8 @@ pub record Carried (wanted : SolveReply) (u : Timeline) (meaning : Result (Optio
   pub appends : Appends holds.contents next.contents text
   pub writer : next.has_failed ≡ holds.has_failed
 
-abbrev pub Progress-more : (wanted : SolveReply) (t : Timeline) (before now then : InputState) (held holds next : Writer) (number : ℕ) (u : Timeline) (is_refused : Bool)
+abbrev pub Progress-more : (wanted : SolveReply) (t : Timeline) (before now then : InputState) (held holds next : Writer) (number : ℕ) (u : Timeline)
+    (is_refused : Bool)
     (meaning : Result (Option Command) Refusal) (kept : Kept) (refused : Bool) (v : Timeline)
     → Progress wanted t before now held holds number u is_refused → TakesLine now then kept true → Means kept true meaning → Carried wanted u meaning number holds next refused v
     → Progress wanted t before then held next (number + 1) v (is_refused || refused)
@@ -79,10 +81,12 @@ Progress-more wanted t before now then held holds next number u is_refused meani
       lines = p.lines ++ line ∷ [];
       each = All-push HasNoLineFeed p.lines line p.each gave.no_line_feed;
       counted = omega (arith, length_push p.lines line, p.counted);
-      takes = subst (λ bytes. Takes before then bytes) (sym (with_line_feeds-push p.lines line)) (Takes-trans before now then (with_line_feeds p.lines) (line ++ 10 ∷ []) p.takes gave.takes);
+      takes = subst (λ bytes. Takes before then bytes) (sym (with_line_feeds-push p.lines line))
+          (Takes-trans before now then (with_line_feeds p.lines) (line ++ 10 ∷ []) p.takes gave.takes);
       reader = gave.mark ∙ p.reader;
       written = p.written ++ c.text;
       appends = Appends-trans _ _ _ p.written c.text p.appends c.appends;
       writer = c.writer ∙ p.writer;
-      runs = Runs-push wanted 1 t p.lines p.written is_refused u line c.text refused v p.runs (subst (λ n. LineRuns wanted.brief (Answers wanted.cut) n u (line_meaning true line) c.text refused v) (sym place) runs);
+      runs = Runs-push wanted 1 t p.lines p.written is_refused u line c.text refused v p.runs
+          (subst (λ n. LineRuns wanted.brief (Answers wanted.cut) n u (line_meaning true line) c.text refused v) (sym place) runs);
     }

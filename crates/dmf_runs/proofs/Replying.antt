@@ -21,7 +21,8 @@ module _ (command : Command) (reply : Reply) where
   told-reply answer told is = let same : answer ≡ reply = cc in subst (IsReplyTo command) same is
 
   -- a change that is asked of the state
-  changed-reply : (t u : Timeline) (s : NetworkState) (asked : Change) (reply_of : NetworkState → Reply) (fault : Option PlanFault) → ((new : NetworkState) → IsReplyTo command (reply_of new))
+  changed-reply : (t u : Timeline) (s : NetworkState) (asked : Change) (reply_of : NetworkState → Reply) (fault : Option PlanFault)
+      → ((new : NetworkState) → IsReplyTo command (reply_of new))
       → MatchOption fault (IsChanged t s asked reply_of (Ok reply) u) (λ f. IsRefused t (refusal_of f) (Ok reply) u) → IsReplyTo command reply
   changed-reply t u s asked reply_of None fits is = told-reply (reply_of is.new) is.told (fits is.new)
   changed-reply t u s asked reply_of (Some f) fits is = absurd (let no : ⊥ = cc is.told in no)
@@ -36,18 +37,21 @@ cut-reply : (s : NetworkState) (reply : Reply) → TellsCut s (Ok reply) → IsR
 cut-reply s (Cut side) told = tt
 cut-reply s reply told = absurd told
 
-pub answers-reply : (want_cut : Bool) (t : Timeline) (command : Command) (reply : Reply) (u : Timeline) → Answers want_cut t command (Ok reply) u → IsReplyTo command reply
+pub answers-reply : (want_cut : Bool) (t : Timeline) (command : Command) (reply : Reply) (u : Timeline) → Answers want_cut t command (Ok reply) u
+    → IsReplyTo command reply
 answers-reply want_cut t (Cap arc cap) reply u a =
     changed-reply (Cap arc cap) reply t u a.0 (change.Cap arc cap) (λ new. Value (value_of new)) (change_fault a.0 (change.Cap arc cap)) (λ new. tt) a.2
 answers-reply want_cut t (Add tail head cap) reply u a =
-    changed-reply (Add tail head cap) reply t u a.0 (change.Add tail head cap) (λ new. Added (length new.network.arcs) (value_of new)) (change_fault a.0 (change.Add tail head cap)) (λ new. tt) a.2
+    changed-reply (Add tail head cap) reply t u a.0 (change.Add tail head cap) (λ new. Added (length new.network.arcs) (value_of new))
+    (change_fault a.0 (change.Add tail head cap)) (λ new. tt) a.2
 answers-reply want_cut t (Close arc) reply u a =
     changed-reply (Close arc) reply t u a.0 (change.Close arc) (λ new. Value (value_of new)) (change_fault a.0 (change.Close arc)) (λ new. tt) a.2
 answers-reply want_cut t (Shut node) reply u a =
     changed-reply (Shut node) reply t u a.0 (change.Shut node) (λ new. Value (value_of new)) (change_fault a.0 (change.Shut node)) (λ new. tt) a.2
 answers-reply want_cut t Solve reply u a = told-reply Solve reply (Solution a.2.side) a.2.told tt
 answers-reply want_cut t (Undo steps) reply u a = moved-reply (Undo steps) reply t (back t steps) u NothingToUndo (nat_le steps t.place) (λ value. tt) a
-answers-reply want_cut t (Redo steps) reply u a = moved-reply (Redo steps) reply t (forward t steps) u NothingToRedo (nat_le steps (future_of t)) (λ value. tt) a
+answers-reply want_cut t (Redo steps) reply u a = moved-reply (Redo steps) reply t (forward t steps) u NothingToRedo (nat_le steps (future_of t))
+    (λ value. tt) a
 answers-reply want_cut t PrintProblem reply u a = told-reply PrintProblem reply Problem a.0 tt
 answers-reply want_cut t PrintFlow reply u a = told-reply PrintFlow reply Flow a.0 tt
 answers-reply want_cut t PrintCut reply u a = cut-reply a.0.0 reply a.0.2

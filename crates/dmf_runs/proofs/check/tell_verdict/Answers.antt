@@ -1,7 +1,6 @@
-use Rattle.std.proofs.Common.{◌≡◌, List, ℕ, Result, Ok, Err, refl, ap, ◌∙◌, subst}
+use Rattle.std.proofs.Common.{◌≡◌, refl, ap, ◌∙◌}
 use Rattle.std.specs.Prelude.{nat_abs}
 use Rattle.std.proofs.lemmas.Result.{err_from_is_err_and}
-use Rattle.dmf_text.specs.Writing.{Writes}
 use Rattle.dmf_runs.specs.CheckRun.{verdict_line, verdict_text}
 use Rattle.dmf_runs.proofs.check.tell_verdict.Given.{Over}
 use Rattle.dmf_runs.proofs.check.tell_verdict.Goals as goal

@@ -24,7 +24,8 @@ judged-state : (s : NetworkState) (text : List ℕ) → IsErrOf (Ok s) out_of_me
 judged-state s text (inl refused) = cc
 judged-state s text (inr told) = sym told
 
-judged-fault : (f : ProblemFault) (text : List ℕ) → f.kind ≢ NoMemory → IsErrOf {T = NetworkState} (Err f) out_of_memory ⊎ (Err f ≡ problem_of text) → problem_of text ≡ Err f
+judged-fault : (f : ProblemFault) (text : List ℕ) → f.kind ≢ NoMemory → IsErrOf {T = NetworkState} (Err f) out_of_memory ⊎ (Err f ≡ problem_of text)
+    → problem_of text ≡ Err f
 judged-fault f text other (inl refused) = let same : f ≡ out_of_memory = cc in absurd (other (ap (λ x. x.kind) same))
 judged-fault f text other (inr told) = sym told
 
@@ -33,7 +34,8 @@ returns-in_err-text g c =
     let failed = err_from_is_err_and c.from_residual.result c.from_residual.ensures.1 in
     let reader = g.P.Source.left in
     let read = c.in_err-text.ensures in
-    rw (failed.1, failed.2) (record { text = read.text; consumes = read.consumes; is_so = unread (reader c.args.source.now) (reader c.read_all.new.source) read.text c.in_err-text.field-0.0 read.is_so })
+    rw (failed.1, failed.2)
+    (record { text = read.text; consumes = read.consumes; is_so = unread (reader c.args.source.now) (reader c.read_all.new.source) read.text c.in_err-text.field-0.0 read.is_so })
 
 pub returns-in-Ok : goal.returns-in-Ok
 returns-in-Ok g c =

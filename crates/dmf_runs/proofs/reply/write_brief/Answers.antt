@@ -15,8 +15,10 @@ first g c = ap (λ value. value_text Solve value ++ side_text c.args.side.now) (
 pub returns-in_err-write_line : goal.returns-in_err-write_line
 returns-in_err-write_line g c =
     let failed = err_from_is_err_and c.from_residual.result c.from_residual.ensures.1 in
-    first-failed _ _ _ _ _ _ _ failed.1 (first g (goal.at.returns-in_err-write_line g c).After-write_line) (rw c.value_line.ensures at c.in_err-write_line.ensures)
+    first-failed _ _ _ _ _ _ _ failed.1 (first g (goal.at.returns-in_err-write_line g c).After-write_line)
+    (rw c.value_line.ensures at c.in_err-write_line.ensures)
 
 pub returns : goal.returns
 returns g c =
-    first-put _ (g.W.Sink.written c.write_line.new.out) _ _ _ _ _ (first g (goal.at.returns g c).After-write_line) (rw c.value_line.ensures at c.in_ok-write_line.ensures) c.write_side.ensures
+    first-put _ (g.W.Sink.written c.write_line.new.out) _ _ _ _ _ (first g (goal.at.returns g c).After-write_line)
+    (rw c.value_line.ensures at c.in_ok-write_line.ensures) c.write_side.ensures

@@ -12,4 +12,5 @@ returns-in_err-write_solution g c =
 
 pub returns : goal.returns
 returns g c =
-    first-put _ (g.W.Sink.written c.write_solution.new.out) _ _ _ (solution_text c.args.state.now) (side_text c.args.side.now) refl c.in_ok-write_solution.ensures.written c.write_side.ensures
+    first-put _ (g.W.Sink.written c.write_solution.new.out) _ _ _ (solution_text c.args.state.now)
+    (side_text c.args.side.now) refl c.in_ok-write_solution.ensures.written c.write_side.ensures

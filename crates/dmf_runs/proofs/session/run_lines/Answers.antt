@@ -1,4 +1,4 @@
-use Rattle.std.proofs.Common.{◌≡◌, ◌+◌, [], Err, false, true, refl, sym, ap, ◌∙◌, subst, arith}
+use Rattle.std.proofs.Common.{[], Err, false, refl, sym, ap, ◌∙◌, subst, arith}
 use Rattle.std.proofs.lemmas.Bool.{false≢true}
 use Rattle.std.proofs.lemmas.Result.{err_from_is_err_and}
 use Rattle.dmf_runs.specs.Input.{input_over}
@@ -23,7 +23,8 @@ returns-in_err-ended g c =
     let before = input_over (record { bytes = []; count = 0 }) (g.C.Source.left c.args.commands.now) in
     let held = g.W.Sink.written c.args.out.now in
     let holds = g.W.Sink.written c.loop-number.out in
-    subst (λ result. RunsCommandsWith c.args.wanted (g.H.History.timeline c.args.session.now) (streams before held) (streams then holds) result) (sym (failed.1 ∙ ap Err failed.2))
+    subst (λ result. RunsCommandsWith c.args.wanted (g.H.History.timeline c.args.session.now) (streams before held) (streams then holds) result)
+    (sym (failed.1 ∙ ap Err failed.2))
     (RunsCommands-refused c.args.wanted _ before _ then held holds c.loop-number.number _ _ c.loop-number.invariant c.in_err-ended.field-0.0 c.next_line.new.line (omega arith) c.in_err-ended.ensures)
 
 pub returns-in_default : goal.returns-in_default
@@ -44,9 +45,11 @@ returns-in_err-answer g c =
     let u = g.H.History.timeline c.loop-number.session in
     let v = g.H.History.timeline c.answer.new.session in
     let told = c.in_err-answer.ensures in
-    let broken = Broken-told c.args.wanted u meaning c.loop-number.number holds next c.in_err-answer.field-0.0 v (λ none. false≢true (told.silent none).1) told.line in
+    let broken = Broken-told c.args.wanted u meaning c.loop-number.number holds next c.in_err-answer.field-0.0 v
+    (λ none. false≢true (told.silent none).1) told.line in
     let gave = rw c.in-Line.is at c.in_ok-ended.ensures in
-    subst (λ result. RunsCommandsWith c.args.wanted (g.H.History.timeline c.args.session.now) (streams before held) (streams then next) result) (sym (failed.1 ∙ ap Err failed.2))
+    subst (λ result. RunsCommandsWith c.args.wanted (g.H.History.timeline c.args.session.now) (streams before held) (streams then next) result)
+    (sym (failed.1 ∙ ap Err failed.2))
     (RunsCommands-write c.args.wanted _ before _ then held holds c.loop-number.number u _ c.loop-number.invariant next meaning c.next_line.new.line v c.in-Line.ended gave c.meaning_of-meaning.ensures broken)
 
 -- a last line was carried out
@@ -85,7 +88,8 @@ returns-in_err-expect_end g c =
     let before = input_over (record { bytes = []; count = 0 }) (g.C.Source.left c.args.commands.now) in
     let held = g.W.Sink.written c.args.out.now in
     let holds = g.W.Sink.written c.loop-number.out in
-    subst (λ result. RunsCommandsWith c.args.wanted (g.H.History.timeline c.args.session.now) (streams before held) (streams then holds) result) (sym (failed.1 ∙ ap Err failed.2))
+    subst (λ result. RunsCommandsWith c.args.wanted (g.H.History.timeline c.args.session.now) (streams before held) (streams then holds) result)
+    (sym (failed.1 ∙ ap Err failed.2))
     (RunsCommands-past c.args.wanted _ before _ then held holds c.loop-number.number _ _ c.loop-number.invariant c.in_err-expect_end.field-0.0 (omega arith) c.in_err-expect_end.ensures)
 
 pub returns : goal.returns

@@ -15,7 +15,8 @@ returns-in_err-state g c =
     rw (failed.1, failed.2) (record {
       text = read.text;
       consumes = read.consumes;
-      is_so = answered-unread c.args.wanted c.args.bound (problem c.args.problem.now) (problem c.read_state.new.source) untouched untouched read.text c.in_err-state.field-0.0 read.is_so refl;
+      is_so = answered-unread c.args.wanted c.args.bound (problem c.args.problem.now)
+          (problem c.read_state.new.source) untouched untouched read.text c.in_err-state.field-0.0 read.is_so refl;
     })
 
 pub returns : goal.returns
@@ -26,11 +27,13 @@ returns g c =
     let old = streams_of (commands c.args.commands.now) (out c.args.out.now) in
     let new = streams_of (commands c.run_commands_watched.new.commands) (out c.run_commands_watched.new.out) in
     let read = c.in_ok-state.ensures in
-    let runs = subst (λ t. RunsCommandsWith c.args.wanted t old new c.run_commands_watched.result) (c.new.ensures ∙ c.with_bound-history.ensures) c.run_commands_watched.ensures in
+    let runs = subst (λ t. RunsCommandsWith c.args.wanted t old new c.run_commands_watched.result)
+    (c.new.ensures ∙ c.with_bound-history.ensures) c.run_commands_watched.ensures in
     let run : RunsOn c.args.wanted c.args.bound (problem c.args.problem.now) (problem c.read_state.new.source) old new read.text c.run_commands_watched.result =
     record { state = c.in_ok-state.state; problem = read.is_so; runs = runs } in
     record {
       text = read.text;
       consumes = read.consumes;
-      is_so = answered-by_run c.args.wanted c.args.bound (problem c.args.problem.now) (problem c.read_state.new.source) old new read.text c.run_commands_watched.result run;
+      is_so = answered-by_run c.args.wanted c.args.bound (problem c.args.problem.now)
+          (problem c.read_state.new.source) old new read.text c.run_commands_watched.result run;
     }
