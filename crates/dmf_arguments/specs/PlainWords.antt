@@ -5,7 +5,8 @@ use Rattle.std.specs.Prelude.{◌≡◌, ◌≢◌, ◌==◌, Bool, true, false,
 use Rattle.std.specs.List.{AllByRecursion}
 use Rattle.clap.specs.Words.{Kinds, Text}
 use Rattle.clap.specs.Values.{bool_text}
-use Rattle.clap.specs.declared.error.kind.ErrorKind.TheVariants.{ArgumentConflict, DisplayHelp, DisplayVersion, InvalidSubcommand, MissingRequiredArgument, UnknownArgument}
+use Rattle.clap.specs.declared.error.kind.ErrorKind.TheVariants.{ArgumentConflict, DisplayHelp, DisplayVersion, InvalidSubcommand, MissingRequiredArgument,
+    UnknownArgument}
 use Rattle.dmf_arguments.specs.CommandLine.{Asked, asked_in, faults_in}
 
 -- The word does not begin with a dash (45).

@@ -152,37 +152,39 @@ pub IsCarryingSearch-from : (s : NetworkState) (unpaired flows : List ℕ) (sear
 IsCarryingSearch-from s unpaired flows search carries =
     subst (λ xs. Carries s unpaired xs search) (sym (carries-read s unpaired flows search carries)) carries
 
--- At first they are the state's.
-pub carries-first : (s : NetworkState) (search : Searched) → IsState s → search.nodes ≡ s.network.nodes → search.pairs ≡ carrying_pairs s.network s.flows s.flows → search.takes_back ≡ false → Carries s s.flows s.flows search
-carries-first s search state nodes pairs none = record {
-  state = state;
-  no_more = record { one_each = AllZip-long _ s.network.arcs s.flows state.flow.within; no_more = no_more-same s.flows; at_sink = omega arith };
-  less = no_more-same s.flows;
-  loops = λ k within loop. refl;
-  nodes_are = nodes;
-  pairs_are = pairs;
-  takes_none_back = none;
-}
+-- A search that is made of the state's pairs carries the state's flows, and tells them.
+pub carrying-first : (s : NetworkState) (search : Searched) (nodes start goal : ℕ) → IsState s → nodes ≡ s.network.nodes
+    → search ≡ record { nodes = nodes; pairs = carrying_pairs s.network s.flows s.flows; start = start; goal = goal; takes_back = false }
+    → IsCarryingSearch s s.flows search × (flows_read Along s.flows search.pairs ≡ s.flows)
+carrying-first s search nodes start goal state same is =
+    let carries : Carries s s.flows s.flows search = record {
+      state = state;
+      no_more = record { one_each = AllZip-long _ s.network.arcs s.flows state.flow.within; no_more = no_more-same s.flows; at_sink = omega arith };
+      less = no_more-same s.flows;
+      loops = λ k within loop. refl;
+      nodes_are = ap (λ (x : Searched). x.nodes) is ∙ same;
+      pairs_are = ap (λ (x : Searched). x.pairs) is;
+      takes_none_back = ap (λ (x : Searched). x.takes_back) is;
+    } in
+    (IsCarryingSearch-from s s.flows s.flows search carries, carries-read s s.flows s.flows search carries)
 
--- There is a pair for each flow.
-pub length-carried : (s : NetworkState) (unpaired flows : List ℕ) (search : Searched) → Carries s unpaired flows search → length search.pairs ≡ length s.flows + 1
-length-carried s unpaired flows search carries =
+-- There is a pair for each flow, or the place of one.
+pub length-carries : (s : NetworkState) (unpaired flows : List ℕ) (search : Searched) → Carries s unpaired flows search → length s.flows ≤ length search.pairs
+length-carries s unpaired flows search carries =
     let first = carries.no_more.one_each in
     let same = AllZip-long _ s.flows flows carries.no_more.no_more in
-    let all = length-carrying_pairs s.network s.flows flows first (same ∙ first) in
-    omega (arith, all, first, ap (λ (pairs : List (Option Pair)). length pairs) carries.pairs_are)
-
-pub length-carries : (s : NetworkState) (unpaired flows : List ℕ) (search : Searched) → Carries s unpaired flows search → length s.flows ≤ length search.pairs
-length-carries s unpaired flows search carries = omega (arith, length-carried s unpaired flows search carries)
+    omega (arith, length-carrying_pairs s.network s.flows flows first (same ∙ first), first, ap (λ (pairs : List (Option Pair)). length pairs) carries.pairs_are)
 
 -- Where the list has the flows before, only those on arcs whose pairs are there may differ.
-pub differences-covered : (s : NetworkState) (unpaired indices : List ℕ) (search : Searched) → IsCarryingSearch s unpaired search → unpaired ≡ s.flows → Covers (length search.pairs) (λ k. pair_number search.pairs k ≡ None) indices → CoverDifferences s.flows (flows_read Along unpaired search.pairs) indices
+pub differences-covered : (s : NetworkState) (unpaired indices : List ℕ) (search : Searched) → IsCarryingSearch s unpaired search → unpaired ≡ s.flows
+    → Covers (length search.pairs) (λ k. pair_number search.pairs k ≡ None) indices → CoverDifferences s.flows (flows_read Along unpaired search.pairs) indices
 differences-covered s unpaired indices search carries same covers =
     let paired = length-carries s unpaired _ search carries in
     record {
       count = length search.pairs;
       most = paired;
-      covers = Covers-weaker (length search.pairs) (λ k. pair_number search.pairs k ≡ None) _ indices (λ k _ none. subst (λ firsts. Stays s.flows (flows_read Along firsts search.pairs) k) (sym same) (stays-unpaired Along s.flows search.pairs k paired none)) covers;
+      covers = Covers-weaker (length search.pairs) (λ k. pair_number search.pairs k ≡ None) _ indices
+          (λ k _ none. subst (λ firsts. Stays s.flows (flows_read Along firsts search.pairs) k) (sym same) (stays-unpaired Along s.flows search.pairs k paired none)) covers;
     }
 
 -- What the search tells of an arc that leads to another node is what flows there.

@@ -17,7 +17,8 @@ use Rattle.dmf_solver.specs.Told.{Told, TellsSolve}
 use Rattle.dmf_solver.proofs.GreatestFlow.{greatest-from_no_path, cut-from_no_path}
 use Rattle.dmf_state.proofs.Moving.{AreMovesBetween, moves-between, flows-long}
 
-module _ (s : NetworkState) (solved : Solved) (moves : Vec Move Global) (state : IsState s) (is : IsSolved s solved) (listed : moves.items ≡ differences 1 s.flows (reached_flows s solved.search)) where
+module _ (s : NetworkState) (solved : Solved) (moves : Vec Move Global) (state : IsState s) (is : IsSolved s solved)
+    (listed : moves.items ≡ differences 1 s.flows (reached_flows s solved.search)) where
   -- The moves lead from the flow of the state to that which the search has reached.
   between : AreMovesBetween moves.items s.flows (reached_flows s solved.search)
   between = moves-between moves.items s.flows (reached_flows s solved.search) (flows-long s (reached_flows s solved.search) state is.state) listed
@@ -43,11 +44,13 @@ module _ (s : NetworkState) (solved : Solved) (moves : Vec Move Global) (state :
   flows-listed = between.makes
 
   -- whose value the side has,
-  pub value-listed : (side : Option CutSide) → IfSome side (λ side. pos side.capacity ≡ flow_value s.network (reached_flows s solved.search)) → IfSome side (λ side. pos side.capacity ≡ flow_value s.network (applied (edit.Solve moves) s).flows)
+  pub value-listed : (side : Option CutSide) → IfSome side (λ side. pos side.capacity ≡ flow_value s.network (reached_flows s solved.search))
+      → IfSome side (λ side. pos side.capacity ≡ flow_value s.network (applied (edit.Solve moves) s).flows)
   value-listed side is = subst (λ flows. IfSome side (λ side. pos side.capacity ≡ flow_value s.network flows)) (sym flows-listed) is
 
   -- was told as the search told it,
-  pub told-listed : (before after : Option (List Told)) → TellsSolve s (reached_flows s solved.search) before after → TellsSolve s (applied (edit.Solve moves) s).flows before after
+  pub told-listed : (before after : Option (List Told)) → TellsSolve s (reached_flows s solved.search) before after
+      → TellsSolve s (applied (edit.Solve moves) s).flows before after
   told-listed before after tells = subst (λ flows. TellsSolve s flows before after) (sym flows-listed) tells
 
   -- and leaves the search's links as those of the residual network.

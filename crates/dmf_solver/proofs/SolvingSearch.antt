@@ -221,7 +221,8 @@ solving-told s value old new before after state is told none same =
     subst (λ flows. TellsSolve s flows before after) (solving-read s value old new state is same)
     (record { solves = solving-solves s value old is none; told = told })
 
-module _ (s : NetworkState) (search : Searched) (state : IsState s) (is : search ≡ residual_search s.network (reached_flows s search)) (within : AreWithinCapacities s.network.arcs (reached_flows s search)) where
+module _ (s : NetworkState) (search : Searched) (state : IsState s) (is : search ≡ residual_search s.network (reached_flows s search))
+    (within : AreWithinCapacities s.network.arcs (reached_flows s search)) where
   -- There is a pair, or the place of one, for each flow,
   pub pairs-long : length search.pairs ≡ length s.flows
   pairs-long =

@@ -39,7 +39,9 @@ list_moves-requires-clause-one_each c =
 pub list_moves-requires-clause-others_stay : goal.list_moves-requires-clause-others_stay
 list_moves-requires-clause-others_stay c =
     let s = c.args.state.now in
-    rw c.flows-before.ensures.value (differences-covered s s.flows (indices_of c.indices.result) c.drain_along.new.search (c.drain_along.ensures s.flows c.in_ok-search.ensures.carrying).0 refl c.indices.ensures)
+    rw c.flows-before.ensures.value
+    (differences-covered s s.flows (indices_of c.indices.result) c.drain_along.new.search
+    (c.drain_along.ensures s.flows c.in_ok-search.ensures.carrying).0 refl c.indices.ensures)
 
 pub returns-clause-moves : goal.returns-clause-moves
 returns-clause-moves c =
@@ -48,5 +50,6 @@ returns-clause-moves c =
     let drained = c.drain_along.ensures s.flows c.in_ok-search.ensures.carrying in
     let drains = rw c.in_ok-search.ensures.flows at drained.1 in
     IfOk-weaker c.list_moves.result _ _ (λ (moves : Vec Move Global) is.
-    draining-moves s c.args.j c.args.limit (flows_read Along s.flows c.drain_along.new.search.pairs) moves.items c.flows-before.ensures.state c.requires drains is)
+    draining-moves s c.args.j c.args.limit (flows_read Along s.flows c.drain_along.new.search.pairs) moves.items c.flows-before.ensures.state
+    c.requires drains is)
     listed

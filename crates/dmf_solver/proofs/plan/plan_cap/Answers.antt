@@ -21,8 +21,10 @@ returns-clause-plan c =
       fits = record {
         arc = found;
         moves = drained.fit;
-        applied = IsState-with_cap (with_flows s (moved moves.items s.flows)) arc c.args.cap drained.state found.is_there found.is_open drained.drains.within small;
+        applied = IsState-with_cap (with_flows s (moved moves.items s.flows)) arc
+            c.args.cap drained.state found.is_there found.is_open drained.drains.within small;
       };
-      becomes = subst (λ j. Becomes s (change.Cap j c.args.cap) (applied (edit.Cap arc c.in_ok-arc.old c.args.cap moves) s)) c.in_ok-arc.ensures.arc.0 (refl, drained.drains);
+      becomes = subst (λ j. Becomes s (change.Cap j c.args.cap) (applied (edit.Cap arc c.in_ok-arc.old c.args.cap moves) s)) c.in_ok-arc.ensures.arc.0
+          (refl, drained.drains);
       moves = drained.differ;
     }

@@ -17,11 +17,13 @@ returns-clause-plan c =
     let are = c.in_ok-arcs.ensures.are_open in
     let last = moved c.in_ok-moves.moves.items s.flows in
     let state = c.nodes.ensures.state in
-    let left = left-in_turn s.network (numbers arcs) s.flows last state.network state.flow state.value_from_zero (HasArcs-open 0 arcs s.network are) drained.drains in
+    let left = left-in_turn s.network (numbers arcs) s.flows last state.network state.flow state.value_from_zero
+    (HasArcs-open 0 arcs s.network are) drained.drains in
     record {
       kind = tt;
       fits = record { arc = are; moves = drained.fit; applied = IsState-all_closed 0 arcs s.network last drained.state are left.without_flow };
-      becomes = subst (λ js. Closes js s (applied (edit.Shut c.in_ok-arcs.arcs c.in_ok-moves.moves) s)) c.in_ok-arcs.ensures.numbers (closes-in_turn s.network arcs s.flows last drained.drains);
+      becomes = subst (λ js. Closes js s (applied (edit.Shut c.in_ok-arcs.arcs c.in_ok-moves.moves) s)) c.in_ok-arcs.ensures.numbers
+          (closes-in_turn s.network arcs s.flows last drained.drains);
       moves = drained.differ;
     }
 

@@ -19,7 +19,8 @@ returns-then-are_without_flow c =
     let s = c.args.state.now in
     let js = numbers c.args.arcs.now in
     let none = c.are_without_flow.ensures c.if-are_without_flow.true in
-    shutting-moves s js s.flows c.new.result.items c.flows-before.ensures.state (HasArcs-open 0 c.args.arcs.now s.network c.requires) (drained-none_in_turn s.network js s.flows none)
+    shutting-moves s js s.flows c.new.result.items c.flows-before.ensures.state (HasArcs-open 0 c.args.arcs.now s.network c.requires)
+    (drained-none_in_turn s.network js s.flows none)
     (c.new.ensures.items ∙ sym (differences-none 1 s.flows))
 
 pub drain_in_turn-are_loops_drained-requires-clause-is_there : goal.drain_in_turn-are_loops_drained-requires-clause-is_there
@@ -35,12 +36,14 @@ pub loop-shutting-preserved : goal.loop-shutting-preserved
 loop-shutting-preserved c =
     let arcs = c.args.arcs.now in
     let i = c.loop-shutting.shutting-index in
-    let written = with_items_is c.loop-shutting.unpaired c.drain_in_turn-are_loops_drained.new.unpaired (c.drain_in_turn-are_loops_drained.auto.unpaired ∙ c.deref_mut.ensures.len) in
+    let written = with_items_is c.loop-shutting.unpaired c.drain_in_turn-are_loops_drained.new.unpaired
+    (c.drain_in_turn-are_loops_drained.auto.unpaired ∙ c.deref_mut.ensures.len) in
     record {
       drained = rw written
           (drained-next_arc c.args.state.now (numbers arcs) (numbers (drop i arcs)) c.loop-shutting.unpaired.items c.drain_in_turn-are_loops_drained.new.unpaired
           (get_or arcs i no_shutting).arc (numbers (drop (i + 1) arcs)) c.loop-shutting.search c.drain_in_turn-are_loops_drained.new.search
-          (numbers-next arcs i c.loop-shutting-test.true) c.drain_in_turn-are_loops_drained.ensures.carrying (rw c.deref_mut.ensures.value at c.drain_in_turn-are_loops_drained.ensures.drains) c.loop-shutting.invariant.drained);
+          (numbers-next arcs i c.loop-shutting-test.true) c.drain_in_turn-are_loops_drained.ensures.carrying
+          (rw c.deref_mut.ensures.value at c.drain_in_turn-are_loops_drained.ensures.drains) c.loop-shutting.invariant.drained);
       list_stays = λ none.
           let both = neither c.loop-shutting.are_loops_drained c.drain_in_turn-are_loops_drained.result none in
           written ∙ c.drain_in_turn-are_loops_drained.ensures.list_stays both.1 ∙ c.deref_mut.ensures.value ∙ c.loop-shutting.invariant.list_stays both.0;
@@ -58,7 +61,8 @@ list_moves-requires-clause-others_stay c =
     let is = c.loop-shutting.invariant in
     rw c.deref.ensures.value
     (elim c.if-are_loops_drained.branch [
-      | then-are_loops_drained w ↦ rw (w.indices-is, c.flows-before.ensures.value) (record { count = length s.flows; most = omega arith; covers = covers-below (length s.flows) _ })
+      | then-are_loops_drained w ↦ rw (w.indices-is, c.flows-before.ensures.value)
+          (record { count = length s.flows; most = omega arith; covers = covers-below (length s.flows) _ })
       | else-are_loops_drained w ↦
           rw w.indices-is
           (differences-covered s c.loop-shutting.unpaired.items (indices_of w.indices-indices.result) c.loop-shutting.search is.drained.carrying (is.list_stays w.if-are_loops_drained.false) w.indices-indices.ensures)
@@ -70,7 +74,8 @@ returns c =
     let arcs = c.args.arcs.now in
     let js = numbers arcs in
     let last = flows_read Along c.loop-shutting.unpaired.items c.loop-shutting.search.pairs in
-    let drains = drained-every_arc s js _ c.loop-shutting.unpaired.items c.loop-shutting.search (numbers-end arcs c.loop-shutting.shutting-index c.loop-shutting-test.false) c.loop-shutting.invariant.drained in
+    let drains = drained-every_arc s js _ c.loop-shutting.unpaired.items c.loop-shutting.search
+    (numbers-end arcs c.loop-shutting.shutting-index c.loop-shutting-test.false) c.loop-shutting.invariant.drained in
     let listed = rw c.deref.ensures.value at c.list_moves.ensures in
     IfOk-weaker c.list_moves.result _ _ (λ (moves : Vec Move Global) is.
     shutting-moves s js last moves.items c.flows-before.ensures.state (HasArcs-open 0 arcs s.network c.requires) drains is)

@@ -13,7 +13,8 @@ use Rattle.dmf_solver.proofs.Unpassed.{flow-unpassed}
 use Rattle.dmf_solver.proofs.reached_flows.ReachedFlowsFlows.flow.Goals as goal
 
 -- The index is that of a flow, and of an arc.
-index : (s : NetworkState) (solved : Solved) (flows : List ℕ) (k : ℕ) → IsState s → IsSolved s solved → reached_flows s solved.search ≡ flows → k < length flows → (k < length s.flows) × (k < length s.network.arcs)
+index : (s : NetworkState) (solved : Solved) (flows : List ℕ) (k : ℕ) → IsState s → IsSolved s solved → reached_flows s solved.search ≡ flows
+    → k < length flows → (k < length s.flows) × (k < length s.network.arcs)
 index s solved flows k state is same h =
     let reached = reached-long s solved.search state is.search_is is.state.flow.within in
     let long = AllZip-long _ s.network.arcs s.flows state.flow.within in
@@ -71,5 +72,6 @@ returns c =
     let unmarked : is_passed solved.passed.items (get_or s.network.arcs k no_arc).tail ≡ false =
     (λ t. is_passed (sym c.deref.ensures.value t) (get_or (sym c.arcs.ensures.value t) k no_arc).tail) ∙ sym c.is_passed.ensures ∙ c.if-is_passed.false in
     ap (λ flows. get_or flows k 0) c.flows.ensures.value
-    ∙ flow-unpassed s solved.search solved.passed.items k state.flow.within (pairs-long s solved.search state is.search_is is.state.flow.within) at.0 at.1 is.kept unmarked
+    ∙ flow-unpassed s solved.search solved.passed.items k state.flow.within
+    (pairs-long s solved.search state is.search_is is.state.flow.within) at.0 at.1 is.kept unmarked
     ∙ ap (λ (xs : List ℕ). get_or xs k 0) c.self.view_is

@@ -9,14 +9,20 @@ list_all_moves-requires g c =
     flows-long s (reached_flows s c.solve-solved.result.search) c.solve-solved.ensures.state c.solve-solved.ensures.solved.state
 
 pub returns-clause-edit : goal.returns-clause-edit
-returns-clause-edit g c = PlansSolve-listed c.args.state.now c.solve-solved.result c.in_ok-moves.moves c.solve-solved.ensures.state c.solve-solved.ensures.solved c.in_ok-moves.ensures
+returns-clause-edit g c =
+    PlansSolve-listed c.args.state.now c.solve-solved.result c.in_ok-moves.moves c.solve-solved.ensures.state c.solve-solved.ensures.solved
+    c.in_ok-moves.ensures
 
 pub returns-clause-value : goal.returns-clause-value
 returns-clause-value g c =
-    value-listed c.args.state.now c.solve-solved.result c.in_ok-moves.moves c.solve-solved.ensures.state c.solve-solved.ensures.solved c.in_ok-moves.ensures c.in_ok-side.side c.in_ok-side.ensures.value
+    value-listed c.args.state.now c.solve-solved.result c.in_ok-moves.moves c.solve-solved.ensures.state c.solve-solved.ensures.solved c.in_ok-moves.ensures
+    c.in_ok-side.side c.in_ok-side.ensures.value
 
 pub returns-clause-kept : goal.returns-clause-kept
-returns-clause-kept g c = residual-listed c.args.state.now c.solve-solved.result c.in_ok-moves.moves c.solve-solved.ensures.state c.solve-solved.ensures.solved c.in_ok-moves.ensures
+returns-clause-kept g c =
+    residual-listed c.args.state.now c.solve-solved.result c.in_ok-moves.moves c.solve-solved.ensures.state c.solve-solved.ensures.solved c.in_ok-moves.ensures
 
 pub returns-clause-told : goal.returns-clause-told
-returns-clause-told g c = told-listed c.args.state.now c.solve-solved.result c.in_ok-moves.moves c.solve-solved.ensures.state c.solve-solved.ensures.solved c.in_ok-moves.ensures _ _ c.solve-solved.ensures.told
+returns-clause-told g c =
+    told-listed c.args.state.now c.solve-solved.result c.in_ok-moves.moves c.solve-solved.ensures.state c.solve-solved.ensures.solved c.in_ok-moves.ensures
+    _ _ c.solve-solved.ensures.told
