@@ -7,6 +7,7 @@ pub use places::Indices;
 pub use search::{AugmentingPath, Search};
 
 mod label;
+mod levels;
 mod links;
 mod listed;
 mod open;

@@ -5,10 +5,12 @@ ghost use Rattle.dmf_path.specs.Pair.{ArePairs};
 ghost use Rattle.dmf_path.specs.Links.{AreBuilt};
 ghost use Rattle.dmf_path.specs.LinkTable.{links_of};
 
+use crate::levels::Levels;
 use crate::links::{build, opposite_flags};
 use crate::listed::list_pairs;
 use crate::pair::Pairs;
 use crate::places::Places;
+use crate::push::Links;
 use crate::search::Search;
 use crate::table::LinkTable;
 use crate::trail::Trail;
@@ -52,28 +54,35 @@ impl Search {
             rooms,
             places,
         } = link(alloc, nodes, pairs)?;
-        let nodes = table.nodes as usize;
+        let count = table.nodes as usize;
         let flags = opposite_flags(alloc, &table, &rooms)?;
-        let current = Vec::from_slice(alloc, &table.first[..nodes + 1])?;
-        Ok(Search {
+        let current = Vec::from_slice(alloc, &table.first[..count + 1])?;
+        let levels = Levels {
+            labels: vec![in alloc; 0u32; count + 1]?,
+            current,
+            queue: Vec::with_capacity(alloc, count + 1)?,
+        };
+        let trail = Trail {
+            slots: Vec::with_capacity(alloc, count)?,
+            walked: 0,
+            rest: 0,
+            joint: goal,
+            sent: 0,
+            start,
+            goal,
+            looked: 0,
+        };
+        let links = Links {
             table,
-            places,
+            takes_back,
             rooms,
             flags,
-            labels: vec![in alloc; 0u32; nodes + 1]?,
-            current,
-            queue: Vec::with_capacity(alloc, nodes + 1)?,
-            trail: Trail {
-                slots: Vec::with_capacity(alloc, nodes)?,
-                walked: 0,
-                rest: 0,
-                joint: goal,
-                sent: 0,
-                start,
-                goal,
-                looked: 0,
-            },
-            takes_back,
+        };
+        Ok(Search {
+            links,
+            places,
+            levels,
+            trail,
             is_fresh: true,
         })
     }

@@ -7,9 +7,10 @@ use Rattle.dmf_path.proofs.phase.is_enclosed.Goals as goal
 
 pub returns-then-labels-goal-clause-separated : goal.returns-then-labels-goal-clause-separated
 returns-then-labels-goal-clause-separated c ended =
-    let l = links_of c.args.table.now in
-    let rooms = c.args.rooms.now in
+    let a = c.args.links.now in
+    let l = links_of a.table in
+    let rooms = a.rooms.items in
     let there : is_some c.label_most-looked.result ≡ true = sym c.is_some.ensures ∙ c.if-is_some.true in
     let found : c.label_most-looked.result ≢ None = λ none. let no = ap (λ looked. is_some looked) none in absurd (cc) in
-    separated-labelled l rooms (map open_flag rooms) c.label_most-looked.new.labels c.args.trail.now.start c.args.trail.now.goal c.args.table.now.are
-    (AreOpen-map l rooms (map open_flag rooms) c.requires.rooms refl) (c.label_most-looked.ensures.labels found) c.if-labels-goal.true
+    separated-labelled l rooms (map open_flag rooms) c.label_most-looked.new.labels c.args.trail.now.start c.args.trail.now.goal a.table.are
+    (AreOpen-map l rooms (map open_flag rooms) a.rooms_are refl) (rw c.deref.ensures.value at (c.label_most-looked.ensures.labels found)) c.if-labels-goal.true
