@@ -1,5 +1,5 @@
 // Writes a problem of a family to standard output: generate FAMILY ARCS SEED. It has about ARCS arcs, and the seed
-// determines it. README.md says what the families are.
+// determines it. The function of each family says what it is.
 #include "dimacs.hpp"
 
 #include <cmath>
@@ -197,6 +197,39 @@ Network easy(uint64_t arcs, Random &random) {
     return network;
 }
 
+// Suppliers, 20 depots and customers: 4 arcs from each supplier to depots, and 4 to each customer from depots. The depots are the
+// nodes 1 to 20.
+Network depots(uint64_t arcs, Random &random) {
+    const uint64_t count = 20, each = std::max<uint64_t>(1, arcs / 10);
+    Network network = with_terminals(count + 2 * each);
+    const auto depot = [&] { return static_cast<Node>(random.between(1, count)); };
+    for (uint64_t i = 1; i <= each; ++i) {
+        const auto supplier = static_cast<Node>(count + i), customer = static_cast<Node>(count + each + i);
+        network.add(network.source, supplier, random.between(1, 1000));
+        network.add(customer, network.sink, random.between(1, 1000));
+        for (int k = 0; k < 4; ++k) {
+            network.add(supplier, depot(), random.between(1, 1000));
+            network.add(depot(), customer, random.between(1, 1000));
+        }
+    }
+    return network;
+}
+
+// A hub, node 1: paths of four arcs from the source to the sink, each through the hub and two nodes of its own.
+Network hub(uint64_t arcs, Random &random) {
+    const uint64_t paths = std::max<uint64_t>(1, arcs / 4);
+    Network network = with_terminals(1 + 2 * paths);
+    for (uint64_t i = 1; i <= paths; ++i) {
+        const uint64_t capacity = random.between(1, 1000);
+        const auto before = static_cast<Node>(1 + i), behind = static_cast<Node>(1 + paths + i);
+        network.add(network.source, before, capacity);
+        network.add(before, 1, capacity);
+        network.add(1, behind, capacity);
+        network.add(behind, network.sink, capacity);
+    }
+    return network;
+}
+
 Network made(const std::string &family, uint64_t arcs, Random &random) {
     if (family == "grid") return grid(arcs, random);
     if (family == "random") return random_ends(arcs, random);
@@ -204,6 +237,8 @@ Network made(const std::string &family, uint64_t arcs, Random &random) {
     if (family == "bip") return bipartite(arcs, random);
     if (family == "ac") return all_pairs(arcs, random);
     if (family == "easy") return easy(arcs, random);
+    if (family == "depots") return depots(arcs, random);
+    if (family == "hub") return hub(arcs, random);
     // 5 arcs for each node: the side is such that there are side * side frames, or the square root of the side of them.
     const uint64_t long_side = root(arcs / 5.0, 0.25), wide_side = root(arcs / 5.0, 0.4);
     if (family == "rmf-long") return frames(long_side, long_side * long_side, random);

@@ -62,20 +62,6 @@ def memory_rows(results, names):
         yield [f"{family} {arcs:,}", *cells]
 
 
-def growth_rows(results, names):
-    for family in dict.fromkeys(family for family, _ in results):
-        sizes = [arcs for place, arcs in results if place == family]
-        least, most = results[family, sizes[0]], results[family, sizes[-1]]
-        if len(sizes) < 2:
-            continue
-        cells = []
-        for name in names:
-            before, after = least.get(name), most.get(name)
-            is_known = before and after and LATE not in (before, after)
-            cells.append(f"{after[0] / before[0]:.0f}" if is_known else "")
-        yield [f"{family} {sizes[0]:,} to {sizes[-1]:,}", *cells]
-
-
 def text(results, names, repeat, limit, patience):
     """The tables of what was measured, by family and number of arcs and then by solver."""
     parts = [
@@ -85,8 +71,6 @@ def text(results, names, repeat, limit, patience):
         table(["network", *names, "`dmf` to yardstick"], time_rows(results, names, limit)),
         "Peak memory in bytes for each arc, from 100,000 arcs on.",
         table(["network", *names], memory_rows(results, names)),
-        "How many times as long the largest network of a family takes as the smallest.",
-        table(["network", *names], growth_rows(results, names)),
     ]
     return "\n\n".join(parts)
 

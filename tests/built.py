@@ -84,12 +84,3 @@ def heed_interrupts() -> None:
     nohup, it would not."""
     signal.signal(signal.SIGINT, signal.SIG_DFL)
     signal.signal(signal.SIGHUP, signal.SIG_DFL)
-
-
-def tell(said: list[object]) -> bool:
-    """Names what failed of these judgements, ends with the line 'N passed, M failed', and gives the script's status."""
-    failed = [wrong for wrong in said if wrong]
-    for wrong in failed:
-        print(f"failed: {wrong}")
-    print(f"{len(said) - len(failed)} passed, {len(failed)} failed")
-    return len(failed) > 0

@@ -1,36 +1,57 @@
-"""The commands of a session, once: what the tests that go through all commands take from here."""
+"""The commands of a session, once. What the tests need of all commands comes from here: the random lines, the odd lines and the refused
+calls, and the words of the tests in crates, whose files `generated` writes. tests/test_commands.py compares the table with what else
+lists commands."""
 
 from __future__ import annotations
 
 import re
 from typing import NamedTuple
 
-# What a command's fields are; what stands in brackets may be left out.
-ARC, NODE, CAPACITY, STEPS, WHAT = "ARC", "NODE", "CAP", "[K]", "WHAT"
+# What a command's fields stand for, by their names in the documents. What stands in brackets may be left out.
+ARC, NODE, CAPACITY, STEPS, WHAT = "arc", "node", "capacity", "steps", "what"
+KINDS = {"I": ARC, "V": NODE, "W": NODE, "U": CAPACITY, "[K]": STEPS, "WHAT": WHAT}
 # What can be printed.
 PRINTED = "problem", "flow", "cut"
 
 
 class Command(NamedTuple):
-    """A command: its word, its fields, the form of its reply, whether it changes the network, whether it may want memory, a line of
-    it, and the texts of its refusals beyond those that each line has."""
+    """A command."""
 
     word: str
     fields: tuple[str, ...]
+    # The first line of its reply, in which each word in capitals is a number. A solution and a printed text have a form of their own.
     reply: str
     changes: bool
     may_want_memory: bool
+    # A line of it, which is accepted on the crossing network.
     example: str
+    # How the crate of sessions shows it, with its fields put in.
+    variant: str
+    # How often random scripts have it.
+    weight: float
+    # What it may be refused for, beyond what each line may be.
     refusals: tuple[str, ...] = ()
+
+    @property
+    def kinds(self) -> list[str]:
+        return [KINDS[field] for field in self.fields]
+
+    @property
+    def form(self) -> str:
+        """The line of it, with its fields named."""
+        return " ".join([self.word, *self.fields])
 
     def counts(self) -> set[int]:
         """How many fields may stand behind the word."""
         optional = sum(field.startswith("[") for field in self.fields)
         return {len(self.fields) - optional, len(self.fields)}
 
+    def wrong_counts(self) -> list[int]:
+        """The least numbers of fields for which it is refused."""
+        return [count for count in range(max(self.counts()) + 2) if count not in self.counts()]
+
     def matches(self, reply: str) -> bool:
-        """Whether a reply that is no refusal has the form, in which each word in capitals is a number. What is not told by a form
-        is told by the lines behind it."""
+        """Whether the first line of a reply that is no refusal has its form."""
         pattern = re.sub(r"[A-Z]+", r"[0-9]+", re.escape(self.reply))
         return re.fullmatch(pattern, reply.split("\n")[0]) is not None
 
@@ -40,15 +61,92 @@ PAST = "capacities past 64 bits"
 COMMANDS = {
     command.word: command
     for command in [
-        Command("cap", (ARC, CAPACITY), "c cap value VALUE", True, True, "cap 5 1", (*NO_ARC, PAST)),
-        Command("add", (NODE, NODE, CAPACITY), "c add ARC value VALUE", True, True, "add 1 4 7", ("no such node", PAST)),
-        Command("close", (ARC,), "c close value VALUE", True, True, "close 2", NO_ARC),
-        Command("shut", (NODE,), "c shut value VALUE", True, True, "shut 3", ("no such node",)),
-        Command("solve", (), "s VALUE", True, True, "solve"),
-        Command("undo", (STEPS,), "c undo value VALUE", False, False, "undo 2", ("nothing to undo",)),
-        Command("redo", (STEPS,), "c redo value VALUE", False, True, "redo", ("nothing to redo",)),
-        Command("print", (WHAT,), "", False, True, "print cut", ("flow is not greatest",)),
+        Command("cap", ("I", "U"), "c cap value VALUE", True, True, "cap 5 1", "Cap {{ arc: {}, cap: {} }}", 5, (*NO_ARC, PAST)),
+        Command(
+            "add", ("V", "W", "U"), "c add I value VALUE", True, True, "add 1 4 7", "Add {{ tail: {}, head: {}, cap: {} }}", 3,
+            ("no such node", PAST),
+        ),
+        Command("close", ("I",), "c close value VALUE", True, True, "close 2", "Close {{ arc: {} }}", 1, NO_ARC),
+        Command("shut", ("V",), "c shut value VALUE", True, True, "shut 3", "Shut {{ node: {} }}", 0.5, ("no such node",)),
+        Command("solve", (), "s VALUE", True, True, "solve", "Solve", 4),
+        Command("undo", ("[K]",), "c undo value VALUE", False, False, "undo 2", "Undo({})", 2, ("nothing to undo",)),
+        Command("redo", ("[K]",), "c redo value VALUE", False, True, "redo", "Redo({})", 2, ("nothing to redo",)),
+        Command("print", ("WHAT",), "", False, True, "print cut", "Print{}", 2, ("flow is not greatest",)),
     ]
-}
+}  # fmt: skip
 # The refusals that any line may have.
 OF_FORM = "line too long", "unknown command", "wrong number of fields", "not a number", "number too large"
+# A command line as the documents list them: what is printed stands out.
+LISTED = [command.form for command in COMMANDS.values() if command.word != "print"]
+LISTED_PRINTS = [f"print {what}" for what in PRINTED]
+
+
+def variant_of(line: str) -> str:
+    """A command line as the crate of sessions shows it. Its steps are given."""
+    word, *fields = line.split()
+    return COMMANDS[word].variant.format(*map(str.capitalize, fields))
+
+
+def odd_lines() -> list[list[bytes]]:
+    """Lines that no command is: words that only look like one, too few fields and too many, and fields that are no numbers."""
+    lines: list[str] = []
+    for command in COMMANDS.values():
+        lines += [command.word.upper(), f"{command.word}s 1", f"c{command.word}"]
+        lines += [" ".join([command.word, *["1"] * count]) for count in command.wrong_counts()]
+        numbers = ["1"] * (len(command.fields) - 1)
+        if command.fields:
+            lines += [" ".join([command.word, *numbers, field]) for field in ("x", "-1", "18446744073709551616")]
+    return [line.encode().split() for line in lines]
+
+
+# Lines of which each call of the libraries is made, and refused memory: changes that add arcs and others, steps back, steps forward
+# over additions, and cuts, of which one is told and one is not.
+CALLS = (
+    "add 1 4 1 / solve / add 1 4 2 / add 1 4 3 / undo 2 / redo 2 / cap 5 1 / add 1 4 4 / undo 3 / add 1 4 5 / add 1 4 6 / "
+    "close 1 / print cut / undo 4 / redo 3 / solve / print cut / shut 3 / undo 1 / redo 1 / add 1 4 7"
+).split(" / ")
+MADE = "/usr/bin/python3 -m pytest --write tests/test_commands.py makes"
+NOTE = f"// `tests/commands.py` has the commands: {MADE} this file.\n"
+LISTS, LISTS_END = f"# tests/commands.py has the commands: {MADE} these lists.\n", "# Here these lists end.\n"
+
+
+def calls_text(old: str) -> str:
+    """The commands of crates/test_calls, in place of the old text."""
+    rows = "".join(f"    Command::{variant_of(line)},\n" for line in CALLS)
+    return (
+        "//! The commands that a session is given.\n\n"
+        f"use dmf_session::Command;\n\n{NOTE}#[rattlefmt::skip]\npub const COMMANDS: [Command; {len(CALLS)}] = [\n{rows}];\n"
+    )
+
+
+def words_text(old: str) -> str:
+    """The words of crates/test_fixtures, each with how many numbers follow it. One that comes more often in random scripts stands twice."""
+    commands = [it for it in COMMANDS.values() if it.word != "print"]
+    words = [(it.word, len(it.fields)) for it in commands for _ in range(1 + (it.weight > 1))] + [(it, 0) for it in LISTED_PRINTS]
+    rows = "".join(f'    (b"{word}", {count}),\n' for word, count in words)
+    return (
+        f"//! The words of commands.\n\n{NOTE}\n"
+        f"/// How many rows there are.\npub const WORD_COUNT: u32 = {len(words)};\n\n"
+        "/// Each word with how many numbers follow it. A word that stands twice is drawn twice as often.\n"
+        f"pub const WORDS: [(&[u8], u32); {len(words)}] = [\n{rows}];\n"
+    )
+
+
+def lists_text(old: str) -> str:
+    """The client's file of commands with its lists, which its tools follow sessions by."""
+    counts = "".join(f'    b"{it.word}": ({", ".join(map(str, sorted(it.counts())))}{"," * (len(it.counts()) == 1)}),\n' for it in COMMANDS.values())
+    printed = ", ".join(f'b"{it}"' for it in PRINTED)
+    valued = ", ".join(f'b"{it.word}"' for it in COMMANDS.values() if it.reply.startswith("c "))
+    front, _, rest = old.partition(LISTS)
+    return (
+        f"{front}{LISTS}# How many fields may stand behind each command's word.\nFIELD_COUNTS = {{\n{counts}}}\n"
+        f"PRINTED = ({printed})\n# The commands whose replies tell the value.\nCHANGES = ({valued})\n{LISTS_END}{rest.partition(LISTS_END)[2]}"
+    )
+
+
+# What makes each file that has the commands, of the text that stands there.
+GENERATED = {
+    "crates/test_calls/src/commands.rt": calls_text,
+    "crates/test_fixtures/src/words.rt": words_text,
+    "clients/python/dmf/commands.py": lists_text,
+}

@@ -2,11 +2,13 @@
 
 from __future__ import annotations
 
+import fcntl
 import os
 import re
 import shutil
 import subprocess
 from collections.abc import Iterator
+from contextlib import contextmanager
 from itertools import islice
 from pathlib import Path
 
@@ -14,10 +16,11 @@ import pytest
 from _pytest.terminal import TerminalReporter
 from hypothesis import settings
 from hypothesis.database import DirectoryBasedExampleDatabase
+from tool_runs import Tools
 
 ROOT = Path(__file__).resolve().parent.parent
 # So many tests with random cases are to meet each text of the documents together.
-ALL_BATCHES = 120
+ALL_BATCHES = 60
 BUILT = ROOT / "crates" / "dmf" / "out" / "dmf"
 
 
@@ -65,7 +68,10 @@ def dealt(items: list[pytest.Item], workers: int) -> list[pytest.Item]:
     return order
 
 
-def pytest_collection_modifyitems(items: list[pytest.Item]) -> None:
+def pytest_collection_modifyitems(config: pytest.Config, items: list[pytest.Item]) -> None:
+    if not config.getoption("--long"):
+        config.hook.pytest_deselected(items=[item for item in items if item.get_closest_marker("long")])
+        items[:] = [item for item in items if not item.get_closest_marker("long")]
     items[:] = dealt(items, int(os.environ.get("PYTEST_XDIST_WORKER_COUNT", "1")))
 
 
@@ -93,14 +99,25 @@ def pytest_terminal_summary(terminalreporter: TerminalReporter) -> None:
     terminalreporter.write_line(f"{passed} passed, {failed} failed")
 
 
+@contextmanager
+def shared(factory: pytest.TempPathFactory, name: str) -> Iterator[Path]:
+    """A path that all workers have in common, for one of them at a time: the first makes what is to be there."""
+    base = factory.getbasetemp()
+    folder = base.parent if "PYTEST_XDIST_WORKER" in os.environ else base
+    with open(folder / f"{name}.lock", "w") as lock:
+        fcntl.flock(lock, fcntl.LOCK_EX)
+        yield folder / name
+
+
 @pytest.fixture(scope="session")
 def faults(tmp_path_factory: pytest.TempPathFactory) -> str:
     """The library of tests/faults.c, which is preloaded to refuse memory and to let reads and writes fail."""
     if not shutil.which("gcc"):
         pytest.skip("no gcc, so no request for memory was refused, and no read or write failed")
-    library = tmp_path_factory.mktemp("library") / "faults.so"
-    source = ROOT / "tests" / "faults.c"
-    subprocess.run(["gcc", "-shared", "-fPIC", "-O1", "-Wall", "-o", library, source], check=True)
+    with shared(tmp_path_factory, "faults.so") as library:
+        if not library.exists():
+            source = ROOT / "tests" / "faults.c"
+            subprocess.run(["gcc", "-shared", "-fPIC", "-O1", "-Wall", "-o", library, source], check=True)
     return str(library)
 
 
@@ -108,6 +125,14 @@ def faults(tmp_path_factory: pytest.TempPathFactory) -> str:
 def writes(request: pytest.FixtureRequest) -> bool:
     """Whether a file that is made of others is made anew."""
     return bool(request.config.getoption("--write"))
+
+
+@pytest.fixture(scope="session")
+def tools() -> Iterator[Tools]:
+    """What runs the tools in Python."""
+    tools = Tools()
+    yield tools
+    tools.close()
 
 
 @pytest.fixture(scope="session")

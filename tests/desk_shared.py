@@ -4,18 +4,30 @@ from __future__ import annotations
 
 import os
 import subprocess
-import sys
 from itertools import product
 from pathlib import Path
 from typing import NamedTuple
 
 ROOT = Path(__file__).resolve().parents[1]
-sys.path.insert(0, str(ROOT / "clients/python"))
 PIPES = "examples/water/pipes.csv"
 SECONDS = 60
 # The story of examples/water: the greatest values of the plan of today, with Market Street wider, with a new pipe, without the Market
 # link and without the Bridge pipe, as its page reckons them from the limits.
 STORY = [165, 165, 180, 165, 155]
+# The same by commands of dmf-plan.
+SCRIPT = """solve
+cap "Market Street" 120
+solve
+undo 2
+add Mill Station 25
+solve
+undo 2
+close Market link
+solve
+undo 2
+close "Mill-South Tower"
+solve
+"""
 # An odd name: what would be markup in a page, and a quote.
 ODD = '<img src=x onerror="document.title=1"> "Q" & \\N'
 
@@ -57,3 +69,9 @@ def run(tool: str, *words: str, typed: str = "", **environment: str) -> subproce
         [str(ROOT / "tools" / tool), *words], input=typed, capture_output=True, text=True, timeout=SECONDS, cwd=ROOT,
         env={**os.environ, **environment},
     )  # fmt: skip
+
+
+def sessions_of(pid: int) -> list[int]:
+    """The sessions of the program that a process has."""
+    found = [int(it) for task in Path(f"/proc/{pid}/task").glob("*/children") for it in task.read_text().split()]
+    return [it for it in found if b"session" in Path(f"/proc/{it}/cmdline").read_bytes().split(b"\0")]

@@ -10,10 +10,13 @@ and from the last level to the sink have capacity DEGREE * MOST. examples/levels
     python3 tests/make_network.py 64 16 3 100 1990 >examples/levels.max
 """
 
+from __future__ import annotations
+
 import sys
+from collections.abc import Iterator
 
 
-def numbers(seed):
+def numbers(seed: int) -> Iterator[int]:
     """Numbers below 2^32 that the seed determines, by the linear congruence of Knuth's MMIX."""
     state = seed
     while True:
@@ -21,7 +24,7 @@ def numbers(seed):
         yield state >> 32
 
 
-def arcs_of(width, levels, degree, most, seed):
+def arcs_of(width: int, levels: int, degree: int, most: int, seed: int) -> Iterator[tuple[int, int, int]]:
     """Each arc's ends and its capacity."""
     random = numbers(seed)
     source = width * levels + 1
@@ -36,16 +39,19 @@ def arcs_of(width, levels, degree, most, seed):
         yield (levels - 1) * width + place, source + 1, degree * most
 
 
-def main():
-    width, levels, degree, most, seed = map(int, sys.argv[1:])
+def problem_of(width: int, levels: int, degree: int, most: int, seed: int) -> str:
+    """The text of the problem."""
     arcs = list(arcs_of(width, levels, degree, most, seed))
     source = width * levels + 1
-    print("c a random level graph: tests/make_network.py", *sys.argv[1:])
-    print("p max", source + 1, len(arcs))
-    print("n", source, "s")
-    print("n", source + 1, "t")
-    for arc in arcs:
-        print("a", *arc)
+    head = [
+        f"c a random level graph: tests/make_network.py {width} {levels} {degree} {most} {seed}",
+        f"p max {source + 1} {len(arcs)}",
+        f"n {source} s",
+        f"n {source + 1} t",
+    ]
+    return "".join(line + "\n" for line in [*head, *(f"a {tail} {head} {capacity}" for tail, head, capacity in arcs)])
 
 
-main()
+if __name__ == "__main__":
+    width, levels, degree, most, seed = map(int, sys.argv[1:])
+    sys.stdout.write(problem_of(width, levels, degree, most, seed))

@@ -9,14 +9,16 @@ from dataclasses import replace
 from random import Random
 
 from built import PROBLEM, Case
+from commands import ARC, CAPACITY, COMMANDS, NODE, PRINTED, STEPS, WHAT
 from odd_texts import ODD_BYTES, ODD_COMMANDS, ODD_FIELDS, ODD_LINES
 from oracle.changes import add, cap, close, shut, solve
 from oracle.network import Arc, State
-from oracle.session import FIELDS
 from oracle.texts import LARGEST, Fault
 
 Lines = list[list[bytes]]
 CHANGES: list[Callable[..., State]] = [solve, cap, cap, close, shut, add]
+# Commands over which a session keeps nothing of what it solves over.
+FORGETTING = {"add", "undo", "redo"}
 
 
 def line(*fields: object) -> list[bytes]:
@@ -163,30 +165,28 @@ def command_lines(state: State, random: Random) -> Lines:
     odd_share = random.choice([0, 0.02, 0.3])
     # A session keeps what it solves over from change to change, but not over an addition or a step back: some scripts have few.
     rest = random.choice([1, 1, 0.1])
-    weights = [5, 3 * rest, 1, 0.5, 4, 2 * rest, 2 * rest, 2, random.randrange(9)]
-    words = random.choices([*FIELDS, b"print"], weights, k=random.randint(1, count))
+    weights = {word: it.weight * (rest if word in FORGETTING else 1) for word, it in COMMANDS.items()}
+    weights["print"] += random.randrange(9)
+    commands = random.choices([*COMMANDS.values()], [*weights.values()], k=random.randint(1, count))
     arc_count = len(state.arcs)
     lines = []
-    for word in words:
+    for command in commands:
         if random.random() < odd_share:
             lines.append(random.choice(ODD_COMMANDS))
             continue
         arc = random.randint(0 if odd_share else 1, arc_count + 1)
         halves = [known.cap // 2 for known in state.arcs[arc - 1 : arc]]
         amount = random.choice([0, 1, 1, 1, 2, 2, 3, 5, 9, 9, 20, 2**63, *halves, *halves])
-        ends = [random.randint(0 if odd_share else 1, state.nodes + bool(odd_share)) for _ in range(2)]
-        steps = [random.choice([0, 1, 1, 2, 2, 3, 9])] * random.randrange(2)
-        numbers = {
-            b"cap": [arc, amount],
-            b"add": [*ends, amount],
-            b"close": [arc],
-            b"shut": ends[:1],
-            b"undo": steps,
-            b"redo": steps,
+        ends = iter([random.randint(0 if odd_share else 1, state.nodes + bool(odd_share)) for _ in range(2)])
+        fields: dict[str, Callable[[], list[object]]] = {
+            ARC: lambda: [arc],
+            NODE: lambda: [next(ends)],
+            CAPACITY: lambda: [amount],
+            STEPS: lambda: [random.choice([0, 1, 1, 2, 2, 3, 9])] * random.randrange(2),
+            WHAT: lambda: [random.choice([*PRINTED, "flow", "cut"])],
         }
-        shown = [random.choice([b"problem", b"flow", b"flow", b"cut", b"cut"])] if word == b"print" else []
-        lines.append([word, *line(*numbers.get(word, [])), *shown])
-        arc_count += word == b"add"
+        lines.append(line(command.word, *(field for kind in command.kinds for field in fields[kind]())))
+        arc_count += command.word == "add"
     return lines
 
 

@@ -9,7 +9,7 @@ from typing import Union
 from built import PROBLEM, Case
 from commands import ARC, CAPACITY, COMMANDS, NODE, PRINTED, STEPS, WHAT, Command
 from hypothesis import strategies as st
-from odd_texts import ODD_BYTES, ODD_COMMANDS, ODD_FIELDS, ODD_LINES
+from odd_texts import DRAWN_COMMANDS, ODD_BYTES, ODD_FIELDS, ODD_LINES
 from oracle.network import Arc, State
 from oracle.session import Session, SolveReply
 from oracle.texts import LARGEST, Fault
@@ -50,18 +50,18 @@ def command_line(state: State, command: Command, places: Sequence[int], capacity
     first, second = places
     values: dict[str, object] = {ARC: first % (len(state.arcs) + 3), CAPACITY: capacity, WHAT: PRINTED[first % len(PRINTED)]}
     fields: list[object] = []
-    for place, field in enumerate(command.fields):
-        if field == NODE:
+    for place, kind in enumerate(command.kinds):
+        if kind == NODE:
             fields.append(places[place] % (state.nodes + 2))
-        elif field != STEPS:
-            fields.append(values[field])
+        elif kind != STEPS:
+            fields.append(values[kind])
         elif first % 5:
             fields.append(first % 5 - 1)
     return line(command.word, *fields)
 
 
 # What a line of a script is made of. Solves come often, and lines that are refused for their form seldom.
-KINDS: list[Union[Command, list[bytes]]] = [COMMANDS["solve"], *COMMANDS.values(), *COMMANDS.values(), COMMANDS["solve"], *ODD_COMMANDS[:5]]
+KINDS: list[Union[Command, list[bytes]]] = [COMMANDS["solve"], *COMMANDS.values(), *COMMANDS.values(), COMMANDS["solve"], *DRAWN_COMMANDS]
 Choice = tuple[Union[Command, list[bytes]], tuple[int, int], int]
 choice: st.SearchStrategy[Choice] = st.tuples(st.sampled_from(KINDS), st.tuples(places, places), capacities)
 choices = st.lists(choice, max_size=16)

@@ -1,41 +1,89 @@
-"""Compares the table of commands with what else lists commands: the second implementation, docs/FORMATS.md, the help, the client,
-and the tests in crates; and tries each row."""
+"""Compares the table of commands with what else lists commands: the second implementation, docs/FORMATS.md, the help, what a terminal
+is told, the client and its tools, and the tests in crates; and tries each row."""
 
 from __future__ import annotations
 
 import re
 import subprocess
-from pathlib import Path
 
 import pytest
-from commands import COMMANDS, OF_FORM, PRINTED, Command
+from commands import COMMANDS, GENERATED, LISTED, LISTED_PRINTS, OF_FORM, PRINTED, Command
 from conftest import BUILT, ROOT
-from dmf import Network
+from dmf import Network, errors
+from dmf import commands as client
 from oracle import session
 from oracle.network import Arc, State
 from oracle.session import Session, SolveReply, command_of
 
 FORMATS = (ROOT / "docs" / "FORMATS.md").read_text()
 STATE = State(4, 1, 4, (Arc(1, 2, 3), Arc(1, 3, 2), Arc(2, 3, 5), Arc(2, 4, 2), Arc(3, 4, 3)), (0,) * 5)
+COUNTS = {it.word: it.counts() for it in COMMANDS.values()}
+CHANGES = {it.word for it in COMMANDS.values() if it.changes}
 rows = pytest.mark.parametrize("command", [pytest.param(it, id=word) for word, it in COMMANDS.items()])
 
 
-def test_words() -> None:
-    assert {word.decode(): counts for word, counts in session.FIELDS.items()} == {it.word: it.counts() for it in COMMANDS.values()}
+def told_forms(field: str) -> list[str]:
+    """The ways in which the documents write the line of a command: `undo [K]` is `undo` and `undo K`."""
+    return [field.replace(" [K]", ""), field.replace("[K]", "K")] if "[K]" in field else [field]
+
+
+def test_second_implementation() -> None:
+    assert {word.decode(): counts for word, counts in session.FIELDS.items()} == COUNTS
     assert {it.decode() for it in session.PRINTED} == set(PRINTED)
+    assert set(session.CHANGES) == CHANGES
 
 
-def test_changes() -> None:
-    assert set(session.CHANGES) == {it.word for it in COMMANDS.values() if it.changes}
+def test_client() -> None:
+    """The client, and so dmf-names and dmf-dot, which follow a session by it."""
+    assert {word.decode(): set(counts) for word, counts in client.FIELD_COUNTS.items()} == COUNTS
+    assert {it.decode() for it in client.PRINTED} == set(PRINTED)
+    told_by_value = {it.word for it in COMMANDS.values() if it.reply.startswith("c ")}
+    assert {it.decode() for it in client.CHANGES} == told_by_value
 
 
 def test_formats() -> None:
-    """The commands' table in docs/FORMATS.md has these commands and no others, and the refusals' has each refusal."""
-    table = FORMATS.partition("| Line | What | Reply |")[2].partition("\n\n")[0]
-    assert set(re.findall("^\\| `([a-z]+)", table, re.MULTILINE)) == set(COMMANDS)
+    """The commands' table in docs/FORMATS.md has these lines with these replies and no others, and the refusals' has each refusal."""
+    table = FORMATS.partition("| Line | What | Reply |\n|---|---|---|\n")[2].partition("\n\n")[0]
+    told = {line: reply for line, reply in re.findall(r"^\| (`.*?`(?:, `.*?`)?) \|.*\| (.*?) \|$", table, re.MULTILINE)}
+    lines = [told_forms(form) for form in [*LISTED, *LISTED_PRINTS]]
+    assert [*told] == [", ".join(f"`{form}`" for form in forms) for forms in lines]
+    for command in COMMANDS.values():
+        if command.reply.startswith("c "):
+            assert told[", ".join(f"`{form}`" for form in told_forms(command.form))].startswith(f"`{command.reply}`")
     refusals = FORMATS.partition("| TEXT | When |")[2]
     for text in {*OF_FORM, *(text for it in COMMANDS.values() for text in it.refusals)}:
         assert re.search(rf"\b{text}\b", refusals), text
+
+
+# What the help calls the fields of a command.
+HELP_NAMES = {"ARC": "I", "CAP": "U", "FROM": "V", "TO": "W", "NODE": "V"}
+
+
+def test_help() -> None:
+    """The help lists these lines with their replies. What a terminal lists where a line is no command is tried by
+    program/test_terminal.py."""
+    told = subprocess.run([BUILT, "session", "--help"], capture_output=True, text=True).stdout
+    section = told.partition("\nCommands, one a line on standard input, each with its reply:\n")[2].partition("\n\n")[0]
+    found = [re.split("  +", line.strip()) for line in section.splitlines()]
+    lines = [" ".join(HELP_NAMES.get(field, field) for field in line.split()) for line, *_ in found]
+    assert lines == [*LISTED, *LISTED_PRINTS]
+    replies_told = [reply.replace(" ARC", " I") for _, _, reply in found]
+    assert all(told.startswith(it.reply) for told, it in zip(replies_told, COMMANDS.values()))
+
+
+def test_errors() -> None:
+    """The client has an error for each refusal."""
+    assert {text for it in COMMANDS.values() for text in it.refusals} <= {*errors.Refused.kinds}
+
+
+@pytest.mark.parametrize("path", GENERATED)
+def test_generated(writes: bool, path: str) -> None:
+    """The files that the table makes."""
+    file = ROOT / path
+    made = GENERATED[path](file.read_text() if file.exists() else "")
+    if writes:
+        file.write_text(made)
+    assert file.read_text() == made, "--write makes it anew"
 
 
 @rows
@@ -57,19 +105,13 @@ def test_row(command: Command) -> None:
 @rows
 def test_counts(command: Command) -> None:
     """With a field too few or too many the program refuses a line."""
-    counts = command.counts()
-    wrong = [count for count in range(max(counts) + 2) if count not in counts]
-    lines = [" ".join([command.word, *["1"] * count]) for count in wrong]
+    lines = [" ".join([command.word, *["1"] * count]) for count in command.wrong_counts()]
     ran = subprocess.run([BUILT, "session", "examples/a.max"], input="\n".join(lines), capture_output=True, text=True)
     assert ran.stdout == "".join(f"c refused {at} wrong number of fields\n" for at in range(1, len(lines) + 1))
 
 
 @rows
-def test_listed(command: Command) -> None:
-    """The help, the client and the tests of the crates know the command."""
-    told = subprocess.run([BUILT, "session", "--help"], capture_output=True, text=True).stdout
-    assert re.search(rf"^  {command.word}\b", told, re.MULTILINE)
+def test_method(command: Command) -> None:
+    """The client has a call for it."""
     names = {"print": "cut"}
     assert hasattr(Network, names.get(command.word, command.word))
-    for path in "crates/test_calls/src/main.rt", "crates/test_sessions/src/histories.rt":
-        assert re.search(rf"(?i)\b{command.word}", Path(path).read_text()), path

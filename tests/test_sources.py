@@ -6,63 +6,53 @@ from __future__ import annotations
 import re
 import subprocess
 import sys
+from collections.abc import Iterator
 from pathlib import Path
 
 import pytest
 from conftest import ROOT
 
-# Files that have no type hints yet, and those of others: mypy follows what they import, and does not judge them.
-UNTYPED = {
-    "board.py",
-    "board_browser.py",
-    "completions.py",
-    "documents.py",
-    "examples.py",
-    "friends.py",
-    "make_network.py",
-    "other_solver.py",
-    "pictures.py",
-    "pictures_rows.py",
-    "progress.py",
-    "terminal.py",
-    "terminal_rows.py",
-    "terminal_sessions.py",
-    "followed.py",
-    "names.py",
-    "names_live.py",
-    "names_rows.py",
-    "plan.py",
-}
+
+def scripts(pattern: bytes, *folders: str) -> Iterator[Path]:
+    """The files of these folders that a program of this name runs."""
+    for folder in folders:
+        for path in sorted((ROOT / folder).iterdir()):
+            if path.is_file() and re.match(rb"#!.*\b" + pattern + rb"\b.*\n", path.read_bytes()[:40]):
+                yield path
 
 
-def typed() -> list[Path]:
-    folders = (ROOT / "tests" / name for name in ("", "cases", "oracle", "program"))
-    return sorted(path for folder in folders for path in folder.glob("*.py") if path.name not in UNTYPED)
-
-
-def shell_scripts() -> list[Path]:
-    """Each file of bash or sh in the repository."""
-    folders = [ROOT / name for name in ("", ".ci", "tests", "tools", "tools/friends", "bench")]
-    files = [path for folder in folders for path in sorted(folder.iterdir()) if path.is_file()]
-    return [path for path in files if re.match(rb"#!.*\b(bash|sh)\n", path.read_bytes()[:40])]
-
-
-@pytest.mark.seconds(30)
-def test_types(tmp_path: Path) -> None:
-    ran = subprocess.run(
-        [sys.executable, "-m", "mypy", "--cache-dir", tmp_path, *typed()], cwd=ROOT, capture_output=True, text=True
-    )
+def judge(*words: object) -> None:
+    ran = subprocess.run([*map(str, words)], cwd=ROOT, capture_output=True, text=True)
     assert ran.returncode == 0, ran.stdout + ran.stderr
+
+
+def judge_types(cache: Path, *words: object) -> None:
+    judge(sys.executable, "-m", "mypy", "--cache-dir", cache, *words)
+
+
+@pytest.mark.seconds(50)
+def test_types(tmp_path: Path) -> None:
+    """The tests, the package and the tools; and each of those that have the name of what they import, by itself. What mypy read once
+    it keeps in the folder."""
+    judge_types(tmp_path, *sorted((ROOT / "tests").rglob("*.py")), "clients/python/dmf")
+    judge_types(tmp_path, "--scripts-are-modules", *scripts(b"python3", "tools"))
+    for script in scripts(b"python3", "tools/friends"):
+        judge_types(tmp_path, script)
 
 
 @pytest.mark.seconds(5)
 def test_names() -> None:
-    ran = subprocess.run([sys.executable, "-m", "flake8", "tests", "tools", "clients"], cwd=ROOT, capture_output=True, text=True)
-    assert ran.returncode == 0, ran.stdout + ran.stderr
+    judge(sys.executable, "-m", "flake8", "tests", "tools", "clients", *scripts(b"python3", "tools", "tools/friends"))
 
 
-@pytest.mark.parametrize("script", [pytest.param(it, id=str(it.relative_to(ROOT))) for it in shell_scripts()])
+SHELL = [
+    *scripts(b"(?:ba)?sh", ".", ".ci", "tests/install", "tools", "tools/friends", "bench"),
+    *sorted((ROOT / "completions").glob("*.bash")),
+]
+
+
+@pytest.mark.parametrize("script", [pytest.param(it, id=str(it.relative_to(ROOT))) for it in SHELL])
 def test_shell(script: Path) -> None:
-    # The scripts of tests/ source tests/cases.bash, which stands beside them.
-    ran = subprocess.run(["shellcheck", "-x", "--source-path=SCRIPTDIR", script], cwd=ROOT, capture_output=True, text=True)
-    assert ran.returncode == 0, ran.stdout
+    # A script of tests/ may source what stands beside it.
+    dialect = ["--shell=bash"] if script.suffix == ".bash" else []
+    judge("shellcheck", "-x", "--source-path=SCRIPTDIR", *dialect, script)

@@ -1,14 +1,18 @@
-"""Runs the built program on words that ask for no run: those that it does not take, of which it tells on standard error what is
-wrong with them and how it is used, and those that ask for help or for the version, which are answered on standard output."""
+"""Runs the built program on its arguments: on those that it does not take, of which it tells on standard error what is wrong with
+them and how it is used; on those that ask for help or for the version, which are answered on standard output; and on the options
+and the path of each command in every order, where the second implementation says what is to come of them."""
 
 from __future__ import annotations
 
+import os
 import re
+from collections.abc import Iterator
+from itertools import permutations
 
 import built
-from built import Case
+from built import PROBLEM, Case
 from oracle.program import Outcome
-from worked_forms import Worked
+from worked_forms import CROSSED, CROSSED_FLOW, Worked, text
 
 # How the program and its commands are used.
 USAGE = """Usage: dmf [solve [--cut] [--progress]] <FILE
@@ -18,38 +22,26 @@ USAGE = """Usage: dmf [solve [--cut] [--progress]] <FILE
 SOLVE = "Usage: dmf solve [--cut] [--progress] <FILE\n"
 SESSION = "Usage: dmf session [--brief] [--cut] [--history N] [--progress] PROBLEM\n"
 CHECK = "Usage: dmf check PROBLEM <SOLUTION\n"
-HELP = f"""Solve maximum-flow problems in the DIMACS format, and hold what-if sessions on them
-
-{USAGE}
-Commands:
-  solve    Solve the problem on standard input (without a command, dmf does so too)
-  session  Carry out the commands on standard input, on the problem in a file
-  check    Judge the solution on standard input, of the problem in a file
-  help     Print this message or the help of the given subcommand(s)
-
-Options:
-  -h, --help     Print help
-  -V, --version  Print version
-
-Example:
-  dmf solve --cut <network.max
-
-Tools for networks with names, each with a --help of its own:
-  dmf-problem  makes a problem of a table of arcs
-  dmf-names    tells by names what dmf writes
-  dmf-dot      draws a problem and its answers for Graphviz
-
-Status:
-  0  all is well
-  1  a command was refused, or the checked flow is not the greatest
-  2  the words are none that dmf takes
-  3  the problem or the solution has a fault
-  4  a read or a write failed, PROBLEM cannot be opened, or a limit of size
-     was passed
-  5  a request for memory was refused
-
-Each command's --help has an example of its replies. man dmf has the formats.
-"""
+# The tools around the program, by their files.
+TOOLS = [name for name in os.listdir(os.path.join(os.path.dirname(__file__), "..", "tools")) if name.startswith("dmf-")]
+# What the help has, from its beginning to its end.
+HELP = (
+    f"Find how much a network can carry and where its limit is, and try out changes\n\n{USAGE}\nCommands:\n  solve ",
+    "\n  session ",
+    "\n  check ",
+    "\n  help ",
+    "\nOptions:\n  -h, --help     Print help\n  -V, --version  Print version\n",
+    "\n  $ dmf solve --cut <network.max ",
+    "\n  $ printf 'cap 5 1\\nsolve\\n' | dmf session --brief network.max\n",
+    "\n  $ dmf solve <network.max | dmf check network.max\n",
+    "\nExit status:\n  0  success\n  1 ",
+    "\n  2  invalid arguments\n  3 ",
+    "\n  4 ",
+    "\n  5 ",
+    "\nTools around it: ",
+    "\n\nFILE and PROBLEM are texts in the DIMACS format",
+    "\neach command and tool says more. man dmf has the formats.\n",
+)
 # Words that are refused, each with a part of the text that tells it. The usage is told behind it.
 REFUSED = [
     ("--cut", "unexpected argument '--cut' found"),
@@ -73,6 +65,13 @@ REFUSED = [
     ("solve --cut --cut", "cannot be used multiple times"),
     ("solve --cut=yes", "unexpected value 'yes' for '--cut' found"),
     ("solve --version", "unexpected argument '--version' found"),
+    ("solve net.max --cut", "unexpected argument 'net.max' found"),
+    ("session --cut=yes P", "unexpected value 'yes' for '--cut' found"),
+    ("session --version", "unexpected argument '--version' found"),
+    ("session --cuts P", "unexpected argument '--cuts' found"),
+    ("-x", "unexpected argument '-x' found"),
+    ("--history 1", "unexpected argument '--history' found"),
+    ("help wash", "unrecognized subcommand 'wash'"),
     ("session --history 1 --history 1 P", "cannot be used multiple times"),
     ("session --history -1 P", "unexpected argument '-1' found"),
     ("check --history 1 P", "unexpected argument '--history' found"),
@@ -91,33 +90,54 @@ FORMS = [
     ("session", SESSION),
     ("check", CHECK),
 ]
-# Words, each with a part of the help that they ask for.
-HELPS = [
+# Words, each with parts of the help that they ask for.
+HELPS: list[tuple[str, tuple[str, ...]]] = [
     ("--help", HELP),
     ("-h", HELP),
     ("help", HELP),
-    ("solve --help", SOLVE),
-    ("solve --help", "--cut       Write the smallest minimum cut after the solution\n"),
-    ("solve --help", "\n  $ dmf solve --cut <network.max\n  s 5\n"),
-    ("solve --help", "--progress  Tell on standard error how far it is\n"),
-    ("session --help", SESSION),
-    ("session --help", "--brief        Answer a solve by its value in place of the solution\n"),
-    ("session --help", "--cut          Write the smallest minimum cut after each solution\n"),
-    ("session --help", "--history <N>  Keep at most N changes for undo [default: 1000000]\n"),
-    ("session --help", "--progress     Tell on standard error how far it is\n"),
-    ("session --help", "\n  undo [K]    "),
-    ("session --help", "  c undo value VALUE\n"),
-    ("session --help", "closed\nones keep their numbers.\n"),
-    ("session --help", "--brief the reply\nto solve is c solve value VALUE.\n"),
-    ("session --help", "at a terminal by Ctrl-D.\n"),
-    ("session --help", "| dmf session network.max\n"),
-    ("check --help", CHECK),
-    ("check --help", "| dmf check network.max\n  c greatest 5\n"),
-    ("help solve", SOLVE),
-    ("help session", SESSION),
-    ("help check", CHECK),
+    ("--help wash", HELP),
+    ("solve --help", (SOLVE, "--cut       Write the smallest minimum cut after the solution\n", "--progress  Tell on standard error how far it is\n")),
+    ("solve --help", ("\n  $ dmf solve --cut <network.max\n  s 5\n",)),
+    ("session --help", (SESSION, "<PROBLEM>  The file with the problem\n")),
+    ("session --help", ("--brief        Answer a solve by its value in place of the solution\n",)),
+    ("session --help", ("--cut          Write the smallest minimum cut after each solution\n",)),
+    ("session --help", ("--history <N>  Keep at most N changes for undo [default: 1000000]\n",)),
+    ("session --help", ("--progress     Tell on standard error how far it is\n",)),
+    ("session --help", ("With --brief the reply to solve is\nc solve value VALUE.\n", "closed\nones keep their numbers.\n")),
+    ("session --help", ("at a terminal by Ctrl-D.\n", "| dmf session network.max\n")),
+    ("session P --help", (SESSION,)),
+    ("session --cut -h", (SESSION,)),
+    ("check --help", (CHECK, "| dmf check network.max\n  c greatest 5\n")),
+    ("check P -h", (CHECK,)),
+    ("help solve", (SOLVE,)),
+    ("help session", (SESSION,)),
+    ("help check", (CHECK,)),
 ]
 VERSIONS = [("--version", "dmf 0.1.0\n"), ("-V", "dmf 0.1.0\n")]
+
+
+# What may stand behind a command; the words of one part stand together.
+PARTS = ("--brief",), ("--cut",), ("--history", "1"), ("--progress",), (PROBLEM.decode(),)
+# What is on standard input behind each command, from which it shows what was asked for.
+INPUTS = {"solve": text(CROSSED), "session": b"solve\ncap 5 1\nundo\nundo\n", "check": text(CROSSED_FLOW)}
+
+
+def orders(command: str) -> Iterator[Case]:
+    """The parts behind a command in every order: all of them behind `session`, three behind the others, which take fewer. And each
+    part twice, with the path behind it or between."""
+    most = len(PARTS) if command == "session" else 3
+    chosen = [order for count in range(most + 1) for order in permutations(PARTS, count)]
+    chosen += [order for part in PARTS for order in ((part, part, PARTS[-1]), (part, PARTS[-1], part))]
+    for order in chosen:
+        words = [command, *(word for part in order for word in part)]
+        yield Case(" ".join(words), tuple(word.encode() for word in words), text(CROSSED), INPUTS[command])
+
+
+def wanted_of(case: Case) -> Outcome:
+    """How the second implementation ends. Where progress is asked for, lines of it are told, which it does not know."""
+    wanted = built.wanted(case)
+    is_told = wanted.told == b"" and b"--progress" in case.words
+    return wanted._replace(told=re.compile(rb"(dmf: .*\n)+")) if is_told else wanted
 
 
 def having(*parts: str) -> re.Pattern[bytes]:
@@ -140,6 +160,7 @@ def judge(worked: Worked) -> str | None:
 ROWS = [
     *(row(words, Outcome(2, b"", having(part, "Usage: dmf"))) for words, part in REFUSED),
     *(row(words, Outcome(2, b"", having(part))) for words, part in BOUNDS + FORMS),
-    *(row(words, Outcome(0, having(part))) for words, part in HELPS),
+    *(row(words, Outcome(0, having(*parts))) for words, parts in HELPS),
+    *(row("--help", Outcome(0, having("\nTools around it: ", tool))) for tool in TOOLS),
     *(row(words, Outcome(0, text.encode())) for words, text in VERSIONS),
 ]

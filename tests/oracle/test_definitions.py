@@ -43,9 +43,17 @@ def is_flow(state: State) -> bool:
     return balanced and all(0 <= flow <= arc.cap for arc, flow in zip(state.arcs, state.flows))
 
 
-@pytest.mark.parametrize("number", range(500))
-def test_definitions(number: int) -> None:
-    random = Random(f"definitions/{number}")
+# So many networks in a test, and so many tests.
+NETWORKS, BATCHES = 50, 10
+
+
+@pytest.mark.parametrize("batch", range(BATCHES))
+def test_definitions(batch: int) -> None:
+    for number in range(batch * NETWORKS, (batch + 1) * NETWORKS):
+        judge(Random(f"definitions/{number}"))
+
+
+def judge(random: Random) -> None:
     state = with_cycles(changed(network(random, 6), random), random)
     assert is_flow(state), "the flow to begin with"
     steps = residual_steps(state)

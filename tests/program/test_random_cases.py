@@ -17,16 +17,17 @@ from random import Random
 import built
 import pytest
 import strategies
-from built import Case
+from built import Case, Run
+from commands import COMMANDS
 from found import FOUND
 from hypothesis import given
 from hypothesis import strategies as st
 from random_cases import random_case
 from reduced import reduced
-from refused import REFUSED, ways_of
+from refused import REFUSED, wanted_without, ways_of
 
 # The random cases that a seed determines: so many in a test, and so many tests.
-BATCH, BATCHES, LONG_BATCHES, SEED = 50, 120, 12_000, 1
+BATCH, BATCHES, LONG_BATCHES, SEED = 50, 60, 12_000, 1
 # Texts of the documents, each of which some of these cases is to meet: all but want of memory and the limits of size.
 TEXTS = """problem line expected, second problem line, unknown line, not a max problem, wrong number of fields, not a number,
     number too large, count out of range, no such node, neither source nor sink, terminal named twice,
@@ -34,19 +35,23 @@ TEXTS = """problem line expected, second problem line, unknown line, not a max p
     capacities past 64 bits, no such arc, over capacity, second value line, value line missing,
     flow not conserved at node, value differs, line too long, unknown command, arc is closed, nothing to undo,
     nothing to redo, flow is not greatest, cannot open the problem, read failed, a word is not UTF-8, Usage: dmf,
-    c greatest, c flow, c cut, c side, c cap value, c add, c close value, c shut value, c solve value, c undo value,
-    c redo value, p max, dmf 0.1.0"""
+    c greatest, c flow, c cut, c side, c solve value, p max, dmf 0.1.0"""
 NO_MEMORY = "no memory"
-ALL_TEXTS = {*re.split(r",\s+", TEXTS), NO_MEMORY}
+REPLIES = {re.split(" [A-Z]", it.reply)[0] for it in COMMANDS.values() if it.reply.startswith("c ")}
+ALL_TEXTS = {*re.split(r",\s+", TEXTS), *REPLIES, NO_MEMORY}
+
+
+def compared(case: Case) -> tuple[Run, str | None]:
+    """A run of a case, and what it differs in, if in anything."""
+    built.put_problem(case)
+    wanted, run = wanted_without(case, ()), built.run(case)
+    if wanted.allows(*run):
+        return run, None
+    return run, f"the program ends with {run.status}, writes {run.out!r} and tells {run.err!r}; wanted is {wanted}"
 
 
 def difference(case: Case) -> str | None:
-    """What a run of a case differs in, if in anything."""
-    built.put_problem(case)
-    wanted, run = built.wanted(case), built.run(case)
-    if wanted.allows(*run):
-        return None
-    return f"the program ends with {run.status}, writes {run.out!r} and tells {run.err!r}; wanted is {wanted}"
+    return compared(case)[1]
 
 
 def difference_refused(case: Case, number: int, library: str) -> str | None:
@@ -73,11 +78,10 @@ def test_seeded(batch: int, faults: str, record_property: Callable[[str, object]
     for number in range(batch * BATCH, (batch + 1) * BATCH):
         random = Random(f"{SEED}/{number}")
         case = random_case(f"case {number} of seed {SEED}", random)
-        wrong = difference(case)
+        run, wrong = compared(case)
         if wrong:
             small = reduced(case, lambda it: difference(it) is not None)
             pytest.fail(shown(small, difference(small) or wrong))
-        run = built.run(case)
         met |= {text for text in ALL_TEXTS - {NO_MEMORY} if text.encode() in run.out + run.err}
         refused = int(10 ** random.uniform(0.5, 3))
         run, calls = built.watch(case, faults, CALL="memory", AT=refused)
@@ -88,34 +92,22 @@ def test_seeded(batch: int, faults: str, record_property: Callable[[str, object]
     record_property("unmet", sorted(ALL_TEXTS - met))
 
 
-def expect(case: Case, room: Path) -> None:
-    with contextlib.chdir(room):
+KINDS = {
+    "a solve": strategies.solves(),
+    "a session": strategies.sessions(),
+    "a check": strategies.checks(),
+    "any words": strategies.any_words(),
+}
+
+
+@pytest.mark.seconds(8)
+@pytest.mark.parametrize("kind", KINDS)
+@given(data=st.data())
+def test_drawn(case_room: Path, kind: str, data: st.DataObject) -> None:
+    case = data.draw(KINDS[kind])
+    with contextlib.chdir(case_room):
         wrong = difference(case)
     assert not wrong, shown(case, wrong)
-
-
-@pytest.mark.seconds(8)
-@given(case=strategies.solves())
-def test_solves(case_room: Path, case: Case) -> None:
-    expect(case, case_room)
-
-
-@pytest.mark.seconds(10)
-@given(case=strategies.sessions())
-def test_sessions(case_room: Path, case: Case) -> None:
-    expect(case, case_room)
-
-
-@pytest.mark.seconds(8)
-@given(case=strategies.checks())
-def test_checks(case_room: Path, case: Case) -> None:
-    expect(case, case_room)
-
-
-@pytest.mark.seconds(3)
-@given(case=strategies.any_words())
-def test_words(case_room: Path, case: Case) -> None:
-    expect(case, case_room)
 
 
 @pytest.mark.seconds(10)

@@ -7,7 +7,6 @@ requests. What the program writes with ample memory stands in its file `stdout`;
 
 from __future__ import annotations
 
-import fcntl
 import os
 import re
 import subprocess
@@ -17,7 +16,8 @@ from itertools import count
 from typing import Any
 
 import pytest
-from conftest import ROOT
+from commands import CALLS, COMMANDS, variant_of
+from conftest import ROOT, shared
 from oracle import changes
 from oracle.network import Arc, State
 from oracle.session import MOST_KEPT, Session, SolveReply
@@ -29,28 +29,13 @@ STDOUT = CRATE / "stdout"
 
 ARCS = (Arc(1, 2, 3), Arc(1, 3, 2), Arc(2, 3, 5), Arc(2, 4, 2), Arc(3, 4, 3))
 START = State(4, 1, 4, ARCS, (0, 0, 0, 0, 0))
-COMMANDS = (
-    "add 1 4 1 / solve / add 1 4 2 / add 1 4 3 / undo 2 / redo 2 / cap 5 1 / add 1 4 4 / undo 3 / add 1 4 5 / add 1 4 6 / "
-    "close 1 / print cut / undo 4 / redo 3 / solve / print cut / shut 3 / undo 1 / redo 1 / add 1 4 7"
-).split(" / ")
 ADDITIONS = [f"add 1 4 {cap}" for cap in range(1, 8)]
 REFUSED = "refused no memory"
-# How the program tells each command, by its first word.
-TOLD = {
-    "add": "Add {{ tail: {}, head: {}, cap: {} }}",
-    "cap": "Cap {{ arc: {}, cap: {} }}",
-    "close": "Close {{ arc: {} }}",
-    "shut": "Shut {{ node: {} }}",
-    "solve": "Solve",
-    "undo": "Undo({})",
-    "redo": "Redo({})",
-    "print": "Print{}",
-}
 # Whether each solve tells a cut, by the bound of the history.
 WANTS_CUT = {MOST_KEPT: True, 1: False, 0: True}
 SESSIONS = [(name, bound) for bound in WANTS_CUT for name in ("whole", "delta")]
 # The calls of which some run has to be refused memory, by the part of the program's text and the word.
-GROWING: set[tuple[str | int, ...]] = {(*session, word) for session in SESSIONS for word in ("add", "cap", "close", "shut", "solve", "print")} | {
+GROWING: set[tuple[str | int, ...]] = {(*session, word) for session in SESSIONS for word, it in COMMANDS.items() if it.may_want_memory and word != "redo"} | {
     ("state", "add"),
     ("state", "copy"),
 }
@@ -59,11 +44,6 @@ GROWING: set[tuple[str | int, ...]] = {(*session, word) for session in SESSIONS 
 def command_of(text: str) -> tuple[Any, ...]:
     word, *rest = text.split()
     return word, *(rest if word == "print" else map(int, rest))
-
-
-def told_command(text: str) -> str:
-    word, *fields = text.split()
-    return f"command {TOLD[word].format(*map(str.capitalize, fields))}"
 
 
 def told_state(state: State) -> list[str]:
@@ -93,8 +73,8 @@ def told_session(name: str, bound: int, refused: Collection[int]) -> list[str]:
     """What is told of a session over the history of this name and bound, of which these commands are refused memory."""
     session = Session(START, SolveReply(cut=WANTS_CUT[bound]), bound)
     lines = [f"history {name} {bound}", *told_place(session)]
-    for number, text in enumerate(COMMANDS):
-        lines += [told_command(text), answer(session, command_of(text), number in refused), *told_place(session)]
+    for number, text in enumerate(CALLS):
+        lines += [f"command {variant_of(text)}", answer(session, command_of(text), number in refused), *told_place(session)]
     return lines
 
 
@@ -106,7 +86,7 @@ def told_edits(refused: Collection[int], not_copied: Collection[int]) -> list[st
         if number not in refused:
             _, *arc = command_of(text)
             state = changes.add(state, *arc)
-        lines += [told_command(text), REFUSED if number in refused else "accepted", *told_state(state)]
+        lines += [f"command {variant_of(text)}", REFUSED if number in refused else "accepted", *told_state(state)]
         lines += ["no copy no memory"] if number in not_copied else ["copy", *told_state(state)]
     return lines
 
@@ -137,7 +117,7 @@ def wanted(lines: list[str]) -> tuple[list[str], set[tuple[str | int, ...]]]:
     for session, part in zip(SESSIONS, parts):
         refused, _ = refused_in(part)
         told += part if part == ["no history"] else told_session(*session, refused)
-        refusals |= {(*session, COMMANDS[number].split()[0]) for number in refused}
+        refusals |= {(*session, CALLS[number].split()[0]) for number in refused}
     refused, not_copied = refused_in(parts[-1])
     told += parts[-1] if parts[-1] == ["no state"] else told_edits(refused, not_copied)
     refusals |= {("state", "add") for _ in refused} | {("state", "copy") for _ in not_copied}
@@ -170,8 +150,7 @@ def is_old() -> bool:
 @pytest.fixture
 def calls_program(tmp_path_factory: pytest.TempPathFactory) -> None:
     """The program of crates/test_calls, which is built where it is missing or older than a source: by one worker alone."""
-    with open(tmp_path_factory.getbasetemp().parent / "test_calls", "w") as lock:
-        fcntl.flock(lock, fcntl.LOCK_EX)
+    with shared(tmp_path_factory, "test_calls"):
         if is_old():
             ran = subprocess.run(["rt", "run"], cwd=CRATE, capture_output=True, text=True)
             assert ran.returncode == 0, ran.stderr[-2000:]

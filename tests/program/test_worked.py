@@ -10,7 +10,7 @@ from oracle.program import Outcome
 from worked import LIMITS, WORKED, fronts
 from worked_forms import Worked
 from worked_once import ONCE
-from words import ROWS, judge
+from words import INPUTS, ROWS, judge, orders, wanted_of
 
 pytestmark = pytest.mark.usefixtures("case_folder")
 
@@ -35,6 +35,15 @@ def test_front(case: Case, status: int | None) -> None:
 def test_words(row: Worked) -> None:
     wrong = judge(row)
     assert not wrong, wrong
+
+
+@pytest.mark.parametrize("command", INPUTS)
+def test_orders(command: str) -> None:
+    """The options and the path of a command, in every order."""
+    built.put_problem(next(orders(command)))
+    for case in orders(command):
+        ended, wanted = built.run(case), wanted_of(case)
+        assert wanted.allows(*ended), f"{case.name}: {wanted} is wanted, and the program ends so: {ended}"
 
 
 def expect(case: Case, wanted: Outcome) -> None:

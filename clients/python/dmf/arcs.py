@@ -108,13 +108,20 @@ class Index:
 
 class Columns(Generic[Node]):
     """The arcs of a problem, column by column: the numbers of their tails and heads, from 1 on, and the keys that were given, by the
-    arcs' numbers. `numbers` has the number of each node, in order. Nothing of it changes."""
+    arcs' numbers. `numbers` has the number of each node, in order. Nothing of it changes. The keys may be made by a function, which is
+    called when one is first asked for."""
 
-    def __init__(self, numbers: dict[Node, int], tails: array[int], heads: array[int], keys: dict[int, Hashable]) -> None:
+    def __init__(
+        self,
+        numbers: dict[Node, int],
+        tails: array[int],
+        heads: array[int],
+        keys: dict[int, Hashable] | Callable[[], dict[int, Hashable]],
+    ) -> None:
         self.numbers = numbers
         self.tails = tails
         self.heads = heads
-        self.keys = keys
+        self._given = keys
         self._missed = 0
 
     def __len__(self) -> int:
@@ -122,6 +129,14 @@ class Columns(Generic[Node]):
 
     def __reduce__(self) -> tuple[Any, ...]:
         return Columns, (self.numbers, self.tails, self.heads, self.keys)
+
+    @property
+    def keys(self) -> dict[int, Hashable]:
+        """The keys that were given, by the arcs' numbers, in order."""
+        if callable(self._given):
+            # Where two threads come at once, both make the same.
+            self._given = self._given()
+        return self._given
 
     @functools.cached_property
     def names(self) -> list[Node]:

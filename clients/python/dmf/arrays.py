@@ -3,11 +3,13 @@ of these packages is needed until its function is called."""
 
 from __future__ import annotations
 
+import contextlib
+import functools
 import importlib
 import re
+import sys
 from array import array
 from collections.abc import Hashable, Iterable, Iterator
-from itertools import islice
 from typing import Any
 
 from .arcs import AMOUNTS, NODES, Columns, Node, OpenArcs
@@ -16,6 +18,10 @@ from .kept import columns_of, whole
 
 # How many lines of a text are made or read at once.
 PIECE = 1 << 14
+# How many arcs are read before numpy is worth loading.
+MOST_PLAIN = 200_000
+# How many letters of a text are read at once.
+LETTERS = 1 << 18
 _FLOW = re.compile(rb"^f [0-9]+ [0-9]+ ([0-9]+)$", re.MULTILINE)
 
 
@@ -27,11 +33,82 @@ def package(name: str, why: str) -> Any:
         raise ImportError(f"{why} needs the package {name.partition('.')[0]}, which is not there: {error}", name=name) from None
 
 
+def loaded() -> Any:
+    """numpy, where the caller has loaded it already: for what is quicker with it, but does not need it."""
+    return sys.modules.get("numpy")
+
+
 def problem_lines(columns: Columns[Any], capacities: array[int]) -> Iterator[bytes]:
-    """The arc lines of a problem, many at once."""
-    lines = map("a %d %d %d\n".__mod__, zip(columns.tails, columns.heads, capacities))
-    while piece := "".join(islice(lines, PIECE)):
-        yield piece.encode()
+    """The arc lines of a problem, many at once. Behind its capacities may stand those of arcs that were added."""
+    np, count = loaded(), len(columns)
+    for begin in range(0, count, PIECE):
+        end = min(begin + PIECE, count)
+        piece = [column[begin:end] for column in (columns.tails, columns.heads, capacities)]
+        yield _plain_lines(piece) if np is None else _lines(np, piece)
+
+
+def _plain_lines(columns: list[array[int]]) -> bytes:
+    count = len(columns[0])
+    numbers = [0] * (3 * count)
+    for place, column in enumerate(columns):
+        numbers[place::3] = column
+    return ("a %d %d %d\n" * count % tuple(numbers)).encode()
+
+
+def _lines(np: Any, columns: list[array[int]]) -> bytes:
+    """The same lines, all of one width: each number has zeros before it, up to a multiple of four digits."""
+    four_digits = _four_digits(np)
+    # Each field of a line with its type, its place, and what stands there.
+    fields: list[tuple[str, int, Any]] = [("u1", 0, ord("a"))]
+    width = 1
+    for column in columns:
+        numbers = np.frombuffer(column, f"u{column.itemsize}")
+        blocks = -(-len(str(numbers.max())) // 4)
+        fields.append(("u1", width, ord(" ")))
+        for block in range(blocks, 0, -1):
+            rest = numbers // 10_000
+            fields.append(("u4", width + 4 * block - 3, four_digits[numbers - rest * 10_000]))
+            numbers = rest
+        width += 1 + 4 * blocks
+    fields.append(("u1", width, ord("\n")))
+    types, places, contents = zip(*fields)
+    names = list(map(str, range(len(fields))))
+    lines = np.empty(len(columns[0]), {"names": names, "formats": types, "offsets": places, "itemsize": width + 1})
+    for name, content in zip(names, contents):
+        lines[name] = content
+    return bytes(lines.tobytes())
+
+
+@functools.cache
+def _four_digits(np: Any) -> Any:
+    """The numbers below 10,000 as texts of four digits, each as one number of four bytes."""
+    return np.frombuffer(b"".join(map(b"%04d".__mod__, range(10_000))), "u4")
+
+
+def numpy_for(count: int) -> Any:
+    """numpy, where it is loaded, or where it is there and so many arcs are read that it is worth loading."""
+    if count >= MOST_PLAIN:
+        with contextlib.suppress(ImportError):
+            return importlib.import_module("numpy")
+    return loaded()
+
+
+def read_lines(lines: bytes, np: Any) -> tuple[array[int], array[int], array[int]]:
+    """The tails, the heads and the capacities of arc lines, by numpy where that is given. Raises a ValueError for other lines."""
+    count = lines.count(b"\n")
+    # The letters of the lines are left out, so that numbers alone remain.
+    text = lines.replace(b"a", b"")
+    if np is None:
+        numbers = list(map(int, text.split()))
+        columns = array(NODES, numbers[0::3]), array(NODES, numbers[1::3]), array(AMOUNTS, numbers[2::3])
+    else:
+        found = np.fromstring(text, np.uint64, sep=" ")
+        columns = array(NODES), array(NODES), array(AMOUNTS)
+        for place, column in enumerate(columns):
+            column.frombytes(found[place::3].astype(f"u{column.itemsize}").tobytes())
+    if any(len(column) != count for column in columns):
+        raise ValueError
+    return columns
 
 
 def flows(text: bytes, count: int) -> array[int] | None:
@@ -51,22 +128,35 @@ def flow_array(text: bytes | array[int], count: int) -> Any:
 
 
 def _last_numbers(np: Any, text: bytes, count: int) -> Any:
-    """The last number of each line but the first. The digits of all lines are read together, from the last to the first."""
+    """The last number of each line but the first."""
     letters = np.frombuffer(text, np.uint8)
-    ends = np.flatnonzero(letters == ord("\n"))[1:]
-    column = np.zeros(len(ends), np.uint64)
-    rows, scale = np.arange(len(ends)), 1
-    places = ends - 1
-    while rows.size:
-        digits = letters[places]
-        within = digits != ord(" ")
-        if not within.all():
-            rows, places, digits = rows[within], places[within], digits[within]
-        column[rows] += (digits - np.uint8(ord("0"))).astype(np.uint64) * np.uint64(scale)
-        places, scale = places - 1, scale * 10 % 2**64
-    if len(column) != count:
+    column = np.zeros(count, np.uint64)
+    begin, done = text.find(b"\n") + 1, 0
+    while begin < len(text):
+        # So much as the processor's cache holds, in whole lines.
+        end = text.rfind(b"\n", begin, begin + LETTERS) + 1
+        ends = np.flatnonzero(letters[begin:end] == ord("\n"))
+        if not ends.size or done + ends.size > count:
+            break
+        _add_last_numbers(np, letters[begin:end], ends, column[done : done + ends.size])
+        begin, done = end, done + ends.size
+    if done != count or begin != len(text):
         raise ValueError("the program told no flow for each open arc")
     return column
+
+
+def _add_last_numbers(np: Any, letters: Any, ends: Any, column: Any) -> None:
+    """Adds to a column of zeros the number before each of these places. The digits of all are read together, from the last to the
+    first."""
+    rows, places, scale = np.arange(len(ends)), ends - 1, 1
+    while rows.size:
+        digits = letters[places] - np.uint8(ord("0"))
+        # Before the first digit stands a space, which is less.
+        within = digits < 10
+        if not within.all():
+            rows, places, digits = rows[within], places[within], digits[within]
+        column[rows] += digits.astype(np.uint64) * np.uint64(scale)
+        places, scale = places - 1, scale * 10 % 2**64
 
 
 def columns_of_arrays(

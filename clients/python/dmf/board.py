@@ -20,7 +20,7 @@ import select
 import socket
 import threading
 import time
-from collections.abc import Callable
+from collections.abc import Callable, Generator
 from dataclasses import dataclass
 from http.server import BaseHTTPRequestHandler, ThreadingHTTPServer
 from pathlib import Path
@@ -40,6 +40,8 @@ LONGEST_BODY = 1 << 16
 GRACE = 3.0
 # How long a request may sweep before it answers with what it has, in seconds.
 PORTION = 0.25
+# How long a sweep waits for the next such request before its copies of the network are ended, in seconds.
+PATIENCE = 5.0
 MOST_LISTED, MOST_SIDE, MOST_FOUND, MOST_SWEPT = 300, 30, 20, 5_000
 LONGEST_TEXT = 4_000
 Json = dict[str, Any]
@@ -71,6 +73,11 @@ class Board:
     def __init__(self, desk: Desk) -> None:
         self.desk = desk
         self.picture = Picture(desk)
+        # A sweep that is not at its end, and the arcs that it has not tried yet.
+        self._sweep: Generator[Trial, None, None] | None = None
+        self._left: list[int] = []
+        self._sweep_lock = threading.Lock()
+        self._sweep_end = threading.Timer(0, self.end_sweep)
 
     def get(self, path: str, words: dict[str, str]) -> Answer:
         """The answer to a request that changes nothing."""
@@ -128,6 +135,7 @@ class Board:
             return answer({"ended": str(ended), "steps": self.desk.at - 1}, 410)
 
     def _done(self, what: str, content: Json) -> Answer:
+        self.end_sweep()
         desk, names = self.desk, self.desk.names
         if what == "again":
             desk.begin_again()
@@ -240,14 +248,41 @@ class Board:
                 found.append({"number": number, "label": names.arc(number)})
         return answer({"found": found})
 
-    def _swept(self, numbers: list[int]) -> Json:
-        """What each of the first arcs means, as many as the time of a portion allows."""
+    def end_sweep(self) -> None:
+        """Ends the sweep that is not at its end, if there is one."""
+        with self._sweep_lock:
+            self._sweep_end.cancel()
+            if self._sweep:
+                self._sweep.close()
+            self._sweep, self._left = None, []
+
+    def _portion(self, numbers: list[int]) -> list[Trial]:
+        """What each of the first arcs means, as many as the time of a portion allows. The next portion goes on with the same copies of
+        the network, where it is asked for in time."""
+        if not self._left or numbers[: len(self._left)] != self._left:
+            self.end_sweep()
         until = time.monotonic() + PORTION
-        trials: list[Trial] = []
-        for trial in self.desk.sweep(numbers):
-            trials.append(trial)
-            if time.monotonic() > until:
-                break
+        with self._sweep_lock:
+            self._sweep_end.cancel()
+            going_on = self._sweep or self.desk.sweep(numbers)
+            left = self._left or numbers
+            # Where this raises, the sweep is over.
+            self._sweep, self._left = None, []
+            trials: list[Trial] = []
+            for trial in going_on:
+                trials.append(trial)
+                if time.monotonic() > until:
+                    break
+            if len(trials) < len(left):
+                self._sweep, self._left = going_on, left[len(trials) :]
+                self._sweep_end = threading.Timer(PATIENCE, self.end_sweep)
+                self._sweep_end.daemon = True
+                self._sweep_end.start()
+        return trials
+
+    def _swept(self, numbers: list[int]) -> Json:
+        """What each of the first arcs means."""
+        trials = self._portion(numbers)
         doubled = ("" if trial.doubled is None else str(trial.doubled) for trial in trials)
         rows = [{**self._arc(it.arc), "closed": str(it.closed), "doubled": second} for it, second in zip(trials, doubled)]
         return {"value": str(self.desk.value), "trials": rows, "left": numbers[len(trials) :]}

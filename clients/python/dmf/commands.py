@@ -9,6 +9,7 @@ from .text import Fault, fields, number
 LONGEST_LINE = 4_096
 SOLVE, ADD, UNDO, REDO = "solve", "add", "undo", "redo"
 PRINT_PROBLEM, PRINT_FLOW, PRINT_CUT = "print problem", "print flow", "print cut"
+# tests/commands.py has the commands: /usr/bin/python3 -m pytest --write tests/test_commands.py makes these lists.
 # How many fields may stand behind each command's word.
 FIELD_COUNTS = {
     b"cap": (2,),
@@ -21,6 +22,9 @@ FIELD_COUNTS = {
     b"print": (1,),
 }
 PRINTED = (b"problem", b"flow", b"cut")
+# The commands whose replies tell the value.
+CHANGES = (b"cap", b"add", b"close", b"shut", b"undo", b"redo")
+# Here these lists end.
 
 
 class Command(NamedTuple):

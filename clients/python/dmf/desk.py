@@ -8,13 +8,14 @@ as what was asked for, so they can be made again after a sweep, and on a new ses
 from __future__ import annotations
 
 import contextlib
+import os
 import tempfile
-from collections.abc import Callable, Iterable, Iterator, Sequence
+from collections.abc import Generator, Iterable, Iterator, Sequence
 from dataclasses import dataclass, field
 from typing import NamedTuple, Union
 
 from . import Arc as Handle
-from . import Cut, Solution, read
+from . import Cut, Solution, SweepResult, read, sweep
 from .desk_file import Subject
 from .errors import CapacitiesPast64Bits, Error, FlowIsNotGreatest, Refused, SessionEnded, TooManyArcs
 from .process import Program
@@ -527,38 +528,40 @@ class Desk:
             del self._time.done[at:]
             self._time.undone = undone
 
-    def sweep(self, numbers: Iterable[int]) -> Iterator[Trial]:
+    def sweep(self, numbers: Iterable[int]) -> Generator[Trial, None, None]:
         """What each of these arcs means for the greatest value: where it alone is closed, and where it alone has a second one beside
-        it. The flow is a greatest one, else this raises a `DeskFault`."""
+        it. Each is tried on a copy of the network, on all processors. The flow is a greatest one, and the arcs are open, else this raises
+        a `DeskFault`; it is not to change meanwhile."""
         if not self.is_greatest:
             raise DeskFault("the flow is not greatest, so nothing can be compared with it; `solve` first")
-        cut = self.cut_arcs()
-        for number in numbers:
+        cut, wanted = set(self.cut_arcs()), list(numbers)
+        for number in wanted:
             self._open_line(number)
-            closed = self._tried(self._network.close, number) if self.flow(number) else self.value
-            # Beside an arc that is not of the cut, a second one leaves the cut as it is, and the cut is the limit.
-            doubled: int | None = self.value
+        # A closed arc that carries nothing leaves the flow as it is. Beside an arc that is not of the cut, a second one leaves the cut
+        # as it is, and the cut is the limit.
+        carrying = {number for number in wanted if self.flow(number)}
+        cases: list[list[tuple[object, ...]]] = []
+        for number in wanted:
+            arc = self._handles[number]
+            if number in carrying:
+                cases.append([("close", arc)])
             if number in cut:
-                try:
-                    doubled = self._tried(self._add_beside, number)
-                except (CapacitiesPast64Bits, TooManyArcs):
-                    doubled = None
-            yield Trial(number, closed, doubled)
-
-    def _add_beside(self, arc: Handle[Node]) -> None:
-        self._network.add(arc.tail, arc.head, self.lines[arc.number - 1].capacity)
-
-    def _tried(self, change: Callable[[Handle[Node]], object], number: int) -> int:
-        """The greatest value after a change of an arc, which is taken back."""
-        with self._whole():
-            change(self._handles[number])
-            value = self._network.solve().value
-            self._network.undo(2)
-        return value
+                cases.append([("add", arc.tail, arc.head, self.lines[number - 1].capacity)])
+        jobs = max(1, min(len(cases), len(os.sched_getaffinity(0))))
+        with contextlib.closing(sweep(self._network, cases, jobs=jobs)) as results:
+            for number in wanted:
+                closed = _greatest(next(results)) if number in carrying else self.value
+                doubled = _greatest(next(results)) if number in cut else self.value
+                assert closed is not None
+                yield Trial(number, closed, doubled)
 
     def the_arc(self, text: str, *, is_closed: bool = False) -> int:
         """The arc that a text means: the open one, or the closed one. Raises a `DeskFault` where there is none, or more than one."""
-        found = [number for number in self.names.arcs(text) if not self.lines[number - 1].is_replaced]
+        meant = self.names.arcs(text)
+        found = [number for number in meant if not self.lines[number - 1].is_replaced]
+        if not found:
+            was, now = self.names.short(meant[0]), self._replacing(meant[0])
+            raise DeskFault(f"{was} was closed as #{meant[0]} and opened again as #{now}")
         fitting = [number for number in found if self.lines[number - 1].is_closed == is_closed]
         if len(fitting) == 1:
             return fitting[0]
@@ -566,6 +569,15 @@ class Desk:
             raise DeskFault(f"{shown(cleaned(text))} may be {self.names.list(fitting)}; say one by its number")
         arcs = self.names.list(found)
         raise DeskFault(f"{arcs} is open" if is_closed else f"{arcs} is closed; `open` opens it")
+
+    def _replacing(self, number: int) -> int:
+        """The arc as which one was opened again, which is the last with its name and its ends."""
+        line, name = self.lines[number - 1], self.names.arc_name(number)
+        return max(
+            other
+            for other, it in enumerate(self.lines, 1)
+            if (it.tail, it.head, self.names.arc_name(other)) == (line.tail, line.head, name)
+        )
 
     def _open_line(self, number: int) -> Line:
         line = self.line(number)
@@ -683,6 +695,13 @@ class Desk:
         del self._time.done[self.at - count :]
         self._time.undone += reversed(undone)
         self._seen = _Seen()
+
+
+def _greatest(result: SweepResult[Node]) -> int | None:
+    """The greatest value of a case, and None where the sum of the capacities would pass 64 bits."""
+    if result.refusal is None or isinstance(result.refusal, (CapacitiesPast64Bits, TooManyArcs)):
+        return result.value
+    raise DeskFault(f"what was tried came to no end: {result.refusal}")
 
 
 def _are(count: int, what: str) -> str:

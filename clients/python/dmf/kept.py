@@ -4,9 +4,10 @@ from __future__ import annotations
 
 import operator
 from array import array
-from collections import deque
+from collections import defaultdict, deque
 from collections.abc import Hashable, Iterable
 from dataclasses import dataclass, field
+from itertools import count, islice
 from typing import Any, Generic, SupportsIndex, Union
 
 from .arcs import AMOUNTS, NODES, Added, Arc, Columns, Handles, Node, OpenArcs, one_of
@@ -15,6 +16,8 @@ from .text import LARGEST
 
 # A whole number, which may also come as a float without a fraction.
 Whole = Union[SupportsIndex, float]
+# How many rows are taken together: so many that what they refer to stays in the processor's cache.
+PIECE = 1 << 8
 WANTED = "wanted is (tail, head, capacity) or (tail, head, capacity, key), of which all but the capacity can be hashed"
 
 
@@ -34,13 +37,51 @@ def whole(number: Any, at: object) -> int:
 
 def columns_of(rows: Iterable[Any], nodes: Iterable[Node]) -> tuple[Columns[Node], array[int]]:
     """The columns of rows of arcs, and their capacities. Raises `NotAnArc`, `NotANumber` and `NumberTooLarge`."""
-    numbers: dict[Node, int] = {}
-    for node in nodes:
-        numbers.setdefault(node, len(numbers) + 1)
-    tails, heads, capacities = array(NODES), array(NODES), array(AMOUNTS)
-    keys: dict[int, Hashable] = {}
-    number_of = numbers.setdefault
-    for row in rows:
+    taken = _Taken(nodes)
+    left = iter(rows)
+    while piece := list(islice(left, PIECE)):
+        if not taken.take_together(piece):
+            for row in piece:
+                taken.take(row)
+    # From now on a node that is not there is none.
+    taken.numbers.default_factory = None
+    return Columns(taken.numbers, taken.tails, taken.heads, taken.keys), taken.capacities
+
+
+class _Taken:
+    """The columns of the rows that were taken. `numbers` gives each node that is new the next number."""
+
+    def __init__(self, nodes: Iterable[Hashable]) -> None:
+        self.numbers: defaultdict[Any, int] = defaultdict(count(1).__next__)
+        self.tails, self.heads, self.capacities = array(NODES), array(NODES), array(AMOUNTS)
+        self.keys: dict[int, Hashable] = {}
+        for node in nodes:
+            self.numbers[node]
+
+    def take_together(self, rows: list[Any]) -> bool:
+        """Takes rows of one form column by column, which is several times as quick. Says whether it did so: where
+        one has another form, or something in it is odd, none is taken."""
+        if not set(map(type, rows)) <= {tuple, list} or not set(map(len, rows)) in ({3}, {4}):
+            return False
+        tails, heads, amounts, *others = zip(*rows)
+        keys = others[0] if others else ()
+        ends: list[Any] = [None] * (2 * len(rows))
+        ends[0::2], ends[1::2] = tails, heads
+        try:
+            capacities = array(AMOUNTS, amounts)
+            hash(keys)
+            places = array(NODES, map(self.numbers.__getitem__, ends))
+        except (TypeError, OverflowError):
+            return False
+        first = len(self.tails) + 1
+        self.keys.update((number, key) for number, key in enumerate(keys, first) if key is not None)
+        self.tails += places[0::2]
+        self.heads += places[1::2]
+        self.capacities += capacities
+        return True
+
+    def take(self, row: Any) -> None:
+        """Takes a row. Raises what `columns_of` raises."""
         try:
             if len(row) == 3:
                 tail, head, capacity = row
@@ -48,16 +89,15 @@ def columns_of(rows: Iterable[Any], nodes: Iterable[Node]) -> tuple[Columns[Node
                 tail, head, capacity, key = row
                 hash(key)
                 if key is not None:
-                    keys[len(tails) + 1] = key
-            tails.append(number_of(tail, len(numbers) + 1))
-            heads.append(number_of(head, len(numbers) + 1))
+                    self.keys[len(self.tails) + 1] = key
+            self.tails.append(self.numbers[tail])
+            self.heads.append(self.numbers[head])
         except (TypeError, ValueError):
             raise NotAnArc(f"not an arc: {shown(row)}: {WANTED}") from None
         try:
-            capacities.append(capacity)
+            self.capacities.append(capacity)
         except (TypeError, OverflowError):
-            capacities.append(whole(capacity, row))
-    return Columns(numbers, tails, heads, keys), capacities
+            self.capacities.append(whole(capacity, row))
 
 
 @dataclass(frozen=True)

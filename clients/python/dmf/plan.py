@@ -167,7 +167,7 @@ class Plan(cmd.Cmd):
         if word in ("exit", "q"):
             word = "quit"
         if word not in self._do:
-            near = difflib.get_close_matches(word, COMMANDS, n=2)
+            near = difflib.get_close_matches(word.lower(), COMMANDS, n=2)
             hint = f"; is it {' or '.join(map(shown, near))}?" if near else "; `help` lists the commands"
             raise DeskFault(f"no command is called {shown(word)}{hint}")
         return self._do[word]
@@ -288,6 +288,9 @@ class Plan(cmd.Cmd):
         """The places, the capacity and the name that the words of `add` mean, where they can mean one thing alone."""
         places = self.desk.names
         found = []
+        if "->" in words[1:] and not any(map(_is_number, words[: words.index("->")])):
+            # As arcs are told.
+            words = [*words[: words.index("->")], *words[words.index("->") + 1 :]]
         for at in range(2, len(words)):
             if not _is_number(words[at]):
                 continue

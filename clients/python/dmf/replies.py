@@ -8,12 +8,9 @@ from dataclasses import dataclass
 from enum import Enum, auto
 from typing import Union
 
-from .commands import FIELD_COUNTS, Command
+from .commands import CHANGES, FIELD_COUNTS, Command
 from .text import MOST_ARCS, Fault, Problem, TextFault, number, read_problem
 from .timeline import Arc
-
-# The changes that are answered by a value.
-CHANGES = (b"cap", b"add", b"close", b"shut", b"undo", b"redo")
 
 
 class Kind(Enum):
@@ -27,6 +24,7 @@ class Kind(Enum):
     TERMINAL = auto()
     ARC = auto()
     CHANGED = auto()
+    SOLVED = auto()
     REFUSED = auto()
     COMMAND = auto()
     OTHER = auto()
@@ -49,6 +47,8 @@ def kind_of(found: list[bytes]) -> Kind:
         return Kind.CUT if found[1] == b"cut" else Kind.SIDE
     if found[1] == b"refused" and len(found) > 3 and found[2].isdigit():
         return Kind.REFUSED
+    if found[1:3] == [b"solve", b"value"] and len(found) == 4 and found[3].isdigit():
+        return Kind.SOLVED
     is_change = found[1] in CHANGES and len(found) == 4 + (found[1] == b"add") and found[-2] == b"value"
     return Kind.CHANGED if is_change and found[2 if found[1] == b"add" else -1].isdigit() else Kind.OTHER
 
@@ -87,8 +87,8 @@ class Refused:
 @dataclass(frozen=True)
 class Solution:
     """The flows on the open arcs, in their order: the arcs' numbers, the arcs as they were, and the flows. Where the flows' lines
-    were left out (or have not come yet, of a network that is not known), the three are empty and `is_told` is false. `serial`
-    is the number of the state that it is the flow of."""
+    were left out, as in the brief reply to a solve (or have not come yet, of a network that is not known), the three are empty and
+    `is_told` is false. `serial` is the number of the state that it is the flow of."""
 
     value: int
     is_told: bool

@@ -9,11 +9,11 @@ from collections import Counter
 from typing import Any
 
 from .arcs import AMOUNTS, NODES, Columns, Node
-from .arrays import PIECE, is_missing, no_capacity
+from .arrays import PIECE, is_missing, no_capacity, numpy_for, read_lines
 from .kept import Kept, Whole
 from .network import Network
 from .process import Child, FilePath, Program, bound, session_words, start
-from .text import read_names
+from .text import ARC, NODE, names_in, naming_pieces
 
 
 def read(path: FilePath, *, program: Program = None, history: int | None = None) -> Network[int | str]:
@@ -33,32 +33,38 @@ def read(path: FilePath, *, program: Program = None, history: int | None = None)
         copy.write(text)
         copy.flush()
         child = start(copy.name, program, session_words(most))
-    node_names, arc_names = read_names(text)
-    del text
     network: Network[int | str] = Network.__new__(Network)
-    network._begin(child, _kept(child, node_names, arc_names, most))
+    network._begin(child, _kept(child, text, most))
     return network
 
 
-def _kept(child: Child, node_names: dict[int, str], arc_names: dict[int, str], most: int) -> Kept[int | str]:
-    """What is kept of the problem that a session has read."""
+def _kept(child: Child, text: bytes, most: int) -> Kept[int | str]:
+    """What is kept of the problem that a session has read of a text. The names of arcs are read when one is asked for."""
     tails, heads, capacities = array(NODES), array(NODES), array(AMOUNTS)
     with child.exchange("print problem"):
         node_count, arc_count = map(int, child.line()[2:])
         source, sink = (int(child.line()[1]) for _ in range(2))
         for begin in range(0, arc_count, PIECE):
-            # The letters of the lines are left out, so that numbers alone remain.
-            lines = child.lines(min(PIECE, arc_count - begin)).replace(b"a", b"")
-            numbers = array(AMOUNTS, map(int, lines.split()))
-            tails.extend(iter(numbers[0::3]))
-            heads.extend(iter(numbers[1::3]))
-            capacities.extend(numbers[2::3])
-    used = Counter(name for number, name in node_names.items() if 1 <= number <= node_count)
-    named = {number: name for number, name in node_names.items() if used[name] == 1}
+            read = read_lines(child.lines(min(PIECE, arc_count - begin)), numpy_for(arc_count))
+            for column, more in zip((tails, heads, capacities), read):
+                column.extend(more)
+    named = _of(node_count, names_in(naming_pieces(text, NODE), NODE))
+    if len(set(named.values())) < len(named):
+        used = Counter(named.values())
+        named = {number: name for number, name in named.items() if used[name] == 1}
     nodes: dict[int | str, int] = {named.get(number, number): number for number in range(1, node_count + 1)}
     names = list(nodes)
-    keys: dict[int, Any] = {number: name for number, name in sorted(arc_names.items()) if 1 <= number <= arc_count}
-    return Kept(Columns(nodes, tails, heads, keys), capacities, names[source - 1], names[sink - 1], most)
+    pieces = naming_pieces(text, ARC)
+    columns = Columns(nodes, tails, heads, lambda: {**_of(arc_count, names_in(pieces, ARC))})
+    return Kept(columns, capacities, names[source - 1], names[sink - 1], most)
+
+
+def _of(count: int, names: dict[int, str]) -> dict[int, str]:
+    """The names of the numbers from 1 to so many, in their order."""
+    numbers = sorted(names)
+    if numbers == list(names) and (not numbers or 1 <= numbers[0] and numbers[-1] <= count):
+        return names
+    return {number: names[number] for number in numbers if 1 <= number <= count}
 
 
 def from_networkx(

@@ -4,12 +4,13 @@ from __future__ import annotations
 
 import contextlib
 import hashlib
+import operator
 import os
 import pickle
 import threading
 import time
 from collections import deque
-from collections.abc import Callable, Hashable, Iterable, Iterator
+from collections.abc import Callable, Generator, Hashable, Iterable, Iterator
 from concurrent.futures import Executor, Future, ThreadPoolExecutor
 from dataclasses import dataclass
 from itertools import islice
@@ -102,7 +103,7 @@ def sweep(
     *,
     jobs: int | None = None,
     progress: bool = False,
-) -> Iterator[SweepResult[Node]]:
+) -> Generator[SweepResult[Node], None, None]:
     """The result of each case in order, as it comes. Each case is tried on a solved copy of the network as it is now, and taken back;
     the network itself is not changed, and can be used meanwhile. Cases are taken as they are needed, so there may be any number.
 
@@ -122,12 +123,12 @@ def sweep(
     """
     made = cases(network) if callable(cases) else cases
     results = _results(network, iter(made), executor, want_cut, jobs)
-    return _shown(results) if progress else results
+    return _shown(results, operator.length_hint(made) or None) if progress else results
 
 
 def _results(
     network: Network[Node], cases: Iterator[Case], executor: Executor | None, want_cut: bool, jobs: int | None
-) -> Iterator[SweepResult[Node]]:
+) -> Generator[SweepResult[Node], None, None]:
     before = network.value
     kept = network._kept.copy()
     program: Any = network._child.process.args
@@ -424,10 +425,12 @@ def _end_idle() -> None:
                 del _free[name]
 
 
-def _shown(results: Iterator[SweepResult[Node]]) -> Iterator[SweepResult[Node]]:
-    """The results, with a bar that shows how many there are, where tqdm is there."""
-    try:
-        bar = package("tqdm", "a bar")
-    except ImportError:
-        return results
-    return iter(bar.tqdm(results, unit="case"))
+def _shown(results: Generator[SweepResult[Node], None, None], total: int | None) -> Generator[SweepResult[Node], None, None]:
+    """The results, with a bar that shows how many there are, of how many where that is known, where tqdm is there."""
+    with contextlib.closing(results):
+        try:
+            bar = package("tqdm", "a bar")
+        except ImportError:
+            yield from results
+        else:
+            yield from bar.tqdm(results, total=total, unit="case")

@@ -12,7 +12,7 @@ A tool without `.py` in its name finds this package beside itself, in the reposi
 from __future__ import annotations
 
 import re
-from collections.abc import Iterator
+from collections.abc import Iterable, Iterator
 from dataclasses import dataclass, field
 from typing import NamedTuple
 
@@ -26,6 +26,13 @@ FIELD_COUNTS = {b"p": 4, b"n": 3, b"a": 4}
 _FIELD = re.compile(rb"[^ \t]+")
 # A line feed, and then a comment that names: what, its number, and the rest of the line, which may be blank.
 _NAMING = re.compile(rb"\n[ \t]*c[ \t]+(node|arc)[ \t]+([0-9]+)([ \t][^\n]*|\r?(?=\n)|\Z)")
+# The same by what it names, in a text without carriage returns, where the name is not blank.
+_NAMED = {
+    kind: re.compile(rf"^[ \t]*c[ \t]+{kind}[ \t]+0*([0-9]{{1,19}})[ \t]+([^ \t\n](?:[^\n]*[^ \t\n])?)", re.MULTILINE)
+    for kind in (NODE, ARC)
+}
+# In how large pieces a text is looked through for names, in bytes.
+PIECE = 1 << 16
 # Controls of a terminal, ends of lines, and marks that turn the direction in which text is shown; halves of characters.
 _UNSHOWN = re.compile("[\x00-\x1f\x7f-\x9f\u061c\u200e\u200f\u2028-\u202e\u2066-\u2069\ud800-\udfff]")
 
@@ -126,26 +133,36 @@ def namings(text: bytes) -> Iterator[Naming]:
 
 def read_names(text: bytes) -> tuple[dict[int, str], dict[int, str]]:
     """The names that the comments of a problem text give to nodes and to arcs. Of two names for one the last counts. The rest of
-    the text is not judged, and a comment of another form names nothing."""
-    node_names: dict[int, str] = {}
-    arc_names: dict[int, str] = {}
-    for kind, digits, name in _names_of(text):
-        if not name:
-            continue
-        try:
-            (node_names if kind == NODE else arc_names)[number(digits)] = name
-        except Fault:
-            continue
-    return node_names, arc_names
+    the text is not judged, and a comment of another form names nothing, nor does one whose number is past 10^19, as none of these is."""
+    return names_in(naming_pieces(text, NODE), NODE), names_in(naming_pieces(text, ARC), ARC)
 
 
-def _names_of(text: bytes) -> Iterator[tuple[str, bytes, str]]:
-    """What each comment that names says. Where no carriage return is in the text, all of them are found at once, which is quicker."""
-    if b"\r" in text:
-        return ((kind, digits, name) for _, kind, digits, name in namings(text))
-    kinds = {kind.encode(): kind for kind in (NODE, ARC)}
-    found = (match.groups() for match in _NAMING.finditer(b"\n" + text))
-    return ((kinds[kind], digits, str(rest.strip(b" \t"), "utf-8", "replace")) for kind, digits, rest in found)
+def naming_pieces(text: bytes, kind: str) -> list[bytes]:
+    """Pieces of whole lines of a text, which have all comments that name nodes, or arcs."""
+    found, begin = [], 0
+    while begin < len(text):
+        end = text.find(b"\n", begin + PIECE) + 1 or len(text)
+        piece = text[begin:end]
+        if kind.encode() in piece:
+            found.append(piece)
+        begin = end
+    return found
+
+
+def names_in(pieces: Iterable[bytes], kind: str) -> dict[int, str]:
+    """The names that the comments of such pieces give to nodes, or to arcs, but for blank ones."""
+    names: dict[int, str] = {}
+    for piece in pieces:
+        if b"\r" not in piece:
+            # Without a carriage return all are found at once, which is several times as quick.
+            for significant, name in _NAMED[kind].findall(piece.decode(errors="replace")):
+                names[int(significant)] = name
+            continue
+        for naming in namings(piece):
+            digits = naming.number.lstrip(b"0") or b"0"
+            if naming.kind == kind and naming.name and len(digits) < LONGEST:
+                names[int(digits)] = naming.name
+    return names
 
 
 def read_problem(text: bytes) -> Problem:

@@ -75,11 +75,13 @@ class Follower:
     """Takes the lines of an answer one after the other. `timeline` has the present network, unless `is_known` is false: then
     commands that are not known changed it. `is_numbered` is false where no more than a printed problem is known of it, in which
     the arcs may have other numbers. `solution` and `cut` are the last ones; the solution is None where its flows were not
-    told, or not on a known network."""
+    told, as in the brief reply to a solve, or not on a known network. `solves_are_brief` says whether a solve is answered by its
+    value alone (`--brief`), and is None where that is not known."""
 
     def __init__(self, problem: Problem, commands: Iterator[bytes] | None = None) -> None:
         self.timeline = Timeline(problem)
         self.is_known = self.is_numbered = True
+        self.solves_are_brief: bool | None = None
         self.solution: Solution | None = None
         self.cut: Cut | None = None
         self.line = 0
@@ -144,6 +146,8 @@ class Follower:
             yield self._changed(content, found)
         elif kind is Kind.VALUE:
             yield from self._begin_solution(found)
+        elif kind is Kind.SOLVED:
+            yield self._solved(number(found[3]))
         elif kind is Kind.CUT:
             yield from self._begin_cut(number(found[2]))
         elif kind is Kind.PROBLEM:
@@ -242,11 +246,31 @@ class Follower:
 
     # Solutions, cuts and printed problems.
 
+    def _answers_solve(self, is_brief: bool) -> None:
+        """Takes note of how a solve is answered. Raises a `Fault` where an earlier one was answered in the other form."""
+        if self.solves_are_brief not in (None, is_brief):
+            raise Fault("brief and whole replies to solve in one answer")
+        self.solves_are_brief = is_brief
+
+    def _solved(self, value: int) -> Solution:
+        """The brief reply to a solve: its flows are not known until they are printed."""
+        command = self._asked(SOLVE)
+        self._answers_solve(is_brief=True)
+        if command is not None and self.is_known:
+            self.timeline.carry_out(command, value)
+        elif self.is_known:
+            self.timeline.begin_anew(value)
+        self._awaits_cut = True
+        self.solution = None
+        return Solution(value, is_told=False, serial=self.timeline.serial)
+
     def _begin_solution(self, found: list[bytes]) -> Iterator[Event]:
         if len(found) != 2:
             raise Fault("wrong number of fields")
         value = number(found[1])
         command = self._asked(SOLVE, PRINT_FLOW)
+        if command == Command(SOLVE):
+            self._answers_solve(is_brief=False)
         if not self.is_known:
             self._awaits_cut = command == Command(SOLVE)
             self.solution = None
@@ -297,7 +321,8 @@ class Follower:
         is_told = reading.is_whole()
         if is_told:
             reading.judge(timeline.problem.source, timeline.problem.sink)
-        if reading.command is None:
+        # Where solves are answered briefly, a solution answers `print flow`.
+        if reading.command is None and not self.solves_are_brief:
             timeline.begin_anew(reading.value)
         elif reading.command == Command(SOLVE):
             timeline.carry_out(reading.command, reading.value)

@@ -4,7 +4,7 @@ use thiserror::Error;
 /// Why the program gives no answer.
 #[derive(Debug, Drop, Error)]
 pub enum Fault {
-    /// The words are none that the program takes, and this text says why.
+    /// The arguments are invalid, and this text, the one of `clap`, names the word and says why.
     #[error("{0}")]
     Usage(String),
     /// A word is no UTF-8, so that it cannot be read.

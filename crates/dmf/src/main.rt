@@ -66,9 +66,10 @@ fn run(rt: &HostRuntime) -> Result<Status, Fault> {
 /// Solves the problem on standard input, and tells the cut where it is wanted.
 #[inline(never)]
 fn solve(rt: &HostRuntime, want_cut: bool, want_progress: bool) -> Result<Status, Fault> {
+    let out = output(rt)?;
     invite(rt);
     let progress = Progress::new(rt, want_progress);
-    let mut out = WatchedSink::new(output(rt)?, &progress);
+    let mut out = WatchedSink::new(out, &progress);
     let mut problem = WatchedSource::of_input(StdSource::new(rt.stdin()), &progress);
     let mut watch = WatchedSolve::new(&progress);
     let outcome = run_solve_watched(rt.alloc(), &mut problem, &mut out, want_cut, &mut watch);
@@ -88,11 +89,12 @@ fn hold_session(
 ) -> Result<Status, Fault>
     requires { bound ≤ 1000000 }
 {
-    let progress = Progress::new(rt, want_progress);
     let file = open_problem(rt, path)?;
-    let mut problem = WatchedSource::of_file(StdSource::new(file), path, &progress);
+    let out = output(rt)?;
+    let progress = Progress::new(rt, want_progress);
     let dialogue = Dialogue::new(rt, path);
-    let mut out = HeardSink::new(WatchedSink::new(output(rt)?, &progress), &dialogue);
+    let mut problem = WatchedSource::of_file(StdSource::new(file), path, &progress);
+    let mut out = HeardSink::new(WatchedSink::new(out, &progress), &dialogue);
     let commands = WatchedCommands::new(StdSource::new(rt.stdin()), &progress);
     let mut commands = KeptCommands::new(commands, &dialogue);
     let mut watch = WatchedSolve::new(&progress);
@@ -112,10 +114,11 @@ fn hold_session(
 /// Checks the solution on standard input of the problem in the file at the path.
 #[inline(never)]
 fn check(rt: &HostRuntime, path: &str) -> Result<Status, Fault> {
-    let progress = Progress::new(rt, false);
     let file = open_problem(rt, path)?;
+    let out = output(rt)?;
+    let progress = Progress::new(rt, false);
     let mut problem = WatchedSource::of_file(StdSource::new(file), path, &progress);
-    let mut out = WatchedSink::new(output(rt)?, &progress);
+    let mut out = WatchedSink::new(out, &progress);
     let mut solution = WatchedSource::of_input(StdSource::new(rt.stdin()), &progress);
     let outcome = run_check(rt.alloc(), &mut problem, &mut solution, &mut out);
     progress.end();

@@ -1,8 +1,3 @@
-pub mod Table
-pub mod WordWalk
-pub mod BoundLemmas
-pub mod RowLemmas
-pub mod SessionWords
-pub mod SessionOrders
-pub mod Reading
 pub mod CommandLemmas
+pub mod Reading
+pub mod PlainWordsLemmas

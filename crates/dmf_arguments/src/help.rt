@@ -3,6 +3,38 @@
 /// What `dmf --version` tells behind the program's name.
 pub const VERSION: &str = "0.1.0";
 
+/// What the program is for.
+pub const ABOUT: &str =
+    "Find how much a network can carry and where its limit is, and try out changes";
+
+/// What `dmf solve` is for.
+pub const SOLVE: &str = "Find how much can be sent, and on which arcs (as dmf alone does)";
+
+/// What `dmf session` is for.
+pub const SESSION: &str =
+    "Try out changes of arcs and nodes, one command a line, and take them back";
+
+/// What `dmf check` is for.
+pub const CHECK: &str = "Judge whether a solution is right, and its flow the greatest";
+
+/// The option `--brief`.
+pub const BRIEF: &str = "Answer a solve by its value in place of the solution";
+
+/// The option `--cut` of a solve.
+pub const CUT: &str = "Write the smallest minimum cut after the solution";
+
+/// The option `--cut` of a session.
+pub const CUTS: &str = "Write the smallest minimum cut after each solution";
+
+/// The option `--history`.
+pub const HISTORY: &str = "Keep at most N changes for undo";
+
+/// The option `--progress`.
+pub const PROGRESS: &str = "Tell on standard error how far it is";
+
+/// The path behind `dmf session` and `dmf check`.
+pub const PROBLEM: &str = "The file with the problem";
+
 /// How the program is used.
 pub const USAGE: &str = "dmf [solve [--cut] [--progress]] <FILE
        dmf session [--brief] [--cut] [--history N] [--progress] PROBLEM
@@ -18,24 +50,34 @@ pub const SESSION_USAGE: &str = "dmf session [--brief] [--cut] [--history N] [--
 pub const CHECK_USAGE: &str = "dmf check PROBLEM <SOLUTION";
 
 /// The end of the help of `dmf`.
-pub const NOTES: &str = "Example:
-  dmf solve --cut <network.max
+pub const NOTES: &str = "How much can the network carry, and where is its limit?
+  $ dmf solve --cut <network.max | grep -v '^f'
+  s 5
+  c cut 5
+  c side 1
 
-Tools for networks with names, each with a --help of its own:
-  dmf-problem  makes a problem of a table of arcs
-  dmf-names    tells by names what dmf writes
-  dmf-dot      draws a problem and its answers for Graphviz
+What would it carry if the fifth arc had the capacity 1?
+  $ printf 'cap 5 1\\nsolve\\n' | dmf session --brief network.max
+  c cap value 0
+  c solve value 3
 
-Status:
-  0  all is well
+Is a solution right, and is its flow the greatest?
+  $ dmf solve <network.max | dmf check network.max
+  c greatest 5
+
+Exit status:
+  0  success
   1  a command was refused, or the checked flow is not the greatest
-  2  the words are none that dmf takes
+  2  invalid arguments
   3  the problem or the solution has a fault
   4  a read or a write failed, PROBLEM cannot be opened, or a limit of size
      was passed
   5  a request for memory was refused
 
-Each command's --help has an example of its replies. man dmf has the formats.";
+Tools around it: dmf-plan dmf-board dmf-problem dmf-names dmf-dot dmf-sweep
+
+FILE and PROBLEM are texts in the DIMACS format for maximum flow. The --help of
+each command and tool says more. man dmf has the formats.";
 
 /// The end of the help of `dmf solve`.
 pub const SOLVE_NOTES: &str = "Example:
@@ -49,25 +91,29 @@ pub const SOLVE_NOTES: &str = "Example:
   c cut 5
   c side 1
 
-The line s has the value of the flow. The lines f follow the arcs of the
-problem in their order: from node, to node, and the flow. With --cut, c cut has
-the cut's capacity, and each c side a node on the source's side of it.
+The line s has how much can be sent in all, the value of the flow. The lines f
+follow the arcs of the problem in their order: from node, to node, and the flow
+on the arc. With --cut, c cut has how much the arcs at the limit can carry, and
+each c side names a node on the source's side of that limit.
+
 man dmf has the formats.";
 
 /// The end of the help of `dmf session`.
-pub const SESSION_NOTES: &str = "Commands, one a line on standard input, and their replies:
-  cap I U     arc I gets the capacity U           c cap value VALUE
-  add A B U   an arc from A to B of capacity U    c add I value VALUE
-  close I     nothing may flow on arc I any more  c close value VALUE
-  shut A      every open arc at node A is closed  c shut value VALUE
-  solve       the flow becomes a greatest one     the solution
-  undo [K]    the last change, or K, taken back   c undo value VALUE
-  redo [K]    one change, or K, made again        c redo value VALUE
-  print WHAT  WHAT is problem, flow or cut        what was asked for
+pub const SESSION_NOTES: &str = "Commands, one a line on standard input, each with its reply:
+  cap ARC CAP      the arc can carry CAP               c cap value VALUE
+  add FROM TO CAP  a new arc leads from node to node   c add ARC value VALUE
+  close ARC        the arc can carry nothing           c close value VALUE
+  shut NODE        every arc at the node is closed     c shut value VALUE
+  solve            as much as possible is sent         s VALUE, then f lines
+  undo [K]         the last change, or K, taken back   c undo value VALUE
+  redo [K]         one change, or K, made again        c redo value VALUE
+  print problem    the network as it is now            p, n and a lines
+  print flow       how much each arc carries now       s VALUE, then f lines
+  print cut        where the limit is                  c cut, then c side lines
 
-VALUE is the value of the flow after the command. Line L, where it is refused,
-changes nothing and is answered by c refused L REASON. With --brief the reply
-to solve is c solve value VALUE.
+VALUE is how much is sent after the command. A refused command changes nothing;
+its reply is c refused LINE REASON. With --brief the reply to solve is
+c solve value VALUE.
 
 Arcs are numbered from 1 in the order of PROBLEM. Added ones follow, and closed
 ones keep their numbers.
@@ -91,5 +137,6 @@ pub const CHECK_NOTES: &str = "Example:
   $ dmf solve <network.max | dmf check network.max
   c greatest 5
 
-The reply is c greatest VALUE where no flow has a larger value, and else
-c flow VALUE, with status 1. man dmf has the formats.";
+The solution may come from any program. The reply is c greatest VALUE where no
+flow of the problem has a larger value. Else it is c flow VALUE, with exit
+status 1. man dmf has the formats.";

@@ -1,11 +1,8 @@
 //! The words of the program's arguments: what they ask for.
-ghost use Rattle.std.specs.Prelude.{ℕ, ◌≡◌, ◌≢◌, ◌≤◌, IfOk, Bool, Option, Some, None, codes, drop, map, false};
-ghost use Rattle.clap.specs.Words.{app_of, first_value, found_of, kind_of, one_text, rule_of, subcommand_rows_of};
-ghost use Rattle.clap.specs.Values.{bool_text};
-ghost use Rattle.clap.specs.declared.builder.command.Command.TheViews.{out-Command as fields_of};
-ghost use Rattle.dmf_arguments.specs.Matches.{asked_of, brief_rule, check_line, arguments, cut_rule, history_rule, problem_rule, progress_rule, program_line, session_line, solve_line};
-ghost use Rattle.dmf_arguments.specs.Words.{Gives, HasBound, IsBound, IsHelp, IsUsage, ReadsMode, ReadsWords, Text, solving, holding, checking};
-ghost use Rattle.dmf_arguments.specs.declared.words.WordsFault.TheVariants.{NoMemory};
+ghost use Rattle.std.specs.Prelude.{ℕ, ◌≡◌, ◌≤◌, IfOk, Some, codes, map};
+ghost use Rattle.clap.specs.Words.{app_of, first_value, found_of, kind_of, new_app, one_text, subcommand_rows_of, Text};
+ghost use Rattle.dmf_arguments.specs.CommandLine.{IsLine, IsRule, asked_of, arguments, check_line, flag_rule, history_rule, problem_rule, program_line, session_line, solve_line};
+ghost use Rattle.dmf_arguments.specs.Words.{AsksCheck, AsksNothing, AsksSession, AsksSolve, HasBound, IsBound, ReadsMode, ReadsWords, Tells};
 
 use crate::help;
 use clap::error::ErrorKind;
@@ -49,7 +46,7 @@ pub struct Arguments {
 pub enum WordsFault {
     /// They ask for a text, the help or the program's version, and this is it.
     Help(String),
-    /// They are none that the program takes, and this text says why.
+    /// They are invalid, and this text, the one of `clap`, names the word and says why.
     Usage(String),
     /// A request for memory was refused.
     NoMemory,
@@ -69,7 +66,7 @@ impl From<AllocError> for WordsFault {
 /// Reads the run that the program's arguments ask for: that of [`read_arguments`], without what else they ask for.
 #[inline(never)]
 pub fn read_words(alloc: Global, words: Vec<String>) -> Result<Mode, WordsFault>
-    ensures words { ReadsMode (drop 1 (map (λ word. word.bytes.items) words.items)) result }
+    ensures words { ReadsMode (map (λ word. word.bytes.items) words.items) result }
     ensures bound { IfOk result HasBound }
 {
     match read_arguments(alloc, words) {
@@ -88,7 +85,7 @@ pub fn read_words(alloc: Global, words: Vec<String>) -> Result<Mode, WordsFault>
 /// those of `clap`. [`WordsFault::NoMemory`] may come in place of any answer.
 #[inline(never)]
 pub fn read_arguments(alloc: Global, words: Vec<String>) -> Result<Arguments, WordsFault>
-    ensures words { ReadsWords (drop 1 (map (λ word. word.bytes.items) words.items)) result }
+    ensures words { ReadsWords (map (λ word. word.bytes.items) words.items) result }
     ensures bound { IfOk result (λ asked. HasBound asked.mode) }
 {
     let command = command(alloc)?;
@@ -113,131 +110,98 @@ fn command<'a>(alloc: Global) -> Result<Command<'a>, AllocError>
 fn program<'a>(alloc: Global) -> Command<'a>
     ensures { app_of result ≡ program_line }
 {
-    Command::new(alloc, "dmf")
-        .about(
-            "Solve maximum-flow problems in the DIMACS format, and hold what-if sessions on them",
-        )
-        .version(help::VERSION)
-        .override_usage(help::USAGE)
-        .after_help(help::NOTES)
+    named(alloc, "dmf", help::ABOUT, help::USAGE, help::NOTES).version(help::VERSION)
+}
+
+/// A command without arguments, with its texts of help.
+fn named<'a>(
+    alloc: Global,
+    name: &'a str,
+    about: &'a str,
+    usage: &'a str,
+    notes: &'a str,
+) -> Command<'a>
+    ensures { IsLine (new_app name.now) result }
+{
+    Command::new(alloc, name)
+        .about(about)
+        .override_usage(usage)
+        .after_help(notes)
 }
 
 /// The command `solve`.
 #[inline(never)]
 fn solve<'a>(alloc: Global) -> Result<Command<'a>, AllocError>
-    ensures line { IfOk result (λ made. app_of made ≡ solve_line) }
-    ensures local { IfOk result (λ made. (fields_of made).has_globals ≡ false) }
+    ensures { IfOk result (IsLine solve_line) }
 {
-    Command::new(alloc, "solve")
-        .about("Solve the problem on standard input (without a command, dmf does so too)")
-        .override_usage(help::SOLVE_USAGE)
-        .after_help(help::SOLVE_NOTES)
-        .arg(cut(alloc, "Write the smallest minimum cut after the solution"))?
-        .arg(progress(alloc))
+    let (about, usage) = (help::SOLVE, help::SOLVE_USAGE);
+    named(alloc, "solve", about, usage, help::SOLVE_NOTES)
+        .arg(flag(alloc, "cut", help::CUT))?
+        .arg(flag(alloc, "progress", help::PROGRESS))
 }
 
 /// The command `session`.
 #[inline(never)]
 fn session<'a>(alloc: Global) -> Result<Command<'a>, AllocError>
-    ensures line { IfOk result (λ made. app_of made ≡ session_line) }
-    ensures local { IfOk result (λ made. (fields_of made).has_globals ≡ false) }
+    ensures { IfOk result (IsLine session_line) }
 {
-    Command::new(alloc, "session")
-        .about("Carry out the commands on standard input, on the problem in a file")
-        .override_usage(help::SESSION_USAGE)
-        .after_help(help::SESSION_NOTES)
-        .arg(brief(alloc))?
-        .arg(cut(alloc, "Write the smallest minimum cut after each solution"))?
+    let (about, usage) = (help::SESSION, help::SESSION_USAGE);
+    named(alloc, "session", about, usage, help::SESSION_NOTES)
+        .arg(flag(alloc, "brief", help::BRIEF))?
+        .arg(flag(alloc, "cut", help::CUTS))?
         .arg(history(alloc))?
-        .arg(progress(alloc))?
+        .arg(flag(alloc, "progress", help::PROGRESS))?
         .arg(problem(alloc))
 }
 
 /// The command `check`.
 #[inline(never)]
 fn check<'a>(alloc: Global) -> Result<Command<'a>, AllocError>
-    ensures line { IfOk result (λ made. app_of made ≡ check_line) }
-    ensures local { IfOk result (λ made. (fields_of made).has_globals ≡ false) }
+    ensures { IfOk result (IsLine check_line) }
 {
-    Command::new(alloc, "check")
-        .about("Judge the solution on standard input, of the problem in a file")
-        .override_usage(help::CHECK_USAGE)
-        .after_help(help::CHECK_NOTES)
-        .arg(problem(alloc))
+    let (about, usage) = (help::CHECK, help::CHECK_USAGE);
+    named(alloc, "check", about, usage, help::CHECK_NOTES).arg(problem(alloc))
 }
 
-/// The flag with which the cut is wanted.
-fn cut<'a>(alloc: Global, help: &'a str) -> Arg<'a>
-    ensures rule { rule_of result ≡ cut_rule }
-    ensures local { result.global ≡ false }
+/// The option of this name, which has no value.
+fn flag<'a>(alloc: Global, name: &'a str, help: &'a str) -> Arg<'a>
+    ensures { IsRule (flag_rule name.now) result }
 {
-    Arg::new(alloc, "cut")
-        .long("cut")
+    Arg::new(alloc, name)
+        .long(name)
         .action(ArgAction::SetTrue)
         .help(help)
-}
-
-/// The flag with which a session answers a solve by its value.
-fn brief<'a>(alloc: Global) -> Arg<'a>
-    ensures rule { rule_of result ≡ brief_rule }
-    ensures local { result.global ≡ false }
-{
-    Arg::new(alloc, "brief")
-        .long("brief")
-        .action(ArgAction::SetTrue)
-        .help("Answer a solve by its value in place of the solution")
-}
-
-/// The flag with which progress is told also where standard error is no terminal.
-fn progress<'a>(alloc: Global) -> Arg<'a>
-    ensures rule { rule_of result ≡ progress_rule }
-    ensures local { result.global ≡ false }
-{
-    Arg::new(alloc, "progress")
-        .long("progress")
-        .action(ArgAction::SetTrue)
-        .help("Tell on standard error how far it is")
 }
 
 /// The option that says how many states are kept before the present one.
 #[inline(never)]
 fn history<'a>(alloc: Global) -> Arg<'a>
-    ensures rule { rule_of result ≡ history_rule }
-    ensures local { result.global ≡ false }
+    ensures { IsRule history_rule result }
 {
     Arg::new(alloc, "history")
         .long("history")
         .value_name("N")
         .default_value("1000000")
         .value_parser(value_parser!(u32).range(0..=i64::from(MAX_HISTORY)))
-        .help("Keep at most N changes for undo")
+        .help(help::HISTORY)
 }
 
 /// The word that names the problem's file.
 fn problem<'a>(alloc: Global) -> Arg<'a>
-    ensures rule { rule_of result ≡ problem_rule }
-    ensures local { result.global ≡ false }
+    ensures { IsRule problem_rule result }
 {
     Arg::new(alloc, "problem")
         .value_name("PROBLEM")
         .required(true)
-        .help("The file with the problem")
+        .help(help::PROBLEM)
 }
 
 /// What the words that the program takes ask for.
 fn arguments_of(alloc: Global, matches: &ArgMatches<'_>) -> Result<Arguments, WordsFault>
-    ensures nothing { asked_of (subcommand_rows_of matches.now) ≡ None → Gives (solving false false) result }
-    ensures solve { (cut progress : Bool) (brief text path : Option Text)
-        → asked_of (subcommand_rows_of matches.now)
-        ≡ Some (codes "solve", Some (bool_text cut), brief, Some (bool_text progress), text, path)
-        → Gives (solving cut progress) result }
-    ensures session { (cut brief progress : Bool) (text : Text) (bound : ℕ) (path : Text)
-        → asked_of (subcommand_rows_of matches.now)
-        ≡ Some (codes "session", Some (bool_text cut), Some (bool_text brief), Some (bool_text progress), Some text, Some path)
-        → IsBound text bound → Gives (holding cut brief progress bound path) result }
-    ensures check { (cut brief progress text : Option Text) (path : Text)
-        → asked_of (subcommand_rows_of matches.now) ≡ Some (codes "check", cut, brief, progress, text, Some path)
-        → Gives (checking path) result }
+    ensures nothing { AsksNothing (asked_of (subcommand_rows_of matches.now)) result }
+    ensures solve { AsksSolve (asked_of (subcommand_rows_of matches.now)) result }
+    ensures session { AsksSession (asked_of (subcommand_rows_of matches.now)) result }
+    ensures check { AsksCheck (asked_of (subcommand_rows_of matches.now)) result }
     ensures bound { IfOk result (λ asked. HasBound asked.mode) }
 {
     match matches.subcommand() {
@@ -294,11 +258,7 @@ fn path_of(alloc: Global, matches: &ArgMatches<'_>) -> Result<String, AllocError
 
 /// Why the words were not taken.
 fn fault_of(alloc: Global, error: &Error) -> WordsFault
-    ensures memory { kind_of error.now ≡ ErrorKind.OutOfMemory → result ≡ NoMemory }
-    ensures help { kind_of error.now ≡ ErrorKind.DisplayHelp → IsHelp result }
-    ensures version { kind_of error.now ≡ ErrorKind.DisplayVersion → IsHelp result }
-    ensures usage { kind_of error.now ≢ ErrorKind.DisplayHelp → kind_of error.now ≢ ErrorKind.DisplayVersion
-        → IsUsage result }
+    ensures { Tells (kind_of error.now) result }
 {
     if error.kind() == ErrorKind::OutOfMemory {
         return WordsFault::NoMemory;

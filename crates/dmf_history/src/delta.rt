@@ -9,8 +9,7 @@ use std::marker::Model;
 
 /// A history that keeps the present state alone, and the edits that lead from each state to the next.
 ///
-/// A step back or forward looks at the arcs that its edit names, and at no others. Forgetting drops one edit, in constant
-/// time.
+/// A step back or forward looks only at the arcs that its edit names. To forget a state drops one edit, in constant time.
 #[derive(Drop)]
 pub struct DeltaHistory {
     present: State,
@@ -73,7 +72,7 @@ impl History for DeltaHistory {
         self.bound
     }
 
-    // Both growths, that of the edits and that of an addition, come before an edit is dropped or forgotten.
+    // What can be refused memory comes first: room for the edit, and for an arc that it adds. Only then edits are dropped.
     fn append(&mut self, edit: Edit) -> Result<(), NoMemory> {
         reverting_gives_back();
         self.edits.reserve(1)?;

@@ -24,8 +24,8 @@ pub enum RedoFault {
     NoMemory,
 }
 
-/// A list of states and the place of the present one, however they are kept. A history has a bound, which nothing alters: no
-/// more states than that are kept before the present one.
+/// A list of states and the place of the present one, in whatever way a history keeps them. A history has a bound, which nothing
+/// alters: it keeps no more states than that before the present one.
 pub trait History {
     ghost use Rattle.std.specs.Prelude.{◌≡◌, ◌<◌, ◌↔◌, Ok, Err, IfSome, OnOk, OnErr, IsOk};
     ghost use Rattle.dmf_history.specs.declared.history.RedoFault.TheVariants as redo;
@@ -54,11 +54,11 @@ pub trait History {
         ensures count { result ≡ (timeline self.now).bound }
         ensures timeline { IsTimeline (timeline self.now) };
 
-    /// Drops the states past the present one, and appends what the edit makes of it as the present one. Where more states
-    /// than the bound would then stand before it, the oldest is forgotten. The edit fits the present state, as one that was
-    /// planned on it does.
+    /// Drops the states past the present one, and appends what the edit makes of the present state; that is the present state from
+    /// then on. Where more states than the bound would stand before it, the history forgets the oldest. The edit fits the present
+    /// state, as one that was planned on it does.
     ///
-    /// Fails only where memory is refused; then nothing has changed. Forgetting takes no memory.
+    /// The call fails only where memory is refused, and then nothing has changed. To forget a state takes no memory.
     fn append(&mut self, edit: Edit) -> Result<(), NoMemory>
         requires fits { FitsPresent edit (timeline self.old) }
         ensures ok { OnOk result (Appends edit (timeline self.old) (timeline self.new)) }
@@ -70,8 +70,8 @@ pub trait History {
         ensures ok { OnOk result (timeline self.new ≡ back (timeline self.old) 1) }
         ensures err { OnErr result (timeline self.new ≡ timeline self.old) };
 
-    /// Goes one state forward. Takes memory only where that state has more arcs than the present one; where it is
-    /// refused, nothing has changed.
+    /// Goes one state forward. This takes memory only where that state has more arcs than the present one; where memory is refused,
+    /// nothing has changed.
     fn redo(&mut self) -> Result<(), RedoFault>
         ensures last { (result ≡ Err redo.NothingToRedo) ↔ (future_of (timeline self.old) ≡ 0) }
         ensures memory { result ≡ Err redo.NoMemory → AddsArcs (timeline self.old) (timeline self.old).place }

@@ -71,7 +71,7 @@ impl History for WholeHistory {
         self.bound
     }
 
-    // All growths come before a state is dropped or forgotten.
+    // What can be refused memory comes first: the copy, an arc that the edit adds, and room for the state. Only then states are dropped.
     fn append(&mut self, edit: Edit) -> Result<(), NoMemory> {
         let mut next = self.states[self.place].copy(self.alloc)?;
         next.apply(&edit)?;

@@ -21,7 +21,8 @@ abbrev pub carried_out : (ℕ → Bool) → Arc → ℕ
 carried_out has arc = cond (has arc.tail && not (has arc.head)) arc.cap 0
 
 -- The sum so far and the next capacity are within all capacities together.
-pub next-small : (has : ℕ → Bool) (arcs : List Arc) (i sum x : ℕ) → i < length arcs → x ≡ carried_out has (get_or arcs i no_arc) → sum ≡ sum_by (carried_out has) (take i arcs) → capacity_sum arcs < 2 ^ 64 → sum + x < 2 ^ 64
+pub next-small : (has : ℕ → Bool) (arcs : List Arc) (i sum x : ℕ) → i < length arcs → x ≡ carried_out has (get_or arcs i no_arc)
+    → sum ≡ sum_by (carried_out has) (take i arcs) → capacity_sum arcs < 2 ^ 64 → sum + x < 2 ^ 64
 next-small has arcs i sum x h x_is is small =
     let f : Arc → ℕ = carried_out has in
     let g : Arc → ℕ = λ a. a.cap in
@@ -30,11 +31,13 @@ next-small has arcs i sum x h x_is is small =
     omega (arith, part, whole, is, small, x_is)
 
 -- one more arc
-pub sum-next : (has : ℕ → Bool) (arcs : List Arc) (i sum x : ℕ) → i < length arcs → x ≡ carried_out has (get_or arcs i no_arc) → sum ≡ sum_by (carried_out has) (take i arcs) → sum + x ≡ sum_by (carried_out has) (take (i + 1) arcs)
+pub sum-next : (has : ℕ → Bool) (arcs : List Arc) (i sum x : ℕ) → i < length arcs → x ≡ carried_out has (get_or arcs i no_arc)
+    → sum ≡ sum_by (carried_out has) (take i arcs) → sum + x ≡ sum_by (carried_out has) (take (i + 1) arcs)
 sum-next has arcs i sum x h x_is is = omega (arith, is, x_is, sum_by_more (carried_out has) arcs i no_arc h)
 
 -- all arcs
-pub sum-whole : (has : ℕ → Bool) (arcs : List Arc) (i sum : ℕ) → length arcs ≤ i → sum ≡ sum_by (carried_out has) (take i arcs) → sum ≡ sum_by (carried_out has) arcs
+pub sum-whole : (has : ℕ → Bool) (arcs : List Arc) (i sum : ℕ) → length arcs ≤ i → sum ≡ sum_by (carried_out has) (take i arcs)
+    → sum ≡ sum_by (carried_out has) arcs
 sum-whole has arcs i sum h is = is ∙ ap (sum_by (carried_out has)) (take_all i arcs h)
 
 -- The capacity of the arcs that lead out of a set with the source and without the sink is a limit.
@@ -63,8 +66,9 @@ lesser-limit n a b first second flows flow = ⊎_elim
     (cases_lt a b)
 
 -- the lesser of both sums, by what each of them is
-pub lesser-is : (n : Network) (arcs others : List Arc) (source sink out into least : ℕ) → arcs ≡ n.arcs → others ≡ n.arcs → source ≡ n.source → sink ≡ n.sink → out ≡ leaving arcs source → into ≡ entering others sink → least ≡ min out into → least ≡ min (leaving n.arcs n.source) (entering n.arcs n.sink)
-lesser-is n arcs others source sink out into least arcs_is others_is source_is sink_is out_is into_is least_is =
+pub lesser-is : (n : Network) (arcs : List Arc) (source sink out into least : ℕ) → arcs ≡ n.arcs → source ≡ n.source → sink ≡ n.sink
+    → out ≡ leaving arcs source → into ≡ entering arcs sink → least ≡ min out into → least ≡ min (leaving n.arcs n.source) (entering n.arcs n.sink)
+lesser-is n arcs source sink out into least arcs_is source_is sink_is out_is into_is least_is =
     let first : out ≡ leaving n.arcs n.source = out_is ∙ ap (λ l. leaving l source) arcs_is ∙ ap (leaving n.arcs) source_is in
-    let second : into ≡ entering n.arcs n.sink = into_is ∙ ap (λ l. entering l sink) others_is ∙ ap (entering n.arcs) sink_is in
+    let second : into ≡ entering n.arcs n.sink = into_is ∙ ap (λ l. entering l sink) arcs_is ∙ ap (entering n.arcs) sink_is in
     least_is ∙ ap (λ x. min x into) first ∙ ap (min (leaving n.arcs n.source)) second

@@ -1,4 +1,4 @@
-//! How far a run is, told on standard error: by a source, a sink and a watch that a run is given.
+//! Sources, a sink and a watch that tell on standard error how far a run is.
 #![tactic(auto)]
 
 mod limit;

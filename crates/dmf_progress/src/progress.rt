@@ -1,6 +1,6 @@
-//! How far a run is, told on standard error. On a terminal that is one line, which each next word replaces and which is erased
-//! before anything is answered or asked for; elsewhere each word is a line. Nothing else depends on it, and where it cannot be
-//! told, the run goes on.
+//! Tells on standard error how far a run is. On a terminal that is one line: each word replaces the one before it, and the line is
+//! erased before the program answers or asks for more. Elsewhere each word is a line of its own. Where a word cannot be written,
+//! the run goes on.
 ghost use Rattle.std.specs.Prelude.{◌≡◌};
 
 use crate::limit::value_limit;
@@ -20,19 +20,19 @@ const PATIENCE: u64 = 500;
 /// The least time between two words, in milliseconds.
 const PAUSE: u64 = 250;
 
-/// So many calls go by for each look at the clock.
+/// The clock is looked at once in so many calls.
 const CALLS: u64 = 64;
 
-/// Under this name the system knows the file on standard input.
+/// The path of the file on standard input.
 const INPUT: &str = "/proc/self/fd/0";
 
-/// The line on standard error. What it tells of is a task: to read a text, to solve, or to write an answer.
+/// The line on standard error. It tells how far a task is: reading a text, solving, or writing an answer.
 #[derive(Drop)]
 pub struct Progress<'a> {
     rt: &'a HostRuntime,
     /// Whether standard error is a terminal, on which a word can be replaced.
     is_terminal: bool,
-    /// How long a task is silent at first, in milliseconds; none, where nothing is told at all.
+    /// How many milliseconds a task goes on before its first word. None where nothing is told at all.
     patience: Option<u64>,
     /// When the next word may come.
     due: Cell<Option<Instant>>,
@@ -42,8 +42,8 @@ pub struct Progress<'a> {
 }
 
 impl<'a> Progress<'a> {
-    /// A line that is still empty. It comes at once where it was asked for, else after a while, and never on what is no
-    /// terminal.
+    /// An empty line. Where progress was asked for, a task's first word comes at once. Otherwise it comes after half a second, and
+    /// on a terminal alone.
     pub fn new(rt: &'a HostRuntime, is_asked_for: bool) -> Self {
         let is_terminal = rt.stderr().is_terminal();
         let patience = if is_asked_for {
@@ -63,7 +63,7 @@ impl<'a> Progress<'a> {
         }
     }
 
-    /// How many bytes the file at this path has, where something is told and it is a regular one.
+    /// The size of the file at this path in bytes, where something is told and the file is a regular one.
     fn size_of(&self, path: &str) -> Option<u64> {
         self.patience?;
         match fs::metadata(self.rt, path) {
@@ -72,7 +72,7 @@ impl<'a> Progress<'a> {
         }
     }
 
-    /// What the value of this state's flows cannot pass, where something is told.
+    /// What the value of a flow of this network cannot pass, where something is told.
     fn most_of(&self, state: &State) -> Option<u64> {
         self.patience?;
         Some(value_limit(state))
@@ -89,7 +89,7 @@ impl<'a> Progress<'a> {
         }
     }
 
-    /// The task has ended: the line is erased, if there is one.
+    /// Ends the task, and erases the line, if there is one.
     pub fn end(&self) {
         self.is_busy.set(false);
         if self.is_shown.get() {
@@ -108,7 +108,7 @@ impl<'a> Progress<'a> {
         }
     }
 
-    /// Whether it is time for a word. If so, the next may come after a pause.
+    /// Whether it is time for a word. If it is, the one after it has to wait for a pause.
     fn is_due(&self) -> bool {
         let Some(due) = self.due.get() else {
             return false;
@@ -124,14 +124,14 @@ impl<'a> Progress<'a> {
     }
 }
 
-/// The time that it is so many milliseconds later, if the clock tells.
+/// The time so many milliseconds from now, if the clock tells.
 fn after(rt: &HostRuntime, wait: u64) -> Option<Instant> {
     Instant::now(rt)
         .ok()?
         .checked_add(Duration::from_millis(wait))
 }
 
-/// A source whose reads are told, unless it is typed: a text that is read as a whole.
+/// A source that tells how much of a text is read, unless somebody types it.
 #[derive(Drop)]
 pub struct WatchedSource<'a, S> {
     source: S,
@@ -143,7 +143,7 @@ pub struct WatchedSource<'a, S> {
 }
 
 impl<'a, S: Source> WatchedSource<'a, S> {
-    /// That of the file at this path.
+    /// The source of a text that is in the file at this path.
     pub fn of_file(source: S, path: &str, progress: &'a Progress<'a>) -> Self {
         WatchedSource {
             source,
@@ -154,7 +154,7 @@ impl<'a, S: Source> WatchedSource<'a, S> {
         }
     }
 
-    /// That of standard input. At a terminal nothing is told between the lines that somebody types.
+    /// The source of a text on standard input. At a terminal nothing is told between the lines that somebody types.
     pub fn of_input(source: S, progress: &'a Progress<'a>) -> Self {
         WatchedSource {
             source,
@@ -186,7 +186,7 @@ impl<S: Source> Source for WatchedSource<'_, S> {
     }
 }
 
-/// A source of commands: whatever was told is erased before it is asked for more.
+/// A source of commands that erases the line before it reads more of them.
 #[derive(Drop)]
 pub struct WatchedCommands<'a, S> {
     source: S,
@@ -194,6 +194,7 @@ pub struct WatchedCommands<'a, S> {
 }
 
 impl<'a, S: Source> WatchedCommands<'a, S> {
+    /// A source of what this one has left.
     pub fn new(source: S, progress: &'a Progress<'a>) -> Self {
         WatchedCommands { source, progress }
     }
@@ -208,11 +209,11 @@ impl<S: Source> Source for WatchedCommands<'_, S> {
     }
 }
 
-/// Solves whose paths are told, one after the other.
+/// A watch that tells how far a solve is.
 #[derive(Drop)]
 pub struct WatchedSolve<'a> {
     progress: &'a Progress<'a>,
-    /// What the value cannot pass, where it is told.
+    /// What the value cannot pass, where that is known.
     most: Option<u64>,
     paths: u64,
     phases: u32,
@@ -221,6 +222,7 @@ pub struct WatchedSolve<'a> {
 }
 
 impl<'a> WatchedSolve<'a> {
+    /// A watch before the first solve.
     pub fn new(progress: &'a Progress<'a>) -> Self {
         WatchedSolve {
             progress,
@@ -255,8 +257,8 @@ impl Watch for WatchedSolve<'_> {
     }
 }
 
-/// A sink before the first byte of whose answers the line is erased. What is written then is told where it does not go to the
-/// terminal.
+/// A sink that erases the line before the first byte of an answer. Then it tells how much of the answer is written, unless that goes
+/// to the terminal.
 #[derive(Drop)]
 pub struct WatchedSink<'a, W> {
     sink: W,
@@ -267,6 +269,7 @@ pub struct WatchedSink<'a, W> {
 }
 
 impl<'a, W: Sink> WatchedSink<'a, W> {
+    /// A sink into this one.
     pub fn new(sink: W, progress: &'a Progress<'a>) -> Self {
         WatchedSink {
             sink,

@@ -8,7 +8,8 @@ use Rattle.dmf_runs.specs.CommandText.{command_of}
 use Rattle.dmf_runs.specs.Line.{line_meaning}
 
 -- a byte more, where it is kept
-pub IsKept-push : (kept : Kept) (line : List ℕ) (byte : ℕ) → length kept.bytes < 4096 → IsKept kept line → IsKept (record { bytes = kept.bytes ++ byte ∷ []; is_long = kept.is_long }) (line ++ byte ∷ [])
+pub IsKept-push : (kept : Kept) (line : List ℕ) (byte : ℕ) → length kept.bytes < 4096 → IsKept kept line
+    → IsKept (record { bytes = kept.bytes ++ byte ∷ []; is_long = kept.is_long }) (line ++ byte ∷ [])
 IsKept-push kept line byte space is =
     let short : length line < 4096 = omega (arith, ap length is.bytes_are, length-take 4096 line) in
     record {
@@ -18,7 +19,8 @@ IsKept-push kept line byte space is =
     }
 
 -- and where it is not
-pub IsKept-full : (kept : Kept) (line : List ℕ) (byte : ℕ) → length kept.bytes ≡ 4096 → IsKept kept line → IsKept (record { bytes = kept.bytes; is_long = true }) (line ++ byte ∷ [])
+pub IsKept-full : (kept : Kept) (line : List ℕ) (byte : ℕ) → length kept.bytes ≡ 4096 → IsKept kept line
+    → IsKept (record { bytes = kept.bytes; is_long = true }) (line ++ byte ∷ [])
 IsKept-full kept line byte full is =
     let long : 4096 ≤ length line = omega (arith, ap length is.bytes_are, length-take 4096 line) in
     record {
@@ -33,7 +35,8 @@ whole-line kept line short is =
     is.bytes_are ∙ take_all 4096 line le
 
 -- what a line means that is not too long
-pub meaning-of : (kept : Kept) (ended : Bool) (line content : List ℕ) → kept.is_long ≡ false → IsKept kept line → content ≡ cond ended (strip_carriage_return kept.bytes) kept.bytes → command_of content ≡ line_meaning ended line
+pub meaning-of : (kept : Kept) (ended : Bool) (line content : List ℕ) → kept.is_long ≡ false → IsKept kept line
+    → content ≡ cond ended (strip_carriage_return kept.bytes) kept.bytes → command_of content ≡ line_meaning ended line
 meaning-of kept ended line content short is content_is =
     let whole : kept.bytes ≡ line = whole-line kept line short is in
     let test : ltb 4096 (length line) ≡ false = sym is.long_is ∙ short in

@@ -1,31 +1,20 @@
 -- What one line leaves, and one line more of a run.
-use Rattle.std.proofs.Common.{ℕ, ◌≡◌, ◌+◌, List, [], ◌∷◌, ◌++◌, length, Bool, true, false, ◌||◌, Result, Ok, Err, ◌⊎◌, inl, inr, refl, sym, ap, ◌∙◌, subst, arith, append_assoc, append-nil}
+use Rattle.std.proofs.Common.{ℕ, ◌≡◌, ◌+◌, List, [], ◌∷◌, ◌++◌, length, Bool, true, false, ◌||◌, Result, Err, ◌⊎◌, inl, inr, refl, sym, ap, ◌∙◌, subst, arith, append_assoc, append-nil}
 use Rattle.dmf_session.specs.declared.command.Command.{Command}
 use Rattle.dmf_session.specs.declared.command.Reply.{Reply}
 use Rattle.dmf_session.specs.declared.command.Refusal.{Refusal}
-use Rattle.dmf_session.specs.declared.command.Refusal.TheVariants.{UnknownCommand, FieldCount, NotANumber, TooLarge, NoSuchArc, Closed, NoSuchNode, TooManyArcs, SumTooLarge, NothingToUndo, NothingToRedo, NotGreatest, NoMemory, LineTooLong}
+use Rattle.dmf_session.specs.declared.command.Refusal.TheVariants.{NoMemory}
 use Rattle.dmf_history.specs.Timeline.{Timeline}
 use Rattle.dmf_session.specs.Step.{Steps, Answers}
 use Rattle.dmf_runs.specs.declared.reply.SolveReply.{SolveReply}
 use Rattle.dmf_runs.specs.Line.{line_meaning}
 use Rattle.dmf_runs.specs.Run.{LineRuns, Runs}
 
-pub answers-cases : (want_cut : Bool) (t : Timeline) (command : Command) (result : Result Reply Refusal) (u : Timeline) → Answers want_cut t command result u → (u ≡ t) ⊎ Steps want_cut t command result u
-answers-cases want_cut t command (Ok reply) u a = inr a
-answers-cases want_cut t command (Err UnknownCommand) u a = inr a
-answers-cases want_cut t command (Err FieldCount) u a = inr a
-answers-cases want_cut t command (Err NotANumber) u a = inr a
-answers-cases want_cut t command (Err TooLarge) u a = inr a
-answers-cases want_cut t command (Err NoSuchArc) u a = inr a
-answers-cases want_cut t command (Err Closed) u a = inr a
-answers-cases want_cut t command (Err NoSuchNode) u a = inr a
-answers-cases want_cut t command (Err TooManyArcs) u a = inr a
-answers-cases want_cut t command (Err SumTooLarge) u a = inr a
-answers-cases want_cut t command (Err NothingToUndo) u a = inr a
-answers-cases want_cut t command (Err NothingToRedo) u a = inr a
-answers-cases want_cut t command (Err NotGreatest) u a = inr a
+-- An answer is refused memory, and nothing has changed, or it is one where memory is there.
+pub answers-cases : (want_cut : Bool) (t : Timeline) (command : Command) (result : Result Reply Refusal) (u : Timeline) → Answers want_cut t command result u
+    → (u ≡ t) ⊎ Steps want_cut t command result u
 answers-cases want_cut t command (Err NoMemory) u a = inl a.1
-answers-cases want_cut t command (Err LineTooLong) u a = inr a
+answers-cases want_cut t command result u a = inr a
 
 pub or-false : (b : Bool) → b ≡ (b || false)
 or-false true = refl
@@ -36,7 +25,11 @@ or-assoc true b c = refl
 or-assoc false b c = refl
 
 -- one line more
-pub Runs-push : (wanted : SolveReply) (number : ℕ) (t : Timeline) (lines : List (List ℕ)) (text : List ℕ) (refused : Bool) (u : Timeline) (line more : List ℕ) (later : Bool) (v : Timeline) → Runs wanted.brief (Answers wanted.cut) number t lines text refused u → LineRuns wanted.brief (Answers wanted.cut) (number + length lines) u (line_meaning true line) more later v → Runs wanted.brief (Answers wanted.cut) number t (lines ++ line ∷ []) (text ++ more) (refused || later) v
+pub Runs-push : (wanted : SolveReply) (number : ℕ) (t : Timeline) (lines : List (List ℕ)) (text : List ℕ) (refused : Bool) (u : Timeline) (line more : List ℕ)
+    (later : Bool) (v : Timeline)
+    → Runs wanted.brief (Answers wanted.cut) number t lines text refused u
+    → LineRuns wanted.brief (Answers wanted.cut) (number + length lines) u (line_meaning true line) more later v
+    → Runs wanted.brief (Answers wanted.cut) number t (lines ++ line ∷ []) (text ++ more) (refused || later) v
 Runs-push wanted number t [] text refused u line more later v runs then =
     let here : number + 0 ≡ number = omega arith in
     record {
@@ -45,7 +38,8 @@ Runs-push wanted number t [] text refused u line more later v runs then =
       here = later;
       more = [];
       later = false;
-      runs = subst (λ n. LineRuns wanted.brief (Answers wanted.cut) n t (line_meaning true line) more later v) here (subst (λ w. LineRuns wanted.brief (Answers wanted.cut) (number + 0) w (line_meaning true line) more later v) runs.2 then);
+      runs = subst (λ n. LineRuns wanted.brief (Answers wanted.cut) n t (line_meaning true line) more later v) here
+          (subst (λ w. LineRuns wanted.brief (Answers wanted.cut) (number + 0) w (line_meaning true line) more later v) runs.2 then);
       goes_on = (refl, refl, refl);
       text_is = ap (λ x. x ++ more) runs.0 ∙ sym (append-nil more);
       refused_is = ap (λ b. b || later) runs.1 ∙ or-false later;
@@ -59,7 +53,8 @@ Runs-push wanted number t (x ∷ lines) text refused u line more later v runs th
       more = runs.more ++ more;
       later = runs.later || later;
       runs = runs.runs;
-      goes_on = Runs-push wanted (number + 1) runs.between lines runs.more runs.later u line more later v runs.goes_on (subst (λ n. LineRuns wanted.brief (Answers wanted.cut) n u (line_meaning true line) more later v) place then);
+      goes_on = Runs-push wanted (number + 1) runs.between lines runs.more runs.later u line more later v runs.goes_on
+          (subst (λ n. LineRuns wanted.brief (Answers wanted.cut) n u (line_meaning true line) more later v) place then);
       text_is = ap (λ y. y ++ more) runs.text_is ∙ append_assoc runs.first runs.more more;
       refused_is = ap (λ b. b || later) runs.refused_is ∙ or-assoc runs.here runs.later later;
     }

@@ -42,7 +42,8 @@ appended-grows t u s within e =
     (record { place = omega (arith, length_push front s, long); at_most = omega (arith, length_push front s, long); bound = refl })
     (λ past. record { place = omega (arith, length_push front s, long, fewer); at_most = omega (arith, length_push front s, long, fewer); bound = refl }))
 
-change-grows : (t u : Timeline) (s : NetworkState) (made : change.Change) (reply : NetworkState → Reply) (result : Result Reply Refusal) (fault : Option PlanFault) → t.place < length t.states
+change-grows : (t u : Timeline) (s : NetworkState) (made : change.Change) (reply : NetworkState → Reply) (result : Result Reply Refusal)
+    (fault : Option PlanFault) → t.place < length t.states
     → MatchOption fault (IsChanged t s made reply result u) (λ f. IsRefused t (refusal_of f) result u) → Grows t u
 change-grows t u s made reply result None within m = appended-grows t u m.new within m.appends
 change-grows t u s made reply result (Some f) within m = same t u within m.unchanged
@@ -66,7 +67,8 @@ redo-grows t u steps result within m = ⊎_elim
     same t u within refused.unchanged)
     (test-cases steps (future_of t))
 
-steps-grow : (want_cut : Bool) (t u : Timeline) (command : Command) (result : Result Reply Refusal) → t.place < length t.states → Steps want_cut t command result u → Grows t u
+steps-grow : (want_cut : Bool) (t u : Timeline) (command : Command) (result : Result Reply Refusal) → t.place < length t.states
+    → Steps want_cut t command result u → Grows t u
 steps-grow want_cut t u (Cap arc cap) result within s =
     change-grows t u s.0 (change.Cap arc cap) (λ new. Value (value_of new)) result (change_fault s.0 (change.Cap arc cap)) within s.2
 steps-grow want_cut t u (Add tail head cap) result within s =
@@ -94,7 +96,8 @@ record Stands (number : ℕ) (t : Timeline) : Type 0 where
 forgets-nothing : (number : ℕ) (t : Timeline) → Stands number t → number ≤ 1000000 → ForgetsNothing t
 forgets-nothing number t stands few s = within_bound-all (extended t s) (omega (arith, stands.place, stands.at_most, stands.bound, few))
 
-answer-stands : (want_cut : Bool) (number : ℕ) (t u : Timeline) (command : Command) (result : Result Reply Refusal) → Stands number t → Answers want_cut t command result u → Stands (number + 1) u
+answer-stands : (want_cut : Bool) (number : ℕ) (t u : Timeline) (command : Command) (result : Result Reply Refusal) → Stands number t
+    → Answers want_cut t command result u → Stands (number + 1) u
 answer-stands want_cut number t u command result stands answers =
     let grows : Grows t u = ⊎_elim (λ (e : u ≡ t). same t u stands.place e) (λ (s : Steps want_cut t command result u). steps-grow want_cut t u command result stands.place s)
     (answers-cases want_cut t command result u answers) in

@@ -25,7 +25,8 @@ record SameRun (text other : List ℕ) (refused also : Bool) (u v : Timeline) : 
   after : u ≡ v
 
 -- what two parts write, one after the other
-same-both : (text other whole text' other' whole' : List ℕ) (refused also any refused' also' any' : Bool) → SameText text text' refused refused' → SameText other other' also also'
+same-both : (text other whole text' other' whole' : List ℕ) (refused also any refused' also' any' : Bool) → SameText text text' refused refused'
+    → SameText other other' also also'
     → whole ≡ text ++ other → any ≡ (refused || also) → whole' ≡ text' ++ other' → any' ≡ (refused' || also') → SameText whole whole' any any'
 same-both text other whole text' other' whole' refused also any refused' also' any' first more is are is' are' =
     record { same_text = is ∙ ap (λ x. x ++ other) first.same_text ∙ ap (λ x. text' ++ x) more.same_text ∙ sym is'; same_refused = are ∙ ap (λ b. b || also) first.same_refused ∙ ap (λ b. refused' || b) more.same_refused ∙ sym are' }
@@ -36,12 +37,14 @@ one-present : (u : Timeline) (s p : NetworkState) → IsPresent u s → IsPresen
 one-present u s p a b = cc
 
 -- One text is shown of a result.
-one-shown : (brief : Bool) (number : ℕ) (command : Command) (result : Result Reply Refusal) (u : Timeline) (text other : List ℕ) (refused also : Bool) → Shows brief number command result u text refused → Shows brief number command result u other also → SameText text other refused also
+one-shown : (brief : Bool) (number : ℕ) (command : Command) (result : Result Reply Refusal) (u : Timeline) (text other : List ℕ) (refused also : Bool)
+    → Shows brief number command result u text refused → Shows brief number command result u other also → SameText text other refused also
 one-shown brief number command (Ok reply) u text other refused also a b =
     record { same_text = a.2 ∙ ap (λ s. reply_text brief command reply s) (one-present u a.0 b.0 a.1 b.1) ∙ sym b.2; same_refused = a.3 ∙ sym b.3 }
 one-shown brief number command (Err refusal) u text other refused also a b = record { same_text = a.0 ∙ sym b.0; same_refused = a.1 ∙ sym b.1 }
 
-one-line : HasOneAnswer → (want_cut brief : Bool) (number : ℕ) (t : Timeline) (meaning : Result (Option Command) Refusal) (text other : List ℕ) (refused also : Bool) (u v : Timeline) → HasStates t
+one-line : HasOneAnswer → (want_cut brief : Bool) (number : ℕ) (t : Timeline) (meaning : Result (Option Command) Refusal) (text other : List ℕ)
+    (refused also : Bool) (u v : Timeline) → HasStates t
     → LineRuns brief (Steps want_cut) number t meaning text refused u → LineRuns brief (Steps want_cut) number t meaning other also v → SameRun text other refused also u v
 one-line one want_cut brief number t (Ok None) text other refused also u v has a b =
     record { written = record { same_text = a.0 ∙ sym b.0; same_refused = a.1 ∙ sym b.1 }; after = a.2 ∙ sym b.2 }
@@ -55,7 +58,8 @@ one-line one want_cut brief number t (Err refusal) text other refused also u v h
 
 -- ---- all lines
 
-one-lines : HasAnswer → HasOneAnswer → (want_cut brief : Bool) (number : ℕ) (t : Timeline) (lines : List (List ℕ)) (text other : List ℕ) (refused also : Bool) (u v : Timeline) → HasStates t
+one-lines : HasAnswer → HasOneAnswer → (want_cut brief : Bool) (number : ℕ) (t : Timeline) (lines : List (List ℕ)) (text other : List ℕ) (refused also : Bool)
+    (u v : Timeline) → HasStates t
     → Runs brief (Steps want_cut) number t lines text refused u → Runs brief (Steps want_cut) number t lines other also v → SameRun text other refused also u v
 one-lines some one want_cut brief number t [] text other refused also u v has a b =
     record { written = record { same_text = a.0 ∙ sym b.0; same_refused = a.1 ∙ sym b.1 }; after = a.2 ∙ sym b.2 }

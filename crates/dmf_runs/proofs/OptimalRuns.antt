@@ -25,7 +25,8 @@ pub solves-are-optimal : HasAnswer → HasOneAnswer → SolvedIsOptimal → Solv
 solves-are-optimal some one solved want_cut brief bound s lines text refused t u reply state runs answers =
     solved want_cut t u reply (Runs-keeps brief (Answers want_cut) (Answers-keeps some one want_cut) 1 (start bound s) lines text refused t (HasStates-start bound s state) runs) answers
 
-optimal-after : SolvedIsOptimal → (want_cut : Bool) (t u : Timeline) (command : Command) (result : Result Reply Refusal) → HasStates t → Answers want_cut t command result u → command ≡ Solve → OnOk result (HasOptimalPresent u)
+optimal-after : SolvedIsOptimal → (want_cut : Bool) (t u : Timeline) (command : Command) (result : Result Reply Refusal) → HasStates t
+    → Answers want_cut t command result u → command ≡ Solve → OnOk result (HasOptimalPresent u)
 optimal-after solved want_cut t u command (Ok reply) has answers is = solved want_cut t u reply has (subst (λ c. Answers want_cut t c (Ok reply) u) is answers)
 optimal-after solved want_cut t u command (Err refusal) has answers is = tt
 

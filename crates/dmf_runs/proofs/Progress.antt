@@ -1,5 +1,5 @@
 -- A run of command lines, up to some line, and how it ends.
-use Rattle.std.proofs.Common.{ℕ, ◌≡◌, ◌+◌, List, [], ◌∷◌, ◌++◌, length, Bool, true, false, ◌||◌, Option, Result, Ok, refl, sym, ap, ◌∙◌, subst, arith, append-nil}
+use Rattle.std.proofs.Common.{ℕ, ◌≡◌, ◌+◌, List, [], ◌∷◌, ◌++◌, length, Bool, true, false, ◌||◌, Option, Result, refl, sym, ap, ◌∙◌, subst, arith, append-nil}
 use Rattle.std.specs.List.{All}
 use Rattle.std.specs.Io.KnownBytes.{Appends}
 use Rattle.std.proofs.KnownBytes.{Consumes-nil, Appends-nil, Appends-trans}
@@ -10,14 +10,13 @@ use Rattle.dmf_session.specs.declared.command.Command.{Command}
 use Rattle.dmf_session.specs.declared.command.Refusal.{Refusal}
 use Rattle.dmf_session.specs.Step.{Answers}
 use Rattle.dmf_history.specs.Timeline.{Timeline}
-use Rattle.dmf_runs.specs.declared.input.Next.TheVariants.{Line}
 use Rattle.dmf_runs.specs.declared.reply.SolveReply.{SolveReply}
 use Rattle.dmf_text.specs.Streams.{Writer}
 use Rattle.dmf_runs.specs.Streams.{Streams}
 use Rattle.dmf_runs.specs.KeptLine.{Kept, Means}
 use Rattle.dmf_runs.specs.Line.{HasNoLineFeed, with_line_feeds, line_meaning}
 use Rattle.dmf_runs.specs.Run.{LineRuns, Runs}
-use Rattle.dmf_runs.specs.Input.{InputState, Takes, GivesLine, left}
+use Rattle.dmf_runs.specs.Input.{InputState, Takes, TakesLine, left}
 use Rattle.dmf_runs.proofs.TakingLemmas.{Takes-trans}
 use Rattle.dmf_runs.proofs.LineLemmas.{Runs-push}
 
@@ -43,7 +42,8 @@ pub record Progress (wanted : SolveReply) (t : Timeline) (before now : InputStat
   pub writer : holds.has_failed ≡ held.has_failed
   pub runs : Runs wanted.brief (Answers wanted.cut) 1 t lines written is_refused u
 
-pub Progress-none : (wanted : SolveReply) (t : Timeline) (input : InputState) (held : Writer) → IsFresh input → Progress wanted t input input held held 1 t false
+pub Progress-none : (wanted : SolveReply) (t : Timeline) (input : InputState) (held : Writer) → IsFresh input
+    → Progress wanted t input input held held 1 t false
 Progress-none wanted t input held fresh = record {
   fresh = fresh;
   lines = [];
@@ -67,22 +67,26 @@ pub record Carried (wanted : SolveReply) (u : Timeline) (meaning : Result (Optio
   pub appends : Appends holds.contents next.contents text
   pub writer : next.has_failed ≡ holds.has_failed
 
-abbrev pub Progress-more : (wanted : SolveReply) (t : Timeline) (before now then : InputState) (held holds next : Writer) (number : ℕ) (u : Timeline) (is_refused : Bool) (meaning : Result (Option Command) Refusal) (kept : Kept) (refused : Bool) (v : Timeline)
-    → Progress wanted t before now held holds number u is_refused → GivesLine now then kept (Ok Line) → Means kept true meaning → Carried wanted u meaning number holds next refused v
+abbrev pub Progress-more : (wanted : SolveReply) (t : Timeline) (before now then : InputState) (held holds next : Writer) (number : ℕ) (u : Timeline)
+    (is_refused : Bool)
+    (meaning : Result (Option Command) Refusal) (kept : Kept) (refused : Bool) (v : Timeline)
+    → Progress wanted t before now held holds number u is_refused → TakesLine now then kept true → Means kept true meaning → Carried wanted u meaning number holds next refused v
     → Progress wanted t before then held next (number + 1) v (is_refused || refused)
 Progress-more wanted t before now then held holds next number u is_refused meaning kept refused v p gave means c =
-    let line : List ℕ = gave.0 in
+    let line = gave.line in
     let place : 1 + length p.lines ≡ number = omega (arith, p.counted) in
-    let runs = subst (λ m. LineRuns wanted.brief (Answers wanted.cut) number u m c.text refused v) (means gave.0 gave.3) c.runs in
+    let runs = subst (λ m. LineRuns wanted.brief (Answers wanted.cut) number u m c.text refused v) (means line gave.keeps) c.runs in
     record {
       fresh = p.fresh;
       lines = p.lines ++ line ∷ [];
-      each = All-push HasNoLineFeed p.lines line p.each gave.1;
+      each = All-push HasNoLineFeed p.lines line p.each gave.no_line_feed;
       counted = omega (arith, length_push p.lines line, p.counted);
-      takes = subst (λ bytes. Takes before then bytes) (sym (with_line_feeds-push p.lines line)) (Takes-trans before now then (with_line_feeds p.lines) (line ++ 10 ∷ []) p.takes gave.2);
-      reader = gave.4 ∙ p.reader;
+      takes = subst (λ bytes. Takes before then bytes) (sym (with_line_feeds-push p.lines line))
+          (Takes-trans before now then (with_line_feeds p.lines) (line ++ 10 ∷ []) p.takes gave.takes);
+      reader = gave.mark ∙ p.reader;
       written = p.written ++ c.text;
       appends = Appends-trans _ _ _ p.written c.text p.appends c.appends;
       writer = c.writer ∙ p.writer;
-      runs = Runs-push wanted 1 t p.lines p.written is_refused u line c.text refused v p.runs (subst (λ n. LineRuns wanted.brief (Answers wanted.cut) n u (line_meaning true line) c.text refused v) (sym place) runs);
+      runs = Runs-push wanted 1 t p.lines p.written is_refused u line c.text refused v p.runs
+          (subst (λ n. LineRuns wanted.brief (Answers wanted.cut) n u (line_meaning true line) c.text refused v) (sym place) runs);
     }

@@ -49,7 +49,8 @@ record SomeLine (want_cut brief : Bool) (number : ℕ) (t : Timeline) (meaning :
   runs : LineRuns brief (Steps want_cut) number t meaning text refused after
   has_states : HasStates after
 
-some-line : HasAnswer → (want_cut brief : Bool) (number : ℕ) (t : Timeline) (meaning : Result (Option Command) Refusal) → HasStates t → SomeLine want_cut brief number t meaning
+some-line : HasAnswer → (want_cut brief : Bool) (number : ℕ) (t : Timeline) (meaning : Result (Option Command) Refusal) → HasStates t
+    → SomeLine want_cut brief number t meaning
 some-line answer want_cut brief number t (Ok None) has = record { text = []; refused = false; after = t; runs = (refl, refl, refl); has_states = has }
 some-line answer want_cut brief number t (Ok (Some command)) has =
     let a = answer want_cut t command has in
@@ -163,13 +164,15 @@ module _ (brief : Bool) (Holds : ℕ → Timeline → Type 0) (Gives : Answering
   -- What Holds and an answer imply is so of each answer, up to the line that is the last.
   module _ (Tells : Answering) (last : ℕ)
       (implies : (number : ℕ) (t u : Timeline) (command : Command) (result : Result Reply Refusal) → number ≤ last → Holds number t → Gives t command result u → Tells t command result u) where
-    line-implied : (number : ℕ) (t : Timeline) (meaning : Result (Option Command) Refusal) (text : List ℕ) (refused : Bool) (u : Timeline) → number ≤ last → Holds number t
+    line-implied : (number : ℕ) (t : Timeline) (meaning : Result (Option Command) Refusal) (text : List ℕ) (refused : Bool) (u : Timeline) → number ≤ last
+        → Holds number t
         → LineRuns brief Gives number t meaning text refused u → LineRuns brief Tells number t meaning text refused u
     line-implied number t (Ok None) text refused u few holds l = l
     line-implied number t (Ok (Some command)) text refused u few holds l = (l.0, implies number t u command l.0 few holds l.1, l.2)
     line-implied number t (Err refusal) text refused u few holds l = l
 
-    lines-implied : (number : ℕ) (t : Timeline) (lines : List (List ℕ)) (text : List ℕ) (refused : Bool) (u : Timeline) → number + length lines ≤ last + 1 → Holds number t
+    lines-implied : (number : ℕ) (t : Timeline) (lines : List (List ℕ)) (text : List ℕ) (refused : Bool) (u : Timeline) → number + length lines ≤ last + 1
+        → Holds number t
         → Runs brief Gives number t lines text refused u → Runs brief Tells number t lines text refused u
     lines-implied number t [] text refused u few holds runs = runs
     lines-implied number t (line ∷ lines) text refused u few holds runs =
@@ -194,7 +197,8 @@ module _ (brief : Bool) (Holds : ℕ → Timeline → Type 0) (Gives : Answering
         (runs.0, line-implied (length lines + 1) t (line_meaning false (byte ∷ rest)) text refused runs.0 few (subst (λ (n : ℕ). Holds n t) same holds) runs.1)
 
     -- A run whose commands are answered in one way is one whose commands are answered in another that is implied.
-    pub RunsAll-implied : (t : Timeline) (given text : List ℕ) (refused : Bool) → Holds 1 t → (all : RunsAll brief Gives t given text refused) → line_count all.lines all.rest ≤ last
+    pub RunsAll-implied : (t : Timeline) (given text : List ℕ) (refused : Bool) → Holds 1 t → (all : RunsAll brief Gives t given text refused)
+        → line_count all.lines all.rest ≤ last
         → RunsAll brief Tells t given text refused
     RunsAll-implied t given text refused holds all few =
         record {
@@ -217,10 +221,12 @@ abbrev pub Keeps : Answering → Type 0
 Keeps Gives = (t u : Timeline) (command : Command) (result : Result Reply Refusal) → HasStates t → Gives t command result u → HasStates u
 
 module _ (brief : Bool) (Gives : Answering) (keeps : Keeps Gives) where
-  pub LineRuns-keeps : (number : ℕ) (t : Timeline) (meaning : Result (Option Command) Refusal) (text : List ℕ) (refused : Bool) (u : Timeline) → HasStates t → LineRuns brief Gives number t meaning text refused u → HasStates u
+  pub LineRuns-keeps : (number : ℕ) (t : Timeline) (meaning : Result (Option Command) Refusal) (text : List ℕ) (refused : Bool) (u : Timeline) → HasStates t
+      → LineRuns brief Gives number t meaning text refused u → HasStates u
   LineRuns-keeps = line-keeps brief (λ _ t. HasStates t) Gives (λ number t has. has) (λ number. keeps)
 
-  pub Runs-keeps : (number : ℕ) (t : Timeline) (lines : List (List ℕ)) (text : List ℕ) (refused : Bool) (u : Timeline) → HasStates t → Runs brief Gives number t lines text refused u → HasStates u
+  pub Runs-keeps : (number : ℕ) (t : Timeline) (lines : List (List ℕ)) (text : List ℕ) (refused : Bool) (u : Timeline) → HasStates t
+      → Runs brief Gives number t lines text refused u → HasStates u
   Runs-keeps = lines-keep brief (λ _ t. HasStates t) Gives (λ number t has. has) (λ number. keeps)
 
   -- What is so of each answer on a timeline that has states is so of each answer of a run.
@@ -240,12 +246,14 @@ Steps-keeps some one want_cut t u command result has steps =
     subst HasStates (one want_cut t a.after u command a.result result has a.steps steps).1 a.has_states
 
 -- What steps give is an answer, where no memory is wanted.
-not-memory : (want_cut : Bool) (t u : Timeline) (command : Command) (result : Result Reply Refusal) → result ≢ Err NoMemory → Steps want_cut t command result u → Answers want_cut t command result u
+not-memory : (want_cut : Bool) (t u : Timeline) (command : Command) (result : Result Reply Refusal) → result ≢ Err NoMemory → Steps want_cut t command result u
+    → Answers want_cut t command result u
 not-memory want_cut t u command (Err NoMemory) memory steps = absurd (memory refl)
 not-memory want_cut t u command result memory steps = steps
 
 -- and its one answer tells of no want of memory
-step-is-answer : HasAnswer → HasOneAnswer → (want_cut : Bool) (t u : Timeline) (command : Command) (result : Result Reply Refusal) → HasStates t → Steps want_cut t command result u
+step-is-answer : HasAnswer → HasOneAnswer → (want_cut : Bool) (t u : Timeline) (command : Command) (result : Result Reply Refusal) → HasStates t
+    → Steps want_cut t command result u
     → Answers want_cut t command result u
 step-is-answer some one want_cut t u command result has steps =
     let a = some want_cut t command has in

@@ -8,19 +8,16 @@ use Rattle.dmf_text.specs.Streams.{Reader}
 use Rattle.dmf_runs.specs.Streams.{Streams}
 use Rattle.dmf_runs.specs.Session.{ReadsProblem, RunsOn, SessionAnswered}
 
-pub answered-by_run : (wanted : SolveReply) (bound : ℕ) (from to : Reader) (old new : Streams) (text : List ℕ) (result : Result Status EngineFault) → RunsOn wanted bound from to old new text result → SessionAnswered wanted bound from to old new text result
+pub answered-by_run : (wanted : SolveReply) (bound : ℕ) (from to : Reader) (old new : Streams) (text : List ℕ) (result : Result Status EngineFault)
+    → RunsOn wanted bound from to old new text result → SessionAnswered wanted bound from to old new text result
 answered-by_run wanted bound from to old new text (Ok status) r = r
-answered-by_run wanted bound from to old new text (Err fault.Read) r = inr r
 answered-by_run wanted bound from to old new text (Err fault.Write) r = r
-answered-by_run wanted bound from to old new text (Err (fault.Problem f)) r = inr r
-answered-by_run wanted bound from to old new text (Err (fault.Solution f)) r = inr r
-answered-by_run wanted bound from to old new text (Err fault.NoMemory) r = absurd r.runs.4
-answered-by_run wanted bound from to old new text (Err fault.TooMuchInput) r = inr r
+answered-by_run wanted bound from to old new text (Err fault.NoMemory) r = absurd r.runs.gave
+answered-by_run wanted bound from to old new text (Err told) r = inr r
 
-pub answered-unread : (wanted : SolveReply) (bound : ℕ) (from to : Reader) (old new : Streams) (text : List ℕ) (told : EngineFault) → ReadsProblem from to text (Err told) → new ≡ old → SessionAnswered wanted bound from to old new text (Err told)
-answered-unread wanted bound from to old new text fault.Read read untouched = inl (read, untouched)
+pub answered-unread : (wanted : SolveReply) (bound : ℕ) (from to : Reader) (old new : Streams) (text : List ℕ) (told : EngineFault)
+    → ReadsProblem from to text (Err told) → new ≡ old → SessionAnswered wanted bound from to old new text (Err told)
 answered-unread wanted bound from to old new text fault.Write read untouched = absurd read
-answered-unread wanted bound from to old new text (fault.Problem f) read untouched = inl (read, untouched)
 answered-unread wanted bound from to old new text (fault.Solution f) read untouched = absurd read
 answered-unread wanted bound from to old new text fault.NoMemory read untouched = (untouched, read)
-answered-unread wanted bound from to old new text fault.TooMuchInput read untouched = inl (read, untouched)
+answered-unread wanted bound from to old new text told read untouched = inl (read, untouched)

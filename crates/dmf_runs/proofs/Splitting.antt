@@ -59,7 +59,8 @@ no-line_feed [] behind each = All-head (λ (b : ℕ). b ≢ 10) 10 behind each r
 no-line_feed (byte ∷ front) behind each = no-line_feed front behind (All-tail (λ (b : ℕ). b ≢ 10) byte (front ++ 10 ∷ behind) each)
 
 -- The first line feed ends the first line.
-one-first : (line other behind after : List ℕ) → HasNoLineFeed line → HasNoLineFeed other → line ++ 10 ∷ behind ≡ other ++ 10 ∷ after → (line ≡ other) × (behind ≡ after)
+one-first : (line other behind after : List ℕ) → HasNoLineFeed line → HasNoLineFeed other → line ++ 10 ∷ behind ≡ other ++ 10 ∷ after
+    → (line ≡ other) × (behind ≡ after)
 one-first [] [] behind after none also e = (refl, cc)
 one-first [] (c ∷ other) behind after none also e = let same : 10 ≡ c = cc in absurd (All-head (λ (b : ℕ). b ≢ 10) c other also (sym same))
 one-first (b ∷ line) [] behind after none also e = let same : b ≡ 10 = cc in absurd (All-head (λ (b : ℕ). b ≢ 10) b line none same)
@@ -70,7 +71,8 @@ one-first (b ∷ line) (c ∷ other) behind after none also e =
     (ap (λ x. x ∷ line) same ∙ ap (λ x. c ∷ x) rest.0, rest.1)
 
 -- the bytes of the lines, with the line feed of the first
-with_line_feeds-first : (line : List ℕ) (lines : List (List ℕ)) (rest : List ℕ) → with_line_feeds (line ∷ lines) ++ rest ≡ line ++ 10 ∷ (with_line_feeds lines ++ rest)
+with_line_feeds-first : (line : List ℕ) (lines : List (List ℕ)) (rest : List ℕ)
+    → with_line_feeds (line ∷ lines) ++ rest ≡ line ++ 10 ∷ (with_line_feeds lines ++ rest)
 with_line_feeds-first line lines rest = append_assoc (line ++ 10 ∷ []) (with_line_feeds lines) rest ∙ append_assoc line (10 ∷ []) (with_line_feeds lines ++ rest)
 
 one-lines : (lines others : List (List ℕ)) (rest last : List ℕ) → All HasNoLineFeed lines → All HasNoLineFeed others → HasNoLineFeed rest → HasNoLineFeed last
@@ -87,5 +89,6 @@ one-lines (line ∷ lines) (other ∷ others) rest last each also none bare e =
     (ap (λ x. x ∷ lines) first.0 ∙ ap (λ x. other ∷ x) more.0, more.1)
 
 -- Any two splits of a text are the same.
-pub one-split : (text : List ℕ) (lines others : List (List ℕ)) (rest last : List ℕ) → IsSplit text lines rest → IsSplit text others last → (lines ≡ others) × (rest ≡ last)
+pub one-split : (text : List ℕ) (lines others : List (List ℕ)) (rest last : List ℕ) → IsSplit text lines rest → IsSplit text others last
+    → (lines ≡ others) × (rest ≡ last)
 one-split text lines others rest last a b = one-lines lines others rest last a.each b.each a.last b.last (sym a.whole ∙ b.whole)

@@ -15,12 +15,14 @@ Takes-trans a b c x y t u = record {
 }
 
 -- the first of the pending bytes
-pub Consumes-pending : (known : Option (List ℕ)) (byte : ℕ) (rest : List ℕ) → Consumes (prepend_known (byte ∷ rest) known) (prepend_known rest known) (byte ∷ [])
+pub Consumes-pending : (known : Option (List ℕ)) (byte : ℕ) (rest : List ℕ) → Consumes (prepend_known (byte ∷ rest) known) (prepend_known rest known)
+    (byte ∷ [])
 Consumes-pending None byte rest = tt
 Consumes-pending (Some xs) byte rest = refl
 
 -- the pending bytes at one place more
-pub pending-more : (piece : List ℕ) (start end : ℕ) → start < end → end ≤ length piece → slice_range piece start end ≡ get_or piece start 0 ∷ slice_range piece (start + 1) end
+pub pending-more : (piece : List ℕ) (start end : ℕ) → start < end → end ≤ length piece
+    → slice_range piece start end ≡ get_or piece start 0 ∷ slice_range piece (start + 1) end
 pending-more piece start end some within =
     let one : end - start ≡ suc (end - (start + 1)) = omega arith in
     rw (drop_more piece start 0 (omega arith), one) refl
@@ -45,7 +47,8 @@ Consumes-read (Some xs) None bytes read = absurd read
 Consumes-read (Some xs) (Some ys) bytes read = read
 
 -- what the reader gave is pending where nothing was
-pub Takes-read : (old new : Pending) (from to : Reader) → old.bytes ≡ [] → new.count ≡ old.count → Consumes from.known to.known new.bytes → Takes (input_over old from) (input_over new to) []
+pub Takes-read : (old new : Pending) (from to : Reader) → old.bytes ≡ [] → new.count ≡ old.count → Consumes from.known to.known new.bytes
+    → Takes (input_over old from) (input_over new to) []
 Takes-read old new from to none count read = record {
   consumes = rw none (Consumes-read from.known to.known new.bytes read);
   counts = omega (arith, count);

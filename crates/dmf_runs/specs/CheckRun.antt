@@ -2,7 +2,6 @@
 -- larger value.
 -- Public: a public contract says no more than this.
 use Rattle.std.specs.Prelude.{ℕ, ◌≡◌, ◌⊎◌, List, [], ◌∷◌, Bool, true, false, Option, Some, None, Result, Ok, Err, IfOk, codes, decimal, nat_abs, if◌then◌else◌}
-use Rattle.std.specs.Io.KnownBytes.{Consumes}
 use Rattle.dmf_state.specs.Flow.{flow_value}
 use Rattle.dmf_solver.specs.Greatest.{IsGreatest, IsSurpassed}
 use Rattle.dmf_state.specs.NetworkState.{NetworkState}
@@ -15,7 +14,7 @@ use Rattle.dmf_runs.specs.declared.fault.Status.TheVariants.{Well, NotGreatest}
 use Rattle.dmf_runs.specs.declared.fault.EngineFault.{EngineFault}
 use Rattle.dmf_runs.specs.declared.fault.EngineFault.TheVariants as fault
 use Rattle.dmf_text.specs.Streams.{Reader, Writer}
-use Rattle.dmf_runs.specs.Session.{Reads, ReadsProblem}
+use Rattle.dmf_runs.specs.Session.{HasGiven, Reads, ReadsProblem}
 
 -- ---- what is told of a flow
 
@@ -58,17 +57,20 @@ pub record Checked : Type 0 where
   pub problem_text : List ℕ
   pub solution_text : List ℕ
 
--- The problem text stands for a state, and the solution text for the same network with a flow; it was written whether
--- that is greatest, or a front of this where the writer failed, and the status tells it too.
+-- It was written whether the state's flow is greatest, or a front of this where the writer failed, and the status tells it too.
+pub record TellsVerdict (s : NetworkState) (old new : Writer) (result : Result Status EngineFault) : Type 0 where
+  pub greatest : Bool
+  pub verdict : IsVerdict s greatest
+  pub writes : Writes old new result (verdict_text s greatest)
+  pub status : IfOk result (λ status. status ≡ verdict_status greatest)
+
+-- The problem text stands for a state, and the solution text for the same network with a flow, whose verdict was told.
 pub record WritesVerdict (run : Checked) (result : Result Status EngineFault) : Type 0 where
   pub state : NetworkState
   pub problem : ReadsProblem run.problem_old run.problem_new run.problem_text (Ok state)
   pub solved : NetworkState
   pub solution : ReadsSolution state run.solution_old run.solution_new run.solution_text (Ok solved)
-  pub greatest : Bool
-  pub verdict : IsVerdict solved greatest
-  pub writes : Writes run.old run.new result (verdict_text solved greatest)
-  pub status : IfOk result (λ status. status ≡ verdict_status greatest)
+  pub told : TellsVerdict solved run.old run.new result
 
 -- Reading the problem gave this fault. Nothing was read of the solution, and nothing was written.
 pub record StopsAtProblem (run : Checked) (told : EngineFault) : Type 0 where
@@ -99,10 +101,7 @@ CheckAnswered run (Err told) = StopsAtProblem run told ⊎ StopsAtSolution run t
 -- A run that checks a solution, from the bytes that its two readers gave to those that its writer took.
 abbrev pub RunsCheck : Reader → Reader → Reader → Reader → Writer → Writer → Result Status EngineFault → Type 0
 RunsCheck problem_old problem_new solution_old solution_new old new result =
-    (problem_text : List ℕ) × (solution_text : List ℕ)
-    × Consumes problem_old.known problem_new.known problem_text
-    × Consumes solution_old.known solution_new.known solution_text
-    × CheckAnswered (record {
+    HasGiven problem_old problem_new (λ problem_text. HasGiven solution_old solution_new (λ solution_text. CheckAnswered (record {
       problem_old = problem_old;
       problem_new = problem_new;
       solution_old = solution_old;
@@ -111,4 +110,4 @@ RunsCheck problem_old problem_new solution_old solution_new old new result =
       new = new;
       problem_text = problem_text;
       solution_text = solution_text;
-    }) result
+    }) result))

@@ -1,9 +1,9 @@
 -- What is taken from a reader of command lines, byte by byte.
 -- Private: only contracts inside the crate and proofs use this.
-use Rattle.std.specs.Prelude.{◌^◌, ℕ, ◌≡◌, ◌+◌, ◌<◌, ◌≤◌, List, [], ◌∷◌, ◌++◌, length, true, Option, Some, None, Result, Ok, Err}
+use Rattle.std.specs.Prelude.{◌^◌, ℕ, ◌≡◌, ◌+◌, ◌<◌, ◌≤◌, List, [], ◌∷◌, ◌++◌, length, Bool, true, false, if◌then◌else◌, Option, Some, None, Result, Ok, Err}
 use Rattle.std.specs.Io.KnownBytes.{prepend_known, Consumes, IsAtEnd}
 use Rattle.dmf_runs.specs.declared.input.Next.{Next}
-use Rattle.dmf_runs.specs.declared.input.Next.TheVariants.{Line, Last, End}
+use Rattle.dmf_runs.specs.declared.input.Next.TheVariants.{Line, End}
 use Rattle.dmf_runs.specs.declared.fault.EngineFault.{EngineFault}
 use Rattle.dmf_runs.specs.declared.fault.EngineFault.TheVariants as fault
 use Rattle.dmf_text.specs.Streams.{Reader}
@@ -63,15 +63,18 @@ GivesByte old new (Err fault.Read) = Takes old new [] × HasFailed new
 GivesByte old new (Err fault.TooMuchInput) = Takes old new [] × IsPastLimit old new
 GivesByte old new (Err fault) = ⊥
 
--- what asking for the next line does, of which this is kept: a line that a line feed ended, a last line that the end of
--- input ended, or the end
+-- A line was taken, of which this is kept: one that a line feed ended, or a last line that the end of the input ended.
+pub record TakesLine (old new : InputState) (kept : Kept) (ended : Bool) : Type 0 where
+  pub line : List ℕ
+  pub no_line_feed : HasNoLineFeed line
+  pub takes : Takes old new (if ended then line ++ 10 ∷ [] else line)
+  pub keeps : IsKept kept line
+  pub mark : new.reader.has_failed ≡ old.reader.has_failed
+  pub last : ended ≡ false → (0 < length line) × HasEnded old new
+
+-- what asking for the next line does, of which this is kept: a line, or the end
 abbrev pub GivesLine : InputState → InputState → Kept → Result Next EngineFault → Type 0
-GivesLine old new kept (Ok Line) =
-    (line : List ℕ) × HasNoLineFeed line × Takes old new (line ++ 10 ∷ []) × IsKept kept line
-    × (new.reader.has_failed ≡ old.reader.has_failed)
-GivesLine old new kept (Ok Last) =
-    (line : List ℕ) × HasNoLineFeed line × Takes old new line × IsKept kept line × (0 < length line)
-    × HasEnded old new
+GivesLine old new kept (Ok (Line ended)) = TakesLine old new kept ended
 GivesLine old new kept (Ok End) = Takes old new [] × HasEnded old new
 GivesLine old new kept (Err fault.Read) =
     (rest : List ℕ) × HasNoLineFeed rest × Takes old new rest × HasFailed new

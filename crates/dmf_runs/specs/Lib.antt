@@ -1,9 +1,9 @@
 pub mod CommandText
-pub mod RefusalText
 pub mod Streams
 pub mod Pending
 pub mod Line
 pub mod KeptLine
+pub mod ReplyTo
 pub mod Run
 pub mod Laws
 pub mod Input

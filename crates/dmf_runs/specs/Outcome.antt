@@ -99,23 +99,46 @@ pub record IsWithin (new : Streams) (given : List ℕ) (count : ℕ) : Type 0 wh
   pub bytes : length given ≤ 2 ^ 30
   pub lines : count ≤ 1000000
 
+-- All lines were carried out, and the answer tells whether one was refused.
+pub record EndsWell (wanted : SolveReply) (t : Timeline) (old new : Streams) (given written : List ℕ) (status : Status) : Type 0 where
+  pub refused : Bool
+  pub all : RunsAll wanted.brief (Answers wanted.cut) t given written refused
+  pub told : status ≡ status_if refused
+  pub within : IsWithin new given (line_count all.lines all.rest)
+  pub none_failed : NoneFailed old new
+
+-- A read failed behind the lines that were carried out.
+pub record EndsUnread (wanted : SolveReply) (t : Timeline) (old new : Streams) (given written : List ℕ) : Type 0 where
+  pub lines : RunsEndedLines wanted t given written
+  pub reader : new.reader.has_failed ≡ true
+  pub writer : new.writer.has_failed ≡ old.writer.has_failed
+
+-- A put or a flush failed in the reply to the last line that was carried out.
+pub record EndsUnwritten (wanted : SolveReply) (t : Timeline) (old new : Streams) (given written : List ℕ) : Type 0 where
+  pub lines : RunsFront wanted t new.reader.known given written
+  pub writer : new.writer.has_failed ≡ true
+  pub reader : new.reader.has_failed ≡ old.reader.has_failed
+
+-- There is more than may be read.
+pub record EndsPast (wanted : SolveReply) (t : Timeline) (old new : Streams) (given written : List ℕ) : Type 0 where
+  pub lines : RunsWithin wanted t given written
+  pub none_failed : NoneFailed old new
+
 -- what a run of command lines answers, where these bytes were given and written; no answer but these is given
 abbrev pub Gave : SolveReply → Timeline → Streams → Streams → List ℕ → List ℕ → Result Status EngineFault → Type 0
-Gave wanted t old new given written (Ok status) =
-    (refused : Bool) × (all : RunsAll wanted.brief (Answers wanted.cut) t given written refused) × (status ≡ status_if refused)
-    × IsWithin new given (line_count all.lines all.rest) × NoneFailed old new
-Gave wanted t old new given written (Err fault.Read) =
-    RunsEndedLines wanted t given written × (new.reader.has_failed ≡ true) × (new.writer.has_failed ≡ old.writer.has_failed)
-Gave wanted t old new given written (Err fault.Write) =
-    RunsFront wanted t new.reader.known given written × (new.writer.has_failed ≡ true) × (new.reader.has_failed ≡ old.reader.has_failed)
-Gave wanted t old new given written (Err fault.TooMuchInput) = RunsWithin wanted t given written × NoneFailed old new
+Gave wanted t old new given written (Ok status) = EndsWell wanted t old new given written status
+Gave wanted t old new given written (Err fault.Read) = EndsUnread wanted t old new given written
+Gave wanted t old new given written (Err fault.Write) = EndsUnwritten wanted t old new given written
+Gave wanted t old new given written (Err fault.TooMuchInput) = EndsPast wanted t old new given written
 Gave wanted t old new given written (Err fault) = ⊥
 
--- A run of command lines from the timeline `t`, with this wanted of its replies to solves.
-abbrev pub RunsCommandsWith : SolveReply → Timeline → Streams → Streams → Result Status EngineFault → Type 0
-RunsCommandsWith wanted t old new result =
-    (given : List ℕ) × (written : List ℕ) × Consumes old.reader.known new.reader.known given × Appends old.writer.contents new.writer.contents written
-    × Gave wanted t old new given written result
+-- A run of command lines from the timeline `t`, with this wanted of its replies to solves: what it was given, and what it wrote.
+pub record RunsCommandsWith (wanted : SolveReply) (t : Timeline) (old new : Streams) (result : Result Status EngineFault) : Type 0 where
+  pub given : List ℕ
+  pub written : List ℕ
+  pub consumes : Consumes old.reader.known new.reader.known given
+  pub appends : Appends old.writer.contents new.writer.contents written
+  pub gave : Gave wanted t old new given written result
 
 -- solutions, and a cut after each where it is wanted
 abbrev pub solutions : Bool → SolveReply

@@ -10,8 +10,8 @@ use Rattle.dmf_session.specs.declared.command.Reply.{Reply}
 use Rattle.dmf_session.specs.declared.command.Reply.TheVariants.{Value, Added, Solution, Problem, Flow, Cut}
 use Rattle.dmf_session.specs.declared.command.Refusal.{Refusal}
 use Rattle.dmf_history.specs.Timeline.{Timeline, IsPresent}
+use Rattle.dmf_session.specs.RefusalText.{refusal_text}
 use Rattle.dmf_session.specs.Step.{value_of}
-use Rattle.dmf_runs.specs.RefusalText.{refusal_text}
 use Rattle.dmf_runs.specs.Line.{line_meaning}
 
 -- the word of a command
@@ -36,20 +36,20 @@ abbrev pub added_text : Command → ℕ → ℕ → List ℕ
 added_text command arc value =
     written_line (codes "c" ∷ word_of command ∷ decimal arc ∷ codes "value" ∷ decimal value ∷ [])
 
+-- this cut, if there is one
+abbrev pub side_text : Option CutSide → List ℕ
+side_text None = []
+side_text (Some side) = cut_text side
+
 -- the solution of a state, and this cut after it, if there is one
 abbrev pub solved_text : NetworkState → Option CutSide → List ℕ
-solved_text s None = solution_text s
-solved_text s (Some side) = solution_text s ++ cut_text side
+solved_text s side = solution_text s ++ side_text side
 
--- `c solve value V`, and this cut after it, if there is one
-abbrev pub brief_text : ℕ → Option CutSide → List ℕ
-brief_text value None = value_text Solve value
-brief_text value (Some side) = value_text Solve value ++ cut_text side
-
--- what a solve is answered by that left the state `s`: its solution or, where brief replies are wanted, its value
+-- what a solve is answered by that left the state `s`: its solution or, where brief replies are wanted, `c solve value V`; and
+-- this cut after it, if there is one
 abbrev pub solve_text : Bool → NetworkState → Option CutSide → List ℕ
 solve_text false s side = solved_text s side
-solve_text true s side = brief_text (value_of s) side
+solve_text true s side = value_text Solve (value_of s) ++ side_text side
 
 -- what is written in reply to a command, where `s` is the state that is present after it; `brief` says whether brief replies
 -- are wanted

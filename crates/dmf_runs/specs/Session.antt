@@ -25,6 +25,12 @@ pub record GaveTooMuch (old new : Reader) (text : List ℕ) : Type 0 where
   pub past : 2 ^ 30 < length text
   pub mark : new.has_failed ≡ old.has_failed
 
+-- The reader gave this text, of which that is so.
+pub record HasGiven (old new : Reader) (IsSo : List ℕ → Type 0) : Type 0 where
+  pub text : List ℕ
+  pub consumes : Consumes old.known new.known text
+  pub is_so : IsSo text
+
 -- ---- a text that is read whole and judged
 
 -- The text was read whole, and the judge finds this fault, if there is one; nothing is so where there is none.
@@ -74,7 +80,7 @@ SessionAnswered wanted bound from to old new text (Err told) =
 -- The bound is the largest number of states that are kept before the present one.
 abbrev pub RunsSessionWith : SolveReply → ℕ → Reader → Reader → Streams → Streams → Result Status EngineFault → Type 0
 RunsSessionWith wanted bound from to old new result =
-    (text : List ℕ) × Consumes from.known to.known text × SessionAnswered wanted bound from to old new text result
+    HasGiven from to (λ text. SessionAnswered wanted bound from to old new text result)
 
 -- The same where solves are answered by their solutions. `want_cut` says whether a cut is wanted after each.
 abbrev pub RunsSession : Bool → ℕ → Reader → Reader → Streams → Streams → Result Status EngineFault → Type 0

@@ -2,7 +2,6 @@
 -- it where one is wanted.
 -- Public: a public contract says no more than this.
 use Rattle.std.specs.Prelude.{ℕ, ◌≡◌, List, Bool, Option, Result, Ok, Err}
-use Rattle.std.specs.Io.KnownBytes.{Consumes}
 use Rattle.dmf_state.specs.NetworkState.{NetworkState}
 use Rattle.dmf_solver.specs.Change.{Solve, Becomes}
 use Rattle.dmf_state.specs.Side.{CutSide}
@@ -14,7 +13,7 @@ use Rattle.dmf_runs.specs.declared.fault.EngineFault.{EngineFault}
 use Rattle.dmf_runs.specs.declared.fault.EngineFault.TheVariants as fault
 use Rattle.dmf_runs.specs.Run.{solved_text}
 use Rattle.dmf_text.specs.Streams.{Reader, Writer}
-use Rattle.dmf_runs.specs.Session.{ReadsProblem}
+use Rattle.dmf_runs.specs.Session.{HasGiven, ReadsProblem}
 
 -- The text stands for a state. The solution of what solving makes of it was written, and where one is wanted the smallest cut
 -- after it, or a front of that where the writer failed.
@@ -39,4 +38,4 @@ SolveAnswered want_cut from to old new text (Err told) = ReadsProblem from to te
 -- A run that solves a problem, from the bytes that its reader gave to those that its writer took.
 abbrev pub RunsSolve : Bool → Reader → Reader → Writer → Writer → Result Status EngineFault → Type 0
 RunsSolve want_cut from to old new result =
-    (text : List ℕ) × Consumes from.known to.known text × SolveAnswered want_cut from to old new text result
+    HasGiven from to (λ text. SolveAnswered want_cut from to old new text result)

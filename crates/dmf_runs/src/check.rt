@@ -1,8 +1,8 @@
 //! A solution is checked, from bytes to bytes.
-ghost use Rattle.std.specs.Prelude.{◌≡◌, ◌≤◌, ℕ, List, length, codes, if◌then◌else◌, IfOk};
-ghost use Rattle.std.specs.Io.KnownBytes.{Consumes};
-ghost use Rattle.dmf_text.specs.Writing.{Writes};
-ghost use Rattle.dmf_runs.specs.CheckRun.{IsVerdict, verdict_line, verdict_text, verdict_status, ReadsSolution, RunsCheck};
+ghost use Rattle.std.specs.Prelude.{◌≡◌, ◌≤◌, length, codes, if◌then◌else◌, IfOk, IsOkUnless};
+ghost use Rattle.dmf_runs.specs.Session.{HasGiven};
+ghost use Rattle.dmf_runs.specs.declared.fault.EngineFault.TheVariants as fault;
+ghost use Rattle.dmf_runs.specs.CheckRun.{IsVerdict, TellsVerdict, verdict_line, verdict_status, ReadsSolution, RunsCheck};
 
 use crate::fault::{EngineFault, Status};
 use crate::problem::read_state;
@@ -11,7 +11,7 @@ use crate::whole_text::read_all;
 use dmf_solver::is_greatest;
 use dmf_state::{NoMemory, State};
 use dmf_text::LineField::{Number, Text};
-use dmf_text::{LineBuffer, Sink, SolutionFaultKind, Source, WriteFault, line_of, read_solution};
+use dmf_text::{LineBuffer, Sink, SolutionFaultKind, Source, line_of, read_solution};
 use std::alloc::Global;
 
 /// Reads a problem, then a solution of it, and then writes `c greatest V` where no flow has a larger value than that of
@@ -34,16 +34,13 @@ pub fn run_check<P: Source, C: Source, W: Sink>(
     let state = read_state(alloc, problem)?;
     let solved = read_solved(alloc, state, solution)?;
     let greatest = verdict_of(alloc, &solved)?;
-    put_verdict(&solved, greatest, out)?;
-    Ok(status_of_verdict(greatest))
+    tell_verdict(&solved, greatest, out)
 }
 
 /// Reads a solution text of a state's network, and judges it. The state is let go then.
 fn read_solved<C: Source>(alloc: Global, state: State, source: &mut C) -> Result<State, EngineFault>
-    ensures { (text : List ℕ) × Consumes (C.left source.old).known (C.left source.new).known text
-        × ReadsSolution state
-        (C.left source.old) (C.left source.new)
-        text result }
+    ensures { HasGiven (C.left source.old) (C.left source.new)
+        (λ text. ReadsSolution state (C.left source.old) (C.left source.new) text result) }
 {
     let text = read_all(alloc, source)?;
     match read_solution(alloc, &text, &state) {
@@ -62,11 +59,14 @@ fn verdict_of(alloc: Global, state: &State) -> Result<bool, NoMemory>
     is_greatest(alloc, state)
 }
 
-/// Writes whether the state's flow is greatest, and flushes it.
-fn put_verdict<W: Sink>(state: &State, greatest: bool, out: &mut W) -> Result<(), WriteFault>
-    ensures { Writes (W.written out.old) (W.written out.new) result (verdict_text state.now greatest) }
+/// Writes whether the state's flow is greatest, and flushes it. The status tells it too.
+fn tell_verdict<W: Sink>(state: &State, greatest: bool, out: &mut W) -> Result<Status, EngineFault>
+    requires { IsVerdict state.now greatest }
+    ensures told { TellsVerdict state.now (W.written out.old) (W.written out.new) result }
+    ensures write { IsOkUnless result fault.Write }
 {
-    put_line(&verdict_line(greatest, state.value()), out)
+    put_line(&verdict_line(greatest, state.value()), out)?;
+    Ok(status_of_verdict(greatest))
 }
 
 fn verdict_line(greatest: bool, value: u64) -> LineBuffer

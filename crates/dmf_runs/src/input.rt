@@ -15,10 +15,11 @@ const PIECE: usize = 2048;
 /// What asking for a line gives.
 #[derive(Clone, Copy)]
 pub enum Next {
-    /// A line that a line feed ended.
-    Line,
-    /// A line that the end of the input ended.
-    Last,
+    /// A line.
+    Line {
+        /// Whether a line feed ended it, or else the end of the input.
+        ended: bool,
+    },
     /// The end of the input.
     End,
 }
@@ -109,14 +110,14 @@ impl Input {
         line.clear();
         while let Some(byte) = self.next_byte(source)? {
             if byte == b'\n' {
-                return Ok(Next::Line);
+                return Ok(Next::Line { ended: true });
             }
             line.push(byte);
         }
         if line.is_empty() {
             return Ok(Next::End);
         }
-        Ok(Next::Last)
+        Ok(Next::Line { ended: false })
     }
 
     /// Refuses any further byte.

@@ -1,7 +1,5 @@
 //! The problem of a run.
-ghost use Rattle.std.specs.Prelude.{List, ℕ};
-ghost use Rattle.std.specs.Io.KnownBytes.{Consumes};
-ghost use Rattle.dmf_runs.specs.Session.{ReadsProblem};
+ghost use Rattle.dmf_runs.specs.Session.{HasGiven, ReadsProblem};
 
 use crate::fault::EngineFault;
 use crate::whole_text::read_all;
@@ -11,9 +9,8 @@ use std::alloc::Global;
 
 /// Reads a problem text, and judges it.
 pub fn read_state<P: Source>(alloc: Global, source: &mut P) -> Result<State, EngineFault>
-    ensures { (text : List ℕ) × Consumes (P.left source.old).known (P.left source.new).known text
-        × ReadsProblem (P.left source.old) (P.left source.new)
-        text result }
+    ensures { HasGiven (P.left source.old) (P.left source.new)
+        (λ text. ReadsProblem (P.left source.old) (P.left source.new) text result) }
 {
     let text = read_all(alloc, source)?;
     match read_problem(alloc, &text) {

@@ -1,7 +1,7 @@
 //! Replies to command lines, each written and then flushed.
-ghost use Rattle.std.specs.Prelude.{◌≡◌, ◌≤◌, ◌++◌, [], length, true, IfOk};
+ghost use Rattle.std.specs.Prelude.{◌≡◌, ◌≤◌, [], length, true, IfOk};
 ghost use Rattle.dmf_text.specs.Writing.{Writes};
-ghost use Rattle.dmf_text.specs.Written.{problem_text, solution_text, cut_text};
+ghost use Rattle.dmf_runs.specs.ReplyTo.{IsReplyTo};
 ghost use Rattle.dmf_runs.specs.Run as run;
 ghost use Rattle.dmf_runs.specs.WrittenLine.{is_refusal};
 
@@ -56,36 +56,8 @@ pub fn refuse<W: Sink>(number: u32, refusal: &Refusal, out: &mut W) -> Result<An
 pub fn put_line<W: Sink>(line: &LineBuffer, out: &mut W) -> Result<(), WriteFault>
     ensures { Writes (W.written out.old) (W.written out.new) result line.now }
 {
-    put_all(out, line.as_bytes())?;
+    write_line(line, out)?;
     flush(out)
-}
-
-fn put_problem<W: Sink>(state: &State, out: &mut W) -> Result<(), WriteFault>
-    ensures { Writes (W.written out.old) (W.written out.new) result (problem_text state.now.network) }
-{
-    write_problem(state, out)?;
-    flush(out)
-}
-
-fn put_solution<W: Sink>(state: &State, out: &mut W) -> Result<(), WriteFault>
-    ensures { Writes (W.written out.old) (W.written out.new) result (solution_text state.now) }
-{
-    write_solution(state, out)?;
-    flush(out)
-}
-
-fn put_cut<W: Sink>(side: &Side, out: &mut W) -> Result<(), WriteFault>
-    ensures { Writes (W.written out.old) (W.written out.new) result (cut_text side.now) }
-{
-    write_cut(side, out)?;
-    flush(out)
-}
-
-fn put_solution_and_cut<W: Sink>(state: &State, side: &Side, out: &mut W) -> Result<(), WriteFault>
-    ensures { Writes (W.written out.old) (W.written out.new) result (solution_text state.now ++ cut_text side.now) }
-{
-    write_solution(state, out)?;
-    put_cut(side, out)
 }
 
 /// Writes the solution of a state, and this cut after it, if there is one, and flushes them.
@@ -96,44 +68,24 @@ pub fn put_solved<W: Sink>(
 ) -> Result<(), WriteFault>
     ensures { Writes (W.written out.old) (W.written out.new) result (run.solved_text state.now side.now) }
 {
-    match side {
-        None => put_solution(state, out),
-        Some(side) => put_solution_and_cut(state, side, out),
-    }
+    write_solved(state, side, out)?;
+    flush(out)
 }
 
-fn put_line_and_cut<W: Sink>(line: &LineBuffer, side: &Side, out: &mut W) -> Result<(), WriteFault>
-    ensures { Writes (W.written out.old) (W.written out.new) result (line.now ++ cut_text side.now) }
-{
-    put_all(out, line.as_bytes())?;
-    put_cut(side, out)
-}
-
-/// Writes the value of a solve, and this cut after it, if there is one, and flushes them.
-pub fn put_brief<W: Sink>(value: u64, side: &Option<Side>, out: &mut W) -> Result<(), WriteFault>
-    ensures { Writes (W.written out.old) (W.written out.new) result (run.brief_text value side.now) }
-{
-    let line = value_line(Command::Solve, value);
-    match side {
-        None => put_line(&line, out),
-        Some(side) => put_line_and_cut(&line, side, out),
-    }
-}
-
-/// Writes what a solve is answered by: the solution of the present state, or briefly its value.
-fn put_solve<W: Sink>(
-    state: &State,
-    side: &Option<Side>,
+/// Writes the reply to a command, briefly to a solve where that is wanted, and flushes it.
+pub fn put_reply<W: Sink>(
+    command: Command,
+    reply: &Reply,
+    present: &State,
     brief: bool,
     out: &mut W,
 ) -> Result<(), WriteFault>
-    ensures { Writes (W.written out.old) (W.written out.new) result (run.solve_text brief state.now side.now) }
+    requires { IsReplyTo command reply.now }
+    ensures { Writes (W.written out.old) (W.written out.new) result
+        (run.reply_text brief command reply.now present.now) }
 {
-    if brief {
-        put_brief(state.value(), side, out)
-    } else {
-        put_solved(state, side, out)
-    }
+    write_reply(command, reply, present, brief, out)?;
+    flush(out)
 }
 
 /// Passes on what was written.
@@ -146,20 +98,13 @@ fn flush<W: Sink>(out: &mut W) -> Result<(), WriteFault>
     Ok(())
 }
 
-fn refused_line(number: u32, refusal: &Refusal) -> LineBuffer
-    ensures { result ≡ run.refused_text number refusal.now }
+fn write_line<W: Sink>(line: &LineBuffer, out: &mut W) -> Result<(), WriteFault>
+    ensures { Writes (W.written out.old) (W.written out.new) result line.now }
 {
-    let number = u64::from(number);
-    line_of(&[
-        Text(b"c"),
-        Text(b"refused"),
-        Number(number),
-        Text(refusal_text(refusal)),
-    ])
+    put_all(out, line.as_bytes())
 }
 
-/// Writes the reply to a command, briefly to a solve where that is wanted.
-pub fn show<W: Sink>(
+fn write_reply<W: Sink>(
     command: Command,
     reply: &Reply,
     present: &State,
@@ -170,16 +115,69 @@ pub fn show<W: Sink>(
         (run.reply_text brief command reply.now present.now) }
 {
     match reply {
-        Reply::Value(value) => { put_line(&value_line(command, *value), out) }
-        Reply::Added(arc, value) => { put_line(&added_line(command, *arc, *value), out) }
-        Reply::Solution(side) => put_solve(present, side, brief, out),
-        Reply::Problem => put_problem(present, out),
-        Reply::Flow => put_solution(present, out),
-        Reply::Cut(side) => put_cut(side, out),
+        Reply::Value(value) => write_line(&value_line(command, *value), out),
+        Reply::Added(arc, value) => write_line(&added_line(command, *arc, *value), out),
+        Reply::Solution(side) => write_solve(present, side, brief, out),
+        Reply::Problem => write_problem(present, out),
+        Reply::Flow => write_solution(present, out),
+        Reply::Cut(side) => write_cut(side, out),
     }
 }
 
-fn value_line(command: Command, value: u64) -> LineBuffer
+/// What a solve is answered by: the solution of the present state, or briefly its value.
+fn write_solve<W: Sink>(
+    state: &State,
+    side: &Option<Side>,
+    brief: bool,
+    out: &mut W,
+) -> Result<(), WriteFault>
+    ensures { Writes (W.written out.old) (W.written out.new) result (run.solve_text brief state.now side.now) }
+{
+    if brief {
+        write_brief(state, side, out)
+    } else {
+        write_solved(state, side, out)
+    }
+}
+
+/// The value of a solve, and this cut after it, if there is one.
+fn write_brief<W: Sink>(state: &State, side: &Option<Side>, out: &mut W) -> Result<(), WriteFault>
+    ensures { Writes (W.written out.old) (W.written out.new) result (run.solve_text true state.now side.now) }
+{
+    write_line(&value_line(Command::Solve, state.value()), out)?;
+    write_side(side, out)
+}
+
+/// The solution of a state, and this cut after it, if there is one.
+fn write_solved<W: Sink>(state: &State, side: &Option<Side>, out: &mut W) -> Result<(), WriteFault>
+    ensures { Writes (W.written out.old) (W.written out.new) result (run.solved_text state.now side.now) }
+{
+    write_solution(state, out)?;
+    write_side(side, out)
+}
+
+fn write_side<W: Sink>(side: &Option<Side>, out: &mut W) -> Result<(), WriteFault>
+    ensures { Writes (W.written out.old) (W.written out.new) result (run.side_text side.now) }
+{
+    match side {
+        None => Ok(()),
+        Some(side) => write_cut(side, out),
+    }
+}
+
+fn refused_line(number: u32, refusal: &Refusal) -> LineBuffer
+    ensures { result ≡ run.refused_text number refusal.now }
+{
+    line_of(&[
+        Text(b"c"),
+        Text(b"refused"),
+        Number(u64::from(number)),
+        Text(refusal_text(refusal)),
+    ])
+}
+
+/// `c WORD value V`
+pub fn value_line(command: Command, value: u64) -> LineBuffer
     ensures { result ≡ run.value_text command value }
 {
     line_of(&[
@@ -193,10 +191,9 @@ fn value_line(command: Command, value: u64) -> LineBuffer
 fn added_line(command: Command, arc: u32, value: u64) -> LineBuffer
     ensures { result ≡ run.added_text command arc value }
 {
-    let word = word_of(command);
     line_of(&[
         Text(b"c"),
-        Text(word),
+        Text(word_of(command)),
         Number(u64::from(arc)),
         Text(b"value"),
         Number(value),

@@ -10,7 +10,7 @@ use crate::fault::{EngineFault, Status};
 use crate::input::{Input, Next};
 use crate::kept_line::KeptLine;
 use crate::problem::read_state;
-use crate::reply::{Answer, SolveReply, refuse, show};
+use crate::reply::{Answer, SolveReply, put_reply, refuse};
 use dmf_history::{DeltaHistory, History, MAX_BOUND};
 use dmf_session::{Command, Session};
 use dmf_solver::{Unwatched, Watch};
@@ -86,19 +86,14 @@ fn run_lines<H: History, C: Source, W: Sink, V: Watch>(
     let mut line = KeptLine::new();
     let mut is_refused = false;
     for number in 1..MAX_LINES + 1 {
-        match input.next_line(commands, &mut line)? {
-            Next::Line => {
-                let meaning = meaning_of(&line, true);
-                let answer = answer(alloc, session, number, meaning, out, wanted, watch)?;
-                is_refused |= answer.is_refusal();
-            }
-            Next::Last => {
-                let meaning = meaning_of(&line, false);
-                let answer = answer(alloc, session, number, meaning, out, wanted, watch)?;
-                is_refused |= answer.is_refusal();
-                return Ok(status(is_refused));
-            }
-            Next::End => return Ok(status(is_refused)),
+        let Next::Line { ended } = input.next_line(commands, &mut line)? else {
+            return Ok(status(is_refused));
+        };
+        let meaning = meaning_of(&line, ended);
+        let answer = answer(alloc, session, number, meaning, out, wanted, watch)?;
+        is_refused |= answer.is_refusal();
+        if !ended {
+            return Ok(status(is_refused));
         }
     }
     input.expect_end(commands)?;
@@ -224,7 +219,7 @@ fn answer_command<H: History, W: Sink, V: Watch>(
     tell_solve(session, command, watch);
     match session.step_watched(alloc, command, wanted.cut, watch) {
         Ok(reply) => {
-            show(command, &reply, session.present(), wanted.brief, out)?;
+            put_reply(command, &reply, session.present(), wanted.brief, out)?;
             Ok(Answer::Accepted)
         }
         Err(refusal) => refuse(number, &refusal, out),

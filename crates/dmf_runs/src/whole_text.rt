@@ -1,6 +1,6 @@
 //! A text, read whole before it is judged.
-ghost use Rattle.std.specs.Prelude.{◌<◌, List, ℕ, vec_len, Ok, Err, IfOk, MatchResult};
-ghost use Rattle.std.specs.Io.KnownBytes.{Consumes};
+ghost use Rattle.std.specs.Prelude.{◌<◌, vec_len, Ok, Err, IfOk, MatchResult};
+ghost use Rattle.dmf_runs.specs.Session.{HasGiven};
 ghost use Rattle.dmf_runs.specs.WholeText.{ReadsText};
 
 use crate::fault::EngineFault;
@@ -12,10 +12,9 @@ const PIECE: usize = 65536;
 
 /// Reads a whole text, of at most [`MAX_BYTES`] bytes. The memory for a read is taken before the first.
 pub fn read_all<P: Source>(alloc: Global, source: &mut P) -> Result<Vec<u8>, EngineFault>
-    ensures { (text : List ℕ) × Consumes (P.left source.old).known (P.left source.new).known text
-        × (let from = P.left source.old in
+    ensures { let from = P.left source.old in
         let to = P.left source.new in
-        MatchResult result (λ whole. ReadsText from to text (Ok whole.items)) (λ fault. ReadsText from to text (Err fault))) }
+        HasGiven from to (λ text. MatchResult result (λ whole. ReadsText from to text (Ok whole.items)) (λ fault. ReadsText from to text (Err fault))) }
 {
     let mut buffer = buffer(alloc)?;
     let piece = buffer.as_mut_slice();

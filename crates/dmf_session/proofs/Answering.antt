@@ -68,7 +68,8 @@ close-fault false closed e = cc
 close-fault true true e = cc
 close-fault true false e = cc
 
-cap-fault : (has closed small : Bool) → cond (is_none (cond has (cond closed (Some plan.Closed) None) (Some plan.NoSuchArc))) (cond small None (Some plan.SumTooLarge)) (cond has (cond closed (Some plan.Closed) None) (Some plan.NoSuchArc)) ≢ Some plan.NoMemory
+cap-fault : (has closed small : Bool) → cond (is_none (cond has (cond closed (Some plan.Closed) None) (Some plan.NoSuchArc)))
+    (cond small None (Some plan.SumTooLarge)) (cond has (cond closed (Some plan.Closed) None) (Some plan.NoSuchArc)) ≢ Some plan.NoMemory
 cap-fault false closed small e = cc
 cap-fault true true small e = cc
 cap-fault true false false e = cc
@@ -104,7 +105,8 @@ record Changed (t : Timeline) (s : NetworkState) (asked : Change) (reply : Netwo
   memory : result ≢ Err NoMemory
   has_states : HasStates after
 
-changed-by : HasOutcome → (t : Timeline) (s : NetworkState) (asked : Change) (reply : NetworkState → Reply) → HasStates t → IsState s → (fault : Option PlanFault) → change_fault s asked ≡ fault → Changed t s asked reply
+changed-by : HasOutcome → (t : Timeline) (s : NetworkState) (asked : Change) (reply : NetworkState → Reply) → HasStates t → IsState s
+    → (fault : Option PlanFault) → change_fault s asked ≡ fault → Changed t s asked reply
 changed-by outcome t s asked reply has state None none =
     let made = outcome s asked state none in
     let is : IsChanged t s asked reply (Ok (reply made.after)) (appended t made.after) = record { new = made.after; becomes = made.becomes; told = refl; appends = refl } in

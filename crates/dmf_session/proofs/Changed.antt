@@ -35,7 +35,8 @@ pub is-state : (t : Timeline) (s : NetworkState) → HasStates t → IsPresent t
 is-state t s has present = let some = some-present t has in subst IsState (one-present t some.state s some.present present) some.is
 
 -- A change that was planned on the present state and appended; the reply tells of the state that is present then.
-IsChanged-told : (t u : Timeline) (s p : NetworkState) (edit : Edit) (change : Change) (reply : NetworkState → Reply) (told : Reply) → IsPresent t s → Becomes s change (applied edit s) → Appends edit t u → IsPresent u p → told ≡ reply p → IsChanged t s change reply (Ok told) u
+IsChanged-told : (t u : Timeline) (s p : NetworkState) (edit : Edit) (change : Change) (reply : NetworkState → Reply) (told : Reply) → IsPresent t s
+    → Becomes s change (applied edit s) → Appends edit t u → IsPresent u p → told ≡ reply p → IsChanged t s change reply (Ok told) u
 IsChanged-told t u s p edit change reply told present becomes appends shown tells =
     record {
       new = applied edit s;
@@ -45,18 +46,24 @@ IsChanged-told t u s p edit change reply told present becomes appends shown tell
     }
 
 -- an addition that was planned on the present state and appended
-pub IsChanged-added : (t u : Timeline) (s p : NetworkState) (edit : Edit) (change : Change) (count value : ℕ) → IsPresent t s → Becomes s change (applied edit s) → Appends edit t u → IsPresent u p → count ≡ length p.network.arcs → pos value ≡ flow_value p.network p.flows → IsChanged t s change (λ new. Added (length new.network.arcs) (value_of new)) (Ok (Added count value)) u
+pub IsChanged-added : (t u : Timeline) (s p : NetworkState) (edit : Edit) (change : Change) (count value : ℕ) → IsPresent t s
+    → Becomes s change (applied edit s) → Appends edit t u → IsPresent u p → count ≡ length p.network.arcs → pos value ≡ flow_value p.network p.flows
+    → IsChanged t s change (λ new. Added (length new.network.arcs) (value_of new)) (Ok (Added count value)) u
 IsChanged-added t u s p edit change count value present becomes appends shown counts valued =
     IsChanged-told t u s p edit change (λ new. Added (length new.network.arcs) (value_of new)) (Added count value) present becomes appends shown
     (ap (λ n. Added n value) counts ∙ ap (λ n. Added (length p.network.arcs) n) (ap nat_abs valued))
 
 -- where a plan was made, nothing refuses the change
-planned-changes : (t u : Timeline) (s : NetworkState) (edit : Edit) (change : Change) (reply : NetworkState → Reply) (result : Result Reply Refusal) (fault : Option PlanFault) → MatchOption fault (IsOkUnless (Ok edit) NoMemory) (λ f. Ok edit ≡ Err f) → IsChanged t s change reply result u → MatchOption fault (IsChanged t s change reply result u) (λ f. IsRefused t (refusal_of f) result u)
+planned-changes : (t u : Timeline) (s : NetworkState) (edit : Edit) (change : Change) (reply : NetworkState → Reply) (result : Result Reply Refusal)
+    (fault : Option PlanFault) → MatchOption fault (IsOkUnless (Ok edit) NoMemory) (λ f. Ok edit ≡ Err f) → IsChanged t s change reply result u
+    → MatchOption fault (IsChanged t s change reply result u) (λ f. IsRefused t (refusal_of f) result u)
 planned-changes t u s edit change reply result None planned changed = changed
 planned-changes t u s edit change reply result (Some f) planned changed = absurd (cc)
 
 -- a change that was planned on the present state, unless memory was refused, and appended; the reply tells the value
-pub Changes-valued : (t u : Timeline) (s p : NetworkState) (edit : Edit) (change : Change) (value : ℕ) → IsPresent t s → MatchOption (change_fault s change) (IsOkUnless (Ok edit) NoMemory) (λ f. Ok edit ≡ Err f) → Becomes s change (applied edit s) → Appends edit t u → IsPresent u p → pos value ≡ flow_value p.network p.flows → Changes t s change (λ new. Value (value_of new)) (Ok (Value value)) u
+pub Changes-valued : (t u : Timeline) (s p : NetworkState) (edit : Edit) (change : Change) (value : ℕ) → IsPresent t s → MatchOption (change_fault s change)
+    (IsOkUnless (Ok edit) NoMemory) (λ f. Ok edit ≡ Err f) → Becomes s change (applied edit s) → Appends edit t u → IsPresent u p
+    → pos value ≡ flow_value p.network p.flows → Changes t s change (λ new. Value (value_of new)) (Ok (Value value)) u
 Changes-valued t u s p edit change value present planned becomes appends shown valued =
     planned-changes t u s edit change (λ new. Value (value_of new)) (Ok (Value value)) (change_fault s change) planned
     (IsChanged-told t u s p edit change (λ new. Value (value_of new)) (Value value) present becomes appends shown (ap (λ n. Value n) (ap nat_abs valued)))

@@ -30,15 +30,18 @@ pub record NetworkOneLaws : Type 0 where
 
 -- ---- changes
 
-one-refused : (t u v : Timeline) (refusal : Refusal) (result other : Result Reply Refusal) → IsRefused t refusal result u → IsRefused t refusal other v → (result ≡ other) × (u ≡ v)
+one-refused : (t u v : Timeline) (refusal : Refusal) (result other : Result Reply Refusal) → IsRefused t refusal result u → IsRefused t refusal other v
+    → (result ≡ other) × (u ≡ v)
 one-refused t u v refusal result other a b = (a.told ∙ sym b.told, a.unchanged ∙ sym b.unchanged)
 
-one-changed : HasOneOutcome → (t u v : Timeline) (s : NetworkState) (asked : Change) (reply : NetworkState → Reply) (result other : Result Reply Refusal) → IsState s → IsChanged t s asked reply result u → IsChanged t s asked reply other v → (result ≡ other) × (u ≡ v)
+one-changed : HasOneOutcome → (t u v : Timeline) (s : NetworkState) (asked : Change) (reply : NetworkState → Reply) (result other : Result Reply Refusal)
+    → IsState s → IsChanged t s asked reply result u → IsChanged t s asked reply other v → (result ≡ other) × (u ≡ v)
 one-changed law t u v s asked reply result other state a b =
     let same : a.new ≡ b.new = law s a.new b.new asked state a.becomes b.becomes in
     (a.told ∙ ap (λ new. Ok (reply new)) same ∙ sym b.told, a.appends ∙ ap (λ new. appended t new) same ∙ sym b.appends)
 
-one-by_fault : HasOneOutcome → (t u v : Timeline) (s : NetworkState) (asked : Change) (reply : NetworkState → Reply) (result other : Result Reply Refusal) (fault : Option PlanFault) → IsState s
+one-by_fault : HasOneOutcome → (t u v : Timeline) (s : NetworkState) (asked : Change) (reply : NetworkState → Reply) (result other : Result Reply Refusal)
+    (fault : Option PlanFault) → IsState s
     → MatchOption fault (IsChanged t s asked reply result u) (λ f. IsRefused t (refusal_of f) result u) → MatchOption fault (IsChanged t s asked reply other v) (λ f. IsRefused t (refusal_of f) other v) → (result ≡ other) × (u ≡ v)
 one-by_fault law t u v s asked reply result other None state a b = one-changed law t u v s asked reply result other state a b
 one-by_fault law t u v s asked reply result other (Some f) state a b = one-refused t u v (refusal_of f) result other a b
@@ -52,7 +55,8 @@ one-change law t u v asked reply result other has a b =
 
 -- ---- solving
 
-one-wanted : HasOneSmallestSide → (want_cut : Bool) (n : Network) (side other : Option CutSide) → IsSideWanted want_cut n side → IsSideWanted want_cut n other → side ≡ other
+one-wanted : HasOneSmallestSide → (want_cut : Bool) (n : Network) (side other : Option CutSide) → IsSideWanted want_cut n side → IsSideWanted want_cut n other
+    → side ≡ other
 one-wanted law true n (Some side) (Some other) a b = ap (λ x. Some x) (law n side other a b)
 one-wanted law true n (Some side) None a b = absurd b
 one-wanted law true n None other a b = absurd a
@@ -60,7 +64,8 @@ one-wanted law false n None None a b = refl
 one-wanted law false n None (Some other) a b = absurd b
 one-wanted law false n (Some side) other a b = absurd a
 
-one-solved : NetworkOneLaws → (want_cut : Bool) (t u v : Timeline) (s : NetworkState) (result other : Result Reply Refusal) → IsState s → IsSolved want_cut t s result u → IsSolved want_cut t s other v → (result ≡ other) × (u ≡ v)
+one-solved : NetworkOneLaws → (want_cut : Bool) (t u v : Timeline) (s : NetworkState) (result other : Result Reply Refusal) → IsState s
+    → IsSolved want_cut t s result u → IsSolved want_cut t s other v → (result ≡ other) × (u ≡ v)
 one-solved laws want_cut t u v s result other state a b =
     let same : a.new ≡ b.new = laws.outcome s a.new b.new change.Solve state a.becomes b.becomes in
     let side : a.side ≡ b.side = one-wanted laws.side want_cut b.new.network a.side b.side (subst (λ new. IsSideWanted want_cut new.network a.side) same a.side_is) b.side_is in

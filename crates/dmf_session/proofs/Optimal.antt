@@ -46,7 +46,8 @@ HasOptimalPresent-appended t u s new present appends optimal =
     record { state = new; present = present-appended t u s new present appends; optimal = optimal }
 
 -- What was planned on the present state as a greatest flow, and appended, is optimal.
-pub planned-optimal : GreatestIsOptimal → (t u : Timeline) (s : NetworkState) (edit : Edit) → IsPresent t s → Fits edit s → Becomes s change.Solve (applied edit s) → IsGreatest s.network (applied edit s).flows → Appends edit t u → HasOptimalPresent u
+pub planned-optimal : GreatestIsOptimal → (t u : Timeline) (s : NetworkState) (edit : Edit) → IsPresent t s → Fits edit s
+    → Becomes s change.Solve (applied edit s) → IsGreatest s.network (applied edit s).flows → Appends edit t u → HasOptimalPresent u
 planned-optimal law t u s edit present fits becomes greatest appends =
     HasOptimalPresent-appended t u s (applied edit s) present (appends-applied t u s edit present appends)
     (law (applied edit s) fits.applied.network (subst (λ n. IsGreatest n (applied edit s).flows) (sym becomes.0) greatest))

@@ -21,13 +21,15 @@ TellsStep-nothing t u (Ok reply) told err = absurd (false≢true err)
 TellsStep-nothing t u (Err refusal) told err = λ s present. inl (AreTold-none told)
 
 -- One that is refused later tells what its plan told,
-pub TellsStep-refused : (t u : Timeline) (s : NetworkState) (result : Result Reply Refusal) (before after : Option (List Told)) → IsPresent t s → IsErr result → MayTellSolve s before after → TellsStep t Solve result u before after
+pub TellsStep-refused : (t u : Timeline) (s : NetworkState) (result : Result Reply Refusal) (before after : Option (List Told)) → IsPresent t s → IsErr result
+    → MayTellSolve s before after → TellsStep t Solve result u before after
 TellsStep-refused t u s (Ok reply) before after present err told = absurd (false≢true err)
 TellsStep-refused t u s (Err refusal) before after present err told =
     λ other also. subst (λ p. MayTellSolve p before after) (one-present t s other present also) told
 
 -- and so does one whose outcome was appended.
-pub TellsStep-solved : (t u : Timeline) (s : NetworkState) (edit : Edit) (reply : Reply) (before after : Option (List Told)) → IsPresent t s → Appends edit t u → TellsSolve s (applied edit s).flows before after → TellsStep t Solve (Ok reply) u before after
+pub TellsStep-solved : (t u : Timeline) (s : NetworkState) (edit : Edit) (reply : Reply) (before after : Option (List Told)) → IsPresent t s → Appends edit t u
+    → TellsSolve s (applied edit s).flows before after → TellsStep t Solve (Ok reply) u before after
 TellsStep-solved t u s edit reply before after present appends told =
     λ other also. (
       applied edit s,

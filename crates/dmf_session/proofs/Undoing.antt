@@ -20,11 +20,13 @@ use Rattle.dmf_history.proofs.Appending.{one-present, before-extended, within_bo
 
 -- ---- what a change appended
 
-changed-by : (t u : Timeline) (s : NetworkState) (asked : Change) (told : NetworkState → Reply) (reply : Reply) (fault : Option PlanFault) → MatchOption fault (IsChanged t s asked told (Ok reply) u) (λ f. IsRefused t (refusal_of f) (Ok reply) u) → (new : NetworkState) × (u ≡ appended t new)
+changed-by : (t u : Timeline) (s : NetworkState) (asked : Change) (told : NetworkState → Reply) (reply : Reply) (fault : Option PlanFault)
+    → MatchOption fault (IsChanged t s asked told (Ok reply) u) (λ f. IsRefused t (refusal_of f) (Ok reply) u) → (new : NetworkState) × (u ≡ appended t new)
 changed-by t u s asked told reply None m = (m.new, m.appends)
 changed-by t u s asked told reply (Some f) m = let refused = m.told in absurd (cc)
 
-change-appends : (want_cut : Bool) (t u : Timeline) (command : Command) (reply : Reply) → IsChange command → Answers want_cut t command (Ok reply) u → (new : NetworkState) × (u ≡ appended t new)
+change-appends : (want_cut : Bool) (t u : Timeline) (command : Command) (reply : Reply) → IsChange command → Answers want_cut t command (Ok reply) u
+    → (new : NetworkState) × (u ≡ appended t new)
 change-appends want_cut t u (Cap arc cap) reply is a =
     changed-by t u a.0 (change.Cap arc cap) (λ new. Value (value_of new)) reply (change_fault a.0 (change.Cap arc cap)) a.2
 change-appends want_cut t u (Add tail head cap) reply is a =

@@ -1,5 +1,6 @@
 pub mod Kept
 pub mod Optimal
+pub mod RefusalText
 pub mod Step
 pub mod Telling
 pub mod Laws

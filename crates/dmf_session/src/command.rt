@@ -1,6 +1,9 @@
+ghost use Rattle.std.specs.Prelude.{◌≡◌, ◌≤◌, length};
+ghost use Rattle.dmf_session.specs.RefusalText.{refusal_text};
+
 use dmf_solver::{CutFault, PlanFault};
 use dmf_state::{NoMemory, Side};
-use thiserror::Error;
+use std::fmt;
 
 /// What a session is asked to do.
 #[derive(Clone, Copy, Debug, PartialEq, Eq)]
@@ -63,51 +66,75 @@ pub enum Reply {
 }
 
 /// Why a command is refused. The first four and the last are told by the reader of commands alone.
-#[derive(Clone, Copy, Debug, PartialEq, Eq, Error)]
+#[derive(Clone, Copy, Debug, PartialEq, Eq)]
 pub enum Refusal {
     /// The first field is no command, or the field behind `print` names nothing to print.
-    #[error("unknown command")]
     UnknownCommand,
     /// The command has another number of fields.
-    #[error("wrong number of fields")]
     FieldCount,
     /// A field that should be a number has a byte that is no digit.
-    #[error("not a number")]
     NotANumber,
     /// A number is past 2^64 - 1.
-    #[error("number too large")]
     TooLarge,
     /// The arc's number is 0 or past the last arc.
-    #[error("no such arc")]
     NoSuchArc,
     /// The arc is closed.
-    #[error("arc is closed")]
     Closed,
     /// A node's number is 0 or past the last node.
-    #[error("no such node")]
     NoSuchNode,
     /// The network has as many arcs as it may have.
-    #[error("too many arcs")]
     TooManyArcs,
     /// The sum of the capacities would pass 2^64 - 1.
-    #[error("capacities past 64 bits")]
     SumTooLarge,
     /// There are not so many changes before the present state.
-    #[error("nothing to undo")]
     NothingToUndo,
     /// There are not so many undone changes.
-    #[error("nothing to redo")]
     NothingToRedo,
     /// A flow of larger value exists.
-    #[error("flow is not greatest")]
     NotGreatest,
     /// A request for memory was refused.
-    #[error("no memory")]
     NoMemory,
     /// The line has more bytes than a command line may have.
-    #[error("line too long")]
     LineTooLong,
 }
+
+impl Refusal {
+    /// What a session tells of the refused command. Takes no memory.
+    pub fn text(self) -> &'static str
+        ensures text { result.now ≡ refusal_text self }
+        ensures short { length result.now ≤ 24 }
+    {
+        match self {
+            Refusal::UnknownCommand => "unknown command",
+            Refusal::FieldCount => "wrong number of fields",
+            Refusal::NotANumber => "not a number",
+            Refusal::TooLarge => "number too large",
+            Refusal::NoSuchArc => "no such arc",
+            Refusal::Closed => "arc is closed",
+            Refusal::NoSuchNode => "no such node",
+            Refusal::TooManyArcs => "too many arcs",
+            Refusal::SumTooLarge => "capacities past 64 bits",
+            Refusal::NothingToUndo => "nothing to undo",
+            Refusal::NothingToRedo => "nothing to redo",
+            Refusal::NotGreatest => "flow is not greatest",
+            Refusal::NoMemory => "no memory",
+            Refusal::LineTooLong => "line too long",
+        }
+    }
+}
+
+impl fmt::Display for Refusal {
+    ghost use Rattle.std.specs.Prelude.{Some};
+    ghost use Rattle.dmf_session.specs.RefusalText.{refusal_text};
+
+    ghost output = { λ refusal. Some (refusal_text refusal) };
+
+    fn fmt<W: fmt::Write>(&self, f: &mut fmt::Formatter<W>) -> fmt::Result {
+        f.write_str(self.text())
+    }
+}
+
+impl std::error::Error for Refusal {}
 
 impl From<PlanFault> for Refusal {
     ghost use Rattle.std.specs.Prelude.{◌≡◌};

@@ -20,9 +20,9 @@ use std::marker::Model;
 
 /// A network that is changed by commands, over the history that keeps its states.
 ///
-/// From the first solve on the residual network of the present state is kept too, so that the next solve need not make it
-/// anew. It follows each change, and each step back or forward where the history tells the edit: the first of these after a
-/// solve takes time for each node. It is let go where an arc is added or taken back, and where memory is refused.
+/// From the first solve on the session also keeps the residual network of the present state, so that the next solve need not make
+/// it anew. The network follows each change, and each step back or forward where the history tells the edit; the first of these
+/// after a solve takes time for each node. The session drops it where an arc is added or taken back, and where memory is refused.
 #[derive(Drop)]
 pub struct Session<H: History> {
     history: H,
@@ -113,7 +113,7 @@ impl<H: History> Session<H> {
         ensures told { TellsStep (H.timeline self.old) command result (H.timeline self.new) (W.told watch.old) (W.told watch.new) }
     {
         let answer = self.carry_out(alloc, command, want_cut, watch);
-        self.let_go_if_refused(&answer);
+        self.drop_if_refused(&answer);
         answer
     }
 
@@ -175,7 +175,7 @@ impl<H: History> Session<H> {
         Ok(Reply::Value(self.present().value()))
     }
 
-    // A side that is wanted is made before the solve is recorded: where memory is refused for it, nothing has changed.
+    // A side that is wanted is made before the history takes the solve: where memory is refused for it, nothing has changed.
     fn solve<W: Watch>(
         &mut self,
         alloc: Global,
@@ -256,7 +256,7 @@ impl<H: History> Session<H> {
         Ok(())
     }
 
-    /// The residual network of the present state: the one that is kept, which is then let go, or else a new one.
+    /// The residual network of the present state: the one that was kept, or else a new one. None is kept afterwards.
     fn take_network(&mut self, alloc: Global) -> Result<ResidualNetwork, NoMemory>
         ensures unchanged { self.new ≡ self.old }
         ensures network { IfOk result (λ network. KeepsPresent (H.timeline self.old) (Some network)) }
@@ -267,8 +267,8 @@ impl<H: History> Session<H> {
         }
     }
 
-    /// Lets the kept network go where the answer tells that memory was refused, so that there is more for what comes next.
-    fn let_go_if_refused(&mut self, answer: &Result<Reply, Refusal>)
+    /// Drops the kept network where memory was refused, so that there is more for the next command.
+    fn drop_if_refused(&mut self, answer: &Result<Reply, Refusal>)
         ensures { self.new ≡ self.old }
     {
         if let Err(Refusal::NoMemory) = answer {

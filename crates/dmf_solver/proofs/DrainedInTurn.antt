@@ -6,8 +6,7 @@ use Rattle.std.proofs.lemmas.List.Sums.{sum_by-cons}
 use Rattle.std.proofs.lemmas.Slice.Zip.{AllZip-long}
 use Rattle.dmf_path.specs.Search.{Searched}
 use Rattle.dmf_state.specs.declared.edit.Move.{Move}
-use Rattle.dmf_solver.specs.declared.moves.FlowLink.TheVariants.{Along}
-use Rattle.dmf_solver.specs.Pairs.{IsCarryingSearch, flows_read}
+use Rattle.dmf_solver.specs.Pairs.{Along, IsCarryingSearch, flows_read}
 use Rattle.dmf_solver.specs.Drain.{Drains, TakesOff}
 use Rattle.dmf_state.specs.Edit.{differences}
 use Rattle.dmf_state.specs.Flow.{flow_on, flow_on_all, IsFlow, flow_value}

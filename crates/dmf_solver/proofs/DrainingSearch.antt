@@ -11,7 +11,8 @@ use Rattle.dmf_path.specs.Step.{Step}
 use Rattle.dmf_path.specs.Path.{IsPath, HasNoPath, IsLeastPath, has_rank, bottleneck_up_to}
 use Rattle.dmf_path.specs.Pair.{steps_of, pushed_pair, pushed_from, pushed_pairs}
 use Rattle.dmf_path.specs.declared.search.AugmentingPath.{AugmentingPath}
-use Rattle.dmf_path.specs.Search.{Searched, aimed, along_at, with_pairs, Augments, HasAlong, lowered_along}
+use Rattle.dmf_path.specs.Search.{Searched, aimed, along_at, with_pairs, Augments, Covers, HasAlong, lowered_along, pair_number}
+use Rattle.dmf_path.proofs.Covering.{Covers-weaker}
 use Rattle.dmf_path.proofs.Loops.{least-without_loops, no_path-without_loops}
 use Rattle.dmf_path.proofs.ShortestPaths.{IsShortestPath, IsShortestPath-least, IsShortestPath-tail}
 use Rattle.dmf_state.specs.declared.arc.Arc.{Arc}
@@ -20,8 +21,9 @@ use Rattle.dmf_state.specs.Network.{Network, arc_number, has_arc}
 use Rattle.dmf_state.specs.Flow.{flow_on, IsFlow}
 use Rattle.dmf_solver.specs.Drain.{carrying_steps, lowered, Drains}
 use Rattle.dmf_state.specs.NetworkState.{NetworkState, IsState, with_flows}
-use Rattle.dmf_solver.specs.Pairs.{AreNoMore, KeepLoops, Carries, IsCarryingSearch, carrying_pair, carrying_from, return_pair, carrying_pairs, flows_read}
-use Rattle.dmf_solver.specs.declared.moves.FlowLink.TheVariants.{Along}
+use Rattle.dmf_solver.specs.Pairs.{Along, AreNoMore, KeepLoops, Carries, IsCarryingSearch, carrying_pair, carrying_from, return_pair, carrying_pairs, flows_read}
+use Rattle.dmf_solver.specs.Moves.{CoverDifferences, Stays}
+use Rattle.dmf_solver.proofs.FlowsRead.{stays-unpaired}
 use Rattle.dmf_solver.proofs.CarryingPairs.{is_idle, idle-why, length-carrying_pairs, carrying-without_loops, pair-of_arc}
 use Rattle.dmf_solver.proofs.CarryingSteps.{IsCarrying, along, returns, carrying-contained, carrying-path}
 use Rattle.dmf_state.proofs.ChangedArc.{has_arc-within}
@@ -150,28 +152,40 @@ pub IsCarryingSearch-from : (s : NetworkState) (unpaired flows : List ℕ) (sear
 IsCarryingSearch-from s unpaired flows search carries =
     subst (λ xs. Carries s unpaired xs search) (sym (carries-read s unpaired flows search carries)) carries
 
--- At first they are the state's.
-pub carries-first : (s : NetworkState) (search : Searched) → IsState s → search.nodes ≡ s.network.nodes → search.pairs ≡ carrying_pairs s.network s.flows s.flows → search.takes_back ≡ false → Carries s s.flows s.flows search
-carries-first s search state nodes pairs none = record {
-  state = state;
-  no_more = record { one_each = AllZip-long _ s.network.arcs s.flows state.flow.within; no_more = no_more-same s.flows; at_sink = omega arith };
-  less = no_more-same s.flows;
-  loops = λ k within loop. refl;
-  nodes_are = nodes;
-  pairs_are = pairs;
-  takes_none_back = none;
-}
+-- A search that is made of the state's pairs carries the state's flows, and tells them.
+pub carrying-first : (s : NetworkState) (search : Searched) (nodes start goal : ℕ) → IsState s → nodes ≡ s.network.nodes
+    → search ≡ record { nodes = nodes; pairs = carrying_pairs s.network s.flows s.flows; start = start; goal = goal; takes_back = false }
+    → IsCarryingSearch s s.flows search × (flows_read Along s.flows search.pairs ≡ s.flows)
+carrying-first s search nodes start goal state same is =
+    let carries : Carries s s.flows s.flows search = record {
+      state = state;
+      no_more = record { one_each = AllZip-long _ s.network.arcs s.flows state.flow.within; no_more = no_more-same s.flows; at_sink = omega arith };
+      less = no_more-same s.flows;
+      loops = λ k within loop. refl;
+      nodes_are = ap (λ (x : Searched). x.nodes) is ∙ same;
+      pairs_are = ap (λ (x : Searched). x.pairs) is;
+      takes_none_back = ap (λ (x : Searched). x.takes_back) is;
+    } in
+    (IsCarryingSearch-from s s.flows s.flows search carries, carries-read s s.flows s.flows search carries)
 
--- There is a pair for each flow.
-pub length-carried : (s : NetworkState) (unpaired flows : List ℕ) (search : Searched) → Carries s unpaired flows search → length search.pairs ≡ length s.flows + 1
-length-carried s unpaired flows search carries =
+-- There is a pair for each flow, or the place of one.
+pub length-carries : (s : NetworkState) (unpaired flows : List ℕ) (search : Searched) → Carries s unpaired flows search → length s.flows ≤ length search.pairs
+length-carries s unpaired flows search carries =
     let first = carries.no_more.one_each in
     let same = AllZip-long _ s.flows flows carries.no_more.no_more in
-    let all = length-carrying_pairs s.network s.flows flows first (same ∙ first) in
-    omega (arith, all, first, ap (λ (pairs : List (Option Pair)). length pairs) carries.pairs_are)
+    omega (arith, length-carrying_pairs s.network s.flows flows first (same ∙ first), first, ap (λ (pairs : List (Option Pair)). length pairs) carries.pairs_are)
 
-pub length-carries : (s : NetworkState) (unpaired flows : List ℕ) (search : Searched) → Carries s unpaired flows search → length s.flows ≤ length search.pairs
-length-carries s unpaired flows search carries = omega (arith, length-carried s unpaired flows search carries)
+-- Where the list has the flows before, only those on arcs whose pairs are there may differ.
+pub differences-covered : (s : NetworkState) (unpaired indices : List ℕ) (search : Searched) → IsCarryingSearch s unpaired search → unpaired ≡ s.flows
+    → Covers (length search.pairs) (λ k. pair_number search.pairs k ≡ None) indices → CoverDifferences s.flows (flows_read Along unpaired search.pairs) indices
+differences-covered s unpaired indices search carries same covers =
+    let paired = length-carries s unpaired _ search carries in
+    record {
+      count = length search.pairs;
+      most = paired;
+      covers = Covers-weaker (length search.pairs) (λ k. pair_number search.pairs k ≡ None) _ indices
+          (λ k _ none. subst (λ firsts. Stays s.flows (flows_read Along firsts search.pairs) k) (sym same) (stays-unpaired Along s.flows search.pairs k paired none)) covers;
+    }
 
 -- What the search tells of an arc that leads to another node is what flows there.
 pub carries-along : (s : NetworkState) (unpaired flows : List ℕ) (search : Searched) (j : ℕ) → has_arc s.network j ≡ true → (arc_number s.network j).head ≢ (arc_number s.network j).tail → Carries s unpaired flows search → unwrap_or (along_at search.pairs (j - 1)) 0 ≡ flow_on flows j

@@ -1,11 +1,12 @@
 -- The edit of a solve: its moves list where the flow that the search has reached differs.
-use Rattle.std.proofs.Common.{ℕ, ◌≡◌, ◌∙◌, List, Option, Vec, Global, ap, refl, subst, sym}
-use Rattle.dmf_path.specs.Search.{Searched}
+use Rattle.std.proofs.Common.{◌≡◌, ◌∙◌, List, Option, IfSome, Vec, Global, ap, pos, refl, subst, sym}
+use Rattle.dmf_solver.specs.declared.solve.Solved.{Solved}
 use Rattle.dmf_state.specs.declared.edit.Move.{Move}
 use Rattle.dmf_state.specs.declared.edit.Edit.TheVariants as edit
 use Rattle.dmf_state.specs.Cut.{HasCutOf}
 use Rattle.dmf_state.specs.Edit.{applied, differences}
 use Rattle.dmf_state.specs.Flow.{flow_value}
+use Rattle.dmf_state.specs.Side.{CutSide}
 use Rattle.dmf_solver.specs.Greatest.{IsGreatest}
 use Rattle.dmf_state.specs.NetworkState.{NetworkState, IsState, with_flows}
 use Rattle.dmf_solver.specs.Pairs.{IsSolved, reached_flows}
@@ -16,35 +17,42 @@ use Rattle.dmf_solver.specs.Told.{Told, TellsSolve}
 use Rattle.dmf_solver.proofs.GreatestFlow.{greatest-from_no_path, cut-from_no_path}
 use Rattle.dmf_state.proofs.Moving.{AreMovesBetween, moves-between, flows-long}
 
--- The moves lead from the flow of the state to that which the search has reached.
-between : (s : NetworkState) (search : Searched) (value : ℕ) (moves : List Move) → IsState s → IsSolved s search value → moves ≡ differences 1 s.flows (reached_flows s search) → AreMovesBetween moves s.flows (reached_flows s search)
-between s search value moves state is listed = moves-between moves s.flows (reached_flows s search) (flows-long s (reached_flows s search) state is.state) listed
+module _ (s : NetworkState) (solved : Solved) (moves : Vec Move Global) (state : IsState s) (is : IsSolved s solved)
+    (listed : moves.items ≡ differences 1 s.flows (reached_flows s solved.search)) where
+  -- The moves lead from the flow of the state to that which the search has reached.
+  between : AreMovesBetween moves.items s.flows (reached_flows s solved.search)
+  between = moves-between moves.items s.flows (reached_flows s solved.search) (flows-long s (reached_flows s solved.search) state is.state) listed
 
--- So the edit of these moves solves,
-pub PlansSolve-listed : (s : NetworkState) (search : Searched) (value : ℕ) (moves : Vec Move Global) → IsState s → IsSolved s search value → moves.items ≡ differences 1 s.flows (reached_flows s search) → PlansSolve s (edit.Solve moves)
-PlansSolve-listed s search value moves state is listed =
-    let n = s.network in
-    let flows = reached_flows s search in
-    let are = between s search value moves.items state is listed in
-    let makes = sym are.makes in
-    record {
-      kind = tt;
-      fits = record { arc = tt; moves = are.fit; applied = subst (λ xs. IsState (with_flows s xs)) makes is.state };
-      becomes = (refl, subst (Solves n s.flows) makes is.solves);
-      moves = are.differ;
-      greatest = subst (IsGreatest n) makes (greatest-from_no_path n flows is.state.network is.state.flow is.solves.no_path);
-      cut = subst (λ xs. HasCutOf n (flow_value n xs)) makes (cut-from_no_path n flows is.state.network is.state.flow is.solves.no_path);
-    }
+  -- So the edit of these moves solves,
+  pub PlansSolve-listed : PlansSolve s (edit.Solve moves)
+  PlansSolve-listed =
+      let n = s.network in
+      let makes = sym between.makes in
+      record {
+        plan = record {
+          kind = tt;
+          fits = record { arc = tt; moves = between.fit; applied = subst (λ xs. IsState (with_flows s xs)) makes is.state };
+          becomes = (refl, subst (Solves n s.flows) makes is.solves);
+          moves = between.differ;
+        };
+        greatest = subst (IsGreatest n) makes (greatest-from_no_path n _ is.state.network is.state.flow is.solves.no_path);
+        cut = subst (λ xs. HasCutOf n (flow_value n xs)) makes (cut-from_no_path n _ is.state.network is.state.flow is.solves.no_path);
+      }
 
--- makes the flow that the search has reached,
-pub flows-listed : (s : NetworkState) (search : Searched) (value : ℕ) (moves : Vec Move Global) → IsState s → IsSolved s search value → moves.items ≡ differences 1 s.flows (reached_flows s search) → (applied (edit.Solve moves) s).flows ≡ reached_flows s search
-flows-listed s search value moves state is listed = (between s search value moves.items state is listed).makes
+  -- makes the flow that the search has reached,
+  pub flows-listed : (applied (edit.Solve moves) s).flows ≡ reached_flows s solved.search
+  flows-listed = between.makes
 
--- told what the search told,
-pub told-listed : (s : NetworkState) (search : Searched) (value : ℕ) (moves : Vec Move Global) (told_before told_after : Option (List Told)) → IsState s → IsSolved s search value → moves.items ≡ differences 1 s.flows (reached_flows s search) → TellsSolve s (reached_flows s search) told_before told_after → TellsSolve s (applied (edit.Solve moves) s).flows told_before told_after
-told-listed s search value moves told_before told_after state is listed tells =
-    subst (λ flows. TellsSolve s flows told_before told_after) (sym (flows-listed s search value moves state is listed)) tells
+  -- whose value the side has,
+  pub value-listed : (side : Option CutSide) → IfSome side (λ side. pos side.capacity ≡ flow_value s.network (reached_flows s solved.search))
+      → IfSome side (λ side. pos side.capacity ≡ flow_value s.network (applied (edit.Solve moves) s).flows)
+  value-listed side is = subst (λ flows. IfSome side (λ side. pos side.capacity ≡ flow_value s.network flows)) (sym flows-listed) is
 
--- and leaves the search's links as those of the residual network.
-pub residual-listed : (s : NetworkState) (search : Searched) (value : ℕ) (moves : Vec Move Global) → IsState s → IsSolved s search value → moves.items ≡ differences 1 s.flows (reached_flows s search) → IsResidualOf (applied (edit.Solve moves) s) search
-residual-listed s search value moves state is listed = is.search_is ∙ ap (residual_search s.network) (sym (flows-listed s search value moves state is listed))
+  -- was told as the search told it,
+  pub told-listed : (before after : Option (List Told)) → TellsSolve s (reached_flows s solved.search) before after
+      → TellsSolve s (applied (edit.Solve moves) s).flows before after
+  told-listed before after tells = subst (λ flows. TellsSolve s flows before after) (sym flows-listed) tells
+
+  -- and leaves the search's links as those of the residual network.
+  pub residual-listed : IsResidualOf (applied (edit.Solve moves) s) solved.search
+  residual-listed = is.search_is ∙ ap (residual_search s.network) (sym flows-listed)

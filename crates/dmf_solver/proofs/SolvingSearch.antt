@@ -13,8 +13,10 @@ use Rattle.dmf_path.specs.Path.{has_rank, IsPath, HasNoPath, bottleneck, bottlen
 use Rattle.dmf_path.specs.Pair.{pair_steps, steps_from, steps_of, pushed_pairs}
 use Rattle.dmf_path.specs.declared.search.AugmentingPath.{AugmentingPath}
 use Rattle.dmf_path.specs.Search.{Searched, Augments}
+use Rattle.dmf_path.specs.Passed.{KeepsUnpassed}
 use Rattle.dmf_path.proofs.Loops.{least-without_loops, no_path-without_loops}
 use Rattle.dmf_state.specs.declared.arc.Arc.{Arc}
+use Rattle.dmf_solver.specs.declared.solve.Solved.{Solved}
 use Rattle.dmf_state.specs.Arc.{no_arc}
 use Rattle.dmf_state.specs.Network.{Network, IsNetwork}
 use Rattle.dmf_state.specs.Flow.{AreWithinCapacities, IsFlow, flow_value}
@@ -23,8 +25,7 @@ use Rattle.dmf_solver.specs.Residual.{residual_steps, augmented}
 use Rattle.dmf_solver.specs.Solve.{Solves}
 use Rattle.dmf_solver.specs.Told.{Told, told_of, AreTold, TellsSolve}
 use Rattle.dmf_solver.specs.ResidualNetwork.{residual_pair, residual_pairs, residual_search}
-use Rattle.dmf_solver.specs.Pairs.{flow_read, flows_read, reached_flows, IsSolved}
-use Rattle.dmf_solver.specs.declared.moves.FlowLink.TheVariants.{Against}
+use Rattle.dmf_solver.specs.Pairs.{Against, flow_read, flows_read, reached_flows, IsSolved}
 use Rattle.dmf_solver.proofs.Augmenting.{augmented-value, value-le-capacities}
 use Rattle.dmf_solver.proofs.AugmentedPushed.{get_or-augmented_from}
 use Rattle.dmf_solver.proofs.FlowsRead.{length-flows_read}
@@ -199,15 +200,17 @@ solving-solves s value old is none =
     record { paths = is.reached.paths; augments = is.reached.augments; no_path = no_path }
 
 -- the search has come to it,
-pub solving-done : (s : NetworkState) (value : ℕ) (old new : Searched) → IsState s → IsSolving s old value → HasNoPath (steps_of old.pairs) old.start old.goal → new ≡ old → IsSolved s new value
-solving-done s value old new state is none same =
+pub solving-done : (s : NetworkState) (solved : Solved) (old : Searched) → IsState s → IsSolving s old solved.value → HasNoPath (steps_of old.pairs) old.start old.goal → solved.search ≡ old
+    → KeepsUnpassed solved.passed.items (residual_pairs s.network.arcs s.flows) solved.search.pairs → IsSolved s solved
+solving-done s solved old state is none same kept =
     let n = s.network in
-    let read = solving-read s value old new state is same in
+    let read = solving-read s solved.value old solved.search state is same in
     record {
-      solves = subst (Solves n s.flows) read (solving-solves s value old is none);
+      solves = subst (Solves n s.flows) read (solving-solves s solved.value old is none);
       state = subst (λ flows. IsState (with_flows s flows)) read is.reached.state;
-      search_is = subst (λ flows. new ≡ residual_search n flows) read (same ∙ is.search_is);
-      value_is = subst (λ flows. pos value ≡ flow_value n flows) read is.value_is;
+      search_is = subst (λ flows. solved.search ≡ residual_search n flows) read (same ∙ is.search_is);
+      value_is = subst (λ flows. pos solved.value ≡ flow_value n flows) read is.value_is;
+      kept = kept;
     }
 
 -- and all its paths were told.
@@ -218,15 +221,15 @@ solving-told s value old new before after state is told none same =
     subst (λ flows. TellsSolve s flows before after) (solving-read s value old new state is same)
     (record { solves = solving-solves s value old is none; told = told })
 
--- There is a pair, or the place of one, for each flow,
-pub pairs-long : (s : NetworkState) (search : Searched) → IsState s → search ≡ residual_search s.network (reached_flows s search) → AreWithinCapacities s.network.arcs (reached_flows s search) → length search.pairs ≡ length s.flows
-pairs-long s search state is within =
-    ap (λ (o : Searched). length o.pairs) is
-    ∙ length-residual_pairs s.network.arcs (reached_flows s search) within
-    ∙ sym (AllZip-long _ s.network.arcs s.flows state.flow.within)
+module _ (s : NetworkState) (search : Searched) (state : IsState s) (is : search ≡ residual_search s.network (reached_flows s search))
+    (within : AreWithinCapacities s.network.arcs (reached_flows s search)) where
+  -- There is a pair, or the place of one, for each flow,
+  pub pairs-long : length search.pairs ≡ length s.flows
+  pairs-long =
+      ap (λ (o : Searched). length o.pairs) is
+      ∙ length-residual_pairs s.network.arcs (reached_flows s search) within
+      ∙ sym (AllZip-long _ s.network.arcs s.flows state.flow.within)
 
--- and a flow that is reached.
-pub reached-long : (s : NetworkState) (search : Searched) → IsState s → search ≡ residual_search s.network (reached_flows s search) → AreWithinCapacities s.network.arcs (reached_flows s search) → length (reached_flows s search) ≡ length s.flows
-reached-long s search state is within =
-    let long = pairs-long s search state is within in
-    length-flows_read Against s.flows search.pairs (omega (arith, long))
+  -- and a flow that is reached.
+  pub reached-long : length (reached_flows s search) ≡ length s.flows
+  reached-long = let long = pairs-long in length-flows_read Against s.flows search.pairs (omega (arith, long))

@@ -5,13 +5,12 @@ use Rattle.std.proofs.lemmas.List.{get_or-set_same, get_or-set_other, set-get_or
 use Rattle.std.proofs.lemmas.Slice.Zip.{AllZip-long}
 use Rattle.dmf_path.specs.Search.{Searched}
 use Rattle.dmf_state.specs.declared.arc.Arc.{Arc}
-use Rattle.dmf_solver.specs.declared.moves.FlowLink.TheVariants.{Along}
 use Rattle.dmf_state.specs.Arc.{no_arc}
 use Rattle.dmf_solver.specs.Drain.{value_or_zero, Drains}
 use Rattle.dmf_state.specs.Flow.{flow_on}
 use Rattle.dmf_state.specs.Network.{Network, arc_number, has_arc}
 use Rattle.dmf_state.specs.NetworkState.{NetworkState}
-use Rattle.dmf_solver.specs.Pairs.{Carries, IsCarryingSearch, carrying_pair, carrying_from, return_pair, flows_read}
+use Rattle.dmf_solver.specs.Pairs.{Along, Carries, IsCarryingSearch, carrying_pair, carrying_from, return_pair, flows_read}
 use Rattle.dmf_state.proofs.ChangedArc.{has_arc-within}
 use Rattle.dmf_state.proofs.Changing.{flow_at-set}
 use Rattle.dmf_solver.proofs.DrainedLoop.{drained-loop}

@@ -4,11 +4,10 @@ use Rattle.dmf_path.specs.declared.pair.Pair.{Pair}
 use Rattle.dmf_path.specs.Search.{Searched, pair_number}
 use Rattle.dmf_path.specs.Passed.{is_passed, IsUnpassed, KeepsUnpassed, Passes}
 use Rattle.dmf_state.specs.declared.arc.Arc.{Arc}
-use Rattle.dmf_solver.specs.declared.moves.FlowLink.TheVariants.{Against}
 use Rattle.dmf_state.specs.Arc.{no_arc}
 use Rattle.dmf_state.specs.Flow.{AreWithinCapacities}
 use Rattle.dmf_state.specs.NetworkState.{NetworkState}
-use Rattle.dmf_solver.specs.Pairs.{flow_read, reached_flows}
+use Rattle.dmf_solver.specs.Pairs.{Against, flow_read, reached_flows}
 use Rattle.dmf_solver.specs.ResidualNetwork.{residual_pair, residual_pairs}
 use Rattle.dmf_solver.proofs.FlowsRead.{get_or-flows_read}
 

@@ -9,3 +9,4 @@ pub mod ResidualNetwork
 pub mod Pairs
 pub mod Moves
 pub mod Planning
+pub mod SmallestSide

@@ -1,6 +1,7 @@
 -- The moves that drain an arc.
 -- Private: only contracts inside the crate and proofs use this.
-use Rattle.std.specs.Prelude.{ℕ, ◌≡◌, ◌≢◌, ◌+◌, ◌-◌, List, [], ◌∷◌, slice_index}
+use Rattle.std.specs.Prelude.{ℕ, ◌≡◌, ◌≢◌, ◌+◌, ◌-◌, ◌≤◌, List, [], ◌∷◌, length, slice_index}
+use Rattle.dmf_path.specs.Search.{Covers}
 use Rattle.dmf_state.specs.declared.edit.Move.{Move}
 use Rattle.dmf_solver.specs.Drain.{Drains, TakesOff}
 use Rattle.dmf_state.specs.Flow.{flow_on, flow_on_all}
@@ -37,3 +38,9 @@ Stays before after k = slice_index before k ≡ slice_index after k
 pub record IsMoveAt (before after : List ℕ) (k : ℕ) (m : Move) : Type 0 where
   pub is : m ≡ record { arc = k + 1; from = slice_index before k; to = slice_index after k }
   pub differs : slice_index before k ≢ slice_index after k
+
+-- The indices ascend, and each arc whose index is left out has the flow that it had. Some may be past the last arc.
+pub record CoverDifferences (before after indices : List ℕ) : Type 0 where
+  pub count : ℕ
+  pub most : length before ≤ count
+  pub covers : Covers count (Stays before after) indices

@@ -7,16 +7,16 @@ use Rattle.std.specs.List.Sorted.{IsStrictlyIncreasing}
 use Rattle.dmf_path.specs.declared.pair.Pair.{Pair}
 use Rattle.dmf_node.specs.Node.{IsNode}
 use Rattle.dmf_path.specs.Pair.{steps_of}
+use Rattle.dmf_path.specs.Passed.{KeepsUnpassed}
 use Rattle.dmf_path.specs.Path.{IsReachable}
 use Rattle.dmf_path.specs.Search.{Searched, pair_number, pair_with}
 use Rattle.dmf_state.specs.declared.arc.Arc.{Arc}
 use Rattle.dmf_state.specs.Arc.{no_arc}
-use Rattle.dmf_solver.specs.declared.moves.FlowLink.{FlowLink}
-use Rattle.dmf_solver.specs.declared.moves.FlowLink.TheVariants.{Along, Against}
+use Rattle.dmf_solver.specs.declared.solve.Solved.{Solved}
 use Rattle.dmf_state.specs.Network.{Network}
 use Rattle.dmf_state.specs.Flow.{flow_value}
 use Rattle.dmf_state.specs.NetworkState.{NetworkState, IsState, with_flows}
-use Rattle.dmf_solver.specs.ResidualNetwork.{residual_search}
+use Rattle.dmf_solver.specs.ResidualNetwork.{residual_pairs, residual_search}
 use Rattle.dmf_solver.specs.Solve.{Solves}
 use Rattle.dmf_state.specs.Side.{CutSide, has_node}
 use Rattle.dmf_solver.specs.Drain.{value_or_zero}
@@ -45,17 +45,22 @@ return_pair n firsts flows =
 abbrev pub carrying_pairs : Network → List ℕ → List ℕ → List (Option Pair)
 carrying_pairs n firsts flows = carrying_from n.arcs firsts flows ++ return_pair n firsts flows ∷ []
 
+-- one of the two links of a pair
+pub data PairLink : Type 0 where
+  Along : PairLink
+  Against : PairLink
+
 -- the room of that link of a pair
-abbrev pub room_of : FlowLink → Pair → ℕ
+abbrev pub room_of : PairLink → Pair → ℕ
 room_of Along = λ p. p.along
 room_of Against = λ p. p.against
 
 -- the flow on an arc: the room of that link of its pair, and where it has none what flowed at first
-abbrev pub flow_read : FlowLink → ℕ → Option Pair → ℕ
+abbrev pub flow_read : PairLink → ℕ → Option Pair → ℕ
 flow_read link first pair = unwrap_or (option_map (room_of link) pair) first
 
 -- the flows on the arcs, in order
-abbrev pub flows_read : FlowLink → List ℕ → List (Option Pair) → List ℕ
+abbrev pub flows_read : PairLink → List ℕ → List (Option Pair) → List ℕ
 flows_read link [] pairs = []
 flows_read link (first ∷ firsts) [] = []
 flows_read link (first ∷ firsts) (pair ∷ pairs) = flow_read link first pair ∷ flows_read link firsts pairs
@@ -104,12 +109,14 @@ recapped cap p = pair_with (cap - p.against) p.against p
 abbrev pub with_capacity : List (Option Pair) → ℕ → ℕ → List (Option Pair)
 with_capacity pairs k cap = slice_set pairs k (option_map (recapped cap) (pair_number pairs k))
 
--- The search for augmenting paths has come to the outcome of solving, whose value is this.
-pub record IsSolved (s : NetworkState) (search : Searched) (value : ℕ) : Type 0 where
-  pub solves : Solves s.network s.flows (reached_flows s search)
-  pub state : IsState (with_flows s (reached_flows s search))
-  pub search_is : search ≡ residual_search s.network (reached_flows s search)
-  pub value_is : pos value ≡ flow_value s.network (reached_flows s search)
+-- The search for augmenting paths has come to the outcome of solving, whose value is this, and each pair whose tail is not
+-- marked is as it was.
+pub record IsSolved (s : NetworkState) (solved : Solved) : Type 0 where
+  pub solves : Solves s.network s.flows (reached_flows s solved.search)
+  pub state : IsState (with_flows s (reached_flows s solved.search))
+  pub search_is : solved.search ≡ residual_search s.network (reached_flows s solved.search)
+  pub value_is : pos solved.value ≡ flow_value s.network (reached_flows s solved.search)
+  pub kept : KeepsUnpassed solved.passed.items (residual_pairs s.network.arcs s.flows) solved.search.pairs
 
 -- The side has in ascending order just the nodes to which paths of the search lead, and this capacity.
 pub record IsReachedSide (search : Searched) (capacity : ℕ) (side : CutSide) : Type 0 where

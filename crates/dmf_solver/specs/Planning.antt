@@ -1,9 +1,12 @@
--- What is said of a plan that solves.
+-- What a plan of a change gives.
 -- Public: a public contract says no more than this.
-use Rattle.std.specs.Prelude.{Bool, true, false, Option, Some, None}
+use Rattle.std.specs.Prelude.{ℕ, ◌≡◌, Bool, true, false, Option, Some, None, Result, Err, IsOkUnless, MatchOption}
 use Rattle.dmf_state.specs.declared.edit.Edit.{Edit}
-use Rattle.dmf_solver.specs.Change.{Solve, Becomes, IsEditOf}
+use Rattle.dmf_solver.specs.declared.fault.PlanFault.{PlanFault}
+use Rattle.dmf_solver.specs.declared.fault.PlanFault.TheVariants.{NoMemory}
+use Rattle.dmf_solver.specs.Change.{Change, Solve, change_fault, Becomes, IsEditOf}
 use Rattle.dmf_state.specs.Cut.{HasCutOf}
+use Rattle.dmf_solver.specs.Drain.{TakesOff}
 use Rattle.dmf_state.specs.Edit.{applied, Fits, ListsDifferences}
 use Rattle.dmf_state.specs.Flow.{flow_value}
 use Rattle.dmf_solver.specs.Greatest.{IsGreatest}
@@ -11,12 +14,25 @@ use Rattle.dmf_state.specs.Network.{Network}
 use Rattle.dmf_state.specs.NetworkState.{NetworkState}
 use Rattle.dmf_state.specs.Side.{CutSide, IsSmallestSide}
 
--- The edit makes the state that solving makes: its flow is greatest, and its value is the capacity of a cut.
-pub record PlansSolve (s : NetworkState) (edit : Edit) : Type 0 where
-  pub kind : IsEditOf Solve edit
+-- Where the change is refused, the answer is its fault. Where it is not, nothing but want of memory refuses it.
+abbrev pub IsRefusedFor : NetworkState → Change → Result Edit PlanFault → Type 0
+IsRefusedFor s change answer = MatchOption (change_fault s change) (IsOkUnless answer NoMemory) (λ fault. answer ≡ Err fault)
+
+-- The edit plans the change: it is one of this change, fits the state, makes of it what the change makes, and lists just the
+-- arcs whose flow differs then.
+pub record Plans (s : NetworkState) (change : Change) (edit : Edit) : Type 0 where
+  pub kind : IsEditOf change edit
   pub fits : Fits edit s
-  pub becomes : Becomes s Solve (applied edit s)
+  pub becomes : Becomes s change (applied edit s)
   pub moves : ListsDifferences edit s
+
+-- The edit takes flow off, by this amount at most.
+abbrev pub EditTakesOff : NetworkState → ℕ → Edit → Type 0
+EditTakesOff s amount edit = TakesOff s.network amount s.flows (applied edit s).flows
+
+-- The edit plans a solve: the flow that it makes is greatest, and its value is the capacity of a cut.
+pub record PlansSolve (s : NetworkState) (edit : Edit) : Type 0 where
+  pub plan : Plans s Solve edit
   pub greatest : IsGreatest s.network (applied edit s).flows
   pub cut : HasCutOf s.network (flow_value s.network (applied edit s).flows)
 

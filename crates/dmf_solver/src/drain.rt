@@ -1,19 +1,19 @@
 ghost use Rattle.std.specs.Prelude.{◌≡◌, ◌≢◌, ◌≤◌, ℕ, true, List, [], ◌∷◌, length, IfOk, IsOk};
-ghost use Rattle.dmf_solver.specs.declared.moves.FlowLink.TheVariants.{Along};
 ghost use Rattle.dmf_state.specs.Network.{arc_number, has_arc};
 ghost use Rattle.dmf_state.specs.Flow.{flow_on};
 ghost use Rattle.dmf_solver.specs.Drain.{Drains};
 ghost use Rattle.dmf_solver.specs.Moves.{AreDrainingMoves};
-ghost use Rattle.dmf_solver.specs.Pairs.{IsCarryingSearch, flows_read};
+ghost use Rattle.dmf_solver.specs.Pairs.{Along, IsCarryingSearch, flows_read};
 
 use crate::carrying_pairs::CarryingPairs;
-use crate::moves::{FlowLink, list_moves};
+use crate::drained_flows::DrainedFlows;
+use crate::moves::list_moves;
 use dmf_path::Search;
 use dmf_state::{Move, State};
 use std::alloc::{AllocError, Global};
 
-/// The moves that drain arc number `j` to the limit. Where no more than that flows on it, there are none, and nothing
-/// else is looked at.
+/// The moves that drain arc number `j` to the limit. Where no more than the limit flows on it, there are none, and no other arc is
+/// looked at.
 pub fn drain(alloc: Global, state: &State, j: u32, limit: u64) -> Result<Vec<Move>, AllocError>
     requires { has_arc state.now.network j ≡ true }
     ensures at_once { flow_on state.now.flows j ≤ limit → IsOk result }
@@ -30,8 +30,12 @@ pub fn drain(alloc: Global, state: &State, j: u32, limit: u64) -> Result<Vec<Mov
     }
     let mut search = carrying_search(alloc, state)?;
     drain_along(state, j, limit, &mut search);
-    let indices = search.indices();
-    list_moves(alloc, before, before, &search, FlowLink::Along, indices)
+    let drained = DrainedFlows {
+        state,
+        unpaired: before,
+        search: &search,
+    };
+    list_moves(alloc, state, &drained, search.indices())
 }
 
 /// The move that drains arc number `j`, which comes back to its tail: no other arc carries its flow.
@@ -47,7 +51,7 @@ fn loop_moves(alloc: Global, j: u32, flow: u64, limit: u64) -> Result<Vec<Move>,
     Ok(moves)
 }
 
-/// A search over the carrying steps of the state's flow, which is aimed at nothing yet.
+/// A search over the carrying steps of the state's flow. It has to be aimed before it looks for a path.
 pub fn carrying_search(alloc: Global, state: &State) -> Result<Search, AllocError>
     ensures carrying { IfOk result (IsCarryingSearch state.now state.now.flows) }
     ensures flows { IfOk result (λ search. flows_read Along state.now.flows search.pairs ≡ state.now.flows) }
@@ -63,8 +67,8 @@ pub fn carrying_search(alloc: Global, state: &State) -> Result<Search, AllocErro
     )
 }
 
-/// Drains arc number `j`, which leads from a node to another, to the limit: takes flow off along the paths that a search
-/// over carrying steps finds. Where no more than that flows on it, the search is not aimed at it.
+/// Drains arc number `j`, which leads from a node to another, to the limit: it takes flow off along the paths that the search over
+/// carrying steps finds. Where no more than the limit flows on the arc, it does nothing.
 pub fn drain_along(state: &State, j: u32, limit: u64, search: &mut Search)
     requires is_there { has_arc state.now.network j ≡ true }
     requires no_loop { (arc_number state.now.network j).tail ≢ (arc_number state.now.network j).head }

@@ -1,5 +1,5 @@
-//! The residual network of a state, kept in step with an edit that is made or taken back: links of the arcs that it names get
-//! other rooms.
+//! The residual network of a state follows an edit that is made or taken back: the links of the arcs that the edit names get other
+//! rooms.
 ghost use Rattle.std.specs.Prelude.{◌≡◌, ◌-◌, ◌<◌, ◌≤◌, ℕ, List, length};
 ghost use Rattle.dmf_path.specs.Search.{with_pairs};
 ghost use Rattle.dmf_state.specs.Direction.{along, edited_along, FitsAlong};
@@ -23,7 +23,7 @@ pub fn moves_of(edit: &Edit) -> &[Move]
     }
 }
 
-/// Gives the links of each arc that the moves name the rooms that its flow leaves once they are made, or taken back.
+/// Gives the links of each arc that the moves name the rooms that its flow leaves once the moves are made, or taken back.
 pub fn put_flows(search: &mut Search, state: &State, moves: &[Move], direction: Direction)
     requires residual { IsResidualOf state.now search.old }
     requires fit { MovesFit 0 (along direction moves.now) state.now.flows }
@@ -38,7 +38,8 @@ pub fn put_flows(search: &mut Search, state: &State, moves: &[Move], direction: 
     }
 }
 
-/// Gives the link along each arc whose capacity the edit changes the room that the new one leaves, or the old one.
+/// Gives the link along each arc whose capacity the edit changes the room that its new capacity leaves; or its old one, where the
+/// edit is taken back.
 pub fn put_capacities(search: &mut Search, state: &State, edit: &Edit, direction: Direction)
     requires fits { FitsAlong direction edit.now state.now }
     requires adds_none { ¬ AddsArc edit.now }

@@ -16,15 +16,16 @@ pub use watch::{Unwatched, Watch};
 
 mod carrying_pairs;
 mod drain;
+mod drained_flows;
 mod fault;
 mod following;
 mod laws;
 mod moves;
 mod plan;
+mod reached_flows;
 mod residual;
 mod residual_network;
 mod shut;
 mod side;
 mod solve;
-mod solved_moves;
 mod watch;

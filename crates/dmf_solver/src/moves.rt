@@ -1,107 +1,89 @@
-ghost use Rattle.std.specs.Prelude.{◌≡◌, ◌^◌, ◌<◌, ◌≤◌, length, slice_index, IfOk, MatchOption};
-ghost use Rattle.std.specs.List.{AllZip};
+//! The moves from a state's flows to those after them, in whatever way these are known.
+ghost use Rattle.std.specs.Prelude.{◌≡◌, ◌<◌, length, IfOk, MatchOption};
+ghost use Rattle.dmf_path.specs.Search.{indices_of};
 ghost use Rattle.dmf_state.specs.Edit.{differences};
-ghost use Rattle.dmf_solver.specs.Moves.{Stays, IsMoveAt};
-ghost use Rattle.dmf_solver.specs.Pairs.{flow_read, flows_read};
-ghost use Rattle.dmf_path.specs.Search.{Covers, indices_of, pair_number};
+ghost use Rattle.dmf_solver.specs.Moves.{CoverDifferences, Stays, IsMoveAt};
 
-use dmf_path::{Indices, Search};
-use dmf_state::Move;
+use dmf_path::Indices;
+use dmf_state::{Move, State};
 use std::alloc::{AllocError, Global};
 
-/// Which link of an arc's pair has the flow on the arc as its room.
-#[derive(Clone, Copy)]
-pub enum FlowLink {
-    Along,
-    Against,
+/// Flows, one for each arc.
+pub trait Flows {
+    ghost use Rattle.std.specs.Prelude.{◌≡◌, ◌<◌, ℕ, List, length, slice_index};
+
+    // The flows in the order of the arcs' numbers.
+    ghost flows: { Self → List ℕ };
+
+    /// The flow on the arc at index `k`. A caller that goes over indices says which of them `k` is, number `i`, so that it may be
+    /// found sooner.
+    fn flow(&self, k: usize, i: usize) -> u64
+        requires { k < length (flows self.now) }
+        ensures { result ≡ slice_index (flows self.now) k };
 }
 
-/// The moves of the arcs on which the flow that a search has reached differs from that before, in the order of their
-/// numbers; on no arc flows more than before. Only the arcs at these indices are looked at. Where an arc has no pair,
-/// `unpaired` has its flow.
-pub fn list_moves(
+/// The flows of a list.
+#[derive(Clone, Copy, Drop)]
+pub struct ListedFlows<'a>(pub &'a [u64]);
+
+impl Flows for ListedFlows<'_> {
+    ghost flows = { λ listed. listed.0.now };
+
+    fn flow(&self, k: usize, _i: usize) -> u64 {
+        self.0[k]
+    }
+}
+
+/// The moves of all arcs on which another flow comes after that of the state, in the order of their numbers.
+pub fn list_all_moves<F: Flows>(
     alloc: Global,
-    before: &[u64],
-    unpaired: &[u64],
-    search: &Search,
-    link: FlowLink,
+    state: &State,
+    after: &F,
+) -> Result<Vec<Move>, AllocError>
+    requires { length (F.flows after.now) ≡ length state.now.flows }
+    ensures { IfOk result (λ moves. moves.items ≡ differences 1 state.now.flows (F.flows after.now)) }
+{
+    list_moves(alloc, state, after, Indices::Below(state.flows().len()))
+}
+
+/// The same, where only the flows on the arcs at these indices may differ: no other arc is looked at.
+pub fn list_moves<F: Flows>(
+    alloc: Global,
+    state: &State,
+    after: &F,
     indices: Indices<'_>,
 ) -> Result<Vec<Move>, AllocError>
-    requires unpaired { length unpaired.now ≡ length before.now }
-    requires one_each { length before.now ≤ length search.now.pairs }
-    requires at_most_arcs { length before.now ≤ 2 ^ 27 }
-    requires no_more { AllZip (λ x y. y ≤ x) before.now (flows_read link unpaired.now search.now.pairs) }
-    requires others_stay { Covers (length search.now.pairs) (Stays before.now (flows_read link unpaired.now search.now.pairs)) (indices_of indices) }
-    ensures { IfOk result (λ moves. moves.items ≡ differences 1 before.now (flows_read link unpaired.now search.now.pairs)) }
+    requires one_each { length (F.flows after.now) ≡ length state.now.flows }
+    requires others_stay { CoverDifferences state.now.flows (F.flows after.now) (indices_of indices) }
+    ensures { IfOk result (λ moves. moves.items ≡ differences 1 state.now.flows (F.flows after.now)) }
 {
     let mut moves = Vec::new(alloc);
     for i in 0..indices.len() {
         let k = indices.at(i);
-        if let Some(m) = move_at(before, unpaired, search, link, k, i) {
+        if let Some(m) = move_at(state, after, k, i) {
             moves.push(m)?;
         }
     }
     Ok(moves)
 }
 
-/// The move of the arc at index `k`, where there is one and its flow differs. It is best found where `k` is number `i` of the
-/// indices that the search tells.
-fn move_at(
-    before: &[u64],
-    unpaired: &[u64],
-    search: &Search,
-    link: FlowLink,
-    k: usize,
-    i: usize,
-) -> Option<Move>
-    requires unpaired { length unpaired.now ≡ length before.now }
-    requires one_each { length before.now ≤ length search.now.pairs }
-    requires at_most_arcs { length before.now ≤ 2 ^ 27 }
-    requires no_more { AllZip (λ x y. y ≤ x) before.now (flows_read link unpaired.now search.now.pairs) }
+/// The move of the arc at index `k`, which is number `i` of the indices that are gone over: none where there is no such arc, or
+/// its flow does not differ.
+fn move_at<F: Flows>(state: &State, after: &F, k: usize, i: usize) -> Option<Move>
+    requires { length (F.flows after.now) ≡ length state.now.flows }
     ensures { MatchOption result
-        (Stays before.now (flows_read link unpaired.now search.now.pairs) k)
-        (IsMoveAt before.now (flows_read link unpaired.now search.now.pairs) k) }
+        (Stays state.now.flows (F.flows after.now) k)
+        (IsMoveAt state.now.flows (F.flows after.now) k) }
 {
+    let before = state.flows();
     if k >= before.len() {
         return None;
     }
     let from = before[k];
-    let to = flow_left_of(from, search, k, i, link, unpaired);
+    let to = after.flow(k, i);
     if from == to {
         return None;
     }
     let arc = k as u32 + 1;
     Some(Move { arc, from, to })
-}
-
-/// The flow that a search has reached on the arc at index `k`, of so much before. Where that was nothing, nothing is looked at.
-fn flow_left_of(
-    before: u64,
-    search: &Search,
-    k: usize,
-    i: usize,
-    link: FlowLink,
-    unpaired: &[u64],
-) -> u64
-    requires pairs { k < length search.now.pairs }
-    requires unpaired { k < length unpaired.now }
-    requires no_more { flow_read link (slice_index unpaired.now k) (pair_number search.now.pairs k) ≤ before }
-    ensures { result ≡ flow_read link (slice_index unpaired.now k) (pair_number search.now.pairs k) }
-{
-    if before == 0 {
-        return 0;
-    }
-    flow_read(search, k, i, link, unpaired[k])
-}
-
-/// The flow that a search has reached on the arc at index `k`: where the arc has no pair, `unpaired`.
-fn flow_read(search: &Search, k: usize, i: usize, link: FlowLink, unpaired: u64) -> u64
-    requires { k < length search.now.pairs }
-    ensures { result ≡ flow_read link unpaired (pair_number search.now.pairs k) }
-{
-    let room = match link {
-        FlowLink::Along => search.along_near(k, i),
-        FlowLink::Against => search.against(k),
-    };
-    room.unwrap_or(unpaired)
 }

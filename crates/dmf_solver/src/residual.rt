@@ -6,8 +6,8 @@ use dmf_path::{Pair, Pairs, Search};
 use dmf_state::{Arc, State};
 use std::alloc::{AllocError, Global};
 
-/// A search for augmenting paths of the state's flow, from the source to the sink. Takes memory for two links an arc and
-/// some numbers a node.
+/// A search for augmenting paths of the state's flow, from the source to the sink. It takes memory for two links an arc and some
+/// numbers a node.
 pub fn residual_search(alloc: Global, state: &State) -> Result<Search, AllocError>
     ensures search { IfOk result (IsResidualOf state.now) }
     ensures state { IsState state.now }

@@ -1,28 +1,28 @@
-ghost use Rattle.std.specs.Prelude.{◌≡◌, ◌↔◌, None, pos, IfErr, IfOk, IfSome, IsOkUnless, MatchResult, OnOk};
+ghost use Rattle.std.specs.Prelude.{◌≡◌, ◌↔◌, None, pos, IfOk, IfSome, IsOkUnless, MatchResult};
 ghost use Rattle.dmf_state.specs.Direction.{edited_along, FitsAlong};
 ghost use Rattle.dmf_state.specs.Edit.{applied, AddsArc, Fits};
 ghost use Rattle.dmf_state.specs.Flow.{flow_value};
-ghost use Rattle.dmf_solver.specs.Greatest.{IsGreatest, IsSurpassed};
 ghost use Rattle.dmf_solver.specs.Planning.{PlansSolve, IsSideWanted};
 ghost use Rattle.dmf_solver.specs.ResidualNetwork.{IsResidualOf};
 ghost use Rattle.dmf_state.specs.Revert.{reverted, Stands};
-ghost use Rattle.dmf_state.specs.Side.{IsSmallestSide};
+ghost use Rattle.dmf_solver.specs.SmallestSide.{TellsSide};
 ghost use Rattle.dmf_solver.specs.Told.{TellsSolve, MayTellSolve};
 
 use crate::fault::{CutFault, PlanFault};
 use crate::following::{moves_of, put_capacities, put_flows};
+use crate::moves::list_all_moves;
+use crate::reached_flows::ReachedFlows;
 use crate::residual::residual_search;
 use crate::side::{side_along, wanted_side};
 use crate::solve::{Solved, solve};
-use crate::solved_moves::list_reached;
 use crate::watch::Watch;
 use dmf_path::Search;
 use dmf_state::{Direction, Edit, NoMemory, Side, State};
 use std::alloc::Global;
 use std::marker::Model;
 
-/// The residual network of a state: the links that solves go along. A caller that solves again and again keeps it in step
-/// with the state's changes, so that its links are not made anew each time.
+/// The residual network of a state: the links along which a solve augments. A caller that solves again and again keeps it, and has
+/// it follow each change of the state. So its links need not be made anew for each solve.
 #[derive(Drop)]
 pub struct ResidualNetwork {
     search: Search,
@@ -37,7 +37,7 @@ impl Model for ResidualNetwork {
 }
 
 impl ResidualNetwork {
-    /// That of the state. Takes memory for two links an arc and some numbers a node.
+    /// The residual network of the state. This takes memory for two links an arc and some numbers a node.
     pub fn new(alloc: Global, state: &State) -> Result<ResidualNetwork, NoMemory>
         ensures { IfOk result (IsResidualOf state.now) }
     {
@@ -45,11 +45,11 @@ impl ResidualNetwork {
         Ok(ResidualNetwork { search })
     }
 
-    /// Plans what [`plan_solve`](crate::plan_solve) plans, where it is wanted with the smallest side of the network, and gives the
-    /// links as they are once it is applied. The watch is told of each path on the way.
+    /// Plans what [`plan_solve_watched`](crate::plan_solve_watched) plans, and gives the residual network of the state that the edit
+    /// makes.
     ///
-    /// Takes memory for the moves, for a mark a node, and for the side, with marks and numbers while it is looked for; where it is
-    /// refused, the answer is [`PlanFault::NoMemory`].
+    /// The plan takes memory for the moves, for a mark a node, and for a side that is wanted, with marks and numbers while it looks
+    /// for it. Where that is refused, the answer is [`PlanFault::NoMemory`].
     pub fn plan_solve<W: Watch>(
         self,
         alloc: Global,
@@ -67,31 +67,33 @@ impl ResidualNetwork {
             (λ planned. TellsSolve state.now (applied planned.0 state.now).flows (W.told watch.old) (W.told watch.new))
             (λ _. MayTellSolve state.now (W.told watch.old) (W.told watch.new)) }
     {
-        let mut passed = vec![in alloc; false; state.nodes() as usize + 1]?;
-        let solved = solve(self.search, state, &mut passed, watch);
+        let passed = vec![in alloc; false; state.nodes() as usize + 1]?;
+        let solved = solve(self.search, state, passed, watch);
         let side = wanted_side(alloc, state, &solved, want_side)?;
+        let reached = ReachedFlows {
+            state,
+            solved: &solved,
+        };
+        let moves = list_all_moves(alloc, state, &reached)?;
         let Solved { search, .. } = solved;
-        let moves = list_reached(alloc, state, &search, &passed)?;
         Ok((Edit::Solve { moves }, side, ResidualNetwork { search }))
     }
 
-    /// The smallest side of the state's network, whose flow must be greatest, as [`smallest_side`](crate::smallest_side) tells
-    /// it.
+    /// The smallest side of the state's network, as [`smallest_side`](crate::smallest_side) tells it. The state's flow must be
+    /// greatest.
     ///
-    /// Refused by [`CutFault::NotGreatest`] where some flow has a larger value. Takes memory for the side, a mark and two numbers
-    /// a node; where it is refused, the answer is [`CutFault::NoMemory`].
+    /// The answer is [`CutFault::NotGreatest`] where some flow has a larger value. The call takes memory for the side, a mark and two
+    /// numbers a node; where that is refused, the answer is [`CutFault::NoMemory`].
     pub fn smallest_side(&self, alloc: Global, state: &State) -> Result<Side, CutFault>
         requires { IsResidualOf state.now self.now }
-        ensures side { IfOk result (λ side. IsSmallestSide state.now.network side) }
-        ensures value { IfOk result (λ side. pos side.capacity ≡ flow_value state.now.network state.now.flows) }
-        ensures greatest { OnOk result (IsGreatest state.now.network state.now.flows) }
-        ensures fault { IfErr result (λ fault. fault ≡ CutFault.NotGreatest → IsSurpassed state.now.network state.now.flows) }
+        ensures { TellsSide state.now result }
     {
         side_along(alloc, &self.search, state)
     }
 
-    /// That of the state as an edit leaves it, which fits the state; none where the edit adds an arc, since then the links are to
-    /// be made anew. Takes no memory, and time for the arcs that the edit names; the first call after a solve, for each node.
+    /// The residual network of the state that an edit makes of this one, which the edit fits. There is none where the edit adds an
+    /// arc: then the links have to be made anew. The call takes no memory, and time for the arcs that the edit names; the first call
+    /// after a solve takes time for each node.
     pub fn follow(self, state: &State, edit: &Edit) -> Option<ResidualNetwork>
         requires residual { IsResidualOf state.now self }
         requires fits { Fits edit.now state.now }
@@ -101,8 +103,8 @@ impl ResidualNetwork {
         self.follow_along(state, edit, Direction::Forward)
     }
 
-    /// That of the state before an edit, which stands in this state; none where the edit added an arc, since then the links are to
-    /// be made anew. Takes no memory, and time for the arcs that the edit names; the first call after a solve, for each node.
+    /// The residual network of the state before an edit that stands in this one. There is none where the edit added an arc: then the
+    /// links have to be made anew. The call takes as much memory and time as [`follow`](ResidualNetwork::follow).
     pub fn follow_back(self, state: &State, edit: &Edit) -> Option<ResidualNetwork>
         requires residual { IsResidualOf state.now self }
         requires stands { Stands edit.now state.now }
@@ -112,7 +114,7 @@ impl ResidualNetwork {
         self.follow_along(state, edit, Direction::Back)
     }
 
-    /// That of the state as an edit leaves it, or of the one before the edit; none where the edit adds an arc.
+    /// The residual network of the state to which the direction leads, or none where the edit adds an arc.
     fn follow_along(
         self,
         state: &State,

@@ -1,16 +1,16 @@
 //! Every open arc at a node is closed.
 ghost use Rattle.std.specs.Prelude.{◌≡◌, ◌≤◌, ℕ, true, false, length, map, IfOk};
-ghost use Rattle.dmf_solver.specs.declared.moves.FlowLink.TheVariants.{Along};
 ghost use Rattle.dmf_state.specs.Arc.{open_arcs_at};
 ghost use Rattle.dmf_solver.specs.Drain.{Drains};
 ghost use Rattle.dmf_state.specs.Edit.{AreOpenWith, numbers};
 ghost use Rattle.dmf_state.specs.Flow.{flow_on_all};
 ghost use Rattle.dmf_solver.specs.Moves.{AreShuttingMoves};
 ghost use Rattle.dmf_state.specs.Network.{has_arc};
-ghost use Rattle.dmf_solver.specs.Pairs.{IsCarryingSearch, flows_read};
+ghost use Rattle.dmf_solver.specs.Pairs.{Along, IsCarryingSearch, flows_read};
 
 use crate::drain::{carrying_search, drain_along};
-use crate::moves::{FlowLink, list_moves};
+use crate::drained_flows::DrainedFlows;
+use crate::moves::list_moves;
 use dmf_path::{Indices, Search};
 use dmf_state::{Move, Shutting, State};
 use std::alloc::{AllocError, Global};
@@ -32,8 +32,7 @@ pub fn open_arcs_at(alloc: Global, state: &State, v: u32) -> Result<Vec<Shutting
     Ok(open)
 }
 
-/// The moves that drain these arcs in turn. Where nothing flows on any of them, there are none, and nothing else is looked
-/// at.
+/// The moves that drain these arcs in turn. Where nothing flows on any of them, there are none, and no other arc is looked at.
 pub fn shutting_moves(
     alloc: Global,
     state: &State,
@@ -54,11 +53,16 @@ pub fn shutting_moves(
     }
     // The search lists no arc that comes back to its tail.
     let indices = if are_loops_drained {
-        Indices::Below(before.len() + 1)
+        Indices::Below(before.len())
     } else {
         search.indices()
     };
-    list_moves(alloc, before, &unpaired, &search, FlowLink::Along, indices)
+    let drained = DrainedFlows {
+        state,
+        unpaired: &unpaired,
+        search: &search,
+    };
+    list_moves(alloc, state, &drained, indices)
 }
 
 /// Whether nothing flows on any of these arcs.
@@ -74,8 +78,8 @@ fn are_without_flow(state: &State, arcs: &[Shutting]) -> bool
     true
 }
 
-/// Drains arc number `j` of the flows that the search and the list tell: its search for least paths, and where the arc comes
-/// back to its tail, and so has no pair, the list alone. Tells whether something flowed on an arc of that kind.
+/// Drains arc number `j`, where the search and the list tell the flows. The search drains an arc that leads to another node. One that
+/// comes back to its tail has no pair: its flow in the list becomes 0. The answer is whether the list changed so.
 fn drain_in_turn(state: &State, j: u32, search: &mut Search, unpaired: &mut [u64]) -> bool
     requires is_there { has_arc state.now.network j ≡ true }
     requires carrying { IsCarryingSearch state.now unpaired.old search.old }

@@ -1,14 +1,14 @@
-ghost use Rattle.std.specs.Prelude.{◌≡◌, ◌-◌, ◌≤◌, ◌↔◌, ℕ, false, length, pos, IfErr, IfOk, IfSome, IsTrue, OnOk, ◌^◌};
+ghost use Rattle.std.specs.Prelude.{◌≡◌, ◌-◌, ◌≤◌, ◌↔◌, ℕ, false, length, pos, IfOk, IfSome, IsTrue, ◌^◌};
 ghost use Rattle.std.specs.List.{slice_index_or};
 ghost use Rattle.std.specs.List.Sorted.{IsStrictlyIncreasing};
 ghost use Rattle.dmf_node.specs.Node.{IsNode};
+ghost use Rattle.dmf_state.specs.Edit.{applied, Fits};
 ghost use Rattle.dmf_state.specs.Flow.{flow_value};
-ghost use Rattle.dmf_solver.specs.Greatest.{IsGreatest, IsSurpassed};
-ghost use Rattle.dmf_state.specs.Side.{has_node, IsSmallestSide};
+ghost use Rattle.dmf_state.specs.Side.{has_node};
 ghost use Rattle.dmf_solver.specs.Pairs.{IsReachedSide, IsSolved, reached_flows};
 ghost use Rattle.dmf_solver.specs.Planning.{IsSideWanted};
-ghost use Rattle.dmf_state.specs.Edit.{applied, Fits};
 ghost use Rattle.dmf_solver.specs.ResidualNetwork.{IsResidualOf};
+ghost use Rattle.dmf_solver.specs.SmallestSide.{TellsSide};
 
 use crate::fault::CutFault;
 use crate::residual::residual_search;
@@ -19,25 +19,19 @@ use std::alloc::{AllocError, Global};
 
 /// The smallest side of the state's network: the nodes that every minimum cut has. The state's flow must be greatest.
 ///
-/// Refused by [`CutFault::NotGreatest`] where some flow has a larger value. Takes memory for two links an arc and some
-/// numbers a node; where it is refused, the answer is [`CutFault::NoMemory`].
+/// The answer is [`CutFault::NotGreatest`] where some flow has a larger value. The call takes memory for two links an arc and some
+/// numbers a node; where that is refused, the answer is [`CutFault::NoMemory`].
 pub fn smallest_side(alloc: Global, state: &State) -> Result<Side, CutFault>
-    ensures side { IfOk result (λ side. IsSmallestSide state.now.network side) }
-    ensures value { IfOk result (λ side. pos side.capacity ≡ flow_value state.now.network state.now.flows) }
-    ensures greatest { OnOk result (IsGreatest state.now.network state.now.flows) }
-    ensures fault { IfErr result (λ fault. fault ≡ CutFault.NotGreatest → IsSurpassed state.now.network state.now.flows) }
+    ensures { TellsSide state.now result }
 {
     let search = residual_search(alloc, state)?;
     side_along(alloc, &search, state)
 }
 
-/// The same, along links that are there.
+/// The same, by a search that is there already.
 pub fn side_along(alloc: Global, search: &Search, state: &State) -> Result<Side, CutFault>
     requires { IsResidualOf state.now search.now }
-    ensures side { IfOk result (λ side. IsSmallestSide state.now.network side) }
-    ensures value { IfOk result (λ side. pos side.capacity ≡ flow_value state.now.network state.now.flows) }
-    ensures greatest { OnOk result (IsGreatest state.now.network state.now.flows) }
-    ensures fault { IfErr result (λ fault. fault ≡ CutFault.NotGreatest → IsSurpassed state.now.network state.now.flows) }
+    ensures { TellsSide state.now result }
 {
     let side = reached_side(alloc, search, state.value())?;
     if side.contains(state.sink()) {
@@ -46,30 +40,28 @@ pub fn side_along(alloc: Global, search: &Search, state: &State) -> Result<Side,
     Ok(side)
 }
 
-/// The smallest side of the network that an edit makes of the state's, which does not change. The edit fits the state, as
-/// one that was planned on it does.
+/// The smallest side of the network of the state that an edit makes of this one. The edit fits the state, as one that was planned on
+/// it does. The state stays as it is.
 ///
-/// Its flow must be greatest; else the answer is as that of [`smallest_side`]. Takes memory for a copy of the state too.
+/// The flow that the edit makes must be greatest; else the answer is that of [`smallest_side`]. The call takes memory for a copy of
+/// the state too.
 pub fn side_after(alloc: Global, state: &State, edit: &Edit) -> Result<Side, CutFault>
     requires { Fits edit.now state.now }
-    ensures side { IfOk result (λ side. IsSmallestSide (applied edit.now state.now).network side) }
-    ensures value { IfOk result (λ side. pos side.capacity ≡ flow_value (applied edit.now state.now).network (applied edit.now state.now).flows) }
-    ensures greatest { OnOk result (IsGreatest (applied edit.now state.now).network (applied edit.now state.now).flows) }
-    ensures fault { IfErr result (λ fault. fault ≡ CutFault.NotGreatest → IsSurpassed (applied edit.now state.now).network (applied edit.now state.now).flows) }
+    ensures { TellsSide (applied edit.now state.now) result }
 {
     let mut after = state.copy(alloc)?;
     after.apply(edit)?;
     smallest_side(alloc, &after)
 }
 
-/// The smallest side of the state's network, once it is solved, where it is wanted.
+/// The smallest side of the network of a state that was solved, or none where none is wanted.
 pub fn wanted_side(
     alloc: Global,
     state: &State,
     solved: &Solved,
     want_side: bool,
 ) -> Result<Option<Side>, AllocError>
-    requires { IsSolved state.now solved.now.search solved.now.value }
+    requires { IsSolved state.now solved.now }
     ensures side { IfOk result (λ side. IsSideWanted want_side state.now.network side) }
     ensures value { IfOk result (λ side. IfSome side (λ side. pos side.capacity ≡ flow_value state.now.network (reached_flows state.now solved.now.search))) }
 {
@@ -80,7 +72,7 @@ pub fn wanted_side(
     Ok(None)
 }
 
-/// The nodes to which paths of a search lead, with this capacity.
+/// The nodes that a search reaches from its start, with this capacity.
 fn reached_side(alloc: Global, search: &Search, capacity: u64) -> Result<Side, AllocError>
     requires { search.now.nodes ≤ 2 ^ 24 }
     ensures { IfOk result (IsReachedSide search.now capacity) }

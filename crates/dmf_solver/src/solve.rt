@@ -1,41 +1,44 @@
 ghost use Rattle.std.specs.Prelude.{◌≡◌, ◌↔◌, false, IfOk, IsTrue};
-ghost use Rattle.dmf_path.specs.Passed.{KeepsUnpassed};
 ghost use Rattle.dmf_state.specs.NetworkState.{IsState};
 ghost use Rattle.dmf_solver.specs.Greatest.{IsGreatest, IsSurpassed};
 ghost use Rattle.dmf_solver.specs.Pairs.{reached_flows, IsSolved};
-ghost use Rattle.dmf_solver.specs.ResidualNetwork.{residual_pairs, IsResidualOf};
+ghost use Rattle.dmf_solver.specs.ResidualNetwork.{IsResidualOf};
 ghost use Rattle.dmf_solver.specs.Told.{TellsSolve};
 
+use crate::moves::Flows;
+use crate::reached_flows::ReachedFlows;
 use crate::residual::residual_search;
 use crate::watch::Watch;
 use dmf_path::Search;
 use dmf_state::{NoMemory, State};
-use std::alloc::Global;
+use std::alloc::{AllocError, Global};
 
-/// A search for augmenting paths that has none left, and the value of the flow that it has reached.
+/// A search for augmenting paths that has none left, the value of the flow that it has reached, and marks at the nodes through
+/// which its paths went.
 #[derive(Drop)]
 pub struct Solved {
     pub search: Search,
     pub value: u64,
+    pub passed: Vec<bool>,
 }
 
-/// Augments along least paths, from the flow of the state on, until none is left; the watch is told of each. The nodes of these
-/// paths are marked, until they have an eighth as many links in all as there are marks: then all marks are taken away.
+/// Augments the flow of the state along least paths until none is left, and tells the watch of each. It marks the nodes of these
+/// paths. Once the paths have an eighth as many links in all as there are marks, it takes all marks away, and every node counts as
+/// marked.
 pub fn solve<W: Watch>(
     mut search: Search,
     state: &State,
-    passed: &mut Vec<bool>,
+    mut passed: Vec<bool>,
     watch: &mut W,
 ) -> Solved
     requires { IsResidualOf state.now search }
-    ensures solved { IsSolved state.now result.search result.value }
+    ensures solved { IsSolved state.now result }
     ensures told { TellsSolve state.now (reached_flows state.now result.search) (W.told watch.old) (W.told watch.new) }
     ensures state { IsState state.now }
-    ensures passed { KeepsUnpassed passed.new.items (residual_pairs state.now.network.arcs state.now.flows) result.search.pairs }
 {
     let mut value = state.value();
     let mut left = passed.len() / 8;
-    while let Some(found) = search.augment(u64::MAX, passed) {
+    while let Some(found) = search.augment(u64::MAX, &mut passed) {
         value += found.amount;
         watch.augmented(value, found.links);
         left = left.saturating_sub(found.links as usize);
@@ -43,10 +46,31 @@ pub fn solve<W: Watch>(
             passed.clear();
         }
     }
-    Solved { search, value }
+    Solved {
+        search,
+        value,
+        passed,
+    }
 }
 
-/// Whether no flow of the state's network has a larger value than the state's flow. Takes memory for two links an arc and
+/// The flows that a solve has reached. The solve is dropped, and with its search most of the memory that a solve takes.
+pub fn solved_flows(alloc: Global, state: &State, solved: Solved) -> Result<Vec<u64>, AllocError>
+    requires { IsSolved state.now solved }
+    ensures { IfOk result (λ flows. flows.items ≡ reached_flows state.now solved.search) }
+{
+    let reached = ReachedFlows {
+        state,
+        solved: &solved,
+    };
+    let count = state.flows().len();
+    let mut flows = Vec::with_capacity(alloc, count)?;
+    for k in 0..count {
+        flows.push(reached.flow(k, k))?;
+    }
+    Ok(flows)
+}
+
+/// Whether no flow of the state's network has a larger value than the state's flow. The call takes memory for two links an arc and
 /// some numbers a node.
 pub fn is_greatest(alloc: Global, state: &State) -> Result<bool, NoMemory>
     ensures greatest { IfOk result (λ answer. IsTrue answer ↔ IsGreatest state.now.network state.now.flows) }

@@ -3,9 +3,9 @@ ghost use Rattle.dmf_solver.specs.Told.{Told, AreTold};
 
 use dmf_state::State;
 
-/// Is told how far a solve is: of each path that augments the flow, in turn, and of nothing else; and by a run, from which state
-/// each solve begins. Whatever it does with that, the solve gives the same. The contracts of plans and of a session's step say
-/// what is told; of runs that is tested alone.
+/// A watch is told how far a solve is. A solve tells it of each path that augments the flow, in turn, and of nothing else; a run tells
+/// it also from which state each solve begins. Whatever a watch does, the solve gives the same. The contracts of plans and of a
+/// session's step say what they tell; what a run tells is only tested.
 pub trait Watch {
     // What it was told, in order, as far as that is known. A watch that keeps no record knows nothing of it.
     ghost told: { Self → Option (List Told) } = { λ _. None };

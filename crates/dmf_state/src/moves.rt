@@ -44,8 +44,8 @@ impl Direction {
     }
 }
 
-/// Gives each arc that the moves name the flow that they give it, or that it had before them, and the node the sums of the
-/// flows that it then has.
+/// Makes these moves, or takes them back: each arc that they name gets its new flow, or its old one. Beside that, `at_node` keeps what
+/// flows out of this node and into it.
 pub fn make_moves(
     arcs: &[Arc],
     flows: &mut [u64],
@@ -72,7 +72,7 @@ pub fn make_moves(
     }
 }
 
-/// The sum of some flows after a move, which is of one of them where `is_part`.
+/// A sum of flows after a move. The move changes one of these flows where `is_part` says so, and else none.
 fn sum_after(sum: u64, is_part: bool, m: &Move) -> u64
     requires part { is_part ≡ true → m.now.from ≤ sum }
     requires small { is_part ≡ true → sum - m.now.from + m.now.to < 2 ^ 64 }

@@ -11,8 +11,8 @@ use crate::moves::Direction;
 use crate::state::State;
 
 impl State {
-    /// Takes back an edit that stands in the state: what is left is the state to which it was applied. Looks at no arc
-    /// but those that the edit names, and takes no memory.
+    /// Takes back an edit that stands in the state. This gives the state to which the edit was applied. It looks only at the arcs that
+    /// the edit names, and takes no memory.
     pub fn revert(&mut self, edit: &Edit)
         requires { Stands edit.now self.old }
         ensures { self.new ≡ reverted edit.now self.old }

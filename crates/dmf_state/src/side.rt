@@ -8,8 +8,8 @@ use std::marker::Model;
 
 /// A set of nodes that is a cut, with the capacity of the cut.
 ///
-/// [`Side::new`] asks that the numbers of the nodes ascend, and no more: that they are a cut, and of this capacity, is what the
-/// contract of a call says that tells a side. Its methods take no memory.
+/// [`Side::new`] asks only that the numbers of the nodes ascend. That they are a cut, and that the capacity is theirs, is for the
+/// contract of a call to say that tells a side. No method takes memory.
 #[derive(Debug, Drop)]
 pub struct Side {
     ids: Vec<u32>,

@@ -19,9 +19,9 @@ mod equality;
 
 /// A network with a flow on it.
 ///
-/// Nodes are numbered from 1, arcs from 1 in the order in which they were added. The flow is within the
-/// capacities, is conserved at each node but the source and the sink, and its value is 0 or more. The sum of the
-/// capacities, the value and the number of open arcs are kept beside it, so that asking for them looks at no arc.
+/// Nodes are numbered from 1, and so are arcs, in the order in which they were added. The flow is within the capacities, is conserved
+/// at each node but the source and the sink, and its value is 0 or more. The state keeps the sum of the capacities, the value and the
+/// number of open arcs, so that a call that asks for one of them looks at no arc.
 #[derive(Debug, Drop)]
 pub struct State {
     nodes: u32,
@@ -54,7 +54,7 @@ impl Model for State {
 }
 
 impl State {
-    /// The state without arcs, of 2 to [`crate::MAX_NODES`] nodes. The source and the sink are two of them. Takes no memory.
+    /// The state without arcs, of 2 to [`crate::MAX_NODES`] nodes. The source and the sink are two of them. The call takes no memory.
     pub fn new(alloc: Global, nodes: u32, source: u32, sink: u32) -> Self
         requires at_least_two_nodes { 2 ≤ nodes }
         requires at_most_nodes { nodes ≤ 2 ^ 24 }

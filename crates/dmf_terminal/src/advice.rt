@@ -3,7 +3,8 @@ use crate::fields::{Placed, Places, field_at, first_fault};
 use crate::part::{Part, Parts, about, words};
 use dmf_text::NumberFault;
 
-/// What explains a fault: the place of the field that has it, counted from 1 and 0 where it is none, and what was expected.
+/// An explanation of a fault: which field of the line has it, counted from 1, or 0 where the whole line or text has; and what was
+/// expected.
 #[derive(Clone, Copy)]
 pub struct Advice<'a> {
     pub place: usize,
@@ -11,12 +12,12 @@ pub struct Advice<'a> {
 }
 
 impl<'a> Advice<'a> {
-    /// That of a whole line or text.
+    /// An explanation of a whole line or text.
     pub fn of_line(parts: Parts<'a>) -> Advice<'a> {
         Advice { place: 0, parts }
     }
 
-    /// These words, of a whole line or text.
+    /// These words on a whole line or text.
     pub fn saying(text: &'a str) -> Advice<'a> {
         Advice::of_line(words(text))
     }
@@ -43,7 +44,7 @@ impl<'a> Advice<'a> {
     }
 }
 
-/// A field of a line that is no number. Behind a word in place of a node stand the words on names.
+/// Explains a field that is no number. `on_names` is said of a word that stands where a node belongs.
 pub fn not_a_number<'a>(line: Option<&'a [u8]>, on_names: &'a str) -> Advice<'a> {
     let Some(placed) = line.and_then(|line| faulty(line, NumberFault::NotANumber)) else {
         return Advice::saying(

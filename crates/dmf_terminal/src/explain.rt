@@ -1,5 +1,5 @@
-//! What is told on standard error, where that is a terminal, of how a run or its words failed. Nothing depends on it, and where
-//! it cannot be told, nothing is.
+//! Tells on standard error, where that is a terminal, why a run failed or its words are not taken. Where this cannot be told,
+//! nothing is said.
 ghost use Rattle.std.specs.Prelude.{◌≡◌, ◌≢◌, Err, IsTrue};
 ghost use Rattle.dmf_text.specs.Problem.{problem_of, out_of_memory};
 
@@ -15,7 +15,7 @@ use std::io::IsTerminal;
 use std::path::PathBuf;
 use std::rt::HostRuntime;
 
-/// Under this name the system knows the file on standard input.
+/// The path of the file on standard input.
 const INPUT: &str = "/proc/self/fd/0";
 
 /// A text of so many bytes is read again to explain its fault.
@@ -30,8 +30,8 @@ pub enum Origin<'a> {
     Input,
 }
 
-/// Explains a fault of a problem, whose name stands behind these words. What stands in the text is told only where it can be read
-/// again and has the same fault.
+/// Explains a fault of a problem text. The words `before` stand before the name of the text. Its lines are looked at only where the
+/// text can be read again and still has the fault.
 pub fn explain_problem(
     rt: &HostRuntime,
     before: &'static str,

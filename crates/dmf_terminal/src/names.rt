@@ -9,7 +9,7 @@ pub enum Thing {
     Arc,
 }
 
-/// The things with a name: the first in the text's order, and whether it is the only one.
+/// What has a name: the number of the first such thing in the text, and whether it is the only one.
 #[derive(Clone, Copy)]
 pub struct Named {
     pub number: u64,
@@ -66,10 +66,10 @@ pub struct Ends {
     pub head: u64,
 }
 
-/// Two names have so many fields at most that it is tried where the first one ends.
+/// Two names of more fields than this are not parted.
 const MOST_FIELDS: u64 = 12;
 
-/// The two nodes whose names or numbers stand one behind the other, where there is one way alone to part them.
+/// The two nodes whose names or numbers stand one behind the other, where they can be parted in one way alone.
 pub fn find_ends(text: &[u8], names: &[u8]) -> Option<Ends> {
     let mut found: Option<Ends> = None;
     for fields in 1..count(names).min(MOST_FIELDS) {

@@ -41,7 +41,7 @@ impl Refused {
         }
         Some(Refused {
             line: number(field_at(reply, 3)?).ok()?,
-            reason: reason_of(behind(reply, 3))?,
+            reason: beside(REASONS, behind(reply, 3))?,
         })
     }
 
@@ -54,25 +54,56 @@ impl Refused {
     }
 }
 
-/// The reason that a reply tells by this text.
-fn reason_of(text: &[u8]) -> Option<Reason> {
-    match text {
-        b"unknown command" => Some(Reason::UnknownCommand),
-        b"wrong number of fields" => Some(Reason::FieldCount),
-        b"not a number" => Some(Reason::NotANumber),
-        b"number too large" => Some(Reason::TooLarge),
-        b"no such arc" => Some(Reason::NoSuchArc),
-        b"arc is closed" => Some(Reason::Closed),
-        b"no such node" => Some(Reason::NoSuchNode),
-        b"too many arcs" => Some(Reason::TooManyArcs),
-        b"capacities past 64 bits" => Some(Reason::SumTooLarge),
-        b"nothing to undo" => Some(Reason::NothingToUndo),
-        b"nothing to redo" => Some(Reason::NothingToRedo),
-        b"flow is not greatest" => Some(Reason::NotGreatest),
-        b"no memory" => Some(Reason::NoMemory),
-        b"line too long" => Some(Reason::LineTooLong),
-        _ => None,
+/// The texts of refusals.
+const REASONS: &[(&[u8], Reason)] = &[
+    (b"unknown command", Reason::UnknownCommand),
+    (b"wrong number of fields", Reason::FieldCount),
+    (b"not a number", Reason::NotANumber),
+    (b"number too large", Reason::TooLarge),
+    (b"no such arc", Reason::NoSuchArc),
+    (b"arc is closed", Reason::Closed),
+    (b"no such node", Reason::NoSuchNode),
+    (b"too many arcs", Reason::TooManyArcs),
+    (b"capacities past 64 bits", Reason::SumTooLarge),
+    (b"nothing to undo", Reason::NothingToUndo),
+    (b"nothing to redo", Reason::NothingToRedo),
+    (b"flow is not greatest", Reason::NotGreatest),
+    (b"no memory", Reason::NoMemory),
+    (b"line too long", Reason::LineTooLong),
+];
+
+/// A command, by its first field.
+#[derive(Clone, Copy, PartialEq, Eq)]
+enum Verb {
+    Cap,
+    Add,
+    Close,
+    Shut,
+    Solve,
+    Undo,
+    Redo,
+    Print,
+}
+
+const VERBS: &[(&[u8], Verb)] = &[
+    (b"cap", Verb::Cap),
+    (b"add", Verb::Add),
+    (b"close", Verb::Close),
+    (b"shut", Verb::Shut),
+    (b"solve", Verb::Solve),
+    (b"undo", Verb::Undo),
+    (b"redo", Verb::Redo),
+    (b"print", Verb::Print),
+];
+
+/// What stands beside this text in a table.
+fn beside<T: Copy>(table: &[(&[u8], T)], text: &[u8]) -> Option<T> {
+    for (key, value) in table {
+        if *key == text {
+            return Some(*value);
+        }
     }
+    None
 }
 
 /// What is known of the problem of a session.
@@ -91,10 +122,15 @@ print problem, print flow, print cut; Ctrl-D ends the session";
 /// What explains a refusal of this command line.
 pub fn refusal_advice<'a>(reason: Reason, line: &'a [u8], known: Known<'_>) -> Parts<'a> {
     let word = field_at(line, 1).unwrap_or(&[]);
+    let verb = beside(VERBS, word);
     match reason {
-        Reason::UnknownCommand => unknown_command(word, line),
-        Reason::FieldCount => field_count(word, line, known),
-        Reason::NotANumber => not_a_number(word, line, known),
+        Reason::UnknownCommand if verb == Some(Verb::Print) => about(
+            field_at(line, 2).unwrap_or(b""),
+            " is not printed: print problem, print flow or print cut",
+        ),
+        Reason::UnknownCommand => unknown_command(word),
+        Reason::FieldCount => field_count(verb, line, known),
+        Reason::NotANumber => not_a_number(verb, line, known),
         Reason::TooLarge => words("the largest number is 18446744073709551615"),
         Reason::NoSuchArc => arcs(known),
         Reason::NoSuchNode => nodes(known),
@@ -115,13 +151,7 @@ pub fn refusal_advice<'a>(reason: Reason, line: &'a [u8], known: Known<'_>) -> P
     }
 }
 
-fn unknown_command<'a>(word: &'a [u8], line: &'a [u8]) -> Parts<'a> {
-    if word == b"print".as_slice() {
-        return about(
-            field_at(line, 2).unwrap_or(b""),
-            " is not printed: print problem, print flow or print cut",
-        );
-    }
+fn unknown_command<'a>(word: &'a [u8]) -> Parts<'a> {
     if is_asking(word) {
         return words(COMMANDS);
     }
@@ -145,22 +175,27 @@ fn is_asking(word: &[u8]) -> bool {
     matches!(word, b"help" | b"?" | b"quit" | b"exit" | b"q" | b"h")
 }
 
-fn field_count<'a>(word: &[u8], line: &'a [u8], known: Known<'_>) -> Parts<'a> {
+fn field_count<'a>(verb: Option<Verb>, line: &'a [u8], known: Known<'_>) -> Parts<'a> {
+    let otherwise = found(form_of(verb), count(line));
     match known.text {
-        Some(text) => by_names(word, line, text),
-        None => wrong_count(word, line),
+        Some(text) => by_names(verb, line, text, otherwise),
+        None => otherwise,
     }
 }
 
 /// What explains names of several words behind the first word of a command, or else how many fields it takes.
-fn by_names<'a>(word: &[u8], line: &'a [u8], text: &[u8]) -> Parts<'a> {
+fn by_names<'a>(
+    verb: Option<Verb>,
+    line: &'a [u8],
+    text: &[u8],
+    otherwise: Parts<'a>,
+) -> Parts<'a> {
     let names = behind(line, 1);
-    let otherwise = wrong_count(word, line);
-    match word {
-        b"close" => one_name(text, Thing::Arc, names, otherwise),
-        b"shut" => one_name(text, Thing::Node, names, otherwise),
-        b"cap" => one_name(text, Thing::Arc, without_last_field(names), otherwise),
-        b"add" => two_names(text, without_last_field(names), otherwise),
+    match verb {
+        Some(Verb::Close) => one_name(text, Thing::Arc, names, otherwise),
+        Some(Verb::Shut) => one_name(text, Thing::Node, names, otherwise),
+        Some(Verb::Cap) => one_name(text, Thing::Arc, without_last_field(names), otherwise),
+        Some(Verb::Add) => two_names(text, without_last_field(names), otherwise),
         _ => otherwise,
     }
 }
@@ -188,29 +223,25 @@ fn two_names<'a>(text: &[u8], names: &[u8], otherwise: Parts<'a>) -> Parts<'a> {
     }
 }
 
-fn wrong_count<'a>(word: &[u8], line: &'a [u8]) -> Parts<'a> {
-    found(form_of(word), count(line))
-}
-
-/// What a command with this word takes.
-fn form_of<'a>(word: &[u8]) -> &'a str {
-    match word {
-        b"cap" => "cap takes an arc and its new capacity (cap I U, 3 fields)",
-        b"add" => "add takes two nodes and a capacity (add V W U, 4 fields)",
-        b"close" => "close takes an arc (close I, 2 fields)",
-        b"shut" => "shut takes a node (shut V, 2 fields)",
-        b"solve" => "solve takes nothing (1 field)",
-        b"undo" | b"redo" => "undo and redo take a count or nothing (1 or 2 fields)",
+/// What a command takes.
+fn form_of<'a>(verb: Option<Verb>) -> &'a str {
+    match verb {
+        Some(Verb::Cap) => "cap takes an arc and its new capacity (cap I U, 3 fields)",
+        Some(Verb::Add) => "add takes two nodes and a capacity (add V W U, 4 fields)",
+        Some(Verb::Close) => "close takes an arc (close I, 2 fields)",
+        Some(Verb::Shut) => "shut takes a node (shut V, 2 fields)",
+        Some(Verb::Solve) => "solve takes nothing (1 field)",
+        Some(Verb::Undo | Verb::Redo) => "undo and redo take a count or nothing (1 or 2 fields)",
         _ => "print takes problem, flow or cut (2 fields)",
     }
 }
 
-fn not_a_number<'a>(word: &[u8], line: &'a [u8], known: Known<'_>) -> Parts<'a> {
+fn not_a_number<'a>(verb: Option<Verb>, line: &'a [u8], known: Known<'_>) -> Parts<'a> {
     let places = Places { first: 2, last: 4 };
     let Some(placed) = first_fault(line, places, NumberFault::NotANumber) else {
         return words("a number has digits alone");
     };
-    let Some(thing) = thing_at(word, placed.place) else {
+    let Some(thing) = thing_at(verb, placed.place) else {
         return [
             Part::Quoted(placed.field),
             Part::Words(" is no whole number from 0 to 18446744073709551615"),
@@ -228,11 +259,11 @@ fn not_a_number<'a>(word: &[u8], line: &'a [u8], known: Known<'_>) -> Parts<'a> 
     }
 }
 
-/// What the field at this place of a command with this word is the number of.
-fn thing_at(word: &[u8], place: usize) -> Option<Thing> {
-    match (word, place) {
-        (b"cap" | b"close", 2) => Some(Thing::Arc),
-        (b"add", 2 | 3) | (b"shut", 2) => Some(Thing::Node),
+/// What the field at this place of a command is the number of.
+fn thing_at(verb: Option<Verb>, place: usize) -> Option<Thing> {
+    match (verb?, place) {
+        (Verb::Cap | Verb::Close, 2) => Some(Thing::Arc),
+        (Verb::Add, 2 | 3) | (Verb::Shut, 2) => Some(Thing::Node),
         _ => None,
     }
 }

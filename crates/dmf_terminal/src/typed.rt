@@ -5,15 +5,16 @@ use std::alloc::{AllocError, Global};
 /// No more of a line is kept: a longer one is refused for its length.
 const MOST_KEPT: usize = 4096;
 
-/// The lines of the piece that was read last, with the front of the first one that came before it.
+/// The lines of the piece that was read last. The first is whole: what earlier pieces had of it is kept.
 #[derive(Drop)]
 pub struct TypedLines {
     text: Vec<u8>,
-    /// The number of the first of them; past all where a request for memory was refused.
+    /// The number of the first line. Where memory was refused it is the largest number, so that no line is found.
     first: u64,
 }
 
 impl TypedLines {
+    /// No line was read.
     pub fn new(alloc: Global) -> TypedLines {
         TypedLines {
             text: Vec::new(alloc),
@@ -21,9 +22,9 @@ impl TypedLines {
         }
     }
 
-    /// Takes the piece that was read next, and lets the lines go that were answered.
+    /// Takes the piece that was read next, and drops the lines that were answered.
     pub fn take(&mut self, piece: &[u8]) {
-        self.let_whole_lines_go();
+        self.drop_whole_lines();
         self.text.truncate(MOST_KEPT);
         if self.append(piece).is_err() {
             self.text.clear();
@@ -35,8 +36,8 @@ impl TypedLines {
         self.text.extend_from_slice(piece)
     }
 
-    /// Lets all bytes up to the last line feed go.
-    fn let_whole_lines_go(&mut self) {
+    /// Drops all bytes up to the last line feed.
+    fn drop_whole_lines(&mut self) {
         let mut lines = 0u64;
         let mut end = 0;
         for (i, byte) in self.text.iter().enumerate() {

@@ -70,7 +70,8 @@ sound-nothing = record {
 }
 
 -- a line that says nothing leaves it as it is
-silent : (facts : Facts) → ◌≡◌ {A = Facts} (record { counts = option_or facts.counts None; source = option_or facts.source None; sink = option_or facts.sink None; arcs = facts.arcs ++ [] }) facts
+silent : (facts : Facts) → ◌≡◌ {A = Facts}
+    (record { counts = option_or facts.counts None; source = option_or facts.source None; sink = option_or facts.sink None; arcs = facts.arcs ++ [] }) facts
 silent facts = λ i. record {
   counts = or-none facts.counts i;
   source = or-none facts.source i;
@@ -79,7 +80,8 @@ silent facts = λ i. record {
 }
 
 -- nor does one of another kind
-other-line : (facts : Facts) (kind : List ℕ) (behind : List (List ℕ)) → bytes_eq kind (codes "a") ≡ false → bytes_eq kind (codes "n") ≡ false → bytes_eq kind (codes "p") ≡ false
+other-line : (facts : Facts) (kind : List ℕ) (behind : List (List ℕ)) → bytes_eq kind (codes "a") ≡ false → bytes_eq kind (codes "n") ≡ false
+    → bytes_eq kind (codes "p") ≡ false
     → with_line facts (kind ∷ behind) ≡ facts
 other-line facts kind behind not-a not-n not-p = λ i. record {
   counts = (ap (λ b. option_or facts.counts (if b then Some (let c : Counts = record { nodes = number_at 1 behind; arcs = number_at 2 behind } in c) else None)) not-p ∙ or-none facts.counts) i;
@@ -132,7 +134,8 @@ module _ (facts : Facts) (v : ℕ) (sound : Sound facts) (node : IsNode (node_co
   }
 
 -- one arc line more
-sound-with_arc : (facts : Facts) (arc : Arc) → Sound facts → IsArc (node_count facts) arc → length facts.arcs < arc_count facts → capacity_sum facts.arcs + arc.cap < 2 ^ 64
+sound-with_arc : (facts : Facts) (arc : Arc) → Sound facts → IsArc (node_count facts) arc → length facts.arcs < arc_count facts
+    → capacity_sum facts.arcs + arc.cap < 2 ^ 64
     → Sound (record { counts = facts.counts; source = facts.source; sink = facts.sink; arcs = facts.arcs ++ arc ∷ [] })
 sound-with_arc facts arc sound is fewer small = record {
   counts = sound.counts;

@@ -67,7 +67,8 @@ fields-first bytes some =
     (cases_lt n (length bytes))
 
 -- past the blanks there is a field, or nothing
-pub skipped-empty : (bytes : List ℕ) → position_or_len is_blank (drop (prefix_len is_blank bytes) bytes) ≡ 0 → length (drop (prefix_len is_blank bytes) bytes) ≡ 0
+pub skipped-empty : (bytes : List ℕ) → position_or_len is_blank (drop (prefix_len is_blank bytes) bytes) ≡ 0
+    → length (drop (prefix_len is_blank bytes) bytes) ≡ 0
 skipped-empty bytes none =
     let n = prefix_len is_blank bytes in
     let rest = drop n bytes in

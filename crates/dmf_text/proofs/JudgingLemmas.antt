@@ -10,7 +10,8 @@ use Rattle.dmf_text.specs.Judging.{Line, first_fact, ◌>>◌, at_line, outcome_
 
 -- ---- what lines say first
 
-pub first_fact-push : {X : Type 0} (say : Line → Option X) (lines : List Line) (line : Line) → first_fact say (lines ++ line ∷ []) ≡ option_or (first_fact say lines) (say line)
+pub first_fact-push : {X : Type 0} (say : Line → Option X) (lines : List Line) (line : Line)
+    → first_fact say (lines ++ line ∷ []) ≡ option_or (first_fact say lines) (say line)
 first_fact-push say [] line = elim (say line) as (λ o. option_or o None ≡ o) [ None ↦ refl | Some x ↦ refl ]
 first_fact-push say (l ∷ lines) line =
     let P : Option _ → Type 0 = λ o. option_or o (first_fact say (lines ++ line ∷ [])) ≡ option_or (option_or o (first_fact say lines)) (say line) in
@@ -25,7 +26,8 @@ pub record IsFirst (number : ℕ) (line : List ℕ) (after : List (ℕ × List �
   pub number_is : number ≡ n
   pub after_is : after ≡ enumerate_from (n + 1) others
 
-first-numbered : (number : ℕ) (line : List ℕ) (after : List (ℕ × List ℕ)) (n : ℕ) (lines : List (List ℕ)) → enumerate_from n lines ≡ (number, line) ∷ after → IsFirst number line after n lines
+first-numbered : (number : ℕ) (line : List ℕ) (after : List (ℕ × List ℕ)) (n : ℕ) (lines : List (List ℕ)) → enumerate_from n lines ≡ (number, line) ∷ after
+    → IsFirst number line after n lines
 first-numbered number line after n [] is = absurd (let no : ⊥ = cc in no)
 first-numbered number line after n (l ∷ others) is =
     let first : ◌≡◌ {A = ℕ × List ℕ} (n, l) (number, line) = cc in
@@ -91,7 +93,8 @@ module _ {Facts Kind Fault A : Type 0} {facts_of : List Line → Facts} {judged 
   module _ (text : List ℕ) (facts : Facts) (last : ℕ) (left : List (ℕ × List ℕ)) (walk : Walk facts_of judged ended fault text facts last left) where
     module _ (number : ℕ) (line : List ℕ) (after : List (ℕ × List ℕ)) (is : left ≡ (number, line) ∷ after) where
       -- the next line is good
-      pub walk-next : (now : Facts) → judged facts (fields line) ≡ Ok tt → ((before : List Line) → facts ≡ facts_of before → now ≡ facts_of (before ++ fields line ∷ []))
+      pub walk-next : (now : Facts) → judged facts (fields line) ≡ Ok tt
+          → ((before : List Line) → facts ≡ facts_of before → now ≡ facts_of (before ++ fields line ∷ []))
           → Walk facts_of judged ended fault text now number after
       walk-next now good taken =
           let first = first-numbered number line after (length walk.before + 1) walk.rest (sym walk.left_is ∙ is) in

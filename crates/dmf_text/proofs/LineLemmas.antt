@@ -41,7 +41,8 @@ no_cr-is (b ∷ bs) =
     ap (λ t. cond (t && slice_index line (length line - 1) == 13) (take (length line - 1) line) line) (lt-ltb 0 (length line) (omega arith))
 
 -- what bstr leaves of a line that ends in a line feed
-without-feed : (text : List ℕ) (n : ℕ) → n < length text → slice_index text n ≡ 10 → without_terminator (take (n + 1) text) ≡ strip_carriage_return (take n text)
+without-feed : (text : List ℕ) (n : ℕ) → n < length text → slice_index text n ≡ 10
+    → without_terminator (take (n + 1) text) ≡ strip_carriage_return (take n text)
 without-feed text n inside feed =
     let piece = take (n + 1) text in
     let long : length piece ≡ n + 1 = length-take-le (n + 1) text (omega arith) in

@@ -27,7 +27,8 @@ pub value-within : (n value : ℕ) → Some value ≡ within n → n ≡ value
 value-within n value e = ⊎_elim (λ below. let is = within-below n below in cc) (λ past. let is = within-past n past in cc) (cases_lt n (2 ^ 64))
 
 -- what a checked sum of the number's tenfold and a digit gives
-pub within-sum : (n value digit : ℕ) (sum : Option ℕ) → Some value ≡ within n → SomeIff sum (value * 10 + digit < 2 ^ 64) (value * 10 + digit) → sum ≡ within (n * 10 + digit)
+pub within-sum : (n value digit : ℕ) (sum : Option ℕ) → Some value ≡ within n → SomeIff sum (value * 10 + digit < 2 ^ 64) (value * 10 + digit)
+    → sum ≡ within (n * 10 + digit)
 within-sum n value digit None e past =
     let same = value-within n value e in
     let at_least : 2 ^ 64 ≤ n * 10 + digit = ⊎_elim (λ below. absurd (past (omega arith))) (λ h. h) (cases_lt (n * 10 + digit) (2 ^ 64)) in
@@ -47,7 +48,8 @@ pub number_of-other : (field : List ℕ) (i : ℕ) → i < length field → is_a
 unfolding number_of
 number_of-other field i below other = cond-false _ _ _ (and_right _ _ (list_all_at is_ascii_digit field i 0 below other))
 
-pub number_of-digits : (field : List ℕ) → 0 < length field → list_all is_ascii_digit field ≡ true → number_of field ≡ ok_or (within (digits_value 10 field)) TooLarge
+pub number_of-digits : (field : List ℕ) → 0 < length field → list_all is_ascii_digit field ≡ true
+    → number_of field ≡ ok_or (within (digits_value 10 field)) TooLarge
 unfolding number_of
 number_of-digits field some all = cond-true _ _ _ (and_from _ _ (lt-ltb 0 _ some) all)
 
@@ -68,10 +70,12 @@ module _ (field : List ℕ) (i : ℕ) (below : i < length field) (digit : is_asc
   within-more = ap within value-more
 
 -- all of them
-pub number_of-all : (field : List ℕ) (i : ℕ) (value : Option ℕ) → 0 < length field → length field ≤ i → list_all is_ascii_digit (take i field) ≡ true → value ≡ within (digits_value 10 (take i field)) → ok_or value TooLarge ≡ number_of field
+pub number_of-all : (field : List ℕ) (i : ℕ) (value : Option ℕ) → 0 < length field → length field ≤ i → list_all is_ascii_digit (take i field) ≡ true
+    → value ≡ within (digits_value 10 (take i field)) → ok_or value TooLarge ≡ number_of field
 number_of-all field i value some end all is =
     let whole = take_all i field end in
     ap (λ v. ok_or v TooLarge) (is ∙ ap (λ ds. within (digits_value 10 ds)) whole) ∙ sym (number_of-digits field some (sym (ap (λ ds. list_all is_ascii_digit ds) whole) ∙ all))
 
-pub number_of-short : (field : List ℕ) (i value : ℕ) → 0 < length field → length field ≤ i → list_all is_ascii_digit (take i field) ≡ true → value ≡ digits_value 10 (take i field) → value < 2 ^ 64 → Ok value ≡ number_of field
+pub number_of-short : (field : List ℕ) (i value : ℕ) → 0 < length field → length field ≤ i → list_all is_ascii_digit (take i field) ≡ true
+    → value ≡ digits_value 10 (take i field) → value < 2 ^ 64 → Ok value ≡ number_of field
 number_of-short field i value some end all is small = number_of-all field i (Some value) some end all (sym (within-below value small) ∙ ap within is)

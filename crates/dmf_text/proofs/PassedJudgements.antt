@@ -21,7 +21,8 @@ pub passed-value : {A B Kind : Type 0} (first : Result A Kind) (next : A → Res
 passed-value (Ok value) next x good = record { value = value; is = refl; rest = good }
 passed-value (Err kind) next x good = absurd (let no : ⊥ = cc in no)
 
-pub at-line : {A Kind Fault : Type 0} (fault : ℕ → Kind → Fault) (n : ℕ) (judgement : Result A Kind) (x : A) → at_line fault n judgement ≡ Ok x → judgement ≡ Ok x
+pub at-line : {A Kind Fault : Type 0} (fault : ℕ → Kind → Fault) (n : ℕ) (judgement : Result A Kind) (x : A) → at_line fault n judgement ≡ Ok x
+    → judgement ≡ Ok x
 at-line fault n (Ok y) x good = (let same : y ≡ x = cc in ap (λ z. Ok z) same)
 at-line fault n (Err kind) x good = absurd (let no : ⊥ = cc in no)
 

@@ -51,7 +51,8 @@ problem-good : (behind : List (List ℕ)) (counts : Counts) → counts_named beh
 unfolding judged_problem
 problem-good behind counts named = rw named refl
 
-source-good : (counts : Counts) (f : List ℕ) (v : ℕ) → node_named counts.nodes (f ∷ codes "s" ∷ []) ≡ Ok v → judged_node (after-problem counts) (f ∷ codes "s" ∷ []) ≡ Ok tt
+source-good : (counts : Counts) (f : List ℕ) (v : ℕ) → node_named counts.nodes (f ∷ codes "s" ∷ []) ≡ Ok v → judged_node (after-problem counts)
+    (f ∷ codes "s" ∷ []) ≡ Ok tt
 unfolding judged_node
 source-good counts f v named = rw named refl
 
@@ -82,7 +83,8 @@ module _ (counts : Counts) (source sink : ℕ) (done : List Arc) (arc : Arc) (is
 
 -- ---- the end
 
-ended-good : (counts : Counts) (source sink : ℕ) (arcs : List Arc) → counts.arcs ≤ length arcs → ended (after-arcs counts source sink arcs) ≡ Ok (state_of (after-arcs counts source sink arcs))
+ended-good : (counts : Counts) (source sink : ℕ) (arcs : List Arc) → counts.arcs ≤ length arcs
+    → ended (after-arcs counts source sink arcs) ≡ Ok (state_of (after-arcs counts source sink arcs))
 unfolding ended
 ended-good counts source sink arcs enough = rw (le-leb counts.arcs (length arcs) enough) refl
 
@@ -131,7 +133,8 @@ open-are nodes (arc ∷ arcs) are =
     let more = open-are nodes arcs are.1 in
     cond_both (not arc.closed) (arc ∷ open_arcs arcs) (open_arcs arcs) P (λ t. (record { is_arc = are.0; opened = not-true _ t }, more)) (λ t. more)
 
-arcs-are : (nodes : ℕ) (arcs : List Arc) → nodes ≤ 2 ^ 24 → capacity_sum arcs < 2 ^ 64 → AllByRecursion (IsOpenArc nodes) arcs → AllByRecursion AreFields (map arc_fields arcs)
+arcs-are : (nodes : ℕ) (arcs : List Arc) → nodes ≤ 2 ^ 24 → capacity_sum arcs < 2 ^ 64 → AllByRecursion (IsOpenArc nodes) arcs
+    → AllByRecursion AreFields (map arc_fields arcs)
 arcs-are nodes [] few fits are = tt
 arcs-are nodes (arc ∷ arcs) few fits are =
     let is = are.0.is_arc in

@@ -85,7 +85,8 @@ module _ (s : NetworkState) (facts : Facts) (value : ℕ) (told : facts.value �
       rw (told, none-unbalanced s.network flows flow, (Decides-int_eq (flow_value s.network flows) (pos value)).1 same) refl
 
   -- Flows that are not taken have the fault that is found in them, and none is over capacity.
-  refused-by : (why : FlowFault) (unbalanced : Option ℕ) (negative : Bool) → first_unbalanced s.network flows ≡ unbalanced → int_lt (flow_value s.network flows) (pos 0) ≡ negative
+  refused-by : (why : FlowFault) (unbalanced : Option ℕ) (negative : Bool) → first_unbalanced s.network flows ≡ unbalanced → int_lt (flow_value s.network flows)
+      (pos 0) ≡ negative
       → Some why ≡ option_or (option_map fault.NotConserved unbalanced) (if negative then Some fault.Negative else None) → Err (flow_kind why) ≡ ended s facts
   unfolding ended
   refused-by why (Some v) negative found less fault_is =
@@ -99,7 +100,8 @@ module _ (s : NetworkState) (facts : Facts) (value : ℕ) (told : facts.value �
       rw (is, told, found, other) refl
   refused-by why None false found less fault_is = absurd (cc)
 
-  pub ended-refused : (why : FlowFault) → IsErrOf {T = NetworkState} (Err why) fault.NoMemory ⊎ (Some why ≡ flow_fault s.network flows) → (flow_kind why ≡ NoMemory) ⊎ (Err (flow_kind why) ≡ ended s facts)
+  pub ended-refused : (why : FlowFault) → IsErrOf {T = NetworkState} (Err why) fault.NoMemory ⊎ (Some why ≡ flow_fault s.network flows)
+      → (flow_kind why ≡ NoMemory) ⊎ (Err (flow_kind why) ≡ ended s facts)
   ended-refused why (inl memory) = inl (let is : why ≡ fault.NoMemory = cc in ap flow_kind is)
   ended-refused why (inr fault_is) =
       inr (refused-by why (first_unbalanced s.network flows) (int_lt (flow_value s.network flows) (pos 0)) refl refl

@@ -40,7 +40,8 @@ module _ {X : Type 0} (bytes : X → List ℕ) (fields : List X) (i : ℕ) (d : 
   line-last last =
       ap written_line (from-one ∙ ap (λ l. bytes (get_or fields i d) ∷ map bytes l) (drop_all (i + 1) fields last)) ∙ line-one (bytes (get_or fields i d))
 
-  pub line-from : i + 1 < length fields → written_line (map bytes (drop i fields)) ≡ bytes (get_or fields i d) ++ (32 ∷ written_line (map bytes (drop (i + 1) fields)))
+  pub line-from : i + 1 < length fields
+      → written_line (map bytes (drop i fields)) ≡ bytes (get_or fields i d) ++ (32 ∷ written_line (map bytes (drop (i + 1) fields)))
   line-from more =
       let long = length-map (drop (i + 1) fields) bytes ∙ length-drop (i + 1) fields in
       ap written_line from-one ∙ line-more (bytes (get_or fields i d)) (map bytes (drop (i + 1) fields)) (omega (arith, long))

@@ -19,6 +19,8 @@ use std::alloc::{AllocError, Global};
 pub(crate) struct SolutionReading {
     pairs: Pairs,
     value: Option<u64>,
+    /// How many flow lines were taken: the flows mostly come in the order of the arcs.
+    flow_count: usize,
 }
 
 impl SolutionReading {
@@ -29,7 +31,11 @@ impl SolutionReading {
         ensures { IfOk result (Keeps state.now.network.arcs (record { value = None; flows = [] })) }
     {
         let pairs = Pairs::of_arcs(alloc, state.arcs())?;
-        Ok(SolutionReading { pairs, value: None })
+        Ok(SolutionReading {
+            pairs,
+            value: None,
+            flow_count: 0,
+        })
     }
 
     /// Takes the next line, unless it has a fault.
@@ -78,7 +84,9 @@ impl SolutionReading {
         let Some(pair) = pair_of(tail, head) else {
             return Err(SolutionFaultKind::NoSuchPair);
         };
-        self.pairs.add_flow(pair, flow)
+        let guess = self.pairs.guess(self.flow_count);
+        self.flow_count = self.flow_count.wrapping_add(1);
+        self.pairs.add_flow(pair, flow, guess)
     }
 
     /// The state that the lines stand for, at the end of the text: the network of this one with the flows that they say.
@@ -86,7 +94,7 @@ impl SolutionReading {
     pub(crate) fn finish(self, alloc: Global, state: &State) -> Result<State, SolutionFaultKind>
         ensures { (facts : Facts) → Keeps state.now.network.arcs facts self → (result ≡ Err NoMemory) ⊎ (result ≡ ended state.now facts) }
     {
-        let SolutionReading { pairs, value } = self;
+        let SolutionReading { pairs, value, .. } = self;
         let Some(value) = value else {
             return Err(SolutionFaultKind::ValueMissing);
         };

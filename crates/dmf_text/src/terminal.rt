@@ -1,7 +1,8 @@
 //! The terminals that node lines name.
-ghost use Rattle.std.specs.Prelude.{◌≡◌, MatchResult, Err};
+ghost use Rattle.std.specs.Prelude.{◌≡◌, MatchOption, MatchResult, Err, codes, false};
+ghost use Rattle.std.specs.Str.{bytes_eq};
 ghost use Rattle.dmf_text.specs.Problem.{node_named};
-ghost use Rattle.dmf_text.specs.Terminal.{Names};
+ghost use Rattle.dmf_text.specs.Terminal.{Names, letter_of};
 
 use crate::digits::number;
 use crate::exact_fields::two_fields;
@@ -22,15 +23,26 @@ pub(crate) fn named(nodes: u32, behind: Fields<'_>) -> Result<(Terminal, u32), P
 {
     let (node, letter) = two_fields(behind)?;
     let node = number(node)?;
-    let terminal = if letter == b"s".as_slice() {
-        Terminal::Source
-    } else if letter == b"t".as_slice() {
-        Terminal::Sink
-    } else {
+    let Some(terminal) = terminal_of(letter) else {
         return Err(ProblemFaultKind::NotSourceOrSink);
     };
     if node < 1 || node > u64::from(nodes) {
         return Err(ProblemFaultKind::NodeOutOfRange);
     }
     Ok((terminal, node as u32))
+}
+
+/// The terminal that a letter names.
+fn terminal_of(letter: &[u8]) -> Option<Terminal>
+    ensures { MatchOption result
+        ((bytes_eq letter.now (codes "s") ≡ false) × (bytes_eq letter.now (codes "t") ≡ false))
+        (λ terminal. letter.now ≡ letter_of terminal) }
+{
+    if letter == b"s".as_slice() {
+        Some(Terminal::Source)
+    } else if letter == b"t".as_slice() {
+        Some(Terminal::Sink)
+    } else {
+        None
+    }
 }

@@ -5,6 +5,9 @@
 
 ghost use Rattle.std.specs.Prelude.{◌≤◌};
 
+mod commands;
+
+use commands::COMMANDS;
 use dmf_history::{DeltaHistory, History, MAX_BOUND, WholeHistory};
 use dmf_session::{Command, Refusal, Reply, Session};
 use dmf_solver::{plan_add, plan_cap};
@@ -15,32 +18,6 @@ use std::{env, io};
 
 /// The arcs of the network that the documentation uses, each by its tail, its head and its capacity.
 const ARCS: [(u64, u64, u64); 5] = [(1, 2, 3), (1, 3, 2), (2, 3, 5), (2, 4, 2), (3, 4, 3)];
-
-/// Changes that add arcs and others, steps back, steps forward over additions, and cuts, of which one is told and one is not.
-#[rattlefmt::skip]
-const COMMANDS: [Command; 21] = [
-    Command::Add { tail: 1, head: 4, cap: 1 },
-    Command::Solve,
-    Command::Add { tail: 1, head: 4, cap: 2 },
-    Command::Add { tail: 1, head: 4, cap: 3 },
-    Command::Undo(2),
-    Command::Redo(2),
-    Command::Cap { arc: 5, cap: 1 },
-    Command::Add { tail: 1, head: 4, cap: 4 },
-    Command::Undo(3),
-    Command::Add { tail: 1, head: 4, cap: 5 },
-    Command::Add { tail: 1, head: 4, cap: 6 },
-    Command::Close { arc: 1 },
-    Command::PrintCut,
-    Command::Undo(4),
-    Command::Redo(3),
-    Command::Solve,
-    Command::PrintCut,
-    Command::Shut { node: 3 },
-    Command::Undo(1),
-    Command::Redo(1),
-    Command::Add { tail: 1, head: 4, cap: 7 },
-];
 
 fn main(rt: HostRuntime) -> ExitCode {
     let outcome = if has_word(&rt) {

@@ -1,4 +1,4 @@
-//! The examples of the libraries' README files, each word for word, and one of a bounded history.
+//! Examples of the libraries, to which their README files lead, and one of a bounded history.
 mod history;
 mod net;
 mod run;

@@ -23,7 +23,8 @@ fn a_command_line_is_read(rt: HostRuntime) {
     assert!(rt; read_command(b"cap x 18446744073709551616") == Err(Refusal::NotANumber));
     // No network of a test is large enough for one arc too many, so the program never shows this text.
     let text: &'static [u8] = refusal_text(&Refusal::TooManyArcs);
-    assert!(rt; text == b"too many arcs".as_slice());
+    let told: &'static str = Refusal::TooManyArcs.text();
+    assert!(rt; text == b"too many arcs".as_slice() && told.as_bytes() == text);
 }
 
 /// The number that the documents give to a fault of a run.

@@ -8,35 +8,18 @@ use dmf_session::Session;
 use dmf_text::{StdSink, StdSource, read_problem};
 use std::alloc::{AllocError, Global};
 use std::test::Fail;
-use test_fixtures::{Draws, FULL_ARC, LENIENT, NETWORK_A, NETWORK_B, PARALLEL, TWO_SHORTEST};
+use test_fixtures::{
+    Draws, FULL_ARC, LENIENT, NETWORK_A, NETWORK_B, PARALLEL, TWO_SHORTEST, WORD_COUNT, WORDS,
+};
 
 /// How many random scripts are tried on each network, and how many commands each has.
 const SCRIPTS: u32 = 20;
 
 const COMMANDS: u32 = 200;
 
-/// The words of commands, each with how many numbers follow it. A word that stands twice is drawn twice as often. Most of the
-/// commands are accepted.
-const WORDS: [(&[u8], u32); 14] = [
-    (b"cap", 2),
-    (b"cap", 2),
-    (b"add", 3),
-    (b"close", 1),
-    (b"solve", 0),
-    (b"solve", 0),
-    (b"undo", 1),
-    (b"undo", 1),
-    (b"redo", 1),
-    (b"redo", 1),
-    (b"shut", 1),
-    (b"print flow", 0),
-    (b"print cut", 0),
-    (b"print problem", 0),
-];
-
 /// Adds a command line with numbers below 7.
 fn add_command(script: &mut Vec<u8>, draws: &mut Draws) -> Result<(), AllocError> {
-    let (word, numbers) = WORDS[draws.below(14) as usize];
+    let (word, numbers) = WORDS[draws.below(WORD_COUNT) as usize];
     script.extend_from_slice(word)?;
     for _ in 0..numbers {
         script.push(b' ')?;

@@ -1,6 +1,6 @@
 //! Which run the arguments ask for.
 use crate::expected::expect;
-use dmf_arguments::{Arguments, Mode, read_words};
+use dmf_arguments::{Arguments, MAX_HISTORY, Mode, read_words};
 use std::alloc::Global;
 use std::test::Fail;
 
@@ -27,93 +27,67 @@ fn words_ask_to_solve(rt: HostRuntime) -> Result<(), Fail> {
     Ok(())
 }
 
-/// Words that ask for a session, each with whether cuts and the progress are told, the bound, and the problem.
-type Session = (&'static str, bool, bool, u32, &'static str);
-
-const SESSIONS: [Session; 9] = [
-    ("session P", false, false, 1_000_000, "P"),
-    ("session --cut P", true, false, 1_000_000, "P"),
-    ("session P --cut", true, false, 1_000_000, "P"),
-    (
-        "session nets/day-1.max",
-        false,
-        false,
-        1_000_000,
-        "nets/day-1.max",
-    ),
-    ("session -", false, false, 1_000_000, "-"),
-    ("session -- --cut", false, false, 1_000_000, "--cut"),
-    ("session solve", false, false, 1_000_000, "solve"),
-    ("session --progress P", false, true, 1_000_000, "P"),
-    ("session --cut P --progress", true, true, 1_000_000, "P"),
+/// Words that ask for a session on the problem P, each with the names of its flags, and the bound.
+const SESSIONS: [(&str, &str, u32); 14] = [
+    ("session P", "", MAX_HISTORY),
+    ("session --cut P", "cut", MAX_HISTORY),
+    ("session P --cut", "cut", MAX_HISTORY),
+    ("session --brief P", "brief", MAX_HISTORY),
+    ("session P --brief", "brief", MAX_HISTORY),
+    ("session --progress P", "progress", MAX_HISTORY),
+    ("session --cut P --progress", "cut progress", MAX_HISTORY),
+    ("session --cut P --brief", "brief cut", MAX_HISTORY),
+    ("session --history 0 P", "", 0),
+    ("session P --history 1", "", 1),
+    ("session --history=+7 P", "", 7),
+    ("session --cut --history 1000000 P", "cut", 1_000_000),
+    ("session --cut P --progress --history 3", "cut progress", 3),
+    ("session --history 3 --brief P --cut", "brief cut", 3),
 ];
 
-const BOUNDED: [Session; 5] = [
-    ("session --history 0 P", false, false, 0, "P"),
-    ("session P --history 1", false, false, 1, "P"),
-    ("session --history=+7 P", false, false, 7, "P"),
-    (
-        "session --cut --history 1000000 P",
-        true,
-        false,
-        1_000_000,
-        "P",
-    ),
-    ("session --history 3 --progress P --cut", true, true, 3, "P"),
+/// Words that ask for a session without options, each with its problem.
+const PROBLEMS: [(&str, &str); 4] = [
+    ("session nets/day-1.max", "nets/day-1.max"),
+    ("session -", "-"),
+    ("session -- --cut", "--cut"),
+    ("session solve", "solve"),
 ];
 
-/// Each row's words are to ask for its session.
-fn expect_sessions(alloc: Global, rows: &[Session]) -> Result<(), Fail> {
-    for (line, cut, progress, history, problem) in rows {
-        let mode = Mode::Session {
-            cut: *cut,
-            history: *history,
-            problem: String::from_str(alloc, problem)?,
-        };
-        let wanted = Arguments {
-            mode,
-            progress: *progress,
-            brief: false,
-        };
-        expect(alloc, line, wanted)?;
-    }
-    Ok(())
-}
-
-/// Words that ask for a session on the problem P with brief replies, each with whether cuts and the progress are told, and the bound.
-const BRIEF: [(&str, bool, bool, u32); 4] = [
-    ("session --brief P", false, false, 1_000_000),
-    ("session --brief --cut P", true, false, 1_000_000),
-    ("session --cut P --brief", true, false, 1_000_000),
-    ("session --progress --brief --history 3 P", false, true, 3),
-];
-
-#[test]
-fn words_ask_for_brief_replies(rt: HostRuntime) -> Result<(), Fail> {
-    for (line, cut, progress, history) in &BRIEF {
-        let mode = Mode::Session {
-            cut: *cut,
-            history: *history,
-            problem: String::from_str(rt.alloc(), "P")?,
-        };
-        let wanted = Arguments {
-            mode,
-            progress: *progress,
-            brief: true,
-        };
-        expect(rt.alloc(), line, wanted)?;
-    }
-    Ok(())
+/// These words are to ask for a session with these flags and this bound, on this problem.
+fn expect_session(
+    alloc: Global,
+    line: &str,
+    flags: &str,
+    history: u32,
+    problem: &str,
+) -> Result<(), Fail> {
+    let mode = Mode::Session {
+        cut: flags.contains("cut"),
+        history,
+        problem: String::from_str(alloc, problem)?,
+    };
+    let wanted = Arguments {
+        mode,
+        progress: flags.contains("progress"),
+        brief: flags.contains("brief"),
+    };
+    expect(alloc, line, wanted)
 }
 
 #[test]
 fn words_ask_for_a_session(rt: HostRuntime) -> Result<(), Fail> {
-    expect_sessions(rt.alloc(), &SESSIONS)
+    for (line, flags, history) in &SESSIONS {
+        expect_session(rt.alloc(), line, flags, *history, "P")?;
+    }
+    Ok(())
 }
 
 #[test]
-fn words_ask_for_a_bounded_session(rt: HostRuntime) -> Result<(), Fail> {
-    expect_sessions(rt.alloc(), &BOUNDED)
+fn words_name_the_problem(rt: HostRuntime) -> Result<(), Fail> {
+    for (line, problem) in &PROBLEMS {
+        expect_session(rt.alloc(), line, "", MAX_HISTORY, problem)?;
+    }
+    Ok(())
 }
 
 #[test]

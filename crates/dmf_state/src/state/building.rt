@@ -16,12 +16,12 @@ use crate::state::State;
 use std::alloc::Global;
 
 impl State {
-    /// The same network with these flows, one for each arc in the order of their numbers. The vector is kept, or
-    /// dropped where it is refused.
+    /// The same network with these flows, one for each arc in the order of their numbers. The state keeps the vector; a fault drops
+    /// it.
     ///
-    /// Refused, in this order, by [`FlowFault::OverCapacity`], [`FlowFault::NotConserved`] and
-    /// [`FlowFault::Negative`]. Takes memory for a copy of the arcs, and for the time of the call two numbers a node;
-    /// where it is refused, the answer is [`FlowFault::NoMemory`].
+    /// The answer is the first of these faults that the flows have: [`FlowFault::OverCapacity`], [`FlowFault::NotConserved`],
+    /// [`FlowFault::Negative`]. The call takes memory for a copy of the arcs and, while it lasts, for two numbers a node; where that
+    /// is refused, the answer is [`FlowFault::NoMemory`].
     pub fn with_flows(&self, alloc: Global, flows: Vec<u64>) -> Result<State, FlowFault>
         requires { length flows.items ≡ length self.now.network.arcs }
         ensures refused { IsErrOf result FlowFault.NoMemory ⊎ (result_err result ≡ flow_fault self.now.network flows.items) }
@@ -61,8 +61,8 @@ impl State {
 
     /// Appends an open arc without flow.
     ///
-    /// Refused, in this order, by [`NetFault::NoSuchNode`], [`NetFault::TooManyArcs`], [`NetFault::SumTooLarge`] and
-    /// [`NetFault::NoMemory`]; the state is then as it was.
+    /// The answer is the first of these faults that holds, and then the state is as it was: [`NetFault::NoSuchNode`],
+    /// [`NetFault::TooManyArcs`], [`NetFault::SumTooLarge`], [`NetFault::NoMemory`].
     pub fn push_arc(&mut self, tail: u64, head: u64, cap: u64) -> Result<(), NetFault>
         ensures refused { MatchOption (arc_fault self.old.network tail head cap)
             (IsOkUnless result NetFault.NoMemory)

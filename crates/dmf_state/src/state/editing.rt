@@ -16,7 +16,7 @@ use crate::state::State;
 impl State {
     /// Applies an edit that fits the state.
     ///
-    /// Only an edit that adds an arc takes memory; where that is refused the state is as it was.
+    /// Only an edit that adds an arc takes memory; where that is refused, the state is as it was.
     pub fn apply(&mut self, edit: &Edit) -> Result<(), NoMemory>
         requires { Fits edit.now self.old }
         ensures ok { OnOk result (self.new ≡ applied edit.now self.old) }
@@ -59,7 +59,7 @@ impl State {
         }
     }
 
-    /// The largest capacity that can stand in the place of one of these.
+    /// The largest capacity that an arc can have in place of this one: with it the capacities still sum to less than 2^64.
     pub fn largest_cap(&self, old: u64) -> u64
         requires { old ≤ capacity_sum self.now.network.arcs }
         ensures { result + (capacity_sum self.now.network.arcs - old) + 1 ≡ 2 ^ 64 }
@@ -76,7 +76,7 @@ impl State {
         requires state { IsState (record { network = with_arc self.old.network j arc; flows = moved (along direction moves.now) self.old.flows }) }
         ensures { self.new ≡ record { network = with_arc self.old.network j arc; flows = moved (along direction moves.now) self.old.flows } }
     {
-        // In between, the flow before or the flow after is within the larger of the two capacities.
+        // In between, the arc has the larger of the two capacities, so that the flow stays within it.
         if arc.cap < self.arc(j).cap {
             self.move_flows(moves, direction);
             self.set_arc(j, arc);

@@ -5,9 +5,8 @@ use Rattle.dmf_arguments.proofs.words.command.Goals as goal
 
 pub returns : goal.returns
 returns c =
-    let one = c.in_ok-subcommand.ensures.shape c.in_ok-solve.ensures.local
-    ∙ ap₂ with_subcommand c.program.ensures (ap (λ (a : App). a.top) c.in_ok-solve.ensures.line) in
-    let two = c.in_ok-subcommand-2.ensures.shape c.in_ok-session.ensures.local
-    ∙ ap₂ with_subcommand one (ap (λ (a : App). a.top) c.in_ok-session.ensures.line) in
-    IfOk-weaker c.subcommand-3.result _ _ (λ m h. h.shape c.in_ok-check.ensures.local
-    ∙ ap₂ with_subcommand two (ap (λ (a : App). a.top) c.in_ok-check.ensures.line)) c.subcommand-3.ensures
+    let top : App → _ = λ a. a.top in
+    let one = c.in_ok-subcommand.ensures.shape c.in_ok-solve.ensures.1 ∙ ap₂ with_subcommand c.program.ensures (ap top c.in_ok-solve.ensures.0) in
+    let two = c.in_ok-subcommand-2.ensures.shape c.in_ok-session.ensures.1 ∙ ap₂ with_subcommand one (ap top c.in_ok-session.ensures.0) in
+    IfOk-weaker c.subcommand-3.result _ _
+    (λ made adds. adds.shape c.in_ok-check.ensures.1 ∙ ap₂ with_subcommand two (ap top c.in_ok-check.ensures.0)) c.subcommand-3.ensures

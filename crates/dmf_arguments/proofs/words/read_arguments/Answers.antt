@@ -1,11 +1,9 @@
-use Rattle.std.proofs.Common.{ap, ap₂, sym, subst, map, drop, ◌≡◌, ◌∙◌, ◌⊎◌, [], List}
-use Rattle.clap.specs.Words.{app_of, kind_of, fault_of, is_simple, is_simple_and_free, subcommand_of, subcommand_rows_of}
-use Rattle.clap.specs.Kinds.{Kinds, IsAmong}
+use Rattle.std.proofs.Common.{ap, ap₂, sym, subst, map, ◌≡◌, ◌∙◌, ◌⊎◌, [], List}
+use Rattle.clap.specs.Words.{IsAmong, Kinds, Text, app_of, fault_of, is_simple, is_simple_and_free, kind_of, subcommand_of, subcommand_rows_of}
 use Rattle.clap.specs.declared.error.kind.ErrorKind.TheVariants.{OutOfMemory}
-use Rattle.dmf_arguments.specs.Matches.{asked_of, arguments}
-use Rattle.dmf_arguments.specs.Words.{Text}
-use Rattle.dmf_arguments.proofs.Table.{faults_in, asked_in, line_is_simple, line_is_free}
-use Rattle.dmf_arguments.proofs.Reading.{taken_reads, refused_reads}
+use Rattle.dmf_arguments.specs.CommandLine.{Asked, asked_in, asked_of, arguments, faults_in}
+use Rattle.dmf_arguments.specs.Words.{Asks}
+use Rattle.dmf_arguments.proofs.Reading.{line_is_simple, line_is_free, no_kinds, short, told}
 use Rattle.dmf_arguments.proofs.words.read_arguments.Goals as goal
 
 -- the words were taken
@@ -17,11 +15,14 @@ returns-in-Ok-clause-words c =
     ap (map (λ word. word.bytes.items)) c.as_slice.ensures.value in
     let clean = c.in-Ok.ensures.kinds (ap is_simple_and_free line ∙ line_is_free) in
     let found = (c.in-Ok.ensures.matches (ap is_simple line ∙ line_is_simple)).1 in
-    let none : faults_in (drop 1 all) ≡ [] = sym (ap₂ fault_of line words_are) ∙ clean in
-    let asked : asked_of (subcommand_rows_of c.in-Ok.matches) ≡ asked_in (drop 1 all) =
+    let none : faults_in all ≡ [] = sym (ap₂ fault_of line words_are) ∙ clean in
+    let asked : asked_of (subcommand_rows_of c.in-Ok.matches) ≡ asked_in all =
     ap asked_of (found ∙ ap₂ subcommand_of line words_are) in
-    taken_reads (drop 1 all) _ c.arguments_of.result none asked
-    c.arguments_of.ensures.nothing c.arguments_of.ensures.solve c.arguments_of.ensures.session c.arguments_of.ensures.check
+    let tells = c.arguments_of.ensures in
+    record {
+      taken = λ clean. subst (λ (a : Asked). Asks a c.arguments_of.result) asked (tells.nothing, tells.solve, tells.session, tells.check);
+      refused = λ kind kinds faulty. absurd (no_kinds (sym none ∙ faulty));
+    }
 
 -- they were not
 pub returns-clause-words : goal.returns-clause-words
@@ -32,6 +33,9 @@ returns-clause-words c =
     ap (map (λ word. word.bytes.items)) c.as_slice.ensures.value in
     let kind = kind_of c.in-Err.error in
     let among = c.in-Err.ensures.kinds (ap is_simple_and_free line ∙ line_is_free) in
-    refused_reads (drop 1 all) kind c.fault_of.result
-    (subst (λ (kinds : Kinds). (kind ≡ OutOfMemory) ⊎ IsAmong kind kinds) (ap₂ fault_of line words_are) among)
-    c.fault_of.ensures.memory c.fault_of.ensures.help c.fault_of.ensures.version c.fault_of.ensures.usage
+    let one : (kind ≡ OutOfMemory) ⊎ IsAmong kind (faults_in all) =
+    subst (λ (kinds : Kinds). (kind ≡ OutOfMemory) ⊎ IsAmong kind kinds) (ap₂ fault_of line words_are) among in
+    record {
+      taken = λ clean. short (faults_in all) kind c.fault_of.result one c.fault_of.ensures (asked_in all) clean;
+      refused = λ k kinds faulty. told (faults_in all) kind c.fault_of.result one c.fault_of.ensures k kinds faulty;
+    }

@@ -15,18 +15,17 @@ use Rattle.dmf_runs.proofs.problem.read_state.Goals as goal
 -- what is read, and not judged
 unread : (from to : Reader) (text : List ℕ) (told : EngineFault) → ReadsText from to text (Err told) → ReadsProblem from to text (Err told)
 unread from to text fault.Read r = r
-unread from to text fault.Write r = absurd r
-unread from to text (fault.Problem f) r = absurd r
-unread from to text (fault.Solution f) r = absurd r
 unread from to text fault.NoMemory r = r
 unread from to text fault.TooMuchInput r = r
+unread from to text told r = absurd r
 
 -- what a text is judged to be where memory was not refused
 judged-state : (s : NetworkState) (text : List ℕ) → IsErrOf (Ok s) out_of_memory ⊎ (Ok s ≡ problem_of text) → problem_of text ≡ Ok s
 judged-state s text (inl refused) = cc
 judged-state s text (inr told) = sym told
 
-judged-fault : (f : ProblemFault) (text : List ℕ) → f.kind ≢ NoMemory → IsErrOf {T = NetworkState} (Err f) out_of_memory ⊎ (Err f ≡ problem_of text) → problem_of text ≡ Err f
+judged-fault : (f : ProblemFault) (text : List ℕ) → f.kind ≢ NoMemory → IsErrOf {T = NetworkState} (Err f) out_of_memory ⊎ (Err f ≡ problem_of text)
+    → problem_of text ≡ Err f
 judged-fault f text other (inl refused) = let same : f ≡ out_of_memory = cc in absurd (other (ap (λ x. x.kind) same))
 judged-fault f text other (inr told) = sym told
 
@@ -35,17 +34,20 @@ returns-in_err-text g c =
     let failed = err_from_is_err_and c.from_residual.result c.from_residual.ensures.1 in
     let reader = g.P.Source.left in
     let read = c.in_err-text.ensures in
-    rw (failed.1, failed.2) (read.0, read.1, unread (reader c.args.source.now) (reader c.read_all.new.source) read.0 c.in_err-text.field-0.0 read.2)
+    rw (failed.1, failed.2)
+    (record { text = read.text; consumes = read.consumes; is_so = unread (reader c.args.source.now) (reader c.read_all.new.source) read.text c.in_err-text.field-0.0 read.is_so })
 
 pub returns-in-Ok : goal.returns-in-Ok
 returns-in-Ok g c =
     let read = c.in_ok-text.ensures in
-    (read.0, read.1, (read.2.0, ap problem_of (sym (c.deref.ensures.value ∙ read.2.1)) ∙ judged-state c.in-Ok.state c.deref.result.now c.in-Ok.ensures))
+    record { text = read.text; consumes = read.consumes; is_so = (read.is_so.0, ap problem_of (sym (c.deref.ensures.value ∙ read.is_so.1)) ∙ judged-state c.in-Ok.state c.deref.result.now c.in-Ok.ensures) }
 
 pub returns-in-NoMemory : goal.returns-in-NoMemory
-returns-in-NoMemory g c = let read = c.in_ok-text.ensures in (read.0, read.1, read.2.0.mark)
+returns-in-NoMemory g c =
+    let read = c.in_ok-text.ensures in
+    record { text = read.text; consumes = read.consumes; is_so = read.is_so.0.mark }
 
 pub returns : goal.returns
 returns g c =
     let read = c.in_ok-text.ensures in
-    (read.0, read.1, (read.2.0, ap problem_of (sym (c.deref.ensures.value ∙ read.2.1)) ∙ judged-fault c.in-Err.fault c.deref.result.now c.in_default.not-NoMemory c.in-Err.ensures))
+    record { text = read.text; consumes = read.consumes; is_so = (read.is_so.0, ap problem_of (sym (c.deref.ensures.value ∙ read.is_so.1)) ∙ judged-fault c.in-Err.fault c.deref.result.now c.in_default.not-NoMemory c.in-Err.ensures) }

@@ -1,12 +1,10 @@
-use Rattle.std.proofs.Common.{◌≡◌, ◌+◌, [], Err, refl, sym, ap, ◌∙◌, subst, arith, false}
+use Rattle.std.proofs.Common.{[], Err, false, refl, sym, ap, ◌∙◌, subst, arith}
 use Rattle.std.proofs.lemmas.Bool.{false≢true}
 use Rattle.std.proofs.lemmas.Result.{err_from_is_err_and}
-use Rattle.dmf_session.specs.Step.{Answers}
 use Rattle.dmf_runs.specs.Input.{input_over}
-use Rattle.dmf_runs.specs.Run.{LineRuns}
 use Rattle.dmf_runs.specs.Outcome.{RunsCommandsWith}
-use Rattle.dmf_runs.proofs.Progress.{Carried, Progress, Progress-none, Progress-more, streams}
-use Rattle.dmf_runs.proofs.Endings.{Broken, RunsCommands-end, RunsCommands-refused, RunsCommands-past, RunsCommands-last, RunsCommands-write, RunsCommands-write_last}
+use Rattle.dmf_runs.proofs.Progress.{Progress, Progress-none, Progress-more, streams}
+use Rattle.dmf_runs.proofs.Endings.{Carried-told, Broken-told, RunsCommands-end, RunsCommands-refused, RunsCommands-past, RunsCommands-last, RunsCommands-write}
 use Rattle.dmf_runs.proofs.session.run_lines.Goals as goal
 
 pub loop-number-init : goal.loop-number-init
@@ -18,96 +16,83 @@ loop-number-init g c =
     subst (λ pending. Progress c.args.wanted t input (input_over pending reader) held held 1 t false) (sym c.new-input.ensures)
     (Progress-none c.args.wanted t input held (record { none_pending = refl; none_taken = refl }))
 
-pub returns-in_err-next_line : goal.returns-in_err-next_line
-returns-in_err-next_line g c =
+pub returns-in_err-ended : goal.returns-in_err-ended
+returns-in_err-ended g c =
     let failed = err_from_is_err_and c.from_residual.result c.from_residual.ensures.1 in
     let then = input_over c.next_line.new.self (g.C.Source.left c.next_line.new.source) in
-    let t = g.H.History.timeline c.args.session.now in
     let before = input_over (record { bytes = []; count = 0 }) (g.C.Source.left c.args.commands.now) in
     let held = g.W.Sink.written c.args.out.now in
     let holds = g.W.Sink.written c.loop-number.out in
-    subst (λ result. RunsCommandsWith c.args.wanted t (streams before held) (streams then holds) result) (sym (failed.1 ∙ ap Err failed.2))
-    (RunsCommands-refused c.args.wanted t before _ then held holds c.loop-number.number _ _ c.in_err-next_line.field-0.0 c.next_line.new.line (omega arith) c.loop-number.invariant c.in_err-next_line.ensures)
+    subst (λ result. RunsCommandsWith c.args.wanted (g.H.History.timeline c.args.session.now) (streams before held) (streams then holds) result)
+    (sym (failed.1 ∙ ap Err failed.2))
+    (RunsCommands-refused c.args.wanted _ before _ then held holds c.loop-number.number _ _ c.loop-number.invariant c.in_err-ended.field-0.0 c.next_line.new.line (omega arith) c.in_err-ended.ensures)
 
-pub returns-in_err-answer-in-Line : goal.returns-in_err-answer-in-Line
-returns-in_err-answer-in-Line g c =
-    let failed = err_from_is_err_and c.from_residual-in_err-answer-in-Line.result c.from_residual-in_err-answer-in-Line.ensures.1 in
-    let gave = rw c.in-Line.is at c.in_ok-next_line.ensures in
-    let told = c.in_err-answer-in-Line.ensures.line in
-    let before = input_over (record { bytes = []; count = 0 }) (g.C.Source.left c.args.commands.now) in
+pub returns-in_default : goal.returns-in_default
+returns-in_default g c =
+    let gave = rw c.in_default.is at c.in_ok-ended.ensures in
+    RunsCommands-end c.args.wanted _ _ _ _ _ _ c.loop-number.number _ _ c.loop-number.invariant c.status.result (omega arith) c.status.ensures gave.0 gave.1
+
+-- the reply to a line could not be written
+pub returns-in_err-answer : goal.returns-in_err-answer
+returns-in_err-answer g c =
+    let failed = err_from_is_err_and c.from_residual-in_err-answer.result c.from_residual-in_err-answer.ensures.1 in
     let then = input_over c.next_line.new.self (g.C.Source.left c.next_line.new.source) in
+    let before = input_over (record { bytes = []; count = 0 }) (g.C.Source.left c.args.commands.now) in
     let held = g.W.Sink.written c.args.out.now in
     let holds = g.W.Sink.written c.loop-number.out in
     let next = g.W.Sink.written c.answer.new.out in
     let meaning = c.meaning_of-meaning.result in
-    let broken : Broken c.args.wanted (g.H.History.timeline c.loop-number.session) meaning c.loop-number.number holds next (g.H.History.timeline c.answer.new.session) =
-    record { text = told.0; refused = told.1; runs = told.2; replies = λ none. false≢true (c.in_err-answer-in-Line.ensures.silent none).1; front = told.3.0; rest = told.3.1; text_is = told.3.2; appends = told.3.3; writer = told.3.4 } in
-    subst (λ result. RunsCommandsWith c.args.wanted (g.H.History.timeline c.args.session.now) (streams before held) (streams then next) result) (sym (failed.1 ∙ ap Err failed.2))
-    (RunsCommands-write c.args.wanted _ _ _ then _ holds next c.loop-number.number _ _ meaning _ _ c.loop-number.invariant gave c.meaning_of-meaning.ensures broken)
-
-pub returns-in_err-answer-in-Last : goal.returns-in_err-answer-in-Last
-returns-in_err-answer-in-Last g c =
-    let failed = err_from_is_err_and c.from_residual-in_err-answer-in-Last.result c.from_residual-in_err-answer-in-Last.ensures.1 in
-    let gave = rw c.in-Last.is at c.in_ok-next_line.ensures in
-    let told = c.in_err-answer-in-Last.ensures.line in
-    let before = input_over (record { bytes = []; count = 0 }) (g.C.Source.left c.args.commands.now) in
-    let then = input_over c.next_line.new.self (g.C.Source.left c.next_line.new.source) in
-    let held = g.W.Sink.written c.args.out.now in
-    let holds = g.W.Sink.written c.loop-number.out in
-    let next = g.W.Sink.written c.answer-in-Last.new.out in
-    let meaning = c.meaning_of-meaning-in-Last.result in
-    let broken : Broken c.args.wanted (g.H.History.timeline c.loop-number.session) meaning c.loop-number.number holds next (g.H.History.timeline c.answer-in-Last.new.session) =
-    record { text = told.0; refused = told.1; runs = told.2; replies = λ none. false≢true (c.in_err-answer-in-Last.ensures.silent none).1; front = told.3.0; rest = told.3.1; text_is = told.3.2; appends = told.3.3; writer = told.3.4 } in
-    subst (λ result. RunsCommandsWith c.args.wanted (g.H.History.timeline c.args.session.now) (streams before held) (streams then next) result) (sym (failed.1 ∙ ap Err failed.2))
-    (RunsCommands-write_last c.args.wanted _ _ _ then _ holds next c.loop-number.number _ _ meaning _ _ c.loop-number.invariant gave c.meaning_of-meaning-in-Last.ensures broken)
-
-pub returns-in-Last : goal.returns-in-Last
-returns-in-Last g c =
-    let gave = rw c.in-Last.is at c.in_ok-next_line.ensures in
-    let told = c.in_ok-answer-in-Last.ensures.line in
-    let then = input_over c.next_line.new.self (g.C.Source.left c.next_line.new.source) in
-    let holds = g.W.Sink.written c.loop-number.out in
-    let next = g.W.Sink.written c.answer-in-Last.new.out in
     let u = g.H.History.timeline c.loop-number.session in
-    let v = g.H.History.timeline c.answer-in-Last.new.session in
-    let carried : Carried c.args.wanted u c.meaning_of-meaning-in-Last.result c.loop-number.number holds next c.is_refusal-is_refused-in-Last.result v =
-    record { text = told.0; runs = subst (λ r. LineRuns c.args.wanted.brief (Answers c.args.wanted.cut) c.loop-number.number u c.meaning_of-meaning-in-Last.result told.0 r v) (sym (c.is_refusal-is_refused-in-Last.ensures ∙ told.4)) told.2; appends = told.3.0; writer = told.3.1 } in
-    RunsCommands-last c.args.wanted _ _ _ then _ holds next c.loop-number.number u c.loop-number.is_refused c.meaning_of-meaning-in-Last.result c.next_line.new.line c.is_refusal-is_refused-in-Last.result v c.status.result (omega arith) c.status.ensures c.loop-number.invariant gave c.meaning_of-meaning-in-Last.ensures carried
+    let v = g.H.History.timeline c.answer.new.session in
+    let told = c.in_err-answer.ensures in
+    let broken = Broken-told c.args.wanted u meaning c.loop-number.number holds next c.in_err-answer.field-0.0 v
+    (λ none. false≢true (told.silent none).1) told.line in
+    let gave = rw c.in-Line.is at c.in_ok-ended.ensures in
+    subst (λ result. RunsCommandsWith c.args.wanted (g.H.History.timeline c.args.session.now) (streams before held) (streams then next) result)
+    (sym (failed.1 ∙ ap Err failed.2))
+    (RunsCommands-write c.args.wanted _ before _ then held holds c.loop-number.number u _ c.loop-number.invariant next meaning c.next_line.new.line v c.in-Line.ended gave c.meaning_of-meaning.ensures broken)
 
-pub returns-in-End : goal.returns-in-End
-returns-in-End g c =
-    let gave = rw c.in-End.is at c.in_ok-next_line.ensures in
-    RunsCommands-end c.args.wanted _ _ _ _ _ _ c.loop-number.number _ _ c.status-in-End.result (omega arith) c.status-in-End.ensures c.loop-number.invariant gave.0 gave.1
-
-pub loop-number-preserved : goal.loop-number-preserved
-loop-number-preserved g c =
-    let gave = rw c.in-Line.is at c.in_ok-next_line.ensures in
-    let told = c.in_ok-answer-in-Line.ensures.line in
+-- a last line was carried out
+pub returns-then-not-ended : goal.returns-then-not-ended
+returns-then-not-ended g c =
     let then = input_over c.next_line.new.self (g.C.Source.left c.next_line.new.source) in
     let holds = g.W.Sink.written c.loop-number.out in
     let next = g.W.Sink.written c.answer.new.out in
+    let meaning = c.meaning_of-meaning.result in
+    let refused = c.is_refusal-is_refused.result in
     let u = g.H.History.timeline c.loop-number.session in
     let v = g.H.History.timeline c.answer.new.session in
-    let carried : Carried c.args.wanted u c.meaning_of-meaning.result c.loop-number.number holds next c.is_refusal-is_refused.result v =
-    record { text = told.0; runs = subst (λ r. LineRuns c.args.wanted.brief (Answers c.args.wanted.cut) c.loop-number.number u c.meaning_of-meaning.result told.0 r v) (sym (c.is_refusal-is_refused.ensures ∙ told.4)) told.2; appends = told.3.0; writer = told.3.1 } in
-    Progress-more c.args.wanted _ _ _ then _ holds next c.loop-number.number u c.loop-number.is_refused c.meaning_of-meaning.result c.next_line.new.line c.is_refusal-is_refused.result v c.loop-number.invariant gave c.meaning_of-meaning.ensures carried
+    let carried = Carried-told c.args.wanted u meaning c.loop-number.number holds next c.in_ok-answer.answer refused v c.is_refusal-is_refused.ensures c.in_ok-answer.ensures.line in
+    let gave = rw (c.in-Line.is, c.if-not-ended.true) at c.in_ok-ended.ensures in
+    let means = rw c.if-not-ended.true at c.meaning_of-meaning.ensures in
+    RunsCommands-last c.args.wanted _ _ _ then _ holds c.loop-number.number u c.loop-number.is_refused c.loop-number.invariant next meaning c.next_line.new.line v refused c.status-then-not-ended.result (omega arith) c.status-then-not-ended.ensures gave means carried
+
+pub loop-number-preserved : goal.loop-number-preserved
+loop-number-preserved g c =
+    let then = input_over c.next_line.new.self (g.C.Source.left c.next_line.new.source) in
+    let holds = g.W.Sink.written c.loop-number.out in
+    let next = g.W.Sink.written c.answer.new.out in
+    let meaning = c.meaning_of-meaning.result in
+    let refused = c.is_refusal-is_refused.result in
+    let u = g.H.History.timeline c.loop-number.session in
+    let v = g.H.History.timeline c.answer.new.session in
+    let carried = Carried-told c.args.wanted u meaning c.loop-number.number holds next c.in_ok-answer.answer refused v c.is_refusal-is_refused.ensures c.in_ok-answer.ensures.line in
+    let gave = rw (c.in-Line.is, c.if-not-ended.false) at c.in_ok-ended.ensures in
+    let means = rw c.if-not-ended.false at c.meaning_of-meaning.ensures in
+    Progress-more c.args.wanted _ _ _ then _ holds next c.loop-number.number u c.loop-number.is_refused meaning c.next_line.new.line refused v c.loop-number.invariant gave means carried
 
 pub returns-in_err-expect_end : goal.returns-in_err-expect_end
 returns-in_err-expect_end g c =
     let failed = err_from_is_err_and c.from_residual-in_err-expect_end.result c.from_residual-in_err-expect_end.ensures.1 in
     let then = input_over c.expect_end.new.self (g.C.Source.left c.expect_end.new.source) in
-    let last : c.loop-number.number ≡ 1000000 + 1 = omega arith in
-    let t = g.H.History.timeline c.args.session.now in
     let before = input_over (record { bytes = []; count = 0 }) (g.C.Source.left c.args.commands.now) in
     let held = g.W.Sink.written c.args.out.now in
     let holds = g.W.Sink.written c.loop-number.out in
-    let now = input_over c.loop-number.input (g.C.Source.left c.loop-number.commands) in
-    let u = g.H.History.timeline c.loop-number.session in
-    let p = subst (λ n. Progress c.args.wanted t before now held holds n u c.loop-number.is_refused) last c.loop-number.invariant in
-    subst (λ result. RunsCommandsWith c.args.wanted t (streams before held) (streams then holds) result) (sym (failed.1 ∙ ap Err failed.2))
-    (RunsCommands-past c.args.wanted t before now then held holds u c.loop-number.is_refused c.in_err-expect_end.field-0.0 p c.in_err-expect_end.ensures)
+    subst (λ result. RunsCommandsWith c.args.wanted (g.H.History.timeline c.args.session.now) (streams before held) (streams then holds) result)
+    (sym (failed.1 ∙ ap Err failed.2))
+    (RunsCommands-past c.args.wanted _ before _ then held holds c.loop-number.number _ _ c.loop-number.invariant c.in_err-expect_end.field-0.0 (omega arith) c.in_err-expect_end.ensures)
 
 pub returns : goal.returns
 returns g c =
     let gave = c.in_ok-expect_end.ensures in
-    RunsCommands-end c.args.wanted _ _ _ _ _ _ c.loop-number.number _ _ c.status-2.result (omega arith) c.status-2.ensures c.loop-number.invariant gave.0 gave.1
+    RunsCommands-end c.args.wanted _ _ _ _ _ _ c.loop-number.number _ _ c.loop-number.invariant c.status-2.result (omega arith) c.status-2.ensures gave.0 gave.1

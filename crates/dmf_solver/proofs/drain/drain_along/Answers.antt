@@ -1,9 +1,8 @@
 use Rattle.std.proofs.Common.{List, ℕ, ◌-◌, ◌≤◌, ap, sym, ◌∙◌, arith}
 use Rattle.std.specs.Option.{unwrap_or}
-use Rattle.dmf_solver.specs.declared.moves.FlowLink.TheVariants.{Along}
 use Rattle.dmf_state.specs.Flow.{flow_on}
 use Rattle.dmf_state.specs.NetworkState.{with_flows}
-use Rattle.dmf_solver.specs.Pairs.{IsCarryingSearch, flows_read}
+use Rattle.dmf_solver.specs.Pairs.{Along, IsCarryingSearch, flows_read}
 use Rattle.dmf_state.proofs.ChangedArc.{has_arc-within}
 use Rattle.dmf_solver.proofs.DrainingSearch.{DrainsOnce, draining-begun, draining-has_path, draining-once, draining-done, carries-along, length-carries}
 use Rattle.dmf_solver.proofs.DrainingWalk.{drained-none, drained-all}

@@ -1,6 +1,5 @@
 use Rattle.std.proofs.Common.{ℕ, List}
-use Rattle.dmf_solver.specs.Pairs.{IsCarryingSearch, flows_read}
-use Rattle.dmf_solver.specs.declared.moves.FlowLink.TheVariants.{Along}
+use Rattle.dmf_solver.specs.Pairs.{Along, IsCarryingSearch, flows_read}
 use Rattle.dmf_solver.proofs.DrainingSearch.{IsDraining}
 use Rattle.dmf_solver.proofs.drain.drain_along.Given as goal
 

@@ -9,31 +9,26 @@ use Rattle.dmf_state.proofs.ClosedArcs.{HasArcs-open, IsState-all_closed}
 use Rattle.dmf_solver.proofs.ClosedInTurn.{closes-in_turn}
 use Rattle.dmf_solver.proofs.plan.plan_shut.Goals as goal
 
-pub returns-clause-becomes : goal.returns-clause-becomes
-returns-clause-becomes c =
-    let s = c.args.state.now in
-    let arcs = c.in_ok-arcs.arcs.items in
-    let drained = rw c.deref.ensures.value at c.in_ok-moves.ensures in
-    subst (λ js. Closes js s (applied (edit.Shut c.in_ok-arcs.arcs c.in_ok-moves.moves) s)) c.in_ok-arcs.ensures.numbers
-    (closes-in_turn s.network arcs s.flows (moved c.in_ok-moves.moves.items s.flows) drained.drains)
-
-pub returns-clause-takes_off : goal.returns-clause-takes_off
-returns-clause-takes_off c =
-    let s = c.args.state.now in
-    let drained = rw c.deref.ensures.value at c.in_ok-moves.ensures in
-    subst (λ js. TakesOff s.network (flow_on_all s.flows js) s.flows (moved c.in_ok-moves.moves.items s.flows)) c.in_ok-arcs.ensures.numbers drained.takes_off
-
-pub returns-clause-fits : goal.returns-clause-fits
-returns-clause-fits c =
+pub returns-clause-plan : goal.returns-clause-plan
+returns-clause-plan c =
     let s = c.args.state.now in
     let arcs = c.in_ok-arcs.arcs.items in
     let drained = rw c.deref.ensures.value at c.in_ok-moves.ensures in
     let are = c.in_ok-arcs.ensures.are_open in
     let last = moved c.in_ok-moves.moves.items s.flows in
     let state = c.nodes.ensures.state in
-    let left = left-in_turn s.network (numbers arcs) s.flows last state.network state.flow state.value_from_zero (HasArcs-open 0 arcs s.network are) drained.drains in
+    let left = left-in_turn s.network (numbers arcs) s.flows last state.network state.flow state.value_from_zero
+    (HasArcs-open 0 arcs s.network are) drained.drains in
     record {
-      arc = are;
-      moves = drained.fit;
-      applied = IsState-all_closed 0 arcs s.network last drained.state are left.without_flow;
+      kind = tt;
+      fits = record { arc = are; moves = drained.fit; applied = IsState-all_closed 0 arcs s.network last drained.state are left.without_flow };
+      becomes = subst (λ js. Closes js s (applied (edit.Shut c.in_ok-arcs.arcs c.in_ok-moves.moves) s)) c.in_ok-arcs.ensures.numbers
+          (closes-in_turn s.network arcs s.flows last drained.drains);
+      moves = drained.differ;
     }
+
+pub returns-clause-takes_off : goal.returns-clause-takes_off
+returns-clause-takes_off c =
+    let s = c.args.state.now in
+    let drained = rw c.deref.ensures.value at c.in_ok-moves.ensures in
+    subst (λ js. TakesOff s.network (flow_on_all s.flows js) s.flows (moved c.in_ok-moves.moves.items s.flows)) c.in_ok-arcs.ensures.numbers drained.takes_off

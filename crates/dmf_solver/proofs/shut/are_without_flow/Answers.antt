@@ -1,4 +1,5 @@
-use Rattle.std.proofs.Common.{◌≡◌, ◌+◌, ◌-◌, arith, ap, sym, ◌∙◌, get_or, drop}
+use Rattle.std.proofs.Common.{◌≡◌, ◌+◌, ◌-◌, arith, ap, refl, sym, ◌∙◌, get_or, drop}
+use Rattle.std.proofs.lemmas.Bool.{false≢true}
 use Rattle.std.proofs.lemmas.List.Sums.{sum_by-cons}
 use Rattle.std.proofs.lemmas.Option.{get_or_from_slice_get}
 use Rattle.dmf_state.specs.Edit.{numbers}
@@ -17,6 +18,12 @@ flow-requires-clause-to_last c =
     let s = c.args.state.now in
     let at = has_arc-within s.network _ (open-at 0 c.args.arcs.now s.network c.loop-shutting.shutting-index c.requires c.loop-shutting-test.true).is_there in
     omega (arith, at.0, at.1)
+
+pub loop-shutting-init : goal.loop-shutting-init
+loop-shutting-init c = refl
+
+pub returns-then-flow-ne0 : goal.returns-then-flow-ne0
+returns-then-flow-ne0 c = λ none. absurd (false≢true none)
 
 pub loop-shutting-preserved : goal.loop-shutting-preserved
 loop-shutting-preserved c =

@@ -1,19 +1,16 @@
-use Rattle.std.proofs.Common.{◌≡◌, ◌+◌, ◌||◌, Bool, true, false, None, length, refl, sym, subst, ◌∙◌, get_or, drop, Vec, Global, true≢false}
-use Rattle.std.specs.List.{range_with_len}
+use Rattle.std.proofs.Common.{◌≡◌, ◌+◌, ◌||◌, Bool, true, false, length, refl, sym, ◌∙◌, arith, get_or, drop, Vec, Global, true≢false, List, ℕ, subst}
 use Rattle.std.proofs.lemmas.List.{with_items_is}
 use Rattle.std.proofs.lemmas.Result.{IfOk-weaker}
 use Rattle.std.proofs.lemmas.Slice.Zip.{AllZip-long}
-use Rattle.dmf_path.specs.Search.{Covers, indices_of, pair_number}
-use Rattle.dmf_path.proofs.Covering.{covers-below, Covers-weaker}
+use Rattle.dmf_path.specs.Search.{indices_of}
+use Rattle.dmf_path.proofs.Covering.{covers-below}
 use Rattle.dmf_state.specs.declared.edit.Move.{Move}
-use Rattle.dmf_solver.specs.declared.moves.FlowLink.TheVariants.{Along}
 use Rattle.dmf_state.specs.Edit.{numbers}
-use Rattle.dmf_solver.specs.Moves.{Stays}
-use Rattle.dmf_solver.specs.Pairs.{flows_read}
+use Rattle.dmf_solver.specs.Moves.{DrainsInTurn}
+use Rattle.dmf_solver.specs.Pairs.{Along, flows_read}
 use Rattle.dmf_state.proofs.ClosedArcs.{no_shutting, open-at, numbers-next, numbers-end, HasArcs-open}
-use Rattle.dmf_solver.proofs.DrainedInTurn.{drained-none_in_turn, drained-next_arc, drained-every_arc, shutting-moves}
-use Rattle.dmf_solver.proofs.DrainingSearch.{length-carried, length-carries}
-use Rattle.dmf_solver.proofs.FlowsRead.{stays-unpaired}
+use Rattle.dmf_solver.proofs.DrainedInTurn.{AreDrainedUpTo, drained-none_in_turn, drained-next_arc, drained-every_arc, shutting-moves}
+use Rattle.dmf_solver.proofs.DrainingSearch.{differences-covered}
 use Rattle.dmf_solver.proofs.DrainingWalk.{differences-none}
 use Rattle.dmf_solver.proofs.shut.shutting_moves.Goals.{then-are_loops_drained, else-are_loops_drained}
 use Rattle.dmf_solver.proofs.shut.shutting_moves.Goals as goal
@@ -23,8 +20,26 @@ returns-then-are_without_flow c =
     let s = c.args.state.now in
     let js = numbers c.args.arcs.now in
     let none = c.are_without_flow.ensures c.if-are_without_flow.true in
-    shutting-moves s js s.flows c.new.result.items c.flows-before.ensures.state (HasArcs-open 0 c.args.arcs.now s.network c.requires) (drained-none_in_turn s.network js s.flows none)
+    shutting-moves s js s.flows c.new.result.items c.flows-before.ensures.state (HasArcs-open 0 c.args.arcs.now s.network c.requires)
+    (drained-none_in_turn s.network js s.flows none)
     (c.new.ensures.items ∙ sym (differences-none 1 s.flows))
+
+pub loop-shutting-init : goal.loop-shutting-init
+loop-shutting-init c =
+    let s = c.args.state.now in
+    let js = numbers c.args.arcs.now in
+    let same : c.in_ok-unpaired.unpaired.items ≡ s.flows = c.in_ok-unpaired.ensures.items ∙ c.flows-before.ensures.value in
+    let begun : AreDrainedUpTo s js js s.flows c.in_ok-search.search = record {
+      carrying = c.in_ok-search.ensures.carrying;
+      onward = λ last more. subst (λ flows. DrainsInTurn s.network js flows last) c.in_ok-search.ensures.flows more;
+    } in
+    record {
+      drained = subst (λ (unpaired : List ℕ). AreDrainedUpTo s js js unpaired c.in_ok-search.search) (sym same) begun;
+      list_stays = λ none. same;
+    }
+
+pub drain_in_turn-are_loops_drained-requires-clause-carrying : goal.drain_in_turn-are_loops_drained-requires-clause-carrying
+drain_in_turn-are_loops_drained-requires-clause-carrying c = rw c.deref_mut.ensures.value c.loop-shutting.invariant.drained.carrying
 
 pub drain_in_turn-are_loops_drained-requires-clause-is_there : goal.drain_in_turn-are_loops_drained-requires-clause-is_there
 drain_in_turn-are_loops_drained-requires-clause-is_there c =
@@ -39,47 +54,36 @@ pub loop-shutting-preserved : goal.loop-shutting-preserved
 loop-shutting-preserved c =
     let arcs = c.args.arcs.now in
     let i = c.loop-shutting.shutting-index in
-    let written = with_items_is c.loop-shutting.unpaired c.drain_in_turn-are_loops_drained.new.unpaired (c.drain_in_turn-are_loops_drained.auto.unpaired ∙ c.deref_mut.ensures.len) in
+    let written = with_items_is c.loop-shutting.unpaired c.drain_in_turn-are_loops_drained.new.unpaired
+    (c.drain_in_turn-are_loops_drained.auto.unpaired ∙ c.deref_mut.ensures.len) in
     record {
       drained = rw written
           (drained-next_arc c.args.state.now (numbers arcs) (numbers (drop i arcs)) c.loop-shutting.unpaired.items c.drain_in_turn-are_loops_drained.new.unpaired
           (get_or arcs i no_shutting).arc (numbers (drop (i + 1) arcs)) c.loop-shutting.search c.drain_in_turn-are_loops_drained.new.search
-          (numbers-next arcs i c.loop-shutting-test.true) c.drain_in_turn-are_loops_drained.ensures.carrying (rw c.deref_mut.ensures.value at c.drain_in_turn-are_loops_drained.ensures.drains) c.loop-shutting.invariant.drained);
+          (numbers-next arcs i c.loop-shutting-test.true) c.drain_in_turn-are_loops_drained.ensures.carrying
+          (rw c.deref_mut.ensures.value at c.drain_in_turn-are_loops_drained.ensures.drains) c.loop-shutting.invariant.drained);
       list_stays = λ none.
           let both = neither c.loop-shutting.are_loops_drained c.drain_in_turn-are_loops_drained.result none in
           written ∙ c.drain_in_turn-are_loops_drained.ensures.list_stays both.1 ∙ c.deref_mut.ensures.value ∙ c.loop-shutting.invariant.list_stays both.0;
     }
 
-pub list_moves-requires-clause-unpaired : goal.list_moves-requires-clause-unpaired
-list_moves-requires-clause-unpaired c =
-    rw (c.deref.ensures.value, c.flows-before.ensures.value) (AllZip-long _ _ _ c.loop-shutting.invariant.drained.carrying.less)
+pub invariant_of-drained : goal.invariant_of-drained
+invariant_of-drained c = rw c.deref.ensures.value c.loop-shutting.invariant.drained.carrying
 
 pub list_moves-requires-clause-one_each : goal.list_moves-requires-clause-one_each
-list_moves-requires-clause-one_each c =
-    rw c.flows-before.ensures.value (length-carries c.args.state.now c.loop-shutting.unpaired.items _ c.loop-shutting.search c.loop-shutting.invariant.drained.carrying)
-
-pub list_moves-requires-clause-no_more : goal.list_moves-requires-clause-no_more
-list_moves-requires-clause-no_more c =
-    rw (c.deref.ensures.value, c.flows-before.ensures.value) c.loop-shutting.invariant.drained.carrying.no_more.no_more
+list_moves-requires-clause-one_each c = rw c.deref.ensures.value (AllZip-long _ _ _ c.loop-shutting.invariant.drained.carrying.no_more.no_more)
 
 pub list_moves-requires-clause-others_stay : goal.list_moves-requires-clause-others_stay
 list_moves-requires-clause-others_stay c =
     let s = c.args.state.now in
-    let search = c.loop-shutting.search in
-    let unpaired = c.loop-shutting.unpaired.items in
-    let drained = c.loop-shutting.invariant.drained.carrying in
-    rw (c.flows-before.ensures.value, c.deref.ensures.value)
+    let is = c.loop-shutting.invariant in
+    rw c.deref.ensures.value
     (elim c.if-are_loops_drained.branch [
-      | then-are_loops_drained w ↦
-          let long : length search.pairs ≡ length s.flows + 1 = length-carried s unpaired _ search drained in
-          rw (w.indices-is, c.flows-before.ensures.value)
-          (subst (λ n. Covers n (Stays s.flows (flows_read Along unpaired search.pairs)) (range_with_len 0 (length s.flows + 1))) (sym long) (covers-below (length s.flows + 1) _))
+      | then-are_loops_drained w ↦ rw (w.indices-is, c.flows-before.ensures.value)
+          (record { count = length s.flows; most = omega arith; covers = covers-below (length s.flows) _ })
       | else-are_loops_drained w ↦
-          let same = c.loop-shutting.invariant.list_stays w.if-are_loops_drained.false in
           rw w.indices-is
-          (Covers-weaker (length search.pairs) (λ k. pair_number search.pairs k ≡ None) _ (indices_of w.indices-indices.result)
-          (λ k _ none. subst (λ firsts. Stays s.flows (flows_read Along firsts search.pairs) k) (sym same) (stays-unpaired Along s.flows search.pairs k (length-carries s unpaired _ search drained) none))
-          w.indices-indices.ensures)
+          (differences-covered s c.loop-shutting.unpaired.items (indices_of w.indices-indices.result) c.loop-shutting.search is.drained.carrying (is.list_stays w.if-are_loops_drained.false) w.indices-indices.ensures)
     ])
 
 pub returns : goal.returns
@@ -88,8 +92,9 @@ returns c =
     let arcs = c.args.arcs.now in
     let js = numbers arcs in
     let last = flows_read Along c.loop-shutting.unpaired.items c.loop-shutting.search.pairs in
-    let drains = drained-every_arc s js _ c.loop-shutting.unpaired.items c.loop-shutting.search (numbers-end arcs c.loop-shutting.shutting-index c.loop-shutting-test.false) c.loop-shutting.invariant.drained in
-    let listed = rw (c.flows-before.ensures.value, c.deref.ensures.value) at c.list_moves.ensures in
+    let drains = drained-every_arc s js _ c.loop-shutting.unpaired.items c.loop-shutting.search
+    (numbers-end arcs c.loop-shutting.shutting-index c.loop-shutting-test.false) c.loop-shutting.invariant.drained in
+    let listed = rw c.deref.ensures.value at c.list_moves.ensures in
     IfOk-weaker c.list_moves.result _ _ (λ (moves : Vec Move Global) is.
     shutting-moves s js last moves.items c.flows-before.ensures.state (HasArcs-open 0 arcs s.network c.requires) drains is)
     listed

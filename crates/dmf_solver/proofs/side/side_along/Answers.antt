@@ -1,34 +1,30 @@
-use Rattle.std.proofs.Common.{ap, sym, ◌∙◌}
+use Rattle.std.proofs.Common.{ap, pos, sym, ◌∙◌}
 use Rattle.dmf_state.specs.Side.{has_node}
 use Rattle.dmf_solver.proofs.LargerFlow.{surpassed-from_path}
 use Rattle.dmf_solver.proofs.GreatestFlow.{greatest-from_no_path}
 use Rattle.dmf_solver.proofs.SmallestSide.{reached-by_search, no_path-by_search, IsSmallestSide-by_search}
 use Rattle.dmf_solver.proofs.side.side_along.Goals as goal
 
-pub returns-then-contains-clause-fault : goal.returns-then-contains-clause-fault
-returns-then-contains-clause-fault c same =
+pub returns-then-contains : goal.returns-then-contains
+returns-then-contains c =
     let n = c.args.state.now.network in
     let state = c.sink.ensures.state in
     let inside = ap (has_node c.in_ok-side.side.ids) (sym c.sink.ensures.value) ∙ sym c.contains.ensures ∙ c.if-contains.true in
     let reached = reached-by_search n c.args.state.now.flows c.args.search.now c.value.result c.in_ok-side.side c.requires c.in_ok-side.ensures in
     let path = reached.reached n.sink inside in
-    surpassed-from_path n c.args.state.now.flows path.0 state.network state.flow path.1
+    record { side = tt; value = tt; greatest = tt; fault = λ same. surpassed-from_path n c.args.state.now.flows path.0 state.network state.flow path.1 }
 
-pub returns-clause-side : goal.returns-clause-side
-returns-clause-side c =
+pub returns : goal.returns
+returns c =
     let n = c.args.state.now.network in
     let flows = c.args.state.now.flows in
     let state = c.sink.ensures.state in
     let outside = ap (has_node c.in_ok-side.side.ids) (sym c.sink.ensures.value) ∙ sym c.contains.ensures ∙ c.if-contains.false in
     let reached = reached-by_search n flows c.args.search.now c.value.result c.in_ok-side.side c.requires c.in_ok-side.ensures in
     let none = no_path-by_search n flows (has_node c.in_ok-side.side.ids) state.network reached outside in
-    IsSmallestSide-by_search n flows c.args.search.now c.value.result c.in_ok-side.side state.network state.flow none c.requires c.value.ensures.value c.in_ok-side.ensures
-
-pub returns-clause-greatest : goal.returns-clause-greatest
-returns-clause-greatest c =
-    let n = c.args.state.now.network in
-    let flows = c.args.state.now.flows in
-    let state = c.sink.ensures.state in
-    let outside = ap (has_node c.in_ok-side.side.ids) (sym c.sink.ensures.value) ∙ sym c.contains.ensures ∙ c.if-contains.false in
-    let reached = reached-by_search n flows c.args.search.now c.value.result c.in_ok-side.side c.requires c.in_ok-side.ensures in
-    greatest-from_no_path n flows state.network state.flow (no_path-by_search n flows (has_node c.in_ok-side.side.ids) state.network reached outside)
+    record {
+      side = IsSmallestSide-by_search n flows c.args.search.now c.value.result c.in_ok-side.side state.network state.flow none c.requires c.value.ensures.value c.in_ok-side.ensures;
+      value = ap pos c.in_ok-side.ensures.capacity_is ∙ c.value.ensures.value;
+      greatest = greatest-from_no_path n flows state.network state.flow none;
+      fault = tt;
+    }

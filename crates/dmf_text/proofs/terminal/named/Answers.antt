@@ -1,6 +1,5 @@
-use Rattle.std.proofs.Common.{◌≡◌, ◌||◌, ◌∷◌, [], ℕ, List, true, false, Ok, Err, arith, codes, refl, sym, ap, ◌∙◌, subst}
+use Rattle.std.proofs.Common.{◌≡◌, ◌||◌, ◌∷◌, [], ℕ, List, true, false, Ok, Err, arith, codes, refl, sym, ◌∙◌, subst}
 use Rattle.std.proofs.lemmas.Bool.{and_from, and_left, and_right, le-leb, lt-leb}
-use Rattle.std.proofs.lemmas.Slice.Eq.{bytes_eq-Decides}
 use Rattle.std.specs.Str.{bytes_eq}
 use Rattle.dmf_node.specs.Node.{is_node}
 use Rattle.dmf_text.specs.declared.fault.ProblemFaultKind.TheVariants.{NotSourceOrSink, NodeOutOfRange}
@@ -11,7 +10,7 @@ use Rattle.dmf_text.specs.Judging.{◌>>◌, expect}
 use Rattle.dmf_text.specs.Problem.{node_named}
 use Rattle.dmf_text.specs.Terminal.{letter_of, Names}
 use Rattle.dmf_text.proofs.terminal.named.Goals as goal
-use Rattle.dmf_text.proofs.terminal.named.Goals.{then-eq, else-eq+then-eq-2, then-node-lt1-via-then-node-lt1, then-node-lt1-via-else-node-lt1+then-node-from}
+use Rattle.dmf_text.proofs.terminal.named.Goals.{then-node-lt1-via-then-node-lt1, then-node-lt1-via-else-node-lt1+then-node-from}
 
 -- a node line of two fields, of which the first is this number
 module _ (nodes : ℕ) (f g : List ℕ) (node : ℕ) (number : number_of f ≡ Ok node) where
@@ -30,37 +29,24 @@ module _ (nodes : ℕ) (f g : List ℕ) (node : ℕ) (number : number_of f ≡ O
   names Source letter range = record { good = line-judged ∙ rw (letter, range) refl; letter = letter; number = rw number refl; range = range }
   names Sink letter range = record { good = line-judged ∙ rw (letter, range) refl; letter = letter; number = rw number refl; range = range }
 
-pub returns-else-eq-2 : goal.returns-else-eq-2
-returns-else-eq-2 c =
-    let letter = c.in_ok-node.letter.now in
-    let not-s : bytes_eq letter (codes "s") ≡ false = ap (bytes_eq letter) (sym c.as_slice.ensures) ∙ sym c.eq.ensures ∙ c.if-eq.false in
-    let not-t : bytes_eq letter (codes "t") ≡ false = ap (bytes_eq letter) (sym c.as_slice-else-eq.ensures) ∙ sym c.eq-else-eq.ensures ∙ c.if-eq-2.false in
+pub returns-in_default : goal.returns-in_default
+returns-in_default c =
     subst (λ behind. node_named c.args.nodes behind ≡ Err NotSourceOrSink) (sym c.in_ok-node.ensures)
-    (other-letter c.args.nodes c.in_ok-node.node.now letter c.in_ok-node-2.node (sym c.in_ok-node-2.ensures) not-s not-t)
+    (other-letter c.args.nodes c.in_ok-node.node.now c.in_ok-node.letter.now c.in_ok-node-2.node (sym c.in_ok-node-2.ensures) c.in_default.ensures.0 c.in_default.ensures.1)
 
 pub returns-then-node-lt1 : goal.returns-then-node-lt1
 returns-then-node-lt1 c =
-    let letter = c.in_ok-node.letter.now in
     let node = c.in_ok-node-2.node in
-    let letter-is : letter ≡ letter_of c.if-eq.terminal = elim c.if-eq.branch [
-      | then-eq w ↦ (bytes_eq-Decides letter (codes "s")).0 (ap (bytes_eq letter) (sym c.as_slice.ensures) ∙ sym c.eq.ensures ∙ w.if-eq.true) ∙ ap letter_of (sym w.terminal-is)
-      | else-eq+then-eq-2 w ↦ (bytes_eq-Decides letter (codes "t")).0 (ap (bytes_eq letter) (sym w.as_slice-else-eq.ensures) ∙ sym w.eq-else-eq.ensures ∙ w.if-eq-2.true) ∙ ap letter_of (sym w.terminal-is)
-    ] in
     let no-node : is_node c.args.nodes node ≡ false = elim c.then-node-lt1.branch [
       | then-node-lt1-via-then-node-lt1 w ↦ and_left _ _ (lt-leb 1 node w.if-node-lt1.true)
       | then-node-lt1-via-else-node-lt1+then-node-from w ↦ and_right _ _ (lt-leb node c.args.nodes (omega (arith, w.from.ensures, w.if-node-from.true)))
     ] in
     subst (λ behind. node_named c.args.nodes behind ≡ Err NodeOutOfRange) (sym c.in_ok-node.ensures)
-    (out-of-range c.args.nodes c.in_ok-node.node.now letter node (sym c.in_ok-node-2.ensures) c.if-eq.terminal letter-is no-node)
+    (out-of-range c.args.nodes c.in_ok-node.node.now c.in_ok-node.letter.now node (sym c.in_ok-node-2.ensures) c.in-Some.terminal c.in-Some.ensures no-node)
 
 pub returns : goal.returns
 returns c =
-    let letter = c.in_ok-node.letter.now in
     let node = c.in_ok-node-2.node in
-    let letter-is : letter ≡ letter_of c.if-eq.terminal = elim c.if-eq.branch [
-      | then-eq w ↦ (bytes_eq-Decides letter (codes "s")).0 (ap (bytes_eq letter) (sym c.as_slice.ensures) ∙ sym c.eq.ensures ∙ w.if-eq.true) ∙ ap letter_of (sym w.terminal-is)
-      | else-eq+then-eq-2 w ↦ (bytes_eq-Decides letter (codes "t")).0 (ap (bytes_eq letter) (sym w.as_slice-else-eq.ensures) ∙ sym w.eq-else-eq.ensures ∙ w.if-eq-2.true) ∙ ap letter_of (sym w.terminal-is)
-    ] in
     let range : is_node c.args.nodes node ≡ true = and_from _ _ (le-leb 1 node c.if-node-lt1.false) (le-leb node c.args.nodes (omega (arith, c.from.ensures, c.if-node-from.false))) in
-    subst (λ behind. Names c.args.nodes behind c.if-eq.terminal node) (sym c.in_ok-node.ensures)
-    (names c.args.nodes c.in_ok-node.node.now letter node (sym c.in_ok-node-2.ensures) c.if-eq.terminal letter-is range)
+    subst (λ behind. Names c.args.nodes behind c.in-Some.terminal node) (sym c.in_ok-node.ensures)
+    (names c.args.nodes c.in_ok-node.node.now c.in_ok-node.letter.now node (sym c.in_ok-node-2.ensures) c.in-Some.terminal c.in-Some.ensures range)

@@ -9,7 +9,8 @@ use Rattle.dmf_text.proofs.written.write_cut.Goals as goal
 use Rattle.dmf_text.proofs.written.write_cut.Goals.{After-put_line}
 
 -- the text is its first line, and what comes behind it
-first : (g : Over) (c : After-put_line g) → cut_text c.args.side.now ≡ written_line (codes "c" ∷ codes "cut" ∷ decimal c.capacity.result ∷ []) ++ nodes_text c.args.side.now.ids
+first : (g : Over) (c : After-put_line g)
+    → cut_text c.args.side.now ≡ written_line (codes "c" ∷ codes "cut" ∷ decimal c.capacity.result ∷ []) ++ nodes_text c.args.side.now.ids
 first g c =
     cut_text-lines c.args.side.now
     ∙ ap (λ n. written_line (codes "c" ∷ codes "cut" ∷ decimal n ∷ []) ++ nodes_text c.args.side.now.ids) (sym c.capacity.ensures)

@@ -5,7 +5,8 @@ use Rattle.dmf_history.specs.Timeline.{Timeline, IsPresent, back}
 use Rattle.dmf_session.proofs.session.Session.go_back.Goals as goal
 
 -- the step is not refused where a state is before this one
-one-back : {E : Type 0} (u v : Timeline) (result : Result (Unit {0}) E) → (IsOk result ↔ (0 < u.place)) → OnOk result (v ≡ back u 1) → 0 < u.place → v ≡ back u 1
+one-back : {E : Type 0} (u v : Timeline) (result : Result (Unit {0}) E) → (IsOk result ↔ (0 < u.place)) → OnOk result (v ≡ back u 1) → 0 < u.place
+    → v ≡ back u 1
 one-back u v (Ok done) is_ok gives some = gives
 one-back u v (Err fault) is_ok gives some = absurd (false≢true (is_ok.1 some))
 

@@ -6,7 +6,9 @@ use Rattle.dmf_history.specs.Timeline.{Timeline, future_of, back, forward, AddsA
 use Rattle.dmf_session.proofs.session.Session.redo.Goals as goal
 
 -- a step forward that is refused where some state is past the present one leads to added arcs
-adds-there : (t u : Timeline) (taken steps : ℕ) (fault : RedoFault) (result : Result (Unit {0}) RedoFault) → result ≡ Err fault → u ≡ forward t taken → taken < steps → steps ≤ future_of t → ((result ≡ Err redo.NothingToRedo) ↔ (future_of u ≡ 0)) → (result ≡ Err redo.NoMemory → AddsArcs u u.place) → AddsArcs t (t.place + taken)
+adds-there : (t u : Timeline) (taken steps : ℕ) (fault : RedoFault) (result : Result (Unit {0}) RedoFault) → result ≡ Err fault → u ≡ forward t taken
+    → taken < steps → steps ≤ future_of t → ((result ≡ Err redo.NothingToRedo) ↔ (future_of u ≡ 0)) → (result ≡ Err redo.NoMemory → AddsArcs u u.place)
+    → AddsArcs t (t.place + taken)
 adds-there t u taken steps redo.NothingToRedo result told is more within last memory = absurd (omega (arith, ap future_of is, last.0 told, more, within))
 adds-there t u taken steps redo.NoMemory result told is more within last memory =
     let adds = subst (λ w. AddsArcs w w.place) is (memory told) in

@@ -19,9 +19,9 @@ returns-clause-answer g c =
       present,
       record {
         new = applied edit s;
-        becomes = plans.becomes;
+        becomes = plans.plan.becomes;
         side = c.in_ok-edit.side;
-        side_is = subst (λ n. IsSideWanted c.args.want_cut n c.in_ok-edit.side) (sym plans.becomes.0) c.in_ok-edit.ensures.side;
+        side_is = subst (λ n. IsSideWanted c.args.want_cut n c.in_ok-edit.side) (sym plans.plan.becomes.0) c.in_ok-edit.ensures.side;
         told = refl;
         appends = rw c.take_network.ensures.unchanged at appends;
       },
@@ -31,7 +31,7 @@ pub returns-clause-optimal : goal.returns-clause-optimal
 returns-clause-optimal g c =
     let timeline = g.H.History.timeline in
     let plans = c.in_ok-edit.ensures.edit in
-    planned-optimal c.greatest_is_optimal.ensures (timeline c.take_network.new.self) (timeline c.append.new.self) c.present.result.now c.in_ok-edit.edit c.present.ensures.state plans.fits plans.becomes plans.greatest c.in_ok-append.ensures.ok
+    planned-optimal c.greatest_is_optimal.ensures (timeline c.take_network.new.self) (timeline c.append.new.self) c.present.result.now c.in_ok-edit.edit c.present.ensures.state plans.plan.fits plans.plan.becomes plans.greatest c.in_ok-append.ensures.ok
 
 -- Where memory is refused, nothing was told,
 pub returns-in_err-network-clause-told : goal.returns-in_err-network-clause-told

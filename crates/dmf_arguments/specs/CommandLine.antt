@@ -1,0 +1,79 @@
+-- The program's command line: its commands, their options and paths, as they are described to clap.
+-- What clap's definition of a parse makes of words on it.
+-- Public: the contracts of the public calls cite it.
+use Rattle.std.specs.Prelude.{◌≡◌, List, [], ◌∷◌, Option, Some, codes, false, true, pos, option_map}
+use Rattle.clap.specs.Words.{App, Kinds, Row, Rule, Text, app_of, fault_of, first_of, new_app, new_rule, one_of, rule_of, subcommand_of, with_rule}
+use Rattle.clap.specs.Words.{with_subcommand}
+use Rattle.clap.specs.Simple.{on_top}
+use Rattle.clap.specs.declared.builder.value_parser.ValueParser.TheVariants.{Signed}
+use Rattle.clap.specs.declared.builder.action.ArgAction.TheVariants.{SetTrue}
+use Rattle.clap.specs.declared.builder.arg.Arg.{Arg}
+use Rattle.clap.specs.declared.builder.command.Command.{Command}
+use Rattle.clap.specs.declared.builder.command.Command.TheViews.{out-Command as fields_of}
+
+-- An option without a value: it is there, or it is not.
+abbrev pub flag_rule : Text → Rule
+flag_rule name = record (new_rule name) { long = Some name; action = Some SetTrue }
+
+-- `--history N`, N from 0 to 1,000,000, which is also what stands for it where it is absent
+abbrev pub history_rule : Rule
+history_rule =
+    record (new_rule (codes "history")) {
+      long = Some (codes "history");
+      value_names = 1;
+      defaults = codes "1000000" ∷ [];
+      parser = Some (Signed (pos 0) (pos 1000000));
+    }
+
+-- the path of the problem's file, which must be there
+abbrev pub problem_rule : Rule
+problem_rule = record (new_rule (codes "problem")) { value_names = 1; required = true }
+
+abbrev pub solve_line : App
+solve_line = with_rule (with_rule (new_app (codes "solve")) (flag_rule (codes "cut"))) (flag_rule (codes "progress"))
+
+abbrev pub session_line : App
+session_line =
+    with_rule (with_rule (with_rule (with_rule (with_rule (new_app (codes "session")) (flag_rule (codes "brief"))) (flag_rule (codes "cut")))
+    history_rule) (flag_rule (codes "progress"))) problem_rule
+
+abbrev pub check_line : App
+check_line = with_rule (new_app (codes "check")) problem_rule
+
+-- the program itself, which has a version
+abbrev pub program_line : App
+program_line = on_top (λ line. record line { has_version = true }) (new_app (codes "dmf"))
+
+abbrev pub arguments : App
+arguments =
+    with_subcommand (with_subcommand (with_subcommand program_line solve_line.top) session_line.top) check_line.top
+
+-- The argument is of this rule, and of its command alone.
+abbrev pub IsRule : Rule → Arg → Type 0
+IsRule rule arg = (rule_of arg ≡ rule) × (arg.global ≡ false)
+
+-- The command is this one, and has no argument that its commands share.
+abbrev pub IsLine : App → Command → Type 0
+IsLine line made = (app_of made ≡ line) × ((fields_of made).has_globals ≡ false)
+
+-- the command that is found, with the texts of its three flags, of its bound and of its path, where it has them
+abbrev pub Asked : Type 0
+Asked = Option (Text × Option Text × Option Text × Option Text × Option Text × Option Text)
+
+abbrev pub asked_of : Option (Text × List Row) → Asked
+asked_of = option_map (λ found. (
+  found.0,
+  one_of (codes "cut") found.1,
+  one_of (codes "brief") found.1,
+  one_of (codes "progress") found.1,
+  one_of (codes "history") found.1,
+  first_of (codes "problem") found.1,
+))
+
+-- what a parse finds in these words, of which the first is the program's name
+abbrev pub asked_in : List Text → Asked
+asked_in words = asked_of (subcommand_of arguments words)
+
+-- the kinds of fault that it may find in them: help and the version are such faults too
+abbrev pub faults_in : List Text → Kinds
+faults_in words = fault_of arguments words

@@ -1,0 +1,85 @@
+-- What clap's definition of a parse makes of plain words on the program's command line: of the calls of every day, and of words that
+-- the program does not take.
+-- Public: the law `plain_words_are_read` says it.
+use Rattle.std.specs.Prelude.{◌≡◌, ◌≢◌, ◌==◌, Bool, true, false, List, [], ◌∷◌, Some, None, codes, ⊤}
+use Rattle.std.specs.List.{AllByRecursion}
+use Rattle.clap.specs.Words.{Kinds, Text}
+use Rattle.clap.specs.Values.{bool_text}
+use Rattle.clap.specs.declared.error.kind.ErrorKind.TheVariants.{ArgumentConflict, DisplayHelp, DisplayVersion, InvalidSubcommand, MissingRequiredArgument}
+use Rattle.clap.specs.declared.error.kind.ErrorKind.TheVariants.{UnknownArgument}
+use Rattle.dmf_arguments.specs.CommandLine.{Asked, asked_in, faults_in}
+
+-- The word does not begin with a dash (45).
+abbrev pub IsPlain : Text → Type 0
+IsPlain [] = ⊤
+IsPlain (byte ∷ rest) = (byte == 45) ≡ false
+
+-- The word names no command: it is none of the three, nor `help`.
+pub record IsNoCommand (word : Text) : Type 0 where
+  pub plain : IsPlain word
+  pub solve : word ≢ codes "solve"
+  pub session : word ≢ codes "session"
+  pub check : word ≢ codes "check"
+  pub help : word ≢ codes "help"
+
+-- Whatever the program's name, these words have just these kinds of fault.
+abbrev pub HasFaults : Kinds → List Text → Type 0
+HasFaults kinds words = (name : Text) → faults_in (name ∷ words) ≡ kinds
+
+-- They have none, and this is found.
+abbrev pub IsTaken : List Text → Asked → Type 0
+IsTaken words asked = HasFaults [] words × ((name : Text) → asked_in (name ∷ words) ≡ asked)
+
+-- a solve, with the cut and progress or without; a session, with the cut, brief replies and progress or without; a check
+abbrev pub solve_of : Bool → Bool → Asked
+solve_of cut progress = Some (codes "solve", Some (bool_text cut), None, Some (bool_text progress), None, None)
+
+abbrev pub session_of : Bool → Bool → Bool → Text → Asked
+session_of cut brief progress path =
+    Some (codes "session", Some (bool_text cut), Some (bool_text brief), Some (bool_text progress), Some (codes "1000000"), Some path)
+
+abbrev pub check_of : Text → Asked
+check_of path = Some (codes "check", None, None, None, None, Some path)
+
+-- words that begin with an option, whatever stands behind it
+abbrev pub misplaced : List Text → List (List Text)
+misplaced rest = (codes "--cut" ∷ rest) ∷ (codes "--brief" ∷ rest) ∷ (codes "--progress" ∷ rest) ∷ (codes "--history" ∷ rest) ∷ []
+
+-- words with an option behind a command that does not take it
+abbrev pub strange : Text → List (List Text)
+strange word = (codes "solve" ∷ codes "--brief" ∷ []) ∷ (codes "solve" ∷ codes "--history" ∷ word ∷ [])
+    ∷ (codes "check" ∷ codes "--cut" ∷ word ∷ []) ∷ (codes "check" ∷ codes "--brief" ∷ word ∷ [])
+    ∷ (codes "check" ∷ codes "--progress" ∷ word ∷ []) ∷ (codes "check" ∷ codes "--history" ∷ word ∷ []) ∷ []
+
+-- words that say an option twice
+abbrev pub repeated : Text → List (List Text)
+repeated word = (codes "solve" ∷ codes "--cut" ∷ codes "--cut" ∷ []) ∷ (codes "solve" ∷ codes "--progress" ∷ codes "--progress" ∷ [])
+    ∷ (codes "session" ∷ codes "--cut" ∷ codes "--cut" ∷ word ∷ []) ∷ (codes "session" ∷ codes "--brief" ∷ codes "--brief" ∷ word ∷ [])
+    ∷ (codes "session" ∷ codes "--progress" ∷ codes "--progress" ∷ word ∷ []) ∷ []
+
+-- words that ask for help: alone, whatever stands behind it, and behind a command
+abbrev pub helps : List Text → List (List Text)
+helps rest = (codes "--help" ∷ rest) ∷ (codes "solve" ∷ codes "--help" ∷ []) ∷ (codes "session" ∷ codes "--help" ∷ [])
+    ∷ (codes "check" ∷ codes "--help" ∷ []) ∷ []
+
+pub record PlainWords : Type 0 where
+  pub nothing : IsTaken [] None
+  pub solve : IsTaken (codes "solve" ∷ []) (solve_of false false)
+  pub solve_cut : IsTaken (codes "solve" ∷ codes "--cut" ∷ []) (solve_of true false)
+  pub solve_progress : IsTaken (codes "solve" ∷ codes "--progress" ∷ []) (solve_of false true)
+  pub solve_both : IsTaken (codes "solve" ∷ codes "--cut" ∷ codes "--progress" ∷ []) (solve_of true true)
+  pub solve_turned : IsTaken (codes "solve" ∷ codes "--progress" ∷ codes "--cut" ∷ []) (solve_of true true)
+  pub session : (path : Text) → IsPlain path → IsTaken (codes "session" ∷ path ∷ []) (session_of false false false path)
+  pub session_cut : (path : Text) → IsPlain path → IsTaken (codes "session" ∷ codes "--cut" ∷ path ∷ []) (session_of true false false path)
+  pub cut_behind : (path : Text) → IsPlain path → IsTaken (codes "session" ∷ path ∷ codes "--cut" ∷ []) (session_of true false false path)
+  pub check : (path : Text) → IsPlain path → IsTaken (codes "check" ∷ path ∷ []) (check_of path)
+  pub no_path : HasFaults (MissingRequiredArgument ∷ []) (codes "session" ∷ []) × HasFaults (MissingRequiredArgument ∷ []) (codes "check" ∷ [])
+  pub solve_path : (path : Text) → IsPlain path → HasFaults (UnknownArgument ∷ []) (codes "solve" ∷ path ∷ [])
+  pub second_path : (path other : Text) → IsPlain path → IsPlain other → HasFaults (UnknownArgument ∷ []) (codes "check" ∷ path ∷ other ∷ [])
+  pub misplaced_option : (rest : List Text) → AllByRecursion (HasFaults (UnknownArgument ∷ [])) (misplaced rest)
+  pub strange_option : (word : Text) → AllByRecursion (HasFaults (UnknownArgument ∷ [])) (strange word)
+  pub second_option : (word : Text) → AllByRecursion (HasFaults (ArgumentConflict ∷ [])) (repeated word)
+  pub no_command : (word : Text) (rest : List Text) → IsNoCommand word → HasFaults (UnknownArgument ∷ InvalidSubcommand ∷ []) (word ∷ rest)
+  pub help : (rest : List Text) → AllByRecursion (HasFaults (DisplayHelp ∷ [])) (helps rest)
+  pub help_of : (rest : List Text) → HasFaults (DisplayHelp ∷ InvalidSubcommand ∷ []) (codes "help" ∷ rest)
+  pub version : (rest : List Text) → HasFaults (DisplayVersion ∷ []) (codes "--version" ∷ rest)

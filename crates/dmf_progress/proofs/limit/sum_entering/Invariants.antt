@@ -1,6 +1,0 @@
-use Rattle.std.proofs.Common.{◌≡◌, ◌==◌, not, sum_by, take}
-use Rattle.dmf_progress.proofs.Limits.{carried_out}
-use Rattle.dmf_progress.proofs.limit.sum_entering.Given as goal
-
-abbrev pub invariant-loop-arc : goal.invariant-loop-arc
-invariant-loop-arc l = l.sum ≡ sum_by (carried_out (λ u. not (u == l.node))) (take l.arc-index l.arcs)

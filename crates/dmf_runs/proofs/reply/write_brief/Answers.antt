@@ -1,0 +1,24 @@
+use Rattle.std.proofs.Common.{◌≡◌, ◌++◌, true, ap, sym}
+use Rattle.std.specs.Prelude.{nat_abs}
+use Rattle.std.proofs.lemmas.Result.{err_from_is_err_and}
+use Rattle.dmf_session.specs.declared.command.Command.TheVariants.{Solve}
+use Rattle.dmf_text.proofs.WritingLemmas.{first-failed, first-put}
+use Rattle.dmf_runs.specs.Run.{side_text, solve_text, value_text}
+use Rattle.dmf_runs.proofs.reply.write_brief.Given.{Over}
+use Rattle.dmf_runs.proofs.reply.write_brief.Goals as goal
+use Rattle.dmf_runs.proofs.reply.write_brief.Goals.{After-write_line}
+
+-- the value that the state tells is that of its flow
+first : (g : Over) (c : After-write_line g) → solve_text true c.args.state.now c.args.side.now ≡ value_text Solve c.value.result ++ side_text c.args.side.now
+first g c = ap (λ value. value_text Solve value ++ side_text c.args.side.now) (sym (ap nat_abs c.value.ensures.value))
+
+pub returns-in_err-write_line : goal.returns-in_err-write_line
+returns-in_err-write_line g c =
+    let failed = err_from_is_err_and c.from_residual.result c.from_residual.ensures.1 in
+    first-failed _ _ _ _ _ _ _ failed.1 (first g (goal.at.returns-in_err-write_line g c).After-write_line)
+    (rw c.value_line.ensures at c.in_err-write_line.ensures)
+
+pub returns : goal.returns
+returns g c =
+    first-put _ (g.W.Sink.written c.write_line.new.out) _ _ _ _ _ (first g (goal.at.returns g c).After-write_line)
+    (rw c.value_line.ensures at c.in_ok-write_line.ensures) c.write_side.ensures

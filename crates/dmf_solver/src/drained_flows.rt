@@ -1,0 +1,36 @@
+//! The flows that draining has left.
+use crate::moves::Flows;
+use dmf_path::Search;
+use dmf_state::State;
+use std::marker::Model;
+
+/// The flows that draining has left of a state's. The search is not asked about an arc on which nothing flowed at first; the flow on
+/// an arc without a pair stands in the list.
+#[derive(Drop)]
+pub struct DrainedFlows<'a> {
+    pub state: &'a State,
+    pub unpaired: &'a [u64],
+    pub search: &'a Search,
+}
+
+impl<'a> Model for DrainedFlows<'a> {
+    ghost use Rattle.std.specs.Prelude.{ℕ, List};
+    ghost use Rattle.dmf_solver.specs.Pairs.{Along, flows_read, IsCarryingSearch};
+
+    ghost Value = { List ℕ };
+
+    ghost view = { λ a. flows_read Along a.unpaired.now a.search.now.pairs };
+
+    ghost invariant = { λ a. IsCarryingSearch a.state.now a.unpaired.now a.search.now };
+}
+
+impl Flows for DrainedFlows<'_> {
+    ghost flows = { λ flows. flows };
+
+    fn flow(&self, k: usize, i: usize) -> u64 {
+        if self.state.flows()[k] == 0 {
+            return 0;
+        }
+        self.search.along_near(k, i).unwrap_or(self.unpaired[k])
+    }
+}

@@ -1,0 +1,82 @@
+"""A board that runs, and what the tests ask it."""
+
+from __future__ import annotations
+
+import contextlib
+import http.client
+import json
+import signal
+import subprocess
+from collections.abc import Iterator
+from typing import Any, Optional
+from urllib.parse import urlsplit
+
+from built import heed_interrupts
+from desk_shared import ROOT, SECONDS, sessions_of
+
+JSON = {"Content-Type": "application/json"}
+
+
+class Board:
+    """A running board, and requests to it."""
+
+    def __init__(self, *words: str) -> None:
+        self.process = subprocess.Popen(
+            [ROOT / "tools/dmf-board", "--no-browser", *words], stdout=subprocess.PIPE, stderr=subprocess.PIPE, text=True, cwd=ROOT,
+            preexec_fn=heed_interrupts,
+        )  # fmt: skip
+        assert self.process.stdout
+        self.address = self.process.stdout.readline().strip()
+        where = urlsplit(self.address)
+        self.host, self.port, self.root = where.netloc, where.port or 0, where.path
+
+    def ask(self, path: str, body: Optional[bytes] = None, method: str = "", **headers: Optional[str]) -> tuple[int, dict[str, str], bytes]:
+        """The answer to a request below the board's address. A header that is None is left out."""
+        connection = http.client.HTTPConnection("127.0.0.1", self.port, timeout=SECONDS)
+        sent: dict[str, Optional[str]] = {"Host": self.host, **{name.replace("_", "-"): text for name, text in headers.items()}}
+        try:
+            connection.putrequest(method or ("POST" if body is not None else "GET"), path, skip_host=True, skip_accept_encoding=True)
+            if body is not None and "Content-Length" not in sent:
+                sent["Content-Length"] = str(len(body))
+            for name, text in sent.items():
+                if text is not None:
+                    connection.putheader(name, text)
+            connection.endheaders(body)
+            answer = connection.getresponse()
+            return answer.status, dict(answer.getheaders()), answer.read()
+        finally:
+            connection.close()
+
+    def do(self, **content: Any) -> Any:
+        """What is answered to something that is done."""
+        return json.loads(self.ask(self.root + "do", json.dumps(content).encode(), **{"Content-Type": "application/json"})[2])
+
+    def state(self) -> Any:
+        return json.loads(self.ask(self.root + "state")[2])
+
+    def sessions(self) -> list[int]:
+        """The sessions of the program that it has."""
+        return sessions_of(self.process.pid)
+
+    def end(self, by: int = signal.SIGINT) -> int:
+        """Ends the board, and gives its status."""
+        self.process.send_signal(by)
+        return self.ended()
+
+    def ended(self) -> int:
+        """The status of the board, once it has ended."""
+        with contextlib.suppress(subprocess.TimeoutExpired):
+            self.process.communicate(timeout=SECONDS)
+        if self.process.poll() is None:
+            self.process.kill()
+        return self.process.wait()
+
+
+@contextlib.contextmanager
+def board(*words: str) -> Iterator[Board]:
+    made = Board(*words)
+    try:
+        yield made
+    finally:
+        if made.process.poll() is None:
+            made.end()

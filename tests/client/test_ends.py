@@ -1,0 +1,191 @@
+"""How the program is found, and how it ends."""
+
+import gc
+import os
+import re
+import shutil
+import signal
+import subprocess
+import sys
+import tempfile
+import threading
+import time
+from collections.abc import Callable
+
+import pytest
+from client_shared import BUILT, CLIENT, PIPES, ROOT, dmf, is_running, pipes
+
+SECONDS = 20
+
+
+def test_it_ends() -> None:
+    with pipes() as network:
+        process = network._child.process
+        assert process.poll() is None
+    assert process.returncode == 0
+    with pytest.raises(dmf.SessionEnded):
+        network.solve()
+    network.end()
+
+
+def test_nothing_refers_to_it() -> None:
+    network = pipes()
+    process = network._child.process
+    del network
+    gc.collect()
+    assert process.returncode == 0
+
+
+def test_the_interpreter_ends() -> None:
+    for last in "", "raise SystemExit(3)", "network.loop = network":
+        script = f"import dmf\nnetwork = dmf.Network([('a', 'b', 1)], 'a', 'b')\nprint(network._child.process.pid)\n{last}"
+        environment = {**os.environ, "PYTHONPATH": CLIENT}
+        ran = subprocess.run([sys.executable, "-c", script], env=environment, capture_output=True, text=True, timeout=SECONDS)
+        assert (ran.returncode, ran.stderr) == (3 if "3" in last else 0, "")
+        assert not is_running(int(ran.stdout))
+
+
+def test_it_is_killed() -> None:
+    commands: list[Callable[[dmf.Network[str]], object]] = [dmf.Network.solve, lambda network: network.cap(("lake", "mill"), 1)]
+    for command in commands:
+        with pipes() as network:
+            network._child.process.kill()
+            network._child.process.wait()
+            for _ in range(2):
+                with pytest.raises(dmf.SessionEnded, match="^dmf ended by the signal SIGKILL$"):
+                    command(network)
+
+
+def test_it_is_killed_while_it_answers() -> None:
+    with dmf.Network([(node, node + 1, 1) for node in range(100_000)], 0, 100_000) as network:
+        process = network._child.process
+        os.kill(process.pid, signal.SIGSTOP)
+        threading.Timer(0.2, process.kill).start()
+        with pytest.raises(dmf.SessionEnded, match="SIGKILL"):
+            network.solve()
+
+
+def test_it_is_ended_while_it_stands_still() -> None:
+    network = pipes()
+    process = network._child.process
+    os.kill(process.pid, signal.SIGSTOP)
+    network.end()
+    assert process.returncode == -signal.SIGKILL
+
+
+def test_an_answer_is_broken_off() -> None:
+    with pipes() as network:
+        os.kill(network._child.process.pid, signal.SIGSTOP)
+        before = signal.signal(signal.SIGALRM, signal.default_int_handler)
+        signal.setitimer(signal.ITIMER_REAL, 0.2)
+        try:
+            with pytest.raises(KeyboardInterrupt):
+                network.solve()
+        finally:
+            signal.signal(signal.SIGALRM, before)
+        with pytest.raises(dmf.SessionEnded, match="`solve` was broken off"):
+            network.flow()
+
+
+def test_a_forked_process_leaves_it_alone() -> None:
+    with pipes() as network:
+        child = os.fork()
+        if child == 0:
+            network._child.end()
+            os._exit(0)
+        os.waitpid(child, 0)
+        assert network.solve().value == 5
+
+
+def test_nothing_is_left_behind() -> None:
+    with tempfile.TemporaryDirectory() as folder:
+        before, tempfile.tempdir = tempfile.tempdir, folder
+        try:
+            with pipes():
+                assert os.listdir(folder) == []
+            with pytest.raises(dmf.Refused):
+                dmf.Network(PIPES, "lake", "lake")
+            assert os.listdir(folder) == []
+        finally:
+            tempfile.tempdir = before
+
+
+def test_many_at_once() -> None:
+    networks = [pipes() for _ in range(20)]
+    for turn in range(3):
+        assert [network.cap(("mill", "sea"), turn) for network in networks] == [0] * 20
+    for network in networks:
+        network.end()
+
+
+def test_where_the_program_is_found() -> None:
+    with tempfile.TemporaryDirectory() as folder:
+        os.symlink(f"{ROOT}/dmf", f"{folder}/dmf")
+        script = "import dmf, sys; network = dmf.Network([('a', 'b', 1)], 'a', 'b'); print(network._child.process.args[0])"
+        without = [path for path in os.environ["PATH"].split(":") if not os.path.exists(f"{path}/dmf")]
+        plain = {**os.environ, "PYTHONPATH": CLIENT, "PATH": ":".join(without)}
+        del plain["DMF"]
+        on_path = {**plain, "PATH": f"{folder}:{plain['PATH']}"}
+        for program, environment in (
+            (f"{ROOT}/dmf", plain),
+            (f"{folder}/dmf", on_path),
+            (BUILT, {**on_path, "DMF": BUILT}),
+        ):
+            words = [sys.executable, "-c", script]
+            ran = subprocess.run(words, env=environment, capture_output=True, text=True, timeout=SECONDS)
+            assert (ran.stdout.strip(), ran.stderr) == (program, "")
+        # The client lies alone, and there is no program.
+        os.remove(f"{folder}/dmf")
+        shutil.copytree(f"{CLIENT}/dmf", f"{folder}/dmf", ignore=shutil.ignore_patterns("__pycache__"))
+        ran = subprocess.run(
+            [sys.executable, "-c", script], env={"PYTHONPATH": folder, "PATH": folder}, capture_output=True, text=True
+        )
+        assert "FileNotFoundError: there is no program dmf" in ran.stderr
+
+
+def beside(package: str, program: str, text: str) -> "subprocess.CompletedProcess[str]":
+    """What a caller of a package at this place writes, with a program at that place, and none named or on the PATH."""
+    with tempfile.TemporaryDirectory() as folder:
+        shutil.copytree(f"{CLIENT}/dmf", f"{folder}/{package}", ignore=shutil.ignore_patterns("__pycache__"))
+        os.makedirs(os.path.dirname(f"{folder}/{program}"), exist_ok=True)
+        with open(f"{folder}/{program}", "w") as file:
+            file.write(text)
+        os.chmod(f"{folder}/{program}", 0o700)
+        words = [sys.executable, "-c", "import dmf; print(dmf.Network([('a', 'b', 1)], 'a', 'b').solve().value)"]
+        environment = {"PYTHONPATH": os.path.dirname(f"{folder}/{package}"), "PATH": folder}
+        return subprocess.run(words, env=environment, capture_output=True, text=True, timeout=SECONDS)
+
+
+def test_a_program_that_belongs_to_the_package() -> None:
+    run_it = f'#!/bin/sh\nexec {BUILT} "$@"\n'
+    for package, program in ("clients/python/dmf", "dmf"), ("share/dmf/python/dmf", "bin/dmf"):
+        ran = beside(package, program, run_it)
+        assert (ran.stdout, ran.stderr) == ("1\n", "")
+    ran = beside("x/python/dmf", "dmf.x", run_it)
+    assert "FileNotFoundError: there is no program dmf: " in ran.stderr
+
+
+def test_a_program_that_cannot_be_built() -> None:
+    ran = beside("share/dmf/python/dmf", "bin/dmf", "#!/bin/sh\necho no rt >&2\nexit 70\n")
+    assert re.search(r"(?s)^no rt\n.*\ndmf.SessionEnded: there is no program: /.*/bin/dmf ended with status 70\n$", ran.stderr)
+
+
+def test_an_argument_names_the_program() -> None:
+    with pipes(program=BUILT) as network:
+        assert network.solve().value == 5
+    with pytest.raises(FileNotFoundError):
+        pipes(program="/nowhere/dmf")
+    with pytest.raises(dmf.SessionEnded, match="^dmf ended with status 1$"):
+        pipes(program=shutil.which("false"))
+
+
+def test_much_is_answered() -> None:
+    length = 60_000
+    began = time.monotonic()
+    with dmf.Network([(node, node + 1, 10**14) for node in range(length)], 0, length) as network:
+        plan = network.solve()
+        assert (plan.value, len(plan), set(plan.values())) == (10**14, length, {10**14})
+        assert len(network.problem().splitlines()) == 2 * length + 4
+        assert network.cap((length - 1, length), 5) == 5
+        assert len(network.cut().side) == length
+    assert time.monotonic() - began < SECONDS

@@ -1,0 +1,163 @@
+"""`tools/dmf-sweep` on a problem that was worked out by hand, and at its ends."""
+
+from __future__ import annotations
+
+import csv
+import io
+import os
+import signal
+import subprocess
+import sys
+import time
+from pathlib import Path
+
+import pytest
+from built import heed_interrupts
+from client_shared import ROOT, is_running, there
+
+# The pipes of the other tests, whose greatest value is 5.
+PROBLEM = "c node 1 lake\nc node 4 sea\nc arc 5 the \"canal\"\np max 4 5\nn 1 s\nn 4 t\n"
+PROBLEM += "a 1 2 3\na 1 3 2\na 2 3 5\na 2 4 2\na 3 4 3\n"
+HEAD = ["case", "commands", "name", "value", "difference", "refused"]
+CLOSED = [
+    ["1", "close 1", "lake -> 2", "2", "-3", ""],
+    ["2", "close 2", "lake -> 3", "3", "-2", ""],
+    ["3", "close 3", "2 -> 3", "4", "-1", ""],
+    ["4", "close 4", "2 -> sea", "3", "-2", ""],
+    ["5", "close 5", 'the "canal"', "2", "-3", ""],
+]
+
+
+@pytest.fixture(autouse=True)
+def folder(tmp_path: Path, monkeypatch: pytest.MonkeyPatch) -> Path:
+    """The folder in which each test runs, with the problem."""
+    monkeypatch.chdir(tmp_path)
+    (tmp_path / "net.max").write_text(PROBLEM)
+    return tmp_path
+
+
+def run_tool(*words: str) -> subprocess.CompletedProcess[str]:
+    command = [sys.executable, f"{ROOT}/tools/dmf-sweep", "net.max", *words]
+    return subprocess.run(command, capture_output=True, text=True, timeout=60)
+
+
+def rows(*words: str) -> list[list[str]]:
+    ran = run_tool(*words)
+    assert (ran.returncode, ran.stderr) == (0, "")
+    head, *found = csv.reader(io.StringIO(ran.stdout))
+    assert head == HEAD
+    return found
+
+
+def test_each_arc_is_closed() -> None:
+    assert rows("--close-each") == CLOSED
+    assert rows("--close-each", "--of", "cut", "--jobs", "1") == CLOSED[:2]
+    assert rows("--close-each", "--top", "3") == [CLOSED[0], CLOSED[4], CLOSED[1]]
+
+
+def test_cases() -> None:
+    cases = "close 1; add 1 4 7\n\nc a comment\nshut 2\ncap 5 18446744073709551615\nclose 6\nadd 1 9 1\nshut 1;close 1\n"
+    Path("cases.txt").write_text(cases)
+    wanted = [
+        ["1", "close 1; add 1 4 7", "lake -> 2", "9", "4", ""],
+        ["2", "shut 2", "2", "2", "-3", ""],
+        ["3", "cap 5 18446744073709551615", 'the "canal"', "", "", "capacities past 64 bits"],
+        ["4", "close 6", "", "", "", "no such arc"],
+        ["5", "add 1 9 1", "", "", "", "no such node"],
+        ["6", "shut 1; close 1", "lake", "", "", "arc is closed"],
+    ]
+    assert rows("--cases", "cases.txt") == wanted
+    for line in "solve", "close x", "undo", "wash 1", "close 1;":
+        Path("cases.txt").write_text(f"close 1\n{line}\n")
+        ran = run_tool("--cases", "cases.txt")
+        assert (ran.returncode, ran.stdout) == (3, "")
+        assert "line 2 of the cases" in ran.stderr
+
+
+def test_it_goes_on_where_its_table_ends() -> None:
+    table = Path("table.csv")
+    assert run_tool("--close-each", "--table", "table.csv").returncode == 0
+    whole = table.read_text()
+    assert list(csv.reader(io.StringIO(whole)))[1:] == CLOSED
+    for length in range(len(whole) + 1):
+        if length % 7 == 0 or length == len(whole):
+            # The value of the first case is wrong, and stays: it is not tried again.
+            table.write_text(whole.replace(",2,-3,\n", ",8,3,\n", 1)[: length - 1] if length > 90 else whole[:length])
+            kept = table.read_text().count(",8,3,\n")
+            assert run_tool("--close-each", "--table", "table.csv").returncode == 0
+            assert table.read_text().replace(",8,3,\n", ",2,-3,\n") == whole, length
+            assert table.read_text().count(",8,3,\n") == kept
+    for other in "hello\n", whole.replace("close 2", "close 3"), "hello":
+        table.write_text(other)
+        assert (run_tool("--close-each", "--table", "table.csv").returncode, table.read_text()) == (3, other)
+
+
+def large() -> list[list[str]]:
+    """A problem of so many arcs side by side that a sweep of them takes a while, and the rows of its table."""
+    rooms = [number % 7 + 1 for number in range(1500)]
+    Path("net.max").write_text(f"p max 2 {len(rooms)}\nn 1 s\nn 2 t\n" + "".join(f"a 1 2 {room}\n" for room in rooms))
+    value = sum(rooms)
+    return [[str(at), f"close {at}", "1 -> 2", str(value - room), str(-room), ""] for at, room in enumerate(rooms, 1)]
+
+
+def test_an_interrupt() -> None:
+    """It ends the tool and its programs, the table has whole lines, and the next run goes on behind them."""
+    wanted = large()
+    command = [sys.executable, f"{ROOT}/tools/dmf-sweep", "net.max", "--close-each", "--table", "table.csv", "--jobs", "2"]
+    table = Path("table.csv")
+    with subprocess.Popen(command, stderr=subprocess.PIPE, preexec_fn=heed_interrupts) as process:
+        deadline = time.monotonic() + 60
+        while not (table.exists() and table.read_bytes().count(b"\n") > 20) and time.monotonic() < deadline:
+            time.sleep(0.01)
+        programs = programs_of(process.pid)
+        process.send_signal(signal.SIGINT)
+        told = process.communicate(timeout=60)[1]
+    assert (process.returncode, told, len(programs)) == (130, b"", 3)
+    assert not [program for program in programs if is_running(program)]
+    text = table.read_text()
+    rows = list(csv.reader(io.StringIO(text)))[1:]
+    assert text.endswith("\n") and 20 <= len(rows) < len(wanted) and rows == wanted[: len(rows)]
+    assert run_tool("--close-each", "--table", "table.csv").returncode == 0
+    assert list(csv.reader(io.StringIO(table.read_text())))[1:] == wanted
+
+
+def programs_of(process: int) -> list[int]:
+    """The programs that a process began."""
+    tasks = Path(f"/proc/{process}/task").glob("*/children")
+    return [int(child) for task in tasks for child in task.read_text().split()]
+
+
+def test_a_bar() -> None:
+    """On a terminal the bar tells how many cases were tried of how many; else nothing is told."""
+    if not there("tqdm"):
+        pytest.skip("python3-tqdm is not there, so no bar was shown")
+    ours, theirs = os.openpty()
+    command = [sys.executable, f"{ROOT}/tools/dmf-sweep", "net.max", "--close-each"]
+    ran = subprocess.run(command, stdout=subprocess.PIPE, stderr=theirs, text=True, timeout=60)
+    os.close(theirs)
+    seen = os.read(ours, 1 << 16).decode()
+    os.close(ours)
+    assert (ran.returncode, list(csv.reader(io.StringIO(ran.stdout)))[1:]) == (0, CLOSED)
+    assert "5/5" in seen and "case" in seen
+    assert run_tool("--close-each").stderr == ""
+
+
+def test_faults() -> None:
+    assert run_tool().returncode == 2
+    assert run_tool("--close-each", "--top", "0").returncode == 2
+    Path("net.max").write_text("p max 2 1\n")
+    ran = run_tool("--close-each")
+    assert (ran.returncode, ran.stderr) == (3, "dmf-sweep: net.max: source or sink missing: line 2 of the problem\n")
+    ran = subprocess.run([sys.executable, f"{ROOT}/tools/dmf-sweep", f"{ROOT}/examples/water/pipes.csv", "--close-each"], capture_output=True, text=True)
+    assert (ran.returncode, ran.stderr.endswith("; dmf-problem makes a problem of a table\n")) == (3, True)
+    os.remove("net.max")
+    ran = run_tool("--close-each")
+    assert (ran.returncode, ran.stderr) == (4, "dmf-sweep: cannot read net.max: No such file or directory\n")
+
+
+def test_a_plot() -> None:
+    ran = run_tool("--close-each", "--plot", "losses.png")
+    if not there("matplotlib"):
+        assert (ran.returncode, ran.stderr) == (1, "dmf-sweep: a plot needs the package matplotlib, which is not there\n")
+        pytest.skip("matplotlib is not there (package python3-matplotlib), so no losses were drawn")
+    assert (ran.returncode, Path("losses.png").read_bytes()[:4]) == (0, b"\x89PNG")

@@ -1,0 +1,165 @@
+"""What is tried out and taken back, arcs that are opened, histories that are bounded, arcs that tell of themselves, and notebooks."""
+
+import shutil
+
+import pytest
+from client_shared import dmf, ends, needs, pipes
+
+
+def test_it_is_taken_back() -> None:
+    with pipes() as network:
+        first = network.solve()
+        with network.try_out() as tried:
+            assert tried is network
+            network.close(("lake", "mill"))
+            assert network.solve().value == 2
+        assert (network.value, network.flow(), len(network.arcs)) == (5, first, 5)
+        # What was there before can be taken back still, and what was tried made again.
+        assert (network.redo(2), network.undo(2), network.undo()) == (2, 5, 0)
+
+
+def test_the_block_raises() -> None:
+    with pipes() as network:
+        network.solve()
+        for error in ZeroDivisionError, KeyboardInterrupt, dmf.NoSuchArc:
+            with pytest.raises(error):
+                with network.try_out():
+                    network.shut("mill")
+                    raise error
+            assert (network.value, len(network.arcs)) == (5, 5)
+
+
+def test_the_block_takes_back_itself() -> None:
+    with pipes() as network:
+        network.solve()
+        network.cap(("lake", "mill"), 2)
+        network.undo()
+        with network.try_out():
+            # What is before the block stays, whatever the block does.
+            with pytest.raises(dmf.NothingToUndo):
+                network.undo()
+            assert network.redo() == 4
+            network.close(("lake", "mill"))
+            assert network.undo() == 4
+            with pytest.raises(dmf.NothingToUndo):
+                network.undo(2)
+        assert (network.value, network.capacity(("lake", "mill")), network.redo()) == (5, 3, 4)
+
+
+def test_blocks_in_blocks() -> None:
+    with pipes() as network:
+        network.solve()
+        with network.try_out():
+            network.close(("lake", "mill"))
+            with network.try_out():
+                network.close(("lake", "town"))
+                with pytest.raises(dmf.NothingToUndo):
+                    network.undo(2)
+            assert (network.value, network.undo()) == (2, 5)
+
+
+def test_a_bounded_history() -> None:
+    with pipes(history=2) as network:
+        network.solve()
+        with network.try_out():
+            network.close(("lake", "mill"))
+            network.solve()
+            with pytest.raises(dmf.HistoryOutOfRange):
+                network.solve()
+            with pytest.raises(dmf.HistoryOutOfRange):
+                network.cap(("lake", "town"), 1)
+        assert (network.value, len(network.arcs)) == (5, 5)
+        for _ in range(50):
+            network.solve()
+        assert (len(network._kept._done), len(network._kept._undone)) == (2, 0)
+
+
+def test_the_session_ends_inside() -> None:
+    network = pipes()
+    with network.try_out():
+        network.solve()
+        network.end()
+    with pytest.raises(dmf.SessionEnded):
+        network.solve()
+
+
+def test_open() -> None:
+    with dmf.Network([("a", "b", 3, "main"), ("b", "c", 9)], "a", "c") as network:
+        old = network.arc("main")
+        network.cap(old, 5)
+        with pytest.raises(dmf.ArcIsOpen):
+            network.open("main")
+        network.close("main")
+        assert network.solve().value == 0
+        new = network.open("main")
+        assert (new.number, new.key, new.capacity, network.solve().value) == (3, "main", 5, 5)
+        # The key and the ends name the new arc, and the old handle the closed one.
+        assert (network.arc("main"), network.arc(("a", "b"))) == (new, new)
+        with pytest.raises(dmf.ArcIsClosed):
+            network.cap(old, 1)
+        assert (network.undo(2), network.undo(2), old.is_open, new.is_open) == (0, 0, True, False)
+        with pytest.raises(dmf.NoSuchArc):
+            network.open(new)
+
+
+def test_an_arc_tells_of_itself() -> None:
+    with pipes() as network:
+        mill, town = network.arcs[:2]
+        assert (mill.capacity, mill.is_open, mill.flow) == (3, True, 0)
+        network.solve()
+        assert [arc.flow for arc in network.arcs] == [3, 2, 1, 2, 3]
+        network.close(mill)
+        assert (mill.is_open, mill.flow, town.flow) == (False, 0, 2)
+        with pytest.raises(dmf.ArcIsClosed):
+            mill.capacity
+        canal = network.add("lake", "sea", 7)
+        network.undo()
+        assert not canal.is_open
+        with pytest.raises(dmf.NoSuchArc):
+            canal.flow
+    del network
+    with pytest.raises(dmf.SessionEnded):
+        mill.capacity
+
+
+def test_flows_are_those_of_their_time() -> None:
+    """Each solution is looked at when the network is another one, and the last when it has ended."""
+    with pipes() as network:
+        before, solved = network.flow(), network.solve()
+        network.close(("lake", "mill"))
+        canal = network.add("lake", "sea", 7)
+        after = network.solve()
+        network.undo(2)
+        network.add("sea", "lake", 1)
+    assert [list(plan.values()) for plan in (before, solved, after)] == [[0] * 5, [3, 2, 1, 2, 3], [2, 0, 0, 2, 7]]
+    assert (after[canal], after["lake", "sea"], after.get(("sea", "lake"))) == (7, 7, None)
+    assert ends(after)[-1] == ("lake", "sea")
+
+
+def test_tables() -> None:
+    with dmf.Network([("<a>", "b", 3, "x & y"), ("b", "c", 2)], "<a>", "c") as network:
+        network.solve()
+        cut = network.cut()
+        for shown in network._repr_html_(), network.flow()._repr_html_():
+            assert "<td>x &amp; y</td><td>&lt;a&gt;</td><td>b</td><td>2</td>" in shown
+        assert "cut of capacity 2" in cut._repr_html_()
+        assert "<td>2</td><td>b</td><td>c</td>" in cut._repr_html_()
+
+
+def test_a_large_network_is_a_table() -> None:
+    with dmf.Network([(node, node + 1, 1) for node in range(400)], 0, 400) as network:
+        assert network._repr_svg_() is None
+        assert "and 380 more" in network._repr_html_()
+
+
+@needs(shutil.which("dot"), "graphviz", "no network was drawn in a notebook")
+def test_pictures() -> None:
+    with pipes() as network:
+        network.solve()
+        cut = network.cut()
+        for shown in network._repr_svg_(), cut._repr_svg_():
+            assert shown is not None
+            assert "<svg" in shown
+            assert "1/5" in shown
+        # The cut alone has arcs that are red.
+        assert [(look or "").count("#c62828") > 0 for look in (network._repr_svg_(), cut._repr_svg_())] == [False, True]

@@ -1,0 +1,38 @@
+"""The package and a caller's file pass `mypy --strict`, and a caller's mistakes do not."""
+
+import os
+import re
+import shutil
+import subprocess
+
+from client_shared import CLIENT, ROOT, needs
+
+USER = f"{ROOT}/tests/client/typed_user.py"
+# Each of these is one line of a caller, with the kind of the error that mypy tells of it.
+MISTAKES = {
+    'dmf.Network([("a", "b", "3")], "a", "b")': "list-item",
+    'dmf.Network([("a", "b", 3)], "a", "b").add(1, "b", 2)': "arg-type",
+    'dmf.Network([("a", "b", 3)], "a", "b").cut().side + 1': "operator",
+    'dmf.Network([("a", "b", 3)], "a", "b").solve()["a", "b"].tail': "attr-defined",
+    "network: dmf.Network[list[int]]": "type-var",
+}
+
+
+def judge(*words: str) -> str:
+    """What mypy says."""
+    command = ["mypy", "--strict", "--cache-dir=/dev/null", "--no-error-summary", "--show-error-codes", *words]
+    ran = subprocess.run(command, env={**os.environ, "MYPYPATH": CLIENT}, capture_output=True, text=True, cwd=ROOT)
+    return ran.stdout + ran.stderr
+
+
+@needs(shutil.which("mypy"), "mypy", "the types of the client in Python were not checked")
+def test_the_package_and_a_caller() -> None:
+    assert judge(f"{CLIENT}/dmf", f"{CLIENT}/build_wheel.py", USER) == ""
+
+
+@needs(shutil.which("mypy"), "mypy", "the types of the client in Python were not checked")
+def test_mistakes() -> None:
+    """Each mistake is told in its line, and nothing else."""
+    said = judge("-c", "\n".join(["import dmf", *MISTAKES]))
+    told = re.findall(r"^(.*?):(\d+): error: .*\[(.*)\]$", said, re.MULTILINE)
+    assert told == [("<string>", str(line), code) for line, code in enumerate(MISTAKES.values(), 2)], said

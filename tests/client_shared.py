@@ -1,0 +1,77 @@
+"""What the tests of the client share: the client, where the repository is, networks, and programs that stand in for dmf."""
+
+import contextlib
+import importlib
+import os
+import tempfile
+from collections.abc import Iterable, Iterator
+from typing import Any
+
+import dmf as dmf
+import pytest
+
+ROOT = os.path.dirname(os.path.dirname(os.path.abspath(__file__)))
+CLIENT = f"{ROOT}/clients/python"
+
+# The program that is tested, whichever else is installed.
+BUILT = f"{ROOT}/crates/dmf/out/dmf"
+os.environ["DMF"] = BUILT
+PIPES = [("lake", "mill", 3), ("lake", "town", 2), ("mill", "town", 5), ("mill", "sea", 2), ("town", "sea", 3)]
+
+
+def there(name: str) -> Any:
+    """A package that some tests need, or None where it is not there."""
+    try:
+        return importlib.import_module(name)
+    except ImportError:
+        return None
+
+
+def needs(is_there: object, package: str, so: str) -> pytest.MarkDecorator:
+    """Skips a test where a package of Debian is not there, and tells what was not tested."""
+    return pytest.mark.skipif(not is_there, reason=f"{package} is not there, so {so}")
+
+
+def pipes(**options: Any) -> dmf.Network[str]:
+    return dmf.Network(PIPES, "lake", "sea", **options)
+
+
+def ends(arcs: Iterable[dmf.Arc[Any]]) -> list[tuple[Any, Any]]:
+    return [(arc.tail, arc.head) for arc in arcs]
+
+
+@contextlib.contextmanager
+def script(text: str) -> Iterator[str]:
+    """The path of a shell script, which goes behind the block."""
+    with tempfile.TemporaryDirectory() as folder:
+        program = f"{folder}/dmf"
+        with open(program, "w") as file:
+            file.write(f"#!/bin/sh\n{text}\n")
+        os.chmod(program, 0o700)
+        yield program
+
+
+@contextlib.contextmanager
+def answering(answer: str) -> Iterator[dmf.Network[str]]:
+    """A network of pipes on a script that stands in for dmf: the problem was read, and then comes this to each command."""
+    with script(f"read line\necho c undo value 0\nwhile read line; do\n{answer}\ndone") as program:
+        with pipes(program=program) as network:
+            yield network
+
+
+@contextlib.contextmanager
+def written(text: bytes) -> Iterator[str]:
+    """The path of a file with this text, which goes behind the block."""
+    with tempfile.NamedTemporaryFile(suffix=".max") as file:
+        file.write(text)
+        file.flush()
+        yield file.name
+
+
+def is_running(process: int) -> bool:
+    """Whether a process is there that has not ended."""
+    try:
+        with open(f"/proc/{process}/stat") as stat:
+            return stat.read().rsplit(")", 1)[1].split()[0] != "Z"
+    except FileNotFoundError:
+        return False

@@ -1,0 +1,52 @@
+"""Puts faults into a copy of the program where no proof sees them, builds each, and runs the test that must fail for it. A build takes
+minutes, so only `--long` does this. That each fault can still be put in is tried each time."""
+
+from __future__ import annotations
+
+import os
+import shutil
+import subprocess
+import sys
+from pathlib import Path
+
+import pytest
+from conftest import ROOT, shared
+from mutants import MUTANTS, Mutant
+
+FAILED = 1
+mutants = pytest.mark.parametrize("mutant", [pytest.param(it, id=it.name) for it in MUTANTS])
+
+
+@mutants
+def test_place(mutant: Mutant) -> None:
+    """The text stands once in its file, and the test is there."""
+    assert (ROOT / mutant.file).read_text().count(mutant.old) == 1
+    path, _, name = mutant.test.partition("::")
+    assert f"\ndef {name.partition('[')[0]}(" in (ROOT / path).read_text()
+
+
+@pytest.mark.long
+@pytest.mark.seconds(300)
+@mutants
+def test_killed(tmp_path_factory: pytest.TempPathFactory, mutant: Mutant) -> None:
+    """In one copy of the repository with what was built, one fault after the other."""
+    with shared(tmp_path_factory, "copy") as copy:
+        if not copy.exists():
+            shutil.copytree(ROOT, copy, symlinks=True, ignore=shutil.ignore_patterns(".git", ".hypothesis", "__pycache__"))
+        file = copy / mutant.file
+        whole = file.read_text()
+        file.write_text(whole.replace(mutant.old, mutant.new))
+        try:
+            judge(copy, mutant.test)
+        finally:
+            file.write_text(whole)
+
+
+def judge(copy: Path, test: str) -> None:
+    """Builds the program of a copy. The test has to fail there."""
+    built = subprocess.run([copy / "dmf", "--version"], stdin=subprocess.DEVNULL, capture_output=True, text=True)
+    assert built.returncode == 0, built.stderr[-3000:]
+    environment = {name: value for name, value in os.environ.items() if not name.startswith("PYTEST_")}
+    words = [sys.executable, "-m", "pytest", "-p", "no:xdist", test]
+    ran = subprocess.run(words, cwd=copy, env=environment, capture_output=True, text=True)
+    assert ran.returncode == FAILED, f"{test} passes:\n{ran.stdout[-3000:]}{ran.stderr[-3000:]}"

@@ -1,0 +1,246 @@
+"""Shows tools/dmf-board by headless Chromium: the water story by clicks, compared with the same story from the shell and from dmf-plan; a
+reload; the page's end; and what the documents show of it, which `--write` makes anew."""
+
+from __future__ import annotations
+
+import os
+import re
+import shutil
+import signal
+import subprocess
+import tempfile
+from collections.abc import Callable, Iterator
+from pathlib import Path
+from typing import Any
+
+import pytest
+from board_running import Board, board
+from desk_shared import ODD, PIPES, ROOT, SCRIPT, STORY, run, swept
+
+for program in "chromium", "chromedriver", "dot":
+    if not shutil.which(program):
+        pytest.skip(f"{program} is not there, so the board was not shown by a browser", allow_module_level=True)
+pytest.importorskip("selenium", reason="python3-selenium is not there, so the board was not shown by a browser")
+
+from selenium import webdriver  # noqa: E402
+from selenium.webdriver.chrome.service import Service  # noqa: E402
+from selenium.webdriver.common.by import By  # noqa: E402
+from selenium.webdriver.common.keys import Keys  # noqa: E402
+from selenium.webdriver.support.wait import WebDriverWait  # noqa: E402
+
+pytestmark = pytest.mark.seconds(20)
+# How long the page is waited for, in seconds.
+SECONDS = 20
+
+
+@pytest.fixture(scope="module")
+def driver() -> Iterator[Any]:
+    options: Any = webdriver.ChromeOptions()
+    for word in ("--headless=new", "--no-sandbox", "--disable-gpu", "--disable-dev-shm-usage", "--window-size=1280,1000"):
+        options.add_argument(word)
+    options.set_capability("goog:loggingPrefs", {"browser": "ALL"})
+    made = webdriver.Chrome(service=Service("/usr/bin/chromedriver"), options=options)
+    yield made
+    made.quit()
+
+
+class Page:
+    """A page that a browser shows."""
+
+    def __init__(self, driver: Any, address: str) -> None:
+        self.driver = driver
+        driver.get(address)
+        self.ready()
+
+    def ready(self) -> None:
+        self.wait(lambda: self.driver.execute_script("return document.readyState === 'complete' && Boolean(at('picture').firstChild)"))
+        self.settle()
+
+    def settle(self) -> None:
+        """Waits until nothing is being done."""
+        self.wait(lambda: self.driver.execute_script("return at('main').getAttribute('aria-busy') === 'false'"))
+
+    def wait(self, is_so: Callable[[], object]) -> None:
+        WebDriverWait(self.driver, SECONDS, poll_frequency=0.02).until(lambda _: is_so())
+
+    def text(self, place: str) -> str:
+        return str(self.driver.execute_script("return document.querySelector(arguments[0])?.innerText ?? ''", place))
+
+    def value(self) -> int:
+        return int(self.text("#value strong"))
+
+    def click(self, place: str) -> None:
+        self.driver.find_element(By.CSS_SELECTOR, place).click()
+
+    def press(self, word: str) -> None:
+        """Presses the button of this text, once it is there."""
+        found = f"//button[text()={word!r}]"
+        self.wait(lambda: self.driver.find_elements(By.XPATH, found))
+        self.driver.find_element(By.XPATH, found).click()
+
+    def write(self, place: str, text: str) -> None:
+        field = self.driver.find_element(By.CSS_SELECTOR, place)
+        field.clear()
+        field.send_keys(text)
+
+    def choose(self, place: str, name: str) -> None:
+        """Clicks a part of the picture."""
+        self.settle()
+        self.click(f"#{place} text")
+        self.wait(lambda: self.text("#what h3") == name)
+
+    def after(self, act: Callable[[], None]) -> int:
+        """The value once a click has made a step, or has gone to one, and the picture shows it."""
+        self.settle()
+        act()
+        self.settle()
+        return self.value()
+
+    def undo(self) -> int:
+        return self.after(lambda: self.click("#undo"))
+
+
+def test_story(driver: Any) -> None:
+    """The water story, told three ways."""
+    commands = ROOT / "examples/water/tomorrow.txt"
+    with tempfile.NamedTemporaryFile() as problem:
+        made = run("dmf-problem", "--table", PIPES, "Reservoir", "Harbour")
+        Path(problem.name).write_text(made.stdout)
+        ran = subprocess.run([ROOT / "dmf", "session", problem.name], stdin=open(commands), capture_output=True, text=True, check=True)
+    shell = [int(it) for it in re.findall("^s ([0-9]+)$", ran.stdout, re.MULTILINE)]
+    told = re.findall("value ([0-9]+)", run("dmf-plan", PIPES, typed=SCRIPT).stdout)
+    typed = [int(found) for line, found in zip(SCRIPT.splitlines(), told) if line == "solve"]
+    with board(PIPES) as it:
+        page = Page(driver, it.address)
+        clicked = [page.value()]
+        page.choose("arc-11", "Market Street")
+        page.write("#capacity", "120")
+        clicked.append(page.after(lambda: page.press("Set")))
+        assert page.undo() == 165
+        page.choose("node-5", "Mill")
+        page.write("#new-head", "Station")
+        page.write("#new-capacity", "25")
+        clicked.append(page.after(lambda: page.press("Add it")))
+        assert page.undo() == 165
+        for arc, name in ("arc-12", "Market link"), ("arc-10", "Bridge pipe"):
+            page.choose(arc, name)
+            clicked.append(page.after(lambda: page.press("Close it")))
+            page.wait(lambda: "closed" in page.text("#what"))  # noqa: B023
+            if name == "Market link":
+                assert page.undo() == 165
+        assert (shell, typed, clicked) == (STORY, STORY, STORY), f"the story: {shell}, {typed}, {clicked}, and not {STORY}"
+        limit = page.text("#limit-table")
+        assert all(name in limit for name in ("North rise", "South rise", "Mill Lane")), f"the limit: {limit}"
+        driver.refresh()
+        page.ready()
+        assert (page.value(), "Bridge pipe" in page.text("#way")) == (155, True)
+        page.after(lambda: page.press("as in the file: 165"))
+        assert page.after(lambda: page.click("#redo")) == 155
+        assert page.undo() == 165
+        page.press("Try each pipe")
+        page.wait(lambda: "Worst" in page.text("#verdict"))
+        wanted = swept()
+        worst = min(wanted, key=lambda name: wanted[name][0])
+        best = max(wanted, key=lambda name: wanted[name][1])
+        second = f"{wanted[worst][1] - 165} more" if wanted[worst][1] > 165 else "nothing"
+        said = f"Worst to lose: {worst}, {165 - wanted[worst][0]} litres per second less; a second one brings {second}. "
+        said += f"Best to have a second of: {best}, {wanted[best][1] - 165} litres per second more."
+        assert page.text("#verdict") == said, f"the verdict: {page.text('#verdict')}"
+        judge_keys(page)
+        judge_sessions(page, it)
+        # What is refused, and a session that has ended, a browser tells as well.
+        logged = [one["message"] for one in driver.get_log("browser") if not re.search("status of (409|410)", one["message"])]
+        assert logged == [], f"the browser says {logged}"
+        driver.get("about:blank")
+        status = it.ended()
+        assert status == 0, f"the end of the page: {status}"
+
+
+def judge_keys(page: Page) -> None:
+    """The keyboard alone chooses an arc, and each control has a name."""
+    picture = page.driver.find_element(By.ID, "picture")
+    picture.send_keys(Keys.ARROW_LEFT)
+    part = page.driver.switch_to.active_element
+    label = part.get_attribute("aria-label")
+    part.send_keys(Keys.ENTER)
+    page.wait(lambda: page.text("#what h3") and label.startswith(page.text("#what h3")))
+    unnamed = page.driver.execute_script(
+        "return [...document.querySelectorAll('button, input, a, g.arc, g.node')].filter((it) => it.checkVisibility() && "
+        "!(it.textContent.trim() || it.getAttribute('aria-label') || it.labels?.length)).map((it) => it.outerHTML)"
+    )
+    assert unnamed == [], f"controls without a name: {unnamed}"
+    page.write("#text", "mill l")
+    page.wait(lambda: page.text("#found button") == "Mill Lane, Mill -> Market")
+    page.click("#found button")
+    page.wait(lambda: page.text("#what h3") == "Mill Lane")
+    page.write("#capacity", "1.5")
+    page.press("Set")
+    page.wait(lambda: "is no whole number" in page.text("#trouble"))
+    assert page.value() == 165
+
+
+def judge_sessions(page: Page, it: Board) -> None:
+    """Where the session ends by itself, the page says so, and begins again with the steps."""
+    page.after(lambda: page.press("Close it"))
+    (session,) = it.sessions()
+    os.kill(session, signal.SIGKILL)
+    page.choose("arc-3", "North rise")
+    page.press("Close it")
+    page.wait(lambda: "ended by itself" in page.text("#trouble"))
+    page.after(lambda: page.press("Begin again, with the steps made so far (1)"))
+    page.wait(lambda: page.text("#trouble") == "")
+    assert page.value() == 120, f"begun again: {page.value()}"
+
+
+def test_names(driver: Any) -> None:
+    """A name of HTML and quotes is shown as it is, wherever it stands."""
+    with tempfile.TemporaryDirectory() as folder:
+        quoted = ODD.replace('"', '""')
+        table = Path(folder, "odd.csv")
+        table.write_text(f'from,to,litres,"{quoted[:30]}"\nA,"{quoted}",5,"{quoted}"\n"{quoted}",C,3,</script><b>\n')
+        with board(str(table)) as it:
+            page = Page(driver, it.address)
+            page.choose("arc-1", ODD)
+            assert page.after(lambda: page.press("Close it")) == 0
+            assert page.after(lambda: page.press("Open it again")) == 3
+            made = driver.find_elements(By.CSS_SELECTOR, "img, b, main script")
+            assert made == [] and driver.title != "1", f"a name became markup: {made}"
+            assert ODD in page.text("#way"), f"the steps: {page.text('#way')}"
+            driver.get("about:blank")
+
+
+def test_widths(driver: Any) -> None:
+    """Nothing but the picture and the tables goes past a narrow page."""
+    with board(PIPES) as it:
+        for width in 400, 1280:
+            driver.execute_cdp_cmd(
+                "Emulation.setDeviceMetricsOverride", {"width": width, "height": 900, "deviceScaleFactor": 1, "mobile": width == 400}
+            )
+            page = Page(driver, it.address)
+            page.press("Try each pipe")
+            page.wait(lambda: "Worst" in page.text("#verdict"))  # noqa: B023
+            wide = driver.execute_script("return document.documentElement.scrollWidth")
+            cut = driver.execute_script("const it = at('trials').parentElement; return it.scrollWidth - it.clientWidth")
+            assert cut <= 0, f"at {width} pixels the table of trials is cut by {cut}"
+            assert wide <= width, f"at {width} pixels the page has {wide}"
+        driver.execute_cdp_cmd("Emulation.clearDeviceMetricsOverride", {})
+        driver.get("about:blank")
+
+
+def test_pictures(driver: Any, writes: bool) -> None:
+    """The pictures of the documents, which are made at least, and with --write put."""
+    with board(PIPES) as it:
+        for name, width, height in ("board", 1280, 860), ("board-small", 400, 800):
+            metrics = {"width": width, "height": height, "deviceScaleFactor": 1, "mobile": width == 400}
+            driver.execute_cdp_cmd("Emulation.setDeviceMetricsOverride", metrics)
+            page = Page(driver, it.address)
+            page.press("Try each pipe")
+            page.wait(lambda: "Worst" in page.text("#verdict"))  # noqa: B023
+            page.choose("arc-9", "Mill Lane")
+            driver.execute_script("scrollTo(0, 0)")
+            picture = driver.get_screenshot_as_png()
+            assert int.from_bytes(picture[16:20], "big") == width
+            if writes:
+                (ROOT / f"docs/pictures/{name}.png").write_bytes(picture)
+        driver.execute_cdp_cmd("Emulation.clearDeviceMetricsOverride", {})
+        driver.get("about:blank")

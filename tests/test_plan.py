@@ -1,0 +1,341 @@
+"""Tests the planner's desk and tools/dmf-plan: steps, names, sweeps, scripts, and a person at a terminal."""
+
+from __future__ import annotations
+
+import os
+import pty
+import random
+import re
+import select
+import signal
+import subprocess
+import tempfile
+import time
+from collections.abc import Callable
+from pathlib import Path
+
+import pytest
+from desk_shared import ODD, PIPES, ROOT, SCRIPT, SECONDS, STORY, greatest, run, sessions_of, swept, water
+from dmf.desk import Desk, DeskFault, Place
+from dmf.desk_file import Subject
+from dmf.errors import SessionEnded
+
+WATER = subprocess.run(
+    [ROOT / "tools/dmf-problem", "Reservoir", "Harbour"], stdin=open(ROOT / PIPES), capture_output=True, check=True, timeout=SECONDS
+).stdout
+LIMITED = subprocess.run(
+    [ROOT / "tools/dmf-problem", "--node-limits", "examples/water/pumps.csv", "--table", PIPES, "Reservoir", "Harbour"],
+    capture_output=True, check=True, timeout=SECONDS, cwd=ROOT,
+).stdout  # fmt: skip
+ALIKE = b"""c node 1 A
+c node 2 B-C
+c node 3 D
+c node 4 A-B
+c node 5 C
+c arc 4 A-D
+p max 5 5
+n 1 s
+n 3 t
+a 1 2 3
+a 4 5 4
+a 1 3 1
+a 2 3 9
+a 1 3 2
+"""
+
+
+def desk_of(text: bytes, with_solve: bool = True) -> Desk:
+    return Desk(Subject("a test", text), with_solve=with_solve)
+
+
+def refused(make: Callable[[], object]) -> str:
+    """Why the desk refuses a call, or nothing where it does not."""
+    try:
+        made = make()
+    except DeskFault as fault:
+        return str(fault)
+    return f"not refused: {made}"
+
+
+def test_sweep() -> None:
+    desk = desk_of(WATER)
+    wanted = swept()
+    found = {desk.names.arc_name(it.arc): (it.closed, it.doubled) for it in desk.sweep(range(1, 15))}
+    assert found == wanted, f"a sweep: {found}, and not {wanted}"
+    assert (desk.value, desk.at, list(desk.cut_arcs())) == (165, 1, [3, 9, 14]), f"after a sweep: {desk.value}, {desk.cut_arcs()}"
+    desk.end()
+    idle = desk_of(WATER, with_solve=False)
+    told = refused(lambda: list(idle.sweep([1])))
+    assert "solve" in told, f"a sweep before a solve: {told}"
+    idle.end()
+
+
+def test_random() -> None:
+    """Random steps, undone and made again, give what all sets of places give of the pipes that are open then."""
+    chance = random.Random(35)
+    desk = desk_of(WATER)
+    pipes = water()
+    names = sorted({place for pipe in pipes for place in pipe[:2]})
+    seen = [165]
+
+    def opened() -> list[int]:
+        return [number for number, line in enumerate(desk.lines, 1) if not line.is_closed]
+
+    def value() -> int:
+        node = desk.names.node
+        lines = (desk.lines[number - 1] for number in opened())
+        return greatest([pipes[0]._replace(tail=node(it.tail), head=node(it.head), capacity=it.capacity) for it in lines])
+
+    acts: list[Callable[[], object]] = [
+        lambda: desk.close(chance.choice(opened())),
+        lambda: desk.cap(chance.choice(opened()), chance.randrange(120)),
+        lambda: desk.double(chance.choice(opened())),
+        lambda: desk.add(desk.names.place(chance.choice(names)), desk.names.place(chance.choice(names)), chance.randrange(80)),
+        lambda: desk.shut(desk.names.place(chance.choice(names[1:]))),
+        lambda: desk.open_place(desk.names.place(chance.choice(names))),
+        lambda: desk.open(chance.choice([n for n, it in enumerate(desk.lines, 1) if it.is_closed and not it.is_replaced] or [1])),
+        lambda: list(desk.sweep(opened()[:2])),
+        lambda: desk.go_to(chance.randrange(1, len(desk.steps) + 1)),
+    ]
+    for turn in range(150):
+        place = desk.at
+        try:
+            chance.choice(acts)()
+        except (DeskFault, IndexError):
+            assert desk.at == place, f"turn {turn}: a refused step was made"
+            continue
+        wanted = value()
+        seen.append(wanted)
+        assert desk.value == wanted, f"turn {turn}, {desk.steps[desk.at - 1].text}: {desk.value}, and not {wanted}"
+    assert len(set(seen)) >= 10, f"the random steps reach {len(set(seen))} values alone"
+    steps, at, lines = [(it.text, it.value) for it in desk.steps[: desk.at]], desk.at, list(desk.lines)
+    desk.begin_again()
+    again = [(it.text, it.value) for it in desk.steps[: desk.at]]
+    assert (again, desk.at, desk.lines) == (steps, at, lines), f"begun again: {again}, and not {steps}"
+    desk.go_to(1)
+    assert (desk.value, len(desk.lines), any(it.is_closed for it in desk.lines)) == (165, 14, False)
+    desk.end()
+
+
+def test_ended() -> None:
+    """A session that ends by itself is told, and is begun again with the steps."""
+    desk = desk_of(WATER)
+    desk.close(10)
+    end_session()
+    with pytest.raises(SessionEnded):
+        desk.close(1)
+    desk.begin_again()
+    assert (desk.value, desk.at) == (155, 2), f"begun again: {desk.value}, {desk.at}"
+    desk.end()
+
+
+def end_session(of: int | None = None) -> None:
+    """Kills the one session that a process has, and waits until it is gone."""
+    pid = of or os.getpid()
+    for child in sessions_of(pid):
+        os.kill(child, signal.SIGKILL)
+        while (Path("/proc") / str(child) / "stat").exists() and b") Z " not in (Path("/proc") / str(child) / "stat").read_bytes():
+            os.sched_yield()
+
+
+def test_names() -> None:
+    desk = desk_of(ALIKE)
+    for text, wanted in {
+        "A-B-C": "'A-B-C' may be #1 (A -> B-C), #2 (A-B -> C); say one by its number",
+        "A-D": "'A-D' may be #3 (A -> D), #4 (A-D, B-C -> D), #5 (A -> D); say one by its number",
+        "D-A": "no arc leads from 'D' to 'A'",
+        "4": "no arc is called '4'; is it #4, A-D, B-C -> D?",
+        "#9": "no arc is called '#9'",
+        "a-d": "no arc is called 'a-d'; is it 'A-D' or 'A-B'?",
+    }.items():
+        told = refused(lambda: desk.the_arc(text))  # noqa: B023
+        assert told.startswith(wanted.split("; is it 'A-D'")[0]), f"the arc {text}: {told}"
+    assert desk.the_arc("A -> B-C") == 1
+    assert desk.the_arc("#2") == 2
+    told = refused(lambda: desk.names.place("b-c"))
+    assert told == "no place is called 'b-c'; is it 'B-C'?", f"a place of another case: {told}"
+    desk.end()
+    mill = desk_of(LIMITED)
+    place = mill.names.place("Mill")
+    assert place == Place(5, 10), f"a place with a limit: {place}"
+    mill.add(mill.names.place("Reservoir"), place, 7)
+    mill.add(place, mill.names.place("Station"), 25)
+    ends = [tuple(it[:2]) for it in mill.lines[-2:]]
+    assert ends == [(1, 5), (10, 8)], f"arcs at a place with a limit: {ends}"
+    mill.shut(place)
+    is_open = [line for line in mill.lines if not line.is_closed and {5, 10} & {line.tail, line.head}]
+    assert not is_open, f"open at a place that is shut: {is_open}"
+    mill.open_place(place)
+    assert mill.steps[-1].value == mill.steps[-3].value, f"opened again: {mill.value}"
+    mill.end()
+
+
+# Lines that are refused before a solve, and what is said of each.
+LINES = {
+    "close Mil Lane": "no arc is called 'Mil Lane'; is it 'Mill Lane'",
+    "shut mill": "no place is called 'mill'; is it 'Mill'",
+    "sovle": "no command is called 'sovle'; is it 'solve'",
+    'close "Mill Lane': 'a quote (") is not closed',
+    "cap Mill Lane ten": "'ten' is no whole number",
+    "cap": "wanted is: cap ARC NUMBER",
+    "undo": "there is no step to undo",
+    "redo": "there is no step to redo",
+    "drop": "there is no trial; `try` begins one",
+    "cut": "the flow is not greatest",
+    "add Mill Statoin 5": "no place is called 'Statoin'; is it 'Station'",
+    "cap Mill-Market 99999999999999999999": "is past 18446744073709551615",
+    "cap Mill-Market 18446744073709551615": "the capacities would be together past 18446744073709551615",
+    "save x.txt": "the name of the file ends with one of .csv, .max",
+    f"save {PIPES}": "is there already",
+    "what-if solve": "wanted is: what-if",
+    "open": "nothing is closed",
+}
+
+
+def values(text: str) -> list[int]:
+    return [int(it) for it in re.findall("^value ([0-9]+).*, the greatest$", text, re.MULTILINE)]
+
+
+def test_scripts() -> None:
+    ran = run("dmf-plan", PIPES, typed=SCRIPT)
+    solved = [found for line, found in zip(SCRIPT.splitlines(), re.findall("value ([0-9]+)", ran.stdout)) if line == "solve"]
+    assert (list(map(int, solved)), ran.returncode) == (STORY, 0), f"the story: {solved}, {ran}"
+    ran = run("dmf-plan", PIPES, typed="".join(f"{line}\n" for line in LINES))
+    told = [line for line in ran.stderr.splitlines() if line.startswith("dmf-plan: line")]
+    assert (ran.returncode, ran.stdout, len(told)) == (1, "", len(LINES)), f"refused lines: {ran}"
+    for number, ((line, wanted), found) in enumerate(zip(LINES.items(), told), 1):
+        assert found.startswith(f"dmf-plan: line {number}: ") and wanted in found, f"{line}: {found}"
+    ran = run("dmf-plan", PIPES, typed="solve\nwhat-if each pipe of the cut\nwhat-if close Mill Lane\nsteps\n")
+    trials = swept()
+    for name in ("North rise", "Mill Lane", "South main"):
+        row = re.search(f"^  #[0-9]+ {name}, .*: closed ([0-9]+) .*, a second one ([0-9]+)", ran.stdout, re.MULTILINE)
+        assert row and tuple(map(int, row.groups())) == trials[name], f"what-if {name}: {ran.stdout}"
+    assert "it would be 120 litres per second: 45 less" in ran.stdout, f"what-if close: {ran.stdout}"
+    assert ran.stdout.count("solve: value 165") == 1, f"what-if leaves steps: {ran.stdout}"
+
+
+def test_what_is_typed_otherwise() -> None:
+    """Commands in capitals, ends as they are told, and the number that an arc had before it was opened again."""
+    typed = "SOLVE\nsolve\nadd Mill -> Station 25\nsolve\nclose #9\nopen Mill Lane\nclose #9\nclose #16\n"
+    ran = run("dmf-plan", PIPES, typed=typed)
+    told = [line.partition(": line ")[2] for line in ran.stderr.splitlines() if ": line " in line]
+    assert told == [
+        "1: no command is called 'SOLVE'; is it 'solve' or 'save'?",
+        "7: Mill Lane was closed as #9 and opened again as #16",
+    ]
+    # With the new pipe, 180 litres are the greatest value.
+    assert (ran.returncode, values(ran.stdout)[1], len(ran.stdout.splitlines())) == (1, STORY[2], 6)
+
+
+def test_page() -> None:
+    """The session on the page of documents is one."""
+    lines = [line[4:] for line in (ROOT / "docs/PLAN.md").read_text().splitlines() if line.startswith("    ")]
+    typed = [line.partition("> ")[2] for line in lines if re.match("[0-9]+, .*greatest> ", line)]
+    ran = run("dmf-plan", PIPES, typed="".join(f"{line}\n" for line in typed))
+    told = [line for line in lines if line.startswith(("value ", "  #"))]
+    assert (ran.stdout.splitlines(), ran.returncode, len(typed)) == (told, 0, 5), f"the session of docs/PLAN.md: {ran}"
+
+
+def test_files() -> None:
+    """What is saved is a problem, a table and a picture; and which files are refused."""
+    with tempfile.TemporaryDirectory() as folder:
+        table = Path(folder, "odd.csv")
+        table.write_text(f'from,to,litres,pipe\nA,"{ODD.replace(chr(34), chr(34) * 2)}",5,x\n"{ODD.replace(chr(34), chr(34) * 2)}",C,3,\n')
+        quoted = ODD.replace('"', '""')
+        typed = f'solve\nshut "{quoted}"\nopen "{quoted}"\nsolve\nsave {folder}/plan.max\nsave {folder}/plan.csv\ndraw {folder}/plan.dot\n'
+        ran = run("dmf-plan", str(table), typed=typed)
+        assert (ran.returncode, values(ran.stdout)[-1:]) == (0, [3]), f"an odd name: {ran}"
+        saved = Path(folder, "plan.max").read_bytes()
+        assert f"c node 2 {ODD}".encode() in saved, f"the names of a saved problem: {saved!r}"
+        again = run("dmf-plan", f"{folder}/plan.max", typed="solve\n")
+        assert values(again.stdout) == [3], f"a saved problem: {again}"
+        assert b"digraph" in Path(folder, "plan.dot").read_bytes()
+        rows = Path(folder, "plan.csv").read_text().splitlines()
+        assert (len(rows), rows[0]) == (3, "number,name,from,to,flow,capacity,full,in cut"), f"a saved table: {rows}"
+        for name, text, status, told in (
+            ("two.csv", "A,C,1\nB,C,1\n", 3, "--source \"A\", as often"),
+            ("ring.csv", "A,B,1\nB,A,1\n", 3, "there is no place that nothing leads to"),
+            ("bad.csv", "A,B,x y\nB,C,1.5\n", 3, "is no whole number"),
+            ("bad.max", "p max 2 1\nn 1 s\nn 2 t\na 1 2 x\n", 3, "not a number"),
+        ):
+            Path(folder, name).write_text(text)
+            ran = run("dmf-plan", f"{folder}/{name}")
+            assert ran.returncode == status and told in ran.stderr and "Traceback" not in ran.stderr, f"{name}: {ran}"
+        ran = run("dmf-plan", f"{folder}/missing.csv")
+        assert ran.returncode == 4, f"a missing file: {ran}"
+        ran = run("dmf-plan", f"{folder}/two.csv", "--source", "A", "--source", "B", typed="solve\n")
+        assert values(ran.stdout) == [2], f"two sources: {ran}"
+    assert run("dmf-plan").returncode == 2
+
+
+class Terminal:
+    """The tool on a terminal of its own."""
+
+    def __init__(self, folder: str) -> None:
+        self.pid, self.side = pty.fork()
+        if not self.pid:
+            signal.signal(signal.SIGINT, signal.SIG_DFL)
+            os.environ.update(XDG_STATE_HOME=folder, TERM="dumb", INPUTRC="/dev/null", PYTHONUNBUFFERED="1")
+            os.chdir(ROOT)
+            os.execv(ROOT / "tools/dmf-plan", ["dmf-plan", PIPES])
+        self.seen = ""
+
+    def wait(self, wanted: str) -> str:
+        """What is seen up to a text. It is taken out of what is seen."""
+        until = time.monotonic() + SECONDS
+        while wanted not in self.seen:
+            if not select.select([self.side], [], [], max(until - time.monotonic(), 0))[0]:
+                raise AssertionError(f"no {wanted!r} in {self.seen!r}")
+            try:
+                self.seen += os.read(self.side, 1 << 16).decode(errors="replace")
+            except OSError:
+                raise AssertionError(f"it ended without {wanted!r}: {self.seen!r}") from None
+        before, _, self.seen = self.seen.partition(wanted)
+        return before
+
+    def type(self, text: str) -> None:
+        os.write(self.side, text.encode())
+
+    def end(self) -> int:
+        status = os.waitstatus_to_exitcode(os.waitpid(self.pid, 0)[1])
+        os.close(self.side)
+        return status
+
+
+def test_typed() -> None:
+    """A person completes names, breaks off a line, finds yesterday's lines, and goes on where the session ended by itself."""
+    with tempfile.TemporaryDirectory() as folder:
+        terminal = Terminal(folder)
+        terminal.wait("0, not greatest> ")
+        terminal.type("sol\tve\n")
+        terminal.wait("0, not greatest> ")
+        terminal.type("solve\n")
+        terminal.wait("165, greatest> ")
+        terminal.type("close Bri\t\n")
+        told = terminal.wait("155, greatest> ")
+        assert '"Bridge pipe"' in told, f"a name is completed: {told!r}"
+        terminal.type("close rubbish\x03")
+        terminal.wait("155, greatest> ")
+        terminal.type("try\n")
+        terminal.wait("try, 155, greatest> ")
+        terminal.type('shut "South T\t\n')
+        terminal.wait("try, 105, greatest> ")
+        terminal.type("drop\n")
+        terminal.wait("\n155, greatest> ")
+        end_session(terminal.pid)
+        terminal.type("close Mill Lane\n")
+        told = terminal.wait("155, greatest> ")
+        assert "begun again" in told and "SIGKILL" in told, f"a session that ended: {told!r}"
+        terminal.type("undo\n")
+        terminal.wait("165, greatest> ")
+        terminal.type("quit\n")
+        status = terminal.end()
+        assert status == 0, f"the end of a typed session: {status}"
+        history = Path(folder, "dmf", "plan_history").read_text()
+        assert 'close "Bridge pipe"' in history, f"the history: {history}"
+        again = Terminal(folder)
+        again.wait("0, not greatest> ")
+        again.type("\x10")
+        told = again.wait("quit")
+        again.type("\n")
+        assert again.end() == 0, f"yesterday's lines: {told!r}"
