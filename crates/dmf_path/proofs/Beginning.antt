@@ -5,10 +5,11 @@ use Rattle.dmf_node.specs.Node.{IsNode}
 use Rattle.dmf_path.specs.Links.{Links, AreLinks}
 use Rattle.dmf_path.specs.Labels.{no_label, AreQueued}
 use Rattle.dmf_path.specs.declared.frontier.Frontier.{Frontier}
+use Rattle.dmf_path.specs.declared.levels.Levels.{Levels}
 use Rattle.dmf_path.specs.Frontier.{IsClean}
 use Rattle.dmf_path.specs.Walk.{ArePassed}
 use Rattle.dmf_path.specs.BothEnds.{AreSmall, AreSound}
-use Rattle.dmf_path.specs.Searching.{IsFresh, IsReady, fresh_labels}
+use Rattle.dmf_path.specs.Searching.{AreReady, IsFresh, IsReady, fresh_labels}
 use Rattle.dmf_path.proofs.LinkPlaces.{lies-within}
 use Rattle.dmf_path.proofs.Spreading.{cases-set}
 
@@ -109,3 +110,9 @@ ready-clean nodes near far clean empty other = record {
   capacity = clean.capacity;
   clean = other;
 }
+
+-- Levels that are ready are so for the number of nodes that have labels.
+pub ready-at : (nodes : ℕ) (levels : Levels) → AreReady levels → length levels.near.labels.items ≡ nodes + 1 → IsReady nodes levels.near levels.far
+ready-at nodes levels ready long =
+    let same : ready.0 ≡ nodes = omega (arith, long, ready.1.one_label_each) in
+    subst (λ n. IsReady n levels.near levels.far) same ready.1

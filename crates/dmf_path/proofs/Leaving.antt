@@ -1,19 +1,19 @@
 -- Links leave their slots: what is held for them is put on, and the settled rooms stay.
-use Rattle.std.proofs.Common.{ℕ, ◌≡◌, ◌-◌, Bool, true, false, List, [], ◌∷◌, ◌++◌, length, get_or, set, refl, ◌∙◌, arith, get_or-set_other}
+use Rattle.std.proofs.Common.{ℕ, ◌≡◌, ◌+◌, ◌-◌, ◌<◌, Bool, true, false, List, [], ◌∷◌, ◌++◌, length, get_or, set, drop, refl, ap, sym, ◌∙◌, subst, arith, get_or-set_other}
+use Rattle.std.proofs.lemmas.List.{drop_more}
 use Rattle.dmf_path.specs.declared.trail.Slot.{Slot}
-use Rattle.dmf_path.specs.Links.{Links, AreLinks, AreRooms, AreFlags}
+use Rattle.dmf_path.specs.Links.{Links, AreLinks}
 use Rattle.dmf_path.specs.Walk.{pushed_once}
-use Rattle.dmf_path.specs.Held.{room_left, places_of, settled, HaveLeft, IsSlot, put_once, put_each, CanPut, IsOff}
+use Rattle.dmf_path.specs.Held.{room_left, places_of, settled, HaveLeft, IsSlot, slot_at, put_once, put_each, CanPut, IsOff}
+use Rattle.dmf_path.specs.Residual.{Residual, put_on, put_each_on}
 use Rattle.dmf_path.proofs.Pushing.{length-pushed_once}
 use Rattle.dmf_path.proofs.Descending.{Descends, between, off-append, off-partner}
 use Rattle.dmf_path.proofs.Settled.{places-append, settled-leave}
 
 -- Putting on what is held, as far as it has come: what is left to put on makes of the rooms what putting on all makes.
-pub record IsPutting (l : Links) (takes_back : Bool) (sent : ℕ) (slots : List Slot) (rooms flags whole : List ℕ) : Type 0 where
-  pub goes_on : put_each l takes_back sent slots rooms ≡ whole
-  pub can : CanPut l takes_back sent slots rooms
-  pub rooms_are : AreRooms l rooms
-  pub flags_are : AreFlags l rooms flags
+pub record IsPutting (r : Residual) (sent : ℕ) (slots : List Slot) (whole : Residual) : Type 0 where
+  pub goes_on : put_each_on r sent slots ≡ whole
+  pub can : CanPut r.links r.takes_back sent slots r.rooms
 
 pub HaveLeft-append : (sent : ℕ) (rooms : List ℕ) (slots others : List Slot) → HaveLeft sent rooms slots → HaveLeft sent rooms others → HaveLeft sent rooms (slots ++ others)
 HaveLeft-append sent rooms [] others first later = later
@@ -76,3 +76,19 @@ have-all-left l takes_back labels sent top bottom before (s ∷ slots) behind ro
     let first = has-left l takes_back labels sent top bottom before (slots ++ behind) s rooms links long descends have in
     let later = have-all-left l takes_back labels sent top bottom before slots behind (put_once l takes_back sent s rooms) links first.long first.descends first.have in
     record { can = (first.slot, later.can); same = first.same ∙ later.same; have = later.have; long = later.long }
+
+-- The next link can leave, and then it goes on.
+pub putting-here : (r : Residual) (sent : ℕ) (slots : List Slot) (i : ℕ) (whole : Residual) → i < length slots → IsPutting r sent (drop i slots) whole
+    → IsSlot r.links sent r.rooms (slot_at slots i)
+putting-here r sent slots i whole within is =
+    let split : drop i slots ≡ slot_at slots i ∷ drop (i + 1) slots = drop_more slots i _ within in
+    (subst (λ (ss : List Slot). CanPut r.links r.takes_back sent ss r.rooms) split is.can).0
+
+pub putting-next : (r next : Residual) (sent : ℕ) (slots : List Slot) (i : ℕ) (whole : Residual) → i < length slots → IsPutting r sent (drop i slots) whole
+    → next ≡ put_on r sent (slot_at slots i) → IsPutting next sent (drop (i + 1) slots) whole
+putting-next r next sent slots i whole within is put =
+    let split : drop i slots ≡ slot_at slots i ∷ drop (i + 1) slots = drop_more slots i _ within in
+    rw put (record {
+      goes_on = sym (ap (put_each_on r sent) split) ∙ is.goes_on;
+      can = (subst (λ (ss : List Slot). CanPut r.links r.takes_back sent ss r.rooms) split is.can).1;
+    })

@@ -13,7 +13,6 @@ pub mod Descending
 pub mod Settled
 pub mod SettledSent
 pub mod Leaving
-pub mod Opposite
 pub mod PairRead
 pub mod Pushing
 pub mod Pushed

@@ -1,5 +1,5 @@
 -- Pushing along links, one after the other: what becomes of the rooms and the flags.
-use Rattle.std.proofs.Common.{ℕ, ◌≡◌, ◌≢◌, ◌+◌, ◌-◌, ◌^◌, ◌<◌, ◌≤◌, Bool, true, false, cond, List, [], ◌∷◌, length, get_or, set, refl, ap, sym, ◌∙◌, subst, arith, ⊎_elim, get_or-set_other, get_or-set_same, length-set}
+use Rattle.std.proofs.Common.{ℕ, ◌≡◌, ◌≢◌, ◌+◌, ◌-◌, ◌^◌, ◌<◌, Bool, true, false, cond, List, [], ◌∷◌, length, get_or, set, refl, ap, sym, ◌∙◌, arith, ⊎_elim, get_or-set_other, get_or-set_same, length-set}
 use Rattle.std.proofs.lemmas.Bool.{cases_eq}
 use Rattle.dmf_path.specs.Links.{Links, AreLinks, AreRooms, AreFlags, open_flag}
 use Rattle.dmf_path.specs.Walk.{pushed_once, pushed}
@@ -59,53 +59,34 @@ is_beside l p q links within in_range =
     (cases_eq q (get_or l.partners p 0)))
     (cases_eq q p)
 
--- The rooms of each pair still fit 64 bits together.
-pub AreRooms-once : (l : Links) (takes_back : Bool) (amount p : ℕ) (rooms : List ℕ) → AreLinks l → AreRooms l rooms → p < length l.heads → amount ≤ get_or rooms p 0 → AreRooms l (pushed_once l takes_back amount p rooms)
-AreRooms-once l takes_back amount p rooms links are within enough = (
-  length-pushed_once l takes_back amount p rooms ∙ are.0,
-  λ q h.
-      let mine = once-own l takes_back amount p rooms links are.0 within in
-      let its = once-partner l takes_back amount p rooms links are.0 within in
-      let few : cond takes_back amount 0 ≤ amount = elim takes_back as (λ b. cond b amount 0 ≤ amount) [ true ↦ omega arith | false ↦ omega arith ] in
-      let sum = are.1 p within in
-      elim (is_beside l p q links within h) [
-        | own same ↦ subst (λ r. get_or (pushed_once l takes_back amount p rooms) r 0 + get_or (pushed_once l takes_back amount p rooms) (get_or l.partners r 0) 0 < 2 ^ 64) (sym same) (omega (arith, mine, its, few, sum, enough))
-        | partner same back ↦ rw (back, same) (omega (arith, mine, its, few, sum, enough))
-        | other a b c d ↦ rw (once-other l takes_back amount p q rooms a b, once-other l takes_back amount p (get_or l.partners q 0) rooms c d) (are.1 q h)
+-- The rooms of each pair still fit 64 bits together, once one of them is another,
+pub AreRooms-put : (l : Links) (p q room : ℕ) (rooms : List ℕ) → AreLinks l → AreRooms l rooms → p < length l.heads → q ≡ get_or l.partners p 0
+    → room + get_or rooms q 0 < 2 ^ 64 → AreRooms l (set rooms p room)
+AreRooms-put l p q room rooms links are within is fits = (
+  length-set rooms p room ∙ are.0,
+  λ x h.
+      let mine = get_or-set_same rooms p room 0 (omega (arith, are.0, within)) in
+      let its = get_or-set_other rooms p (get_or l.partners p 0) room 0 (partner-other l p links within) in
+      let sum = rw is at fits in
+      elim (is_beside l p x links within h) [
+        | own same ↦ rw same (omega (arith, mine, its, sum))
+        | partner same back ↦ rw (back, same) (omega (arith, mine, its, sum))
+        | other a b c d ↦ rw (get_or-set_other rooms p x room 0 a, get_or-set_other rooms p (get_or l.partners x 0) room 0 c) (are.1 x h)
       ],
 )
 
--- The flags tell of the rooms after a push that can be taken back
-pub AreFlags-back : (l : Links) (amount p : ℕ) (rooms flags : List ℕ) → AreLinks l → length rooms ≡ length l.heads → AreFlags l rooms flags → p < length l.heads →
-    AreFlags l (pushed_once l true amount p rooms)
-    (set (set flags (get_or l.partners p 0) (open_flag (get_or rooms p 0 - amount))) p (open_flag (get_or (set rooms p (get_or rooms p 0 - amount)) (get_or l.partners p 0) 0 + amount)))
-AreFlags-back l amount p rooms flags links long told within =
-    let partner_in = (links.each p within).partner in
-    let taken = set rooms p (get_or rooms p 0 - amount) in
-    let mine = once-own l true amount p rooms links long within in
-    let its : get_or (pushed_once l true amount p rooms) (get_or l.partners p 0) 0 ≡ get_or taken (get_or l.partners p 0) 0 + amount =
-    get_or-set_same taken (get_or l.partners p 0) _ 0 (simp length-set (omega (arith, long, partner_in))) in (
-      simp length-set told.0,
-      λ q h.
-          elim (is_beside l p q links within h) [
-            | own same ↦ rw same (get_or-set_same _ p _ 0 (simp length-set (omega (arith, told.0, within))) ∙ sym (ap open_flag its))
-            | partner same back ↦ rw (back, same) (get_or-set_other _ p _ _ 0 (partner-other l p links within) ∙ get_or-set_same flags _ _ 0 (omega (arith, told.0, partner_in)) ∙ sym (ap open_flag mine))
-            | other a b c d ↦ get_or-set_other _ p q _ 0 a ∙ get_or-set_other flags _ q _ 0 b ∙ told.1 q h ∙ sym (ap open_flag (once-other l true amount p (get_or l.partners q 0) rooms c d))
-          ],
-    )
-
--- and after one that cannot.
-pub AreFlags-along : (l : Links) (amount p : ℕ) (rooms flags : List ℕ) → AreLinks l → length rooms ≡ length l.heads → AreFlags l rooms flags → p < length l.heads →
-    AreFlags l (pushed_once l false amount p rooms) (set flags (get_or l.partners p 0) (open_flag (get_or rooms p 0 - amount)))
-AreFlags-along l amount p rooms flags links long told within =
-    let partner_in = (links.each p within).partner in
-    let mine = once-own l false amount p rooms links long within in (
-      simp length-set told.0,
-      λ q h.
-          let apart = partner-other l p links within in
-          elim (is_beside l p q links within h) [
-            | own same ↦ rw same (get_or-set_other flags _ p _ 0 (λ e. apart (sym e)) ∙ told.1 p within ∙ sym (ap open_flag (get_or-set_other rooms p _ _ 0 apart)))
-            | partner same back ↦ rw (back, same) (get_or-set_same flags _ _ 0 (omega (arith, told.0, partner_in)) ∙ sym (ap open_flag mine))
-            | other a b c d ↦ get_or-set_other flags _ q _ 0 b ∙ told.1 q h ∙ sym (ap open_flag (once-other l false amount p (get_or l.partners q 0) rooms c d))
+-- and the flag of its opposite tells of it.
+pub AreFlags-put : (l : Links) (p q room : ℕ) (rooms flags : List ℕ) → AreLinks l → length rooms ≡ length l.heads → AreFlags l rooms flags
+    → p < length l.heads → q ≡ get_or l.partners p 0 → AreFlags l (set rooms p room) (set flags q (open_flag room))
+AreFlags-put l p q room rooms flags links long told within is =
+    let q_in : get_or l.partners p 0 < length flags = omega (arith, told.0, (links.each p within).partner) in
+    let apart = partner-other l p links within in
+    rw is (
+      length-set flags (get_or l.partners p 0) (open_flag room) ∙ told.0,
+      λ x h.
+          elim (is_beside l p x links within h) [
+            | own same ↦ rw same (get_or-set_other flags (get_or l.partners p 0) p _ 0 (λ e. apart (sym e)) ∙ told.1 p within ∙ sym (ap open_flag (get_or-set_other rooms p (get_or l.partners p 0) room 0 apart)))
+            | partner same back ↦ rw (back, same) (get_or-set_same flags (get_or l.partners p 0) _ 0 q_in ∙ sym (ap open_flag (get_or-set_same rooms p room 0 (omega (arith, long, within)))))
+            | other a b c d ↦ get_or-set_other flags (get_or l.partners p 0) x _ 0 b ∙ told.1 x h ∙ sym (ap open_flag (get_or-set_other rooms p (get_or l.partners x 0) room 0 c))
           ],
     )

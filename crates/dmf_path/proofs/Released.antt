@@ -1,23 +1,23 @@
 -- A link that is in no slot: what is held for others does not ask for its room, which can be lowered.
-use Rattle.std.proofs.Common.{ℕ, ◌≡◌, ◌≢◌, ◌+◌, ◌-◌, ◌<◌, ◌≤◌, Bool, true, false, cond, List, [], ◌∷◌, ◌++◌, length, get_or, set, refl, ap, sym, ◌∙◌, subst, arith, ⊎_elim, get_or-set_other, get_or-set_same, length-set}
+use Rattle.std.proofs.Common.{ℕ, ◌≡◌, ◌≢◌, ◌+◌, ◌-◌, ◌<◌, ◌≤◌, Bool, true, false, cond, List, [], ◌∷◌, ◌++◌, length, get_or, set, ap, sym, ◌∙◌, subst, arith, ⊎_elim, get_or-set_other, get_or-set_same, length-set}
 use Rattle.std.proofs.lemmas.Bool.{cases_eq}
 use Rattle.std.proofs.lemmas.List.{ext_get_or}
 use Rattle.dmf_path.specs.declared.trail.Slot.{Slot}
 use Rattle.dmf_node.specs.Node.{IsNode}
-use Rattle.dmf_path.specs.Links.{Links, AreLinks, AreRooms, AreFlags, tail_of, pairs_at}
+use Rattle.dmf_path.specs.Links.{Links, AreLinks, ArePlaces, AreRooms, tail_of, pairs_at}
 use Rattle.dmf_path.specs.Walk.{IsTrail, pushed_once}
 use Rattle.dmf_path.specs.Held.{Way, places_of, walked_slots, rest_slots, filled_slots, held_for, settled, rooms_with, IsOff}
-use Rattle.dmf_path.specs.Search.{HasAlong, with_pairs, lowered_along}
-use Rattle.dmf_path.specs.Searching.{IsHolding, IsUnderWay, IsSearch, searched}
+use Rattle.dmf_path.specs.Residual.{Residual, roomed, lowered, told}
+use Rattle.dmf_path.specs.Search.{with_pairs, lowered_along}
+use Rattle.dmf_path.specs.Searching.{IsUnderWay, Labelling, sought, searched, IsAimed, IsSearching}
 use Rattle.dmf_path.proofs.Pushed.{OpensUpwards, ArePassed-opens}
 use Rattle.dmf_path.proofs.Gated.{sound-opens}
 use Rattle.dmf_path.proofs.Descending.{off-rising}
 use Rattle.dmf_path.proofs.Settled.{length-settled, room-settled, held-off, held-rooms, places-append}
 use Rattle.dmf_path.proofs.SettledRoom.{room-along}
 use Rattle.dmf_path.proofs.Leaving.{HaveLeft-set}
-use Rattle.dmf_path.proofs.Lowered.{HasPlace-along, pairs-lowered, opens-lowered}
+use Rattle.dmf_path.proofs.Lowered.{HasPlace, pairs-lowered, opens-lowered}
 use Rattle.dmf_path.proofs.UnderWay.{descends-way}
-use Rattle.dmf_path.proofs.SearchTurns.{IsSearch-next, IsSearch-released, same-searched}
 
 -- A link that does not fall is in no slot.
 pub off-slots : (l : Links) (labels after current : List ℕ) (w : Way) (p : ℕ) → AreLinks l → IsNode l.nodes w.start → IsUnderWay l labels after current w
@@ -79,32 +79,39 @@ off-front : (p : ℕ) (ps qs : List ℕ) → IsOff p (ps ++ qs) → IsOff p ps �
 off-front p [] qs off = (tt, off)
 off-front p (q ∷ ps) qs off = let later = off-front p ps qs off.1 in ((off.0, later.0), later.1)
 
--- after its room is lowered
-IsSearch-lowered : {is_fresh : Bool} (l : Links) (takes_back : Bool) (places rooms flags labels current : List ℕ) (w : Way) (queue_capacity slots_capacity p amount : ℕ) (new_rooms new_flags : List ℕ) → IsSearch l takes_back places rooms flags labels current w queue_capacity slots_capacity is_fresh
-    → p < length l.heads → IsOff p (places_of (filled_slots w)) → amount ≤ get_or rooms p 0 → new_rooms ≡ pushed_once l false amount p rooms → AreRooms l new_rooms → AreFlags l new_rooms new_flags
-    → IsSearch l takes_back places new_rooms new_flags labels current w queue_capacity slots_capacity is_fresh × (rooms_with l takes_back w new_rooms ≡ pushed_once l false amount p (rooms_with l takes_back w rooms))
-IsSearch-lowered {is_fresh = is_fresh} l takes_back places rooms flags labels current w queue_capacity slots_capacity p amount new_rooms new_flags is within off enough made sums told =
-    let before : List ℕ = rooms_with l takes_back w rooms in
-    let after : List ℕ = rooms_with l takes_back w new_rooms in
-    let long : length before ≡ length l.heads = length-settled l takes_back w.sent (filled_slots w) rooms ∙ is.holding.rooms_are.0 in
-    let lowered : after ≡ pushed_once l false amount p before =
-    ap (rooms_with l takes_back w) made ∙ settled-lowered l takes_back w.sent p amount (filled_slots w) rooms (omega (arith, within, is.holding.rooms_are.0)) off enough in
-    let opens : OpensUpwards l labels before after = subst (OpensUpwards l labels before) (sym lowered) (opens-lowered l labels before p amount long within) in
+-- After its room is lowered, the search goes on.
+searching-lowered : (r : Residual) (v : Labelling) (w : Way) (p amount : ℕ) (next : Residual) → IsSearching r v w → p < length r.links.heads
+    → IsOff p (places_of (filled_slots w)) → amount ≤ get_or r.rooms p 0 → next ≡ lowered r p amount → AreRooms next.links next.rooms
+    → IsSearching next v w × (told next w ≡ lowered (told r w) p amount)
+searching-lowered r v w p amount next is within off enough made sums =
+    let l : Links = r.links in
+    let labels : List ℕ = v.labels in
+    let before : List ℕ = (told r w).rooms in
+    let after : List ℕ = (lowered (told r w) p amount).rooms in
+    let long : length before ≡ length l.heads = length-settled l r.takes_back w.sent (filled_slots w) r.rooms ∙ is.holding.rooms_are.0 in
+    let now : told (lowered r p amount) w ≡ lowered (told r w) p amount =
+    ap (roomed r) (settled-lowered l r.takes_back w.sent p amount (filled_slots w) r.rooms (omega (arith, within, is.holding.rooms_are.0)) off enough) in
+    let opens : OpensUpwards l labels before after = opens-lowered l labels before p amount long within in
     let apart = off-front p (places_of (walked_slots w)) (places_of (rest_slots w)) (subst (IsOff p) (places-append (walked_slots w) (rest_slots w)) off) in
+    let a = is.aimed in
     let way = is.under_way in
-    let holding : IsHolding l w new_rooms new_flags = record {
-      rooms_are = sums;
-      flags_are = told;
-      small = is.holding.small;
-      have = rw made (HaveLeft-set w.sent p (get_or rooms p 0 - amount) rooms (filled_slots w) off is.holding.have);
+    let aimed : IsAimed (record { residual = lowered (told r w) p amount; start = w.start; goal = w.goal }) labels w.capacity = record {
+      links = a.links;
+      one_label_each = a.one_label_each;
+      start_label = a.start_label;
+      sound = sound-opens l labels before after (get_or labels w.start 0) a.links opens a.sound;
+      start_is = a.start_is;
+      goal_is = a.goal_is;
+      apart = a.apart;
+      capacity_is = a.capacity_is;
     } in
-    let goes_on : IsUnderWay l labels after current w = record {
+    let goes_on : IsUnderWay l labels after v.current w = record {
       walking = record {
         current_is = way.walking.current_is;
-        passed = ArePassed-opens l labels before after w.goal current is.links opens way.walking.passed;
-        trail_is = rw lowered (IsTrail-set l labels before current w.start p (get_or before p 0 - amount) (places_of (walked_slots w)) apart.0 way.walking.trail_is);
+        passed = ArePassed-opens l labels before after w.goal v.current a.links opens way.walking.passed;
+        trail_is = IsTrail-set l labels before v.current w.start p (get_or before p 0 - amount) (places_of (walked_slots w)) apart.0 way.walking.trail_is;
       };
-      rest_is = rw lowered (IsTrail-set l labels before current w.joint p (get_or before p 0 - amount) (places_of (rest_slots w)) apart.1 way.rest_is);
+      rest_is = IsTrail-set l labels before v.current w.joint p (get_or before p 0 - amount) (places_of (rest_slots w)) apart.1 way.rest_is;
       ends = way.ends;
       joint_is = way.joint_is;
       order = way.order;
@@ -112,28 +119,38 @@ IsSearch-lowered {is_fresh = is_fresh} l takes_back places rooms flags labels cu
       one_slot_each = way.one_slot_each;
       goal_label = way.goal_label;
     } in
-    let sound = sound-opens l labels before after (get_or labels w.start 0) is.links opens is.sound in
-    let search = IsSearch-next l takes_back places rooms flags labels current w queue_capacity slots_capacity new_rooms new_flags labels current after w queue_capacity slots_capacity is_fresh is refl is.start_label holding refl sound goes_on refl refl refl refl is.marked in
-    (search, lowered)
-
--- The room of the link along a pair is lowered, once the link is in no slot.
-pub is-lowered : {is_fresh : Bool} (l : Links) (takes_back : Bool) (places rooms flags labels current : List ℕ) (w : Way) (queue_capacity slots_capacity k p amount : ℕ) (new : Way) (between_rooms between_flags new_rooms new_flags : List ℕ) (new_slots_capacity : ℕ)
-    → IsSearch l takes_back places rooms flags labels current w queue_capacity slots_capacity is_fresh → HasAlong (pairs_at l places (rooms_with l takes_back w rooms)) k amount → p ≡ get_or places k 0
-    → IsHolding l new between_rooms between_flags → rooms_with l takes_back new between_rooms ≡ rooms_with l takes_back w rooms → IsUnderWay l labels (rooms_with l takes_back w rooms) current new
-    → IsOff p (places_of (filled_slots new)) → get_or (rooms_with l takes_back w rooms) p 0 ≡ get_or between_rooms p 0 → new.start ≡ w.start → new.goal ≡ w.goal → new_slots_capacity ≡ slots_capacity
-    → new_rooms ≡ pushed_once l false amount p between_rooms → AreRooms l new_rooms → AreFlags l new_rooms new_flags
-    → IsSearch l takes_back places new_rooms new_flags labels current new queue_capacity new_slots_capacity is_fresh
-    × (searched l places (rooms_with l takes_back new new_rooms) new.start new.goal takes_back
-    ≡ with_pairs (searched l places (rooms_with l takes_back w rooms) w.start w.goal takes_back) (lowered_along (pairs_at l places (rooms_with l takes_back w rooms)) k amount))
-is-lowered l takes_back places rooms flags labels current w queue_capacity slots_capacity k p amount new between_rooms between_flags new_rooms new_flags new_slots_capacity is along at holding same way off room start goal slots_same made sums told =
-    let before : List ℕ = rooms_with l takes_back w rooms in
-    let has = HasPlace-along l places before k amount is.places_are along in
-    let between = IsSearch-released l takes_back places rooms flags labels current w queue_capacity slots_capacity between_rooms between_flags new new_slots_capacity is holding same way start goal slots_same in
-    let lowered = IsSearch-lowered l takes_back places between_rooms between_flags labels current new queue_capacity new_slots_capacity p amount new_rooms new_flags between (omega (arith, at, has.within)) off
-    (omega (arith, has.enough, room, ap (λ q. get_or before q 0) at)) made sums told in
-    let long : length before ≡ length l.heads = length-settled l takes_back w.sent (filled_slots w) rooms ∙ is.holding.rooms_are.0 in
-    let after : rooms_with l takes_back new new_rooms ≡ pushed_once l false amount (get_or places k 0) before = lowered.1 ∙ ap (pushed_once l false amount p) same ∙ ap (λ q. pushed_once l false amount q before) at in (
-      lowered.0,
-      same-searched l places _ _ _ w.start _ w.goal takes_back after start goal
-          ∙ ap (with_pairs (searched l places before w.start w.goal takes_back)) (pairs-lowered l places before k amount is.links is.places_are long has),
+    rw made (
+      record {
+        aimed = subst (λ (x : Residual). IsAimed (record { residual = x; start = w.start; goal = w.goal }) labels w.capacity) (sym now) aimed;
+        holding = record {
+          rooms_are = subst (λ (x : Residual). AreRooms x.links x.rooms) made sums;
+          small = is.holding.small;
+          have = HaveLeft-set w.sent p (get_or r.rooms p 0 - amount) r.rooms (filled_slots w) off is.holding.have;
+        };
+        under_way = subst (λ (x : Residual). IsUnderWay l labels x.rooms v.current w) (sym now) goes_on;
+      },
+      now,
     )
+
+-- The room of the link along a pair is lowered, while the link is in no slot.
+pub record IsLowered (r : Residual) (places : List ℕ) (v : Labelling) (w : Way) (k amount : ℕ) (next : Residual) : Type 0 where
+  pub searching : IsSearching next v w
+  pub gives : searched (sought next w) places
+      ≡ with_pairs (searched (sought r w) places) (lowered_along (pairs_at r.links places (told r w).rooms) k amount)
+
+pub is-lowered : (r : Residual) (places : List ℕ) (v : Labelling) (w : Way) (k p amount : ℕ) (next : Residual) → IsSearching r v w → ArePlaces r.links places
+    → HasPlace r.links places (told r w).rooms k amount → p ≡ get_or places k 0 → IsOff p (places_of (filled_slots w))
+    → get_or (told r w).rooms p 0 ≡ get_or r.rooms p 0 → next ≡ lowered r p amount → AreRooms next.links next.rooms
+    → IsLowered r places v w k amount next
+is-lowered r places v w k p amount next is are has at off room made sums =
+    let before : List ℕ = (told r w).rooms in
+    let within : p < length r.links.heads = omega (arith, at, has.within) in
+    let enough : amount ≤ get_or r.rooms p 0 = omega (arith, has.enough, room, ap (λ q. get_or before q 0) at) in
+    let long : length before ≡ length r.links.heads = length-settled r.links r.takes_back w.sent (filled_slots w) r.rooms ∙ is.holding.rooms_are.0 in
+    let low = searching-lowered r v w p amount next is within off enough made sums in
+    record {
+      searching = low.0;
+      gives = ap (λ (x : Residual). searched (record { residual = x; start = w.start; goal = w.goal }) places) low.1
+          ∙ ap (with_pairs (searched (sought r w) places)) (ap (λ q. pairs_at r.links places (pushed_once r.links false amount q before)) at
+          ∙ pairs-lowered r.links places before k amount is.aimed.links are long has);
+    }

@@ -1,17 +1,15 @@
 -- The rooms of one pair's links are set.
-use Rattle.std.proofs.Common.{ℕ, ◌≡◌, ◌≢◌, ◌+◌, ◌^◌, ◌<◌, Bool, List, length, get_or, set, refl, ap, sym, ◌∙◌, subst, arith, ⊎_elim, eq-eqb, inl, inr, get_or-set_other, get_or-set_same, length-set, Option, None}
+use Rattle.std.proofs.Common.{ℕ, ◌≡◌, ◌≢◌, ◌<◌, List, length, get_or, set, refl, ap, sym, ◌∙◌, arith, ⊎_elim, eq-eqb, inl, inr, get_or-set_other, get_or-set_same, length-set, Option, None}
 use Rattle.std.specs.Option.{option_map}
 use Rattle.std.proofs.lemmas.Bool.{cases_eq, ne_eqb}
 use Rattle.std.proofs.lemmas.List.{get_or-map, set-get_or}
 use Rattle.dmf_path.specs.declared.pair.Pair.{Pair}
-use Rattle.dmf_path.specs.Links.{Links, AreLinks, ArePlaces, AreRooms, AreFlags, IsOf, no_place, open_flag, tail_of, pair_at, pairs_at}
+use Rattle.dmf_path.specs.Links.{Links, AreLinks, ArePlaces, IsOf, no_place, tail_of, pair_at, pairs_at}
 use Rattle.dmf_path.specs.Walk.{rooms_set}
-use Rattle.dmf_path.specs.Search.{pair_with, with_pairs, with_rooms}
-use Rattle.dmf_path.specs.Searching.{searched}
+use Rattle.dmf_path.specs.Search.{pair_with, with_rooms}
 use Rattle.dmf_path.proofs.LinkPlaces.{partner-other}
 use Rattle.dmf_path.proofs.Lowered.{map-set}
 use Rattle.dmf_path.proofs.PushedPairs.{pair-rooms}
-use Rattle.dmf_path.proofs.Pushing.{is_beside, own, partner, other}
 
 -- the room of the link itself
 set-own : (l : Links) (p along against : ℕ) (rooms : List ℕ) → AreLinks l → length rooms ≡ length l.heads → p < length l.heads → get_or (rooms_set l p along against rooms) p 0 ≡ along
@@ -27,37 +25,6 @@ set-partner l p along against rooms links long within =
 -- The other rooms stay.
 set-other : (l : Links) (p q along against : ℕ) (rooms : List ℕ) → q ≢ p → q ≢ get_or l.partners p 0 → get_or (rooms_set l p along against rooms) q 0 ≡ get_or rooms q 0
 set-other l p q along against rooms apart beside = get_or-set_other (set rooms p along) (get_or l.partners p 0) q against 0 beside ∙ get_or-set_other rooms p q along 0 apart
-
--- Those of each pair fit 64 bits together,
-pub AreRooms-set : (l : Links) (p along against : ℕ) (rooms : List ℕ) → AreLinks l → AreRooms l rooms → p < length l.heads → along + against < 2 ^ 64 → AreRooms l (rooms_set l p along against rooms)
-AreRooms-set l p along against rooms links are within fits = (
-  length-set (set rooms p along) (get_or l.partners p 0) against ∙ length-set rooms p along ∙ are.0,
-  λ q h.
-      let after = rooms_set l p along against rooms in
-      let mine = set-own l p along against rooms links are.0 within in
-      let its = set-partner l p along against rooms links are.0 within in
-      elim (is_beside l p q links within h) [
-        | own same ↦ subst (λ r. get_or after r 0 + get_or after (get_or l.partners r 0) 0 < 2 ^ 64) (sym same) (omega (arith, mine, its, fits))
-        | partner same back ↦ rw (back, same) (omega (arith, mine, its, fits))
-        | other a b c d ↦ rw (set-other l p q along against rooms a b, set-other l p (get_or l.partners q 0) along against rooms c d) (are.1 q h)
-      ],
-)
-
--- and the flags of both links tell of them.
-pub AreFlags-set : (l : Links) (p along against : ℕ) (rooms flags : List ℕ) → AreLinks l → length rooms ≡ length l.heads → AreFlags l rooms flags → p < length l.heads
-    → AreFlags l (rooms_set l p along against rooms) (set (set flags (get_or l.partners p 0) (open_flag along)) p (open_flag against))
-AreFlags-set l p along against rooms flags links long told within =
-    let partner_in = (links.each p within).partner in
-    let mine = set-own l p along against rooms links long within in
-    let its = set-partner l p along against rooms links long within in (
-      length-set (set flags (get_or l.partners p 0) (open_flag along)) p (open_flag against) ∙ length-set flags (get_or l.partners p 0) (open_flag along) ∙ told.0,
-      λ q h.
-          elim (is_beside l p q links within h) [
-            | own same ↦ rw same (get_or-set_same _ p _ 0 (omega (arith, told.0, within, length-set flags (get_or l.partners p 0) (open_flag along))) ∙ sym (ap open_flag its))
-            | partner same back ↦ rw (back, same) (get_or-set_other _ p _ _ 0 (partner-other l p links within) ∙ get_or-set_same flags _ _ 0 (omega (arith, told.0, partner_in)) ∙ sym (ap open_flag mine))
-            | other a b c d ↦ get_or-set_other _ p q _ 0 a ∙ get_or-set_other flags _ q _ 0 b ∙ told.1 q h ∙ sym (ap open_flag (set-other l p (get_or l.partners q 0) along against rooms c d))
-          ],
-    )
 
 -- So the pairs have them at the pair's index,
 pub pairs-set : (l : Links) (places rooms : List ℕ) (k along against : ℕ) → AreLinks l → ArePlaces l places → length rooms ≡ length l.heads → k < length places → get_or places k 0 ≢ no_place
@@ -91,14 +58,3 @@ pairs-unset l places rooms k along against index none =
     ap (λ (o : Option Pair). set (pairs_at l places rooms) k (option_map (pair_with along against) o)) there
     ∙ ap (set (pairs_at l places rooms) k) (sym there)
     ∙ set-get_or (pairs_at l places rooms) k None
-
--- What callers see then.
-pub set-searched : (l : Links) (places rooms : List ℕ) (start goal : ℕ) (takes_back : Bool) (k along against : ℕ) → AreLinks l → ArePlaces l places → length rooms ≡ length l.heads → k < length places → get_or places k 0 ≢ no_place
-    → searched l places (rooms_set l (get_or places k 0) along against rooms) start goal takes_back ≡ with_pairs (searched l places rooms start goal takes_back) (with_rooms (pairs_at l places rooms) k along against)
-set-searched l places rooms start goal takes_back k along against links are long index there =
-    ap (with_pairs (searched l places rooms start goal takes_back)) (pairs-set l places rooms k along against links are long index there)
-
-pub unset-searched : (l : Links) (places rooms : List ℕ) (start goal : ℕ) (takes_back : Bool) (k along against : ℕ) → k < length places → get_or places k 0 ≡ no_place
-    → with_pairs (searched l places rooms start goal takes_back) (with_rooms (pairs_at l places rooms) k along against) ≡ searched l places rooms start goal takes_back
-unset-searched l places rooms start goal takes_back k along against index none =
-    ap (with_pairs (searched l places rooms start goal takes_back)) (pairs-unset l places rooms k along against index none)

@@ -1,190 +1,168 @@
 -- What a search keeps, from one call to the next.
-use Rattle.std.proofs.Common.{ℕ, ◌≡◌, ◌≢◌, ◌+◌, ◌%◌, ◌^◌, ◌<◌, ◌≤◌, Bool, true, false, List, [], length, get_or, refl, ap, sym, ◌∙◌, subst, arith}
-use Rattle.std.proofs.lemmas.List.{length-drop, nil_from_length}
+use Rattle.std.proofs.Common.{ℕ, ◌≡◌, ◌≢◌, ◌^◌, ◌<◌, ◌≤◌, Bool, true, List, [], length, get_or, refl, ap, sym, ◌∙◌, subst, arith}
+use Rattle.std.proofs.lemmas.List.{length-drop, nil_from_length, drop_all}
 use Rattle.dmf_path.specs.declared.trail.Slot.{Slot}
 use Rattle.dmf_node.specs.Node.{IsNode}
-use Rattle.dmf_path.specs.Links.{Links, AreLinks, ArePlaces, AreRooms, AreFlags}
-use Rattle.dmf_path.specs.Walk.{AreCurrent, end_of}
-use Rattle.dmf_path.specs.BothEnds.{AreSound}
-use Rattle.dmf_path.specs.Held.{Way, places_of, walked_slots, rest_slots, settled, rooms_with, emptied, with_slots}
-use Rattle.dmf_path.specs.declared.search.AugmentingPath.{AugmentingPath}
-use Rattle.dmf_path.specs.Search.{Searched, Augments}
-use Rattle.dmf_path.specs.Searching.{IsUnderWay, IsHolding, IsFresh, IsMarked, begun, fresh, IsSearch, fresh_labels, searched}
-use Rattle.dmf_path.proofs.Pushed.{ArePassed-opens}
-use Rattle.dmf_path.proofs.Gated.{sound-opens}
-use Rattle.dmf_path.proofs.Beginning.{begins-fresh, passed-fresh, sound-fresh}
-use Rattle.dmf_path.proofs.SettledSent.{HaveLeft-sent}
-use Rattle.dmf_path.proofs.Settling.{rooms_with-free, holding-free, way-free, way-emptied}
-use Rattle.dmf_path.proofs.Searching.{CanAugment}
-use Rattle.dmf_path.proofs.Splitting.{IsSent, HasSplit}
+use Rattle.dmf_path.specs.Links.{Links, AreLinks, ArePlaces, AreRooms}
+use Rattle.dmf_path.specs.Walk.{AreCurrent, ArePassed, end_of}
+use Rattle.dmf_path.specs.Held.{Way, places_of, rest_slots, filled_slots, IsOff, emptied, with_slots}
+use Rattle.dmf_path.specs.Residual.{Residual, told}
+use Rattle.dmf_path.specs.Searching.{IsUnderWay, Labelling, Sought, sought, IsAimed, IsSearching, IsFresh, IsMarked, begun, fresh, IsSearch, fresh_labels}
+use Rattle.dmf_path.proofs.Beginning.{BeginsFresh, begins-fresh, passed-fresh, sound-fresh}
+use Rattle.dmf_path.proofs.Settled.{AreRooms-settled}
+use Rattle.dmf_path.proofs.Settling.{told-free, holding-free, way-free, way-emptied}
 
--- with free slots, where nothing falls
-free-search : (l : Links) (takes_back : Bool) (places rooms flags labels current : List ℕ) (w : Way) (queue_capacity slots_capacity : ℕ) → AreLinks l → ArePlaces l places → AreRooms l rooms → AreFlags l rooms flags → w.sent < 2 ^ 64
-    → length labels ≡ l.nodes + 1 → IsFresh l labels w.start → get_or labels w.goal 0 ≡ 0 → AreCurrent l current → IsNode l.nodes w.start → IsNode l.nodes w.goal → w.start ≢ w.goal → l.nodes + 1 ≤ queue_capacity → l.nodes ≤ slots_capacity
-    → IsSearch l takes_back places rooms flags labels current (with_slots w []) queue_capacity slots_capacity true
-free-search l takes_back places rooms flags labels current w queue_capacity slots_capacity links places_are sums told small one_label_each is_fresh goal_label current_is start_is goal_is apart queue_capacity_is slots_capacity_is = record {
+-- what a search looks for paths in where nothing is held
+abbrev pub plainly : Residual → Way → Sought
+plainly r w = record { residual = r; start = w.start; goal = w.goal }
+
+-- With free slots, where nothing was passed that leads to the goal, a search begins.
+pub searching-free : (r : Residual) (v : Labelling) (w : Way) (slots : List Slot) → IsAimed (plainly r w) v.labels w.capacity
+    → AreRooms r.links r.rooms → w.sent < 2 ^ 64 → AreCurrent r.links v.current → ArePassed r.links v.labels r.rooms w.goal v.current
+    → length slots ≡ get_or v.labels w.start 0 → get_or v.labels w.goal 0 ≡ 0 → IsSearching r v (with_slots w slots)
+searching-free r v w slots aimed sums small current passed count goal_label =
+    let free : told r (with_slots w slots) ≡ r = told-free r w slots in
+    record {
+      aimed = subst (λ (x : Residual). IsAimed (plainly x w) v.labels w.capacity) (sym free) aimed;
+      holding = holding-free r.links w slots r.rooms sums small;
+      under_way = subst (λ (x : Residual). IsUnderWay r.links v.labels x.rooms v.current (with_slots w slots)) (sym free)
+          (way-free r.links v.labels r.rooms v.current w slots aimed.goal_is current passed count goal_label);
+    }
+
+-- Between these ends nothing falls.
+pub aimed-fresh : (r : Residual) (labels : List ℕ) (start goal capacity : ℕ) → AreLinks r.links → BeginsFresh r.links labels start goal
+    → IsNode r.links.nodes start → IsNode r.links.nodes goal → start ≢ goal → r.links.nodes ≤ capacity
+    → IsAimed (record { residual = r; start = start; goal = goal }) labels capacity
+aimed-fresh r labels start goal capacity links begins start_is goal_is apart capacity_is = record {
   links = links;
-  places_are = places_are;
-  holding = holding-free l w [] rooms flags sums told small;
-  one_label_each = one_label_each;
-  start_label = omega (arith, is_fresh.label);
-  sound = sound-fresh l labels (rooms_with l takes_back (with_slots w []) rooms) w.start one_label_each is_fresh;
-  under_way = way-free l labels (rooms_with l takes_back (with_slots w []) rooms) current w [] goal_is current_is
-      (passed-fresh l labels (rooms_with l takes_back (with_slots w []) rooms) w.start w.goal current links is_fresh) (omega (arith, is_fresh.label)) goal_label;
+  one_label_each = begins.long;
+  start_label = omega (arith, begins.fresh.label);
+  sound = sound-fresh r.links labels r.rooms start begins.long begins.fresh;
   start_is = start_is;
   goal_is = goal_is;
   apart = apart;
-  queue_capacity_is = queue_capacity_is;
-  slots_capacity_is = slots_capacity_is;
-  marked = fresh is_fresh;
+  capacity_is = capacity_is;
 }
 
--- what a trail keeps, between other ends
-abbrev pub between : Way → ℕ → ℕ → Way
-between w start goal = record { slots = w.slots; walked = w.walked; rest = w.rest; joint = w.joint; sent = w.sent; start = start; goal = goal }
+-- So a search begins anew.
+pub searching-fresh : (r : Residual) (v : Labelling) (w : Way) → AreLinks r.links → AreRooms r.links r.rooms → w.sent < 2 ^ 64
+    → IsNode r.links.nodes w.start → IsNode r.links.nodes w.goal → w.start ≢ w.goal → r.links.nodes ≤ w.capacity
+    → BeginsFresh r.links v.labels w.start w.goal → AreCurrent r.links v.current → IsSearching r v (with_slots w [])
+searching-fresh r v w links sums small start goal apart capacity begins current =
+    searching-free r v w [] (aimed-fresh r v.labels w.start w.goal w.capacity links begins start goal apart capacity) sums small current
+    (passed-fresh r.links v.labels r.rooms w.start w.goal v.current links begins.fresh) (sym begins.fresh.label) begins.goal_label
 
--- where a search begins
-pub IsSearch-fresh : (l : Links) (takes_back : Bool) (places rooms flags labels current : List ℕ) (w new : Way) (queue_capacity slots_capacity : ℕ) → AreLinks l → ArePlaces l places → AreRooms l rooms → AreFlags l rooms flags → w.sent < 2 ^ 64
-    → IsNode l.nodes w.start → IsNode l.nodes w.goal → w.start ≢ w.goal → labels ≡ fresh_labels l.nodes w.start w.goal → AreCurrent l current → new ≡ with_slots w [] → l.nodes + 1 ≤ queue_capacity → l.nodes ≤ slots_capacity
-    → IsSearch l takes_back places rooms flags labels current new queue_capacity slots_capacity true
-IsSearch-fresh l takes_back places rooms flags labels current w new queue_capacity slots_capacity links places_are sums told small start_is goal_is apart labelled current_is same queue_capacity_is slots_capacity_is =
-    let begins = begins-fresh l w.start w.goal start_is goal_is apart in
-    let at = free-search l takes_back places rooms flags (fresh_labels l.nodes w.start w.goal) current w queue_capacity slots_capacity links places_are sums told small begins.long begins.fresh begins.goal_label current_is start_is goal_is apart queue_capacity_is slots_capacity_is in
-    subst (λ (u : Way). IsSearch l takes_back places rooms flags labels current u queue_capacity slots_capacity true) (sym same)
-    (subst (λ ls. IsSearch l takes_back places rooms flags ls current (with_slots w []) queue_capacity slots_capacity true) (sym labelled) at)
-
--- between the same ends, with other labels and current links, where other rooms are told
-pub IsSearch-next : {is_fresh : Bool} (l : Links) (takes_back : Bool) (places rooms flags labels current : List ℕ) (w : Way) (queue_capacity slots_capacity : ℕ) (new_rooms new_flags new_labels new_current after : List ℕ) (new : Way) (new_queue_capacity new_slots_capacity : ℕ) (marked_fresh : Bool)
-    → IsSearch l takes_back places rooms flags labels current w queue_capacity slots_capacity is_fresh
-    → length new_labels ≡ length labels → get_or new_labels w.start 0 ≤ l.nodes → IsHolding l new new_rooms new_flags → rooms_with l takes_back new new_rooms ≡ after
-    → AreSound l new_labels after (get_or new_labels w.start 0) → IsUnderWay l new_labels after new_current new → new.start ≡ w.start → new.goal ≡ w.goal
-    → new_queue_capacity ≡ queue_capacity → new_slots_capacity ≡ slots_capacity → IsMarked l new_labels w.start marked_fresh
-    → IsSearch l takes_back places new_rooms new_flags new_labels new_current new new_queue_capacity new_slots_capacity marked_fresh
-IsSearch-next l takes_back places rooms flags labels current w queue_capacity slots_capacity new_rooms new_flags new_labels new_current after new new_queue_capacity new_slots_capacity marked_fresh is long label holding same sound way start goal queue_same slots_same marked = record {
-  links = is.links;
-  places_are = is.places_are;
-  holding = holding;
-  one_label_each = long ∙ is.one_label_each;
-  start_label = omega (arith, label, ap (λ v. get_or new_labels v 0) start);
-  sound = subst (λ rs. AreSound l new_labels rs (get_or new_labels new.start 0)) (sym same) (subst (λ v. AreSound l new_labels after (get_or new_labels v 0)) (sym start) sound);
-  under_way = subst (λ rs. IsUnderWay l new_labels rs new_current new) (sym same) way;
-  start_is = subst (IsNode l.nodes) (sym start) is.start_is;
-  goal_is = subst (IsNode l.nodes) (sym goal) is.goal_is;
-  apart = λ e. is.apart (sym start ∙ e ∙ goal);
-  queue_capacity_is = omega (arith, is.queue_capacity_is, queue_same);
-  slots_capacity_is = omega (arith, is.slots_capacity_is, slots_same);
-  marked = subst (λ v. IsMarked l new_labels v marked_fresh) (sym start) marked;
-}
-
--- after looking for a path
-pub IsSearch-found : {is_fresh : Bool} (l : Links) (takes_back : Bool) (places rooms flags labels current : List ℕ) (w : Way) (queue_capacity slots_capacity : ℕ) (new_rooms new_flags new_labels new_current : List ℕ) (new : Way) (new_queue_capacity new_slots_capacity : ℕ)
-    → IsSearch l takes_back places rooms flags labels current w queue_capacity slots_capacity is_fresh
-    → length new_labels ≡ length labels → get_or new_labels w.start 0 ≤ l.nodes → IsHolding l new new_rooms new_flags → rooms_with l takes_back new new_rooms ≡ rooms_with l takes_back w rooms
-    → AreSound l new_labels (rooms_with l takes_back w rooms) (get_or new_labels w.start 0) → IsUnderWay l new_labels (rooms_with l takes_back w rooms) new_current new
-    → new.start ≡ w.start → new.goal ≡ w.goal → new_queue_capacity ≡ queue_capacity → new_slots_capacity ≡ slots_capacity
-    → IsSearch l takes_back places new_rooms new_flags new_labels new_current new new_queue_capacity new_slots_capacity false
-IsSearch-found l takes_back places rooms flags labels current w queue_capacity slots_capacity new_rooms new_flags new_labels new_current new new_queue_capacity new_slots_capacity is long label holding same sound way start goal queue_same slots_same =
-    IsSearch-next l takes_back places rooms flags labels current w queue_capacity slots_capacity new_rooms new_flags new_labels new_current (rooms_with l takes_back w rooms) new new_queue_capacity new_slots_capacity false is long label holding same sound way start goal queue_same slots_same (begun refl)
-
--- what a trail keeps once so much more is sent
-abbrev pub sent_on : Way → ℕ → Way
-sent_on w amount = record { slots = w.slots; walked = w.walked; rest = w.rest; joint = w.joint; sent = (w.sent + amount) % 2 ^ 64; start = w.start; goal = w.goal }
-
--- Along the path that was found more is sent.
-pub is-sent : {is_fresh : Bool} (l : Links) (takes_back : Bool) (places rooms flags labels current : List ℕ) (w : Way) (queue_capacity slots_capacity limit amount : ℕ) → IsSearch l takes_back places rooms flags labels current w queue_capacity slots_capacity is_fresh
-    → end_of l w.start (places_of (walked_slots w)) ≡ w.joint → CanAugment l takes_back places rooms labels current w limit amount → IsSent l takes_back labels (rooms_with l takes_back w rooms) current (sent_on w amount) rooms
-is-sent l takes_back places rooms flags labels current w queue_capacity slots_capacity limit amount is joins can = record {
-  links = is.links;
-  start_is = is.start_is;
-  trail = can.whole.trail;
-  ends = can.whole.ends;
-  joins = joins;
-  current_is = is.under_way.walking.current_is;
-  passed = ArePassed-opens l labels (rooms_with l takes_back w rooms) (settled l takes_back ((w.sent + amount) % 2 ^ 64) w.slots rooms) w.goal current is.links can.opens is.under_way.walking.passed;
-  meets = can.whole.meets;
-  filled = can.whole.filled;
-  within = is.under_way.within;
-  one_slot_each = is.under_way.one_slot_each;
-  goal_label = is.under_way.goal_label;
-  have = HaveLeft-sent w.sent amount rooms w.slots is.holding.small can.can can.have;
-  small = omega arith;
-  rooms_are = is.holding.rooms_are;
-  descends = can.descends;
-}
-
--- after the path is split
-pub IsSearch-split : (l : Links) (takes_back : Bool) (places rooms flags labels current : List ℕ) (w : Way) (queue_capacity slots_capacity limit amount : ℕ) (new_rooms new_flags : List ℕ) (new : Way) (new_slots_capacity : ℕ)
-    → IsSearch l takes_back places rooms flags labels current w queue_capacity slots_capacity false → CanAugment l takes_back places rooms labels current w limit amount
-    → HasSplit l takes_back labels (settled l takes_back ((w.sent + amount) % 2 ^ 64) w.slots rooms) current new new_rooms new_flags
-    → new.start ≡ w.start → new.goal ≡ w.goal → new_slots_capacity ≡ slots_capacity → IsSearch l takes_back places new_rooms new_flags labels current new queue_capacity new_slots_capacity false
-IsSearch-split l takes_back places rooms flags labels current w queue_capacity slots_capacity limit amount new_rooms new_flags new new_slots_capacity is can split start goal slots_same =
-    let after : List ℕ = settled l takes_back ((w.sent + amount) % 2 ^ 64) w.slots rooms in
-    let sound = sound-opens l labels (rooms_with l takes_back w rooms) after (get_or labels w.start 0) is.links can.opens is.sound in
-    IsSearch-next l takes_back places rooms flags labels current w queue_capacity slots_capacity new_rooms new_flags labels current after new queue_capacity new_slots_capacity false is refl is.start_label split.holding split.same sound split.way start goal refl slots_same (begun refl)
-
--- after all links have left, or some
-pub IsSearch-released : {is_fresh : Bool} (l : Links) (takes_back : Bool) (places rooms flags labels current : List ℕ) (w : Way) (queue_capacity slots_capacity : ℕ) (new_rooms new_flags : List ℕ) (new : Way) (new_slots_capacity : ℕ)
-    → IsSearch l takes_back places rooms flags labels current w queue_capacity slots_capacity is_fresh → IsHolding l new new_rooms new_flags → rooms_with l takes_back new new_rooms ≡ rooms_with l takes_back w rooms
-    → IsUnderWay l labels (rooms_with l takes_back w rooms) current new → new.start ≡ w.start → new.goal ≡ w.goal → new_slots_capacity ≡ slots_capacity
-    → IsSearch l takes_back places new_rooms new_flags labels current new queue_capacity new_slots_capacity is_fresh
-IsSearch-released {is_fresh = is_fresh} l takes_back places rooms flags labels current w queue_capacity slots_capacity new_rooms new_flags new new_slots_capacity is holding same way start goal slots_same =
-    IsSearch-next l takes_back places rooms flags labels current w queue_capacity slots_capacity new_rooms new_flags labels current (rooms_with l takes_back w rooms) new queue_capacity new_slots_capacity is_fresh is refl is.start_label holding same is.sound way start goal refl slots_same is.marked
-
-pub IsSearch-settled : {is_fresh : Bool} (l : Links) (takes_back : Bool) (places rooms flags labels current : List ℕ) (w : Way) (queue_capacity slots_capacity : ℕ) (new_rooms new_flags : List ℕ) (new : Way) (new_slots_capacity : ℕ)
-    → IsSearch l takes_back places rooms flags labels current w queue_capacity slots_capacity is_fresh → new_rooms ≡ rooms_with l takes_back w rooms → AreRooms l new_rooms → AreFlags l new_rooms new_flags
-    → new ≡ emptied w → new_slots_capacity ≡ slots_capacity
-    → IsSearch l takes_back places new_rooms new_flags labels current new queue_capacity new_slots_capacity is_fresh × (rooms_with l takes_back new new_rooms ≡ rooms_with l takes_back w rooms)
-IsSearch-settled l takes_back places rooms flags labels current w queue_capacity slots_capacity new_rooms new_flags new new_slots_capacity is put sums told empty slots_same =
-    let same : rooms_with l takes_back new new_rooms ≡ rooms_with l takes_back w rooms = ap (λ (u : Way). rooms_with l takes_back u new_rooms) empty ∙ rooms_with-free l takes_back w w.slots new_rooms ∙ put in (
-      IsSearch-released l takes_back places rooms flags labels current w queue_capacity slots_capacity new_rooms new_flags new new_slots_capacity is
-          (subst (λ (u : Way). IsHolding l u new_rooms new_flags) (sym empty) (holding-free l w w.slots new_rooms new_flags sums told is.holding.small)) same
-          (subst (λ (u : Way). IsUnderWay l labels (rooms_with l takes_back w rooms) current u) (sym empty) (way-emptied l labels (rooms_with l takes_back w rooms) current w is.goal_is is.under_way))
-          (ap (λ (u : Way). u.start) empty) (ap (λ (u : Way). u.goal) empty) slots_same,
-      same,
+pub searching-anew : (r : Residual) (v : Labelling) (w : Way) (labelling : Labelling) (start goal : ℕ) (new : Way) → IsSearching r v w
+    → IsNode r.links.nodes start → IsNode r.links.nodes goal → start ≢ goal
+    → labelling.labels ≡ fresh_labels r.links.nodes start goal → labelling.current ≡ v.current
+    → new ≡ with_slots (record w { start = start; goal = goal }) [] → IsSearching r labelling new × IsFresh r.links labelling.labels new.start
+searching-anew r v w labelling start goal new is start_is goal_is apart labelled same way =
+    let begins = subst (λ ls. BeginsFresh r.links ls start goal) (sym labelled) (begins-fresh r.links start goal start_is goal_is apart) in
+    let current : AreCurrent r.links labelling.current = subst (AreCurrent r.links) (sym same) is.under_way.walking.current_is in
+    rw way (
+      searching-fresh r labelling (record w { start = start; goal = goal }) is.aimed.links is.holding.rooms_are is.holding.small start_is goal_is apart
+          is.aimed.capacity_is begins current,
+      begins.fresh,
     )
 
--- after all links have left and ends are set, the same ones or others
-pub IsSearch-anew : {is_fresh : Bool} (l : Links) (takes_back : Bool) (places rooms flags labels current : List ℕ) (w : Way) (queue_capacity slots_capacity start goal : ℕ) (new_rooms new_flags new_labels new_current : List ℕ) (new : Way) (new_queue_capacity new_slots_capacity : ℕ)
-    → IsSearch l takes_back places rooms flags labels current w queue_capacity slots_capacity is_fresh → AreRooms l new_rooms → AreFlags l new_rooms new_flags → IsNode l.nodes start → IsNode l.nodes goal → start ≢ goal
-    → new_labels ≡ fresh_labels l.nodes start goal → new_current ≡ current → new ≡ with_slots (between w start goal) [] → new_queue_capacity ≡ queue_capacity → new_slots_capacity ≡ slots_capacity
-    → IsSearch l takes_back places new_rooms new_flags new_labels new_current new new_queue_capacity new_slots_capacity true
-IsSearch-anew l takes_back places rooms flags labels current w queue_capacity slots_capacity start goal new_rooms new_flags new_labels new_current new new_queue_capacity new_slots_capacity is sums told start_is goal_is apart labelled current_same same queue_same slots_same =
-    IsSearch-fresh l takes_back places new_rooms new_flags new_labels new_current (between w start goal) new new_queue_capacity new_slots_capacity is.links is.places_are sums told is.holding.small start_is goal_is apart labelled
-    (subst (AreCurrent l) (sym current_same) is.under_way.walking.current_is) same (omega (arith, is.queue_capacity_is, queue_same)) (omega (arith, is.slots_capacity_is, slots_same))
+-- After all links have left, the search goes on,
+pub searching-settled : (r : Residual) (v : Labelling) (w : Way) (next : Residual) (new : Way) → IsSearching r v w → next ≡ told r w → new ≡ emptied w
+    → IsSearching next v new
+searching-settled r v w next new is links way =
+    let free : told (told r w) (emptied w) ≡ told r w = told-free (told r w) w w.slots in
+    rw (links, way) (record {
+      aimed = subst (λ (x : Residual). IsAimed (plainly x w) v.labels w.capacity) (sym free) is.aimed;
+      holding = holding-free r.links w w.slots (told r w).rooms
+          (AreRooms-settled r.links r.takes_back w.sent (filled_slots w) r.rooms is.aimed.links is.holding.rooms_are) is.holding.small;
+      under_way = subst (λ (x : Residual). IsUnderWay r.links v.labels x.rooms v.current (emptied w)) (sym free)
+          (way-emptied r.links v.labels (told r w).rooms v.current w is.aimed.goal_is is.under_way);
+    })
+
+-- and looks for the same.
+pub plainly-settled : (r : Residual) (w : Way) (next : Residual) (new : Way) → next ≡ told r w → new ≡ emptied w → plainly next new ≡ sought r w
+plainly-settled r w next new links way = λ i. plainly (links i) (way i)
+
+pub sought-free : (r : Residual) (w new : Way) (slots : List Slot) → new ≡ with_slots w slots → sought r new ≡ plainly r w
+sought-free r w new slots way = ap (sought r) way ∙ ap (λ (x : Residual). plainly x w) (told-free r w slots)
+
+pub told-settled : (w : Way) (next : Residual) (new : Way) → new ≡ emptied w → told next new ≡ next
+told-settled w next new way = ap (told next) way ∙ told-free next w w.slots
+
+-- no link is in a slot,
+pub off-settled : (w new : Way) (p : ℕ) → new ≡ emptied w → IsOff p (places_of (filled_slots new))
+off-settled w new p way = rw way (subst (λ (ss : List Slot). IsOff p (places_of ss)) (sym (drop_all (length w.slots) w.slots (omega arith))) tt)
+
+pub sought-settled : (r : Residual) (w : Way) (next : Residual) (new : Way) → next ≡ told r w → new ≡ emptied w → sought next new ≡ sought r w
+sought-settled r w next new links way = (λ i. sought (links i) (way i)) ∙ sought-free (told r w) w (emptied w) w.slots refl
 
 -- what a search that is marked as fresh says
-fresh-mark : (l : Links) (labels : List ℕ) (start : ℕ) → IsMarked l labels start true → IsFresh l labels start
+pub fresh-mark : (l : Links) (labels : List ℕ) (start : ℕ) → IsMarked l labels start true → IsFresh l labels start
 fresh-mark l labels start (begun e) = absurd (cc)
 fresh-mark l labels start (fresh is) = is
 
--- a fresh search keeps no slots
-fresh-way : (l : Links) (takes_back : Bool) (places rooms flags labels current : List ℕ) (w : Way) (queue_capacity slots_capacity : ℕ) → IsSearch l takes_back places rooms flags labels current w queue_capacity slots_capacity true → w ≡ with_slots w []
-fresh-way l takes_back places rooms flags labels current w queue_capacity slots_capacity is =
+-- no slots
+pub way-empty : (w : Way) → w.slots ≡ [] → w.walked ≡ 0 → w.rest ≡ 0 → w.joint ≡ w.goal → w ≡ with_slots w []
+way-empty w slots walked rest joint = λ i. record w { slots = slots i; walked = walked i; rest = rest i; joint = joint i }
+
+-- A fresh search keeps no slots,
+pub fresh-way : (r : Residual) (v : Labelling) (w : Way) → IsSearching r v w → IsFresh r.links v.labels w.start → w ≡ with_slots w []
+fresh-way r v w is is_fresh =
     let way = is.under_way in
-    let none : length w.slots ≡ 0 = way.one_slot_each ∙ (fresh-mark l labels w.start is.marked).label in
+    let none : length w.slots ≡ 0 = way.one_slot_each ∙ is_fresh.label in
     let slots : w.slots ≡ [] = nil_from_length w.slots none in
     let rest : rest_slots w ≡ [] = nil_from_length (rest_slots w) (omega (arith, length-drop w.rest w.slots, none)) in
     let walked : w.walked ≡ 0 = omega (arith, way.order, way.within, none) in
     let behind : w.rest ≡ 0 = omega (arith, way.within, none) in
-    let joint : w.joint ≡ w.goal = sym (ap (λ (ss : List Slot). end_of l w.joint (places_of ss)) rest) ∙ way.ends in
-    λ i. record { slots = slots i; walked = walked i; rest = behind i; joint = joint i; sent = w.sent; start = w.start; goal = w.goal }
+    let joint : w.joint ≡ w.goal = sym (ap (λ (ss : List Slot). end_of r.links w.joint (places_of ss)) rest) ∙ way.ends in
+    way-empty w slots walked behind joint
 
--- In a fresh search any rooms may stand,
-pub IsSearch-set : (l : Links) (takes_back : Bool) (places rooms flags labels current : List ℕ) (w : Way) (queue_capacity slots_capacity : ℕ) (new_rooms new_flags : List ℕ) → IsSearch l takes_back places rooms flags labels current w queue_capacity slots_capacity true
-    → AreRooms l new_rooms → AreFlags l new_rooms new_flags → IsSearch l takes_back places new_rooms new_flags labels current w queue_capacity slots_capacity true
-IsSearch-set l takes_back places rooms flags labels current w queue_capacity slots_capacity new_rooms new_flags is sums told =
-    let is_fresh = fresh-mark l labels w.start is.marked in
-    let at = free-search l takes_back places new_rooms new_flags labels current w queue_capacity slots_capacity is.links is.places_are sums told is.holding.small is.one_label_each is_fresh is.under_way.goal_label is.under_way.walking.current_is is.start_is is.goal_is is.apart is.queue_capacity_is is.slots_capacity_is in
-    subst (λ (u : Way). IsSearch l takes_back places new_rooms new_flags labels current u queue_capacity slots_capacity true) (sym (fresh-way l takes_back places rooms flags labels current w queue_capacity slots_capacity is)) at
+-- nothing is held in it,
+pub told-fresh : (r : Residual) (v : Labelling) (w : Way) (other : Residual) → IsSearching r v w → IsFresh r.links v.labels w.start → told other w ≡ other
+told-fresh r v w other is is_fresh = ap (told other) (fresh-way r v w is is_fresh) ∙ told-free other w []
 
--- and nothing is held.
-pub rooms_with-fresh : (l : Links) (takes_back : Bool) (places rooms flags labels current : List ℕ) (w : Way) (queue_capacity slots_capacity : ℕ) (others : List ℕ) → IsSearch l takes_back places rooms flags labels current w queue_capacity slots_capacity true → rooms_with l takes_back w others ≡ others
-rooms_with-fresh l takes_back places rooms flags labels current w queue_capacity slots_capacity others is =
-    ap (λ (u : Way). rooms_with l takes_back u others) (fresh-way l takes_back places rooms flags labels current w queue_capacity slots_capacity is) ∙ rooms_with-free l takes_back w [] others
+-- and any rooms may stand there.
+pub searching-set : (r : Residual) (v : Labelling) (w : Way) (next : Residual) → IsSearching r v w → IsFresh r.links v.labels w.start → next.links ≡ r.links
+    → AreRooms next.links next.rooms → IsSearching next v w
+searching-set r v w next is is_fresh same sums =
+    let a = is.aimed in
+    let links : AreLinks next.links = subst AreLinks (sym same) a.links in
+    let node : (x : ℕ) → IsNode r.links.nodes x → IsNode next.links.nodes x = λ x. subst (λ (l : Links). IsNode l.nodes x) (sym same) in
+    let current : AreCurrent next.links v.current = subst (λ (l : Links). AreCurrent l v.current) (sym same) is.under_way.walking.current_is in
+    let begins : BeginsFresh next.links v.labels w.start w.goal =
+    subst (λ (l : Links). BeginsFresh l v.labels w.start w.goal) (sym same) (record { long = a.one_label_each; goal_label = is.under_way.goal_label; fresh = is_fresh }) in
+    let capacity : next.links.nodes ≤ w.capacity = subst (λ (l : Links). l.nodes ≤ w.capacity) (sym same) a.capacity_is in
+    subst (IsSearching next v) (sym (fresh-way r v w is is_fresh))
+    (searching-fresh next v w links sums is.holding.small (node w.start a.start_is) (node w.goal a.goal_is) a.apart capacity begins current)
 
--- The same search is told of the same rooms and ends.
-pub same-searched : (l : Links) (places rooms others : List ℕ) (start from goal to : ℕ) (takes_back : Bool) → rooms ≡ others → start ≡ from → goal ≡ to → searched l places rooms start goal takes_back ≡ searched l places others from to takes_back
-same-searched l places rooms others start from goal to takes_back same starts goals = λ i. searched l places (same i) (starts i) (goals i) takes_back
+-- What a search keeps over the same links, and from the same start.
+pub search-next : (r : Residual) (places : List ℕ) (v : Labelling) (w : Way) (next : Residual) (labelling : Labelling) (new : Way) (was is_fresh : Bool)
+    → IsSearch r places v w was → next.links ≡ r.links → IsSearching next labelling new → IsMarked next.links labelling.labels new.start is_fresh
+    → IsSearch next places labelling new is_fresh
+search-next r places v w next labelling new was is_fresh is links searching marked = record {
+  places_are = subst (λ (l : Links). ArePlaces l places) (sym links) is.places_are;
+  searching = searching;
+  marked = marked;
+}
 
-pub augments-between : (limit : ℕ) (found : AugmentingPath) (old new from to : Searched) → old ≡ from → new ≡ to → Augments limit found old new → Augments limit found from to
-augments-between limit found old new from to before after augments = subst (λ s. Augments limit found s to) before (subst (λ s. Augments limit found old s) after augments)
+-- It is marked as before.
+pub same-mark : (r : Residual) (v : Labelling) (w : Way) (next : Residual) (new : Way) (is_fresh : Bool) → IsMarked r.links v.labels w.start is_fresh
+    → sought next new ≡ sought r w → IsMarked next.links v.labels new.start is_fresh
+same-mark r v w next new is_fresh marked same = subst (λ (s : Sought). IsMarked s.residual.links v.labels s.start is_fresh) (sym same) marked
+
+pub search-settled : (r : Residual) (places : List ℕ) (v : Labelling) (w : Way) (next : Residual) (new : Way) (is_fresh : Bool)
+    → IsSearch r places v w is_fresh → next ≡ told r w → new ≡ emptied w → IsSearch next places v new is_fresh
+search-settled r places v w next new is_fresh is links way =
+    search-next r places v w next v new is_fresh is_fresh is (ap (λ (x : Residual). x.links) links) (searching-settled r v w next new is.searching links way)
+    (same-mark r v w next new is_fresh is.marked (sought-settled r w next new links way))
+
+-- A search is made with the labels of a fresh one, and with no slots.
+pub search-new : (r : Residual) (places : List ℕ) (v : Labelling) (w new : Way) → AreLinks r.links → ArePlaces r.links places → AreRooms r.links r.rooms
+    → v.labels ≡ fresh_labels r.links.nodes w.start w.goal → AreCurrent r.links v.current → IsNode r.links.nodes w.start
+    → IsNode r.links.nodes w.goal → w.start ≢ w.goal → r.links.nodes ≤ w.capacity → w.sent < 2 ^ 64 → new ≡ with_slots w [] → IsSearch r places v new true
+search-new r places v w new links are sums labelled current start goal apart capacity small way =
+    let begins = subst (λ ls. BeginsFresh r.links ls w.start w.goal) (sym labelled) (begins-fresh r.links w.start w.goal start goal apart) in
+    rw way (record {
+      places_are = are;
+      searching = searching-fresh r v w links sums small start goal apart capacity begins current;
+      marked = fresh begins.fresh;
+    })

@@ -4,9 +4,10 @@ use Rattle.std.proofs.lemmas.Bool.{cases_lt}
 use Rattle.std.proofs.lemmas.List.{take-append-drop, drop-drop, take_more, take-map, get_or-map, get_or-take, get_or-drop, length-take, length-drop, length-map, map_push}
 use Rattle.dmf_path.specs.declared.trail.Slot.{Slot}
 use Rattle.dmf_node.specs.Node.{IsNode}
-use Rattle.dmf_path.specs.Links.{Links, AreLinks, AreRooms, AreFlags}
+use Rattle.dmf_path.specs.Links.{Links, AreLinks, AreRooms}
 use Rattle.dmf_path.specs.Walk.{AreCurrent, ArePassed, IsTrail, end_of}
-use Rattle.dmf_path.specs.Held.{Way, places_of, walked_slots, rest_slots, filled_slots, settled, rooms_with, HaveLeft, slot_at, IsSplit, stays, split_at}
+use Rattle.dmf_path.specs.Held.{Way, places_of, walked_slots, rest_slots, filled_slots, settled, HaveLeft, slot_at}
+use Rattle.dmf_path.specs.Residual.{Residual, roomed, told, IsSplit, stays, split_at}
 use Rattle.dmf_path.specs.Searching.{IsUnderWay, IsHolding}
 use Rattle.dmf_path.proofs.Walking.{end_of-push, end-node}
 use Rattle.dmf_path.proofs.Pushed.{IsTrail-open, IsTrail-take}
@@ -16,30 +17,30 @@ use Rattle.dmf_path.proofs.Leaving.{HaveAllLeft, have-all-left}
 use Rattle.dmf_path.proofs.UnderWayWhole.{IsTrail-behind, end_of-append, slot-open}
 
 -- A path in all slots, along which more was sent, so that some links may be full.
-pub record IsSent (l : Links) (takes_back : Bool) (labels before current : List ℕ) (w : Way) (rooms : List ℕ) : Type 0 where
-  pub links : AreLinks l
-  pub start_is : IsNode l.nodes w.start
-  pub trail : IsTrail l labels before current w.start (places_of w.slots)
-  pub ends : end_of l w.start (places_of w.slots) ≡ w.goal
-  pub joins : end_of l w.start (places_of (walked_slots w)) ≡ w.joint
-  pub current_is : AreCurrent l current
-  pub passed : ArePassed l labels (settled l takes_back w.sent w.slots rooms) w.goal current
+pub record IsSent (r : Residual) (labels before current : List ℕ) (w : Way) : Type 0 where
+  pub links : AreLinks r.links
+  pub start_is : IsNode r.links.nodes w.start
+  pub trail : IsTrail r.links labels before current w.start (places_of w.slots)
+  pub ends : end_of r.links w.start (places_of w.slots) ≡ w.goal
+  pub joins : end_of r.links w.start (places_of (walked_slots w)) ≡ w.joint
+  pub current_is : AreCurrent r.links current
+  pub passed : ArePassed r.links labels (settled r.links r.takes_back w.sent w.slots r.rooms) w.goal current
   pub meets : w.walked ≡ w.rest
   pub filled : filled_slots w ≡ w.slots
   pub within : w.rest ≤ length w.slots
   pub one_slot_each : length w.slots ≡ get_or labels w.start 0
   pub goal_label : get_or labels w.goal 0 ≡ 0
-  pub have : HaveLeft w.sent rooms w.slots
+  pub have : HaveLeft w.sent r.rooms w.slots
   pub small : w.sent < 2 ^ 64
-  pub rooms_are : AreRooms l rooms
-  pub descends : Descends l labels (get_or labels w.start 0) 0 (places_of w.slots)
+  pub rooms_are : AreRooms r.links r.rooms
+  pub descends : Descends r.links labels (get_or labels w.start 0) 0 (places_of w.slots)
 
 -- The links of its first slots, of which none is full, are a trail,
-front-open : (l : Links) (takes_back : Bool) (labels before current : List ℕ) (w : Way) (rooms : List ℕ) (n : ℕ) → IsSent l takes_back labels before current w rooms → ((i : ℕ) → i < n → i < length w.slots → (slot_at w.slots i).full_at ≢ w.sent)
-    → IsTrail l labels (settled l takes_back w.sent w.slots rooms) current w.start (places_of (take n w.slots))
-front-open l takes_back labels before current w rooms n is not_full =
-    IsTrail-open l labels before (settled l takes_back w.sent w.slots rooms) current w.start (places_of (take n w.slots))
-    (subst (IsTrail l labels before current w.start) (take-map (λ (s : Slot). s.place) n w.slots) (IsTrail-take l labels before current w.start n (places_of w.slots) is.trail))
+front-open : (r : Residual) (labels before current : List ℕ) (w : Way) (n : ℕ) → IsSent r labels before current w → ((i : ℕ) → i < n → i < length w.slots → (slot_at w.slots i).full_at ≢ w.sent)
+    → IsTrail r.links labels (settled r.links r.takes_back w.sent w.slots r.rooms) current w.start (places_of (take n w.slots))
+front-open r labels before current w n is not_full =
+    IsTrail-open r.links labels before (settled r.links r.takes_back w.sent w.slots r.rooms) current w.start (places_of (take n w.slots))
+    (subst (IsTrail r.links labels before current w.start) (take-map (λ (s : Slot). s.place) n w.slots) (IsTrail-take r.links labels before current w.start n (places_of w.slots) is.trail))
     (λ k d inside.
     let short : length (places_of (take n w.slots)) ≡ min n (length w.slots) = length-map (take n w.slots) (λ (s : Slot). s.place) ∙ length-take n w.slots in
     let below : k < n = omega (arith, inside, short) in
@@ -47,36 +48,36 @@ front-open l takes_back labels before current w rooms n is not_full =
     let read : get_or (places_of (take n w.slots)) k d ≡ (slot_at w.slots k).place =
     get_or-map (λ (s : Slot). s.place) (take n w.slots) k (record { place = 0; full_at = 0 }) d (omega (arith, inside, length-map (take n w.slots) (λ (s : Slot). s.place)))
     ∙ ap (λ (s : Slot). s.place) (get_or-take n w.slots k (record { place = 0; full_at = 0 }) below) in
-    let room = slot-open l takes_back labels w.sent (get_or labels w.start 0) 0 rooms w.slots k is.links is.rooms_are.0 is.small is.descends is.have here (not_full k below here) in
-    omega (arith, room, ap (λ p. get_or (settled l takes_back w.sent w.slots rooms) p 0) read))
+    let room = slot-open r.links r.takes_back labels w.sent (get_or labels w.start 0) 0 r.rooms w.slots k is.links is.rooms_are.0 is.small is.descends is.have here (not_full k below here) in
+    omega (arith, room, ap (λ p. get_or (settled r.links r.takes_back w.sent w.slots r.rooms) p 0) read))
 
 split-whole : (slots : List Slot) (n : ℕ) → places_of slots ≡ places_of (take n slots) ++ places_of (drop n slots)
 split-whole slots n = ap places_of (sym (take-append-drop n slots)) ∙ places-append (take n slots) (drop n slots)
 
 -- and so are those of its last ones.
-rest-open : (l : Links) (takes_back : Bool) (labels before current : List ℕ) (w : Way) (rooms : List ℕ) (n : ℕ) → IsSent l takes_back labels before current w rooms → ((i : ℕ) → n ≤ i → i < length w.slots → (slot_at w.slots i).full_at ≢ w.sent)
-    → IsTrail l labels (settled l takes_back w.sent w.slots rooms) current (end_of l w.start (places_of (take n w.slots))) (places_of (drop n w.slots))
-rest-open l takes_back labels before current w rooms n is not_full =
-    IsTrail-open l labels before (settled l takes_back w.sent w.slots rooms) current (end_of l w.start (places_of (take n w.slots))) (places_of (drop n w.slots))
-    (IsTrail-behind l labels before current w.start (places_of (take n w.slots)) (places_of (drop n w.slots)) (subst (IsTrail l labels before current w.start) (split-whole w.slots n) is.trail))
+rest-open : (r : Residual) (labels before current : List ℕ) (w : Way) (n : ℕ) → IsSent r labels before current w → ((i : ℕ) → n ≤ i → i < length w.slots → (slot_at w.slots i).full_at ≢ w.sent)
+    → IsTrail r.links labels (settled r.links r.takes_back w.sent w.slots r.rooms) current (end_of r.links w.start (places_of (take n w.slots))) (places_of (drop n w.slots))
+rest-open r labels before current w n is not_full =
+    IsTrail-open r.links labels before (settled r.links r.takes_back w.sent w.slots r.rooms) current (end_of r.links w.start (places_of (take n w.slots))) (places_of (drop n w.slots))
+    (IsTrail-behind r.links labels before current w.start (places_of (take n w.slots)) (places_of (drop n w.slots)) (subst (IsTrail r.links labels before current w.start) (split-whole w.slots n) is.trail))
     (λ k d inside.
     let short : length (places_of (drop n w.slots)) ≡ length w.slots - n = length-map (drop n w.slots) (λ (s : Slot). s.place) ∙ length-drop n w.slots in
     let here : n + k < length w.slots = omega (arith, inside, short) in
     let read : get_or (places_of (drop n w.slots)) k d ≡ (slot_at w.slots (n + k)).place =
     get_or-map (λ (s : Slot). s.place) (drop n w.slots) k (record { place = 0; full_at = 0 }) d (omega (arith, inside, length-map (drop n w.slots) (λ (s : Slot). s.place)))
     ∙ ap (λ (s : Slot). s.place) (get_or-drop n w.slots k (record { place = 0; full_at = 0 })) in
-    let room = slot-open l takes_back labels w.sent (get_or labels w.start 0) 0 rooms w.slots (n + k) is.links is.rooms_are.0 is.small is.descends is.have here (not_full (n + k) (omega arith) here) in
-    omega (arith, room, ap (λ p. get_or (settled l takes_back w.sent w.slots rooms) p 0) read))
+    let room = slot-open r.links r.takes_back labels w.sent (get_or labels w.start 0) 0 r.rooms w.slots (n + k) is.links is.rooms_are.0 is.small is.descends is.have here (not_full (n + k) (omega arith) here) in
+    omega (arith, room, ap (λ p. get_or (settled r.links r.takes_back w.sent w.slots r.rooms) p 0) read))
 
-rest-ends : (l : Links) (takes_back : Bool) (labels before current : List ℕ) (w : Way) (rooms : List ℕ) (n : ℕ) → IsSent l takes_back labels before current w rooms → end_of l (end_of l w.start (places_of (take n w.slots))) (places_of (drop n w.slots)) ≡ w.goal
-rest-ends l takes_back labels before current w rooms n is =
-    sym (end_of-append l w.start (places_of (take n w.slots)) (places_of (drop n w.slots))) ∙ ap (end_of l w.start) (sym (split-whole w.slots n)) ∙ is.ends
+rest-ends : (r : Residual) (labels before current : List ℕ) (w : Way) (n : ℕ) → IsSent r labels before current w → end_of r.links (end_of r.links w.start (places_of (take n w.slots))) (places_of (drop n w.slots)) ≡ w.goal
+rest-ends r labels before current w n is =
+    sym (end_of-append r.links w.start (places_of (take n w.slots)) (places_of (drop n w.slots))) ∙ ap (end_of r.links w.start) (sym (split-whole w.slots n)) ∙ is.ends
 
 -- What the split leaves.
-pub record HasSplit (l : Links) (takes_back : Bool) (labels after current : List ℕ) (new : Way) (rooms flags : List ℕ) : Type 0 where
-  pub way : IsUnderWay l labels after current new
-  pub holding : IsHolding l new rooms flags
-  pub same : rooms_with l takes_back new rooms ≡ after
+pub record HasSplit (r : Residual) (labels : List ℕ) (aim : Residual) (current : List ℕ) (w : Way) : Type 0 where
+  pub way : IsUnderWay r.links labels aim.rooms current w
+  pub holding : IsHolding r.links w r.rooms
+  pub same : told r w ≡ aim
 
 -- The links from index `first` on, before `behind`, can leave.
 pub middle-leaves : (l : Links) (takes_back : Bool) (labels : List ℕ) (sent top : ℕ) (rooms : List ℕ) (slots : List Slot) (first behind : ℕ) → AreLinks l → length rooms ≡ length l.heads → Descends l labels top 0 (places_of slots) → HaveLeft sent rooms slots → first < behind
@@ -93,71 +94,69 @@ middle-leaves l takes_back labels sent top rooms slots first behind links long d
           (subst (HaveLeft sent rooms) parts have),
     )
 
--- The ends of the path stay.
-pub split-start : (l : Links) (takes_back : Bool) (w new : Way) (rooms new_rooms : List ℕ) → IsSplit l takes_back w rooms new new_rooms → new.start ≡ w.start
-split-start l takes_back w new rooms new_rooms (stays first behind none open_links same kept) = ap (λ (u : Way). u.start) same
-split-start l takes_back w new rooms new_rooms (split_at first behind less within open_links same kept) = ap (λ (u : Way). u.start) same
+-- The ends of the path stay, and so does the memory for slots.
+pub split-start : (r : Residual) (w : Way) (next : Residual) (new : Way) → IsSplit r w next new → new.start ≡ w.start
+split-start r w next new (stays first behind none open_links same kept) = ap (λ (u : Way). u.start) same
+split-start r w next new (split_at first behind less within open_links same kept) = ap (λ (u : Way). u.start) same
 
-pub split-goal : (l : Links) (takes_back : Bool) (w new : Way) (rooms new_rooms : List ℕ) → IsSplit l takes_back w rooms new new_rooms → new.goal ≡ w.goal
-split-goal l takes_back w new rooms new_rooms (stays first behind none open_links same kept) = ap (λ (u : Way). u.goal) same
-split-goal l takes_back w new rooms new_rooms (split_at first behind less within open_links same kept) = ap (λ (u : Way). u.goal) same
+pub split-goal : (r : Residual) (w : Way) (next : Residual) (new : Way) → IsSplit r w next new → new.goal ≡ w.goal
+split-goal r w next new (stays first behind none open_links same kept) = ap (λ (u : Way). u.goal) same
+split-goal r w next new (split_at first behind less within open_links same kept) = ap (λ (u : Way). u.goal) same
 
-pub has-split : (l : Links) (takes_back : Bool) (labels before current : List ℕ) (w new : Way) (rooms new_rooms new_flags : List ℕ) → IsSent l takes_back labels before current w rooms → IsNode l.nodes w.joint → IsSplit l takes_back w rooms new new_rooms → AreRooms l new_rooms → AreFlags l new_rooms new_flags
-    → HasSplit l takes_back labels (settled l takes_back w.sent w.slots rooms) current new new_rooms new_flags
-has-split l takes_back labels before current w new rooms new_rooms new_flags is joint_is (stays first behind none open_links same kept) sums told =
-    let after : List ℕ = settled l takes_back w.sent w.slots rooms in
+pub split-capacity : (r : Residual) (w : Way) (next : Residual) (new : Way) → IsSplit r w next new → new.capacity ≡ w.capacity
+split-capacity r w next new (stays first behind none open_links same kept) = ap (λ (u : Way). u.capacity) same
+split-capacity r w next new (split_at first behind less within open_links same kept) = ap (λ (u : Way). u.capacity) same
+
+-- the links along which so much was sent, once all of it is put on
+abbrev pub sent_along : Residual → Way → Residual
+sent_along r w = roomed r (settled r.links r.takes_back w.sent w.slots r.rooms)
+
+pub has-split : (r : Residual) (labels before current : List ℕ) (w : Way) (next : Residual) (new : Way) → IsSent r labels before current w
+    → IsNode r.links.nodes w.joint → IsSplit r w next new → AreRooms next.links next.rooms → HasSplit next labels (sent_along r w) current new
+has-split r labels before current w next new is joint_is (stays first behind none open_links same kept) sums =
+    let after : List ℕ = settled r.links r.takes_back w.sent w.slots r.rooms in
     let not_full : (i : ℕ) → i < length w.slots → (slot_at w.slots i).full_at ≢ w.sent = λ i inside. ⊎_elim
     (λ (early : i < first). open_links.before i early)
     (λ (late : first ≤ i). open_links.after i (omega (arith, late, none)) inside)
     (cases_lt i first) in
-    let joins : end_of l w.start (places_of (take w.rest w.slots)) ≡ w.joint = ap (λ n. end_of l w.start (places_of (take n w.slots))) (sym is.meets) ∙ is.joins in
-    let at : HasSplit l takes_back labels after current w new_rooms new_flags = record {
+    let joins : end_of r.links w.start (places_of (take w.rest w.slots)) ≡ w.joint = ap (λ n. end_of r.links w.start (places_of (take n w.slots))) (sym is.meets) ∙ is.joins in
+    rw (same, kept)
+    (record {
       way = record {
-        walking = record { current_is = is.current_is; passed = is.passed; trail_is = front-open l takes_back labels before current w rooms w.walked is (λ i below inside. not_full i inside) };
-        rest_is = subst (λ v. IsTrail l labels after current v (places_of (rest_slots w))) joins (rest-open l takes_back labels before current w rooms w.rest is (λ i from inside. not_full i inside));
-        ends = ap (λ v. end_of l v (places_of (rest_slots w))) (sym joins) ∙ rest-ends l takes_back labels before current w rooms w.rest is;
+        walking = record { current_is = is.current_is; passed = is.passed; trail_is = front-open r labels before current w w.walked is (λ i below inside. not_full i inside) };
+        rest_is = subst (λ v. IsTrail r.links labels after current v (places_of (rest_slots w))) joins (rest-open r labels before current w w.rest is (λ i from inside. not_full i inside));
+        ends = ap (λ v. end_of r.links v (places_of (rest_slots w))) (sym joins) ∙ rest-ends r labels before current w w.rest is;
         joint_is = joint_is;
         order = omega (arith, is.meets);
         within = is.within;
         one_slot_each = is.one_slot_each;
         goal_label = is.goal_label;
       };
-      holding = record {
-        rooms_are = sums;
-        flags_are = told;
-        small = is.small;
-        have = subst (λ rs. HaveLeft w.sent rs (filled_slots w)) (sym kept) (subst (HaveLeft w.sent rooms) (sym is.filled) is.have);
-      };
-      same = ap (rooms_with l takes_back w) kept ∙ ap (λ (ss : List Slot). settled l takes_back w.sent ss rooms) is.filled;
-    } in
-    subst (λ (u : Way). HasSplit l takes_back labels after current u new_rooms new_flags) (sym same) at
-has-split l takes_back labels before current w new rooms new_rooms new_flags is joint_is (split_at first behind less within open_links same kept) sums told =
-    let after : List ℕ = settled l takes_back w.sent w.slots rooms in
-    let left = middle-leaves l takes_back labels w.sent (get_or labels w.start 0) rooms w.slots first behind is.links is.rooms_are.0 is.descends is.have less in
+      holding = record { rooms_are = is.rooms_are; small = is.small; have = subst (HaveLeft w.sent r.rooms) (sym is.filled) is.have };
+      same = ap (λ (ss : List Slot). roomed r (settled r.links r.takes_back w.sent ss r.rooms)) is.filled;
+    })
+has-split r labels before current w next new is joint_is (split_at first behind less within open_links same kept) sums =
+    let after : List ℕ = settled r.links r.takes_back w.sent w.slots r.rooms in
+    let left = middle-leaves r.links r.takes_back labels w.sent (get_or labels w.start 0) r.rooms w.slots first behind is.links is.rooms_are.0 is.descends is.have less in
     let p : ℕ = (slot_at w.slots (behind - 1)).place in
     let one : behind - 1 + 1 ≡ behind = omega (arith, less) in
     let last : places_of (take behind w.slots) ≡ places_of (take (behind - 1) w.slots) ++ p ∷ [] =
     ap (λ n. places_of (take n w.slots)) (sym one) ∙ ap places_of (take_more w.slots (behind - 1) _ (omega (arith, less, within))) ∙ map_push (λ (s : Slot). s.place) (take (behind - 1) w.slots) (slot_at w.slots (behind - 1)) in
-    let joins : end_of l w.start (places_of (take behind w.slots)) ≡ get_or l.heads p 0 = ap (end_of l w.start) last ∙ end_of-push l w.start (places_of (take (behind - 1) w.slots)) p in
-    let front = IsTrail-take l labels before current w.start behind (places_of w.slots) is.trail in
-    let next : Way = record { slots = w.slots; walked = first; rest = behind; joint = get_or l.heads p 0; sent = w.sent; start = w.start; goal = w.goal } in
-    let at : HasSplit l takes_back labels after current next new_rooms new_flags = record {
+    let joins : end_of r.links w.start (places_of (take behind w.slots)) ≡ get_or r.links.heads p 0 = ap (end_of r.links w.start) last ∙ end_of-push r.links w.start (places_of (take (behind - 1) w.slots)) p in
+    let front = IsTrail-take r.links labels before current w.start behind (places_of w.slots) is.trail in
+    let split_sums = subst (λ (x : Residual). AreRooms x.links x.rooms) kept sums in
+    rw (same, kept)
+    (record {
       way = record {
-        walking = record { current_is = is.current_is; passed = is.passed; trail_is = front-open l takes_back labels before current w rooms first is (λ i below inside. open_links.before i below) };
-        rest_is = subst (λ v. IsTrail l labels after current v (places_of (drop behind w.slots))) joins (rest-open l takes_back labels before current w rooms behind is (λ i from inside. open_links.after i from inside));
-        ends = ap (λ v. end_of l v (places_of (drop behind w.slots))) (sym joins) ∙ rest-ends l takes_back labels before current w rooms behind is;
-        joint_is = subst (IsNode l.nodes) (ap (end_of l w.start) (take-map (λ (s : Slot). s.place) behind w.slots) ∙ joins) (end-node l labels before current w.start (take behind (places_of w.slots)) is.links is.start_is front);
+        walking = record { current_is = is.current_is; passed = is.passed; trail_is = front-open r labels before current w first is (λ i below inside. open_links.before i below) };
+        rest_is = subst (λ v. IsTrail r.links labels after current v (places_of (drop behind w.slots))) joins (rest-open r labels before current w behind is (λ i from inside. open_links.after i from inside));
+        ends = ap (λ v. end_of r.links v (places_of (drop behind w.slots))) (sym joins) ∙ rest-ends r labels before current w behind is;
+        joint_is = subst (IsNode r.links.nodes) (ap (end_of r.links w.start) (take-map (λ (s : Slot). s.place) behind w.slots) ∙ joins) (end-node r.links labels before current w.start (take behind (places_of w.slots)) is.links is.start_is front);
         order = omega (arith, less);
         within = within;
         one_slot_each = is.one_slot_each;
         goal_label = is.goal_label;
       };
-      holding = record {
-        rooms_are = sums;
-        flags_are = told;
-        small = is.small;
-        have = subst (λ rs. HaveLeft w.sent rs (take first w.slots ++ drop behind w.slots)) (sym kept) left.1.have;
-      };
-      same = ap (settled l takes_back w.sent (take first w.slots ++ drop behind w.slots)) kept ∙ sym left.1.same ∙ ap (λ (ss : List Slot). settled l takes_back w.sent ss rooms) (sym left.0);
-    } in
-    subst (λ (u : Way). HasSplit l takes_back labels after current u new_rooms new_flags) (sym same) at
+      holding = record { rooms_are = split_sums; small = is.small; have = left.1.have };
+      same = ap (roomed r) (sym left.1.same ∙ ap (λ (ss : List Slot). settled r.links r.takes_back w.sent ss r.rooms) (sym left.0));
+    })

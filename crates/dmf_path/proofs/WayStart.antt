@@ -1,11 +1,12 @@
 -- Where the walk goes on, as it begins: at the start, or where its last link leads.
-use Rattle.std.proofs.Common.{ℕ, ◌≡◌, ◌-◌, ◌<◌, ◌≤◌, Bool, List, length, take, get_or, refl, ap, sym, ◌∙◌, subst, ⊎_elim, arith}
+use Rattle.std.proofs.Common.{ℕ, ◌≡◌, ◌-◌, ◌<◌, ◌≤◌, List, length, take, get_or, refl, ap, sym, ◌∙◌, subst, ⊎_elim, arith}
 use Rattle.std.proofs.lemmas.Bool.{cases_lt}
 use Rattle.dmf_node.specs.Node.{IsNode}
 use Rattle.dmf_path.specs.Links.{Links, AreLinks}
 use Rattle.dmf_path.specs.Walk.{IsTrail, end_of}
-use Rattle.dmf_path.specs.Held.{Way, places_of, walked_slots, rooms_with, slot_at}
-use Rattle.dmf_path.specs.Searching.{IsUnderWay, IsHolding}
+use Rattle.dmf_path.specs.Held.{Way, places_of, walked_slots, slot_at}
+use Rattle.dmf_path.specs.Residual.{Residual, told}
+use Rattle.dmf_path.specs.Searching.{IsUnderWay, IsHolding, Labelling, Sought, sought, IsAimed, IsSearching}
 use Rattle.dmf_path.proofs.LinkPlaces.{lies-within}
 use Rattle.dmf_path.proofs.Walking.{IsTrail-pop, end_of-push, end-node}
 use Rattle.dmf_path.proofs.WayTurn.{IsOnWay, last-places}
@@ -20,9 +21,11 @@ last-link_within l labels after current w links start way some =
     lies-within l (end_of l w.start front) p links (end-node l labels after current w.start front links start before.0) before.1.lies
 
 -- The walk has come to this node.
-pub on-start : (l : Links) (takes_back : Bool) (labels current : List ℕ) (w : Way) (rooms flags : List ℕ) (node : ℕ) → AreLinks l → IsNode l.nodes w.start → IsUnderWay l labels (rooms_with l takes_back w rooms) current w → IsHolding l w rooms flags
-    → (w.walked ≡ 0 → node ≡ w.start) → (0 < w.walked → node ≡ get_or l.heads (slot_at w.slots (w.walked - 1)).place 0) → IsOnWay l takes_back labels (rooms_with l takes_back w rooms) current w rooms flags node
-on-start l takes_back labels current w rooms flags node links start way holding first last =
+pub on-start : (r : Residual) (v : Labelling) (w : Way) (node : ℕ) → IsSearching r v w → (w.walked ≡ 0 → node ≡ w.start)
+    → (0 < w.walked → node ≡ get_or r.links.heads (slot_at w.slots (w.walked - 1)).place 0) → IsOnWay r v.labels v.current (told r w) w node
+on-start r v w node is first last =
+    let l : Links = r.links in
+    let way = is.under_way in
     let arrives : end_of l w.start (places_of (walked_slots w)) ≡ node = ⊎_elim
     (λ (some : 0 < w.walked).
     ap (λ ps. end_of l w.start ps) (last-places w some (omega (arith, way.order, way.within)))
@@ -35,9 +38,26 @@ on-start l takes_back labels current w rooms flags node links start way holding 
       come = record {
         walking = way.walking;
         arrives = arrives;
-        is_node = subst (IsNode l.nodes) arrives (end-node l labels (rooms_with l takes_back w rooms) current w.start (places_of (walked_slots w)) links start way.walking.trail_is);
+        is_node = subst (IsNode l.nodes) arrives
+            (end-node l v.labels (told r w).rooms v.current w.start (places_of (walked_slots w)) is.aimed.links is.aimed.start_is way.walking.trail_is);
       };
       way = way;
-      holding = holding;
+      holding = is.holding;
       same = refl;
     }
+
+-- What a search has after a walk, whose links and slots tell of the same rooms as before.
+pub searching-on : (r : Residual) (v : Labelling) (w : Way) (next : Residual) (current : List ℕ) (new : Way) → IsSearching r v w
+    → sought next new ≡ sought r w → new.capacity ≡ w.capacity → IsHolding next.links new next.rooms
+    → IsUnderWay next.links v.labels (told next new).rooms current new
+    → IsSearching next (record { labels = v.labels; current = current }) new
+searching-on r v w next current new is same capacity holding way = record {
+  aimed = subst (IsAimed (sought next new) v.labels) (sym capacity) (subst (λ (s : Sought). IsAimed s v.labels w.capacity) (sym same) is.aimed);
+  holding = holding;
+  under_way = way;
+}
+
+-- The same is looked for.
+pub same-sought : (r : Residual) (w : Way) (next : Residual) (new : Way) → told next new ≡ told r w → new.start ≡ w.start → new.goal ≡ w.goal
+    → sought next new ≡ sought r w
+same-sought r w next new rooms start goal = λ i. record { residual = rooms i; start = start i; goal = goal i }

@@ -1,6 +1,6 @@
 -- Pushes that are held: what is sent along the links of a path is put on a link only when it leaves the path.
 -- Private: only contracts inside the crate and proofs use this.
-use Rattle.std.specs.Prelude.{ℕ, ◌≡◌, ◌≢◌, ◌+◌, ◌-◌, ◌%◌, ◌^◌, ◌<◌, ◌≤◌, ◌==◌, Bool, if◌then◌else◌, List, [], ◌∷◌, ◌++◌, length, map, min, take, drop, slice_index, slice_index_or, slice_set, Option, Some, None}
+use Rattle.std.specs.Prelude.{ℕ, ◌≢◌, ◌+◌, ◌-◌, ◌%◌, ◌^◌, ◌<◌, ◌≤◌, ◌==◌, Bool, if◌then◌else◌, List, [], ◌∷◌, ◌++◌, length, vec_capacity, map, min, take, drop, slice_index, slice_index_or, slice_set, Option, Some, None}
 use Rattle.std.specs.List.{range_with_len}
 use Rattle.dmf_path.specs.declared.trail.Slot.{Slot}
 use Rattle.dmf_path.specs.declared.trail.Trail.{Trail}
@@ -41,10 +41,11 @@ settled_room l takes_back sent slots rooms p =
 abbrev pub settled : Links → Bool → ℕ → List Slot → List ℕ → List ℕ
 settled l takes_back sent slots rooms = map (settled_room l takes_back sent slots rooms) (range_with_len 0 (length rooms))
 
--- a slot for each link of a path; how many the walk has filled; from where on they have the end of the last path, and the node
--- at which that begins; how much was sent in all; and the ends of the path
+-- a slot for each link of a path, and for how many there is memory; how many the walk has filled; from where on they have the end
+-- of the last path, and the node at which that begins; how much was sent in all; and the ends of the path
 pub record Way : Type 0 where
   pub slots : List Slot
+  pub capacity : ℕ
   pub walked : ℕ
   pub rest : ℕ
   pub joint : ℕ
@@ -54,7 +55,16 @@ pub record Way : Type 0 where
 
 -- what a trail keeps
 abbrev pub way_of : Trail → Way
-way_of t = record { slots = t.slots.items; walked = t.walked; rest = t.rest; joint = t.joint; sent = t.sent; start = t.start; goal = t.goal }
+way_of t = record {
+  slots = t.slots.items;
+  capacity = vec_capacity t.slots;
+  walked = t.walked;
+  rest = t.rest;
+  joint = t.joint;
+  sent = t.sent;
+  start = t.start;
+  goal = t.goal;
+}
 
 -- the slots that the walk has filled, those with the end of the last path, and both
 abbrev pub walked_slots : Way → List Slot
@@ -104,45 +114,26 @@ abbrev pub CanPut : Links → Bool → ℕ → List Slot → List ℕ → Type 0
 CanPut l takes_back sent [] rooms = Unit {0}
 CanPut l takes_back sent (s ∷ slots) rooms = IsSlot l sent rooms s × CanPut l takes_back sent slots (put_once l takes_back sent s rooms)
 
--- The next slot is free, or it had the first link of the end of the last path, which leaves.
-pub data MakesWay (l : Links) (takes_back : Bool) (old : Way) (rooms : List ℕ) (new : Way) (after : List ℕ) : Type 0 where
-  free : old.walked < old.rest → new ≡ old → after ≡ rooms → MakesWay l takes_back old rooms new after
-  leaves : old.walked ≡ old.rest
-      → new ≡ record { slots = old.slots; walked = old.walked; rest = old.rest + 1; joint = slice_index l.heads (slot_at old.slots old.rest).place; sent = old.sent; start = old.start; goal = old.goal }
-      → after ≡ put_once l takes_back old.sent (slot_at old.slots old.rest) rooms → MakesWay l takes_back old rooms new after
-
 -- The walk goes on along a link with so much room.
 abbrev pub entered : Way → ℕ → ℕ → Way
-entered w place room = record {
+entered w place room = record w {
   slots = slice_set w.slots w.walked (record { place = place; full_at = (w.sent + room) % 2 ^ 64 });
   walked = w.walked + 1;
-  rest = w.rest;
-  joint = w.joint;
-  sent = w.sent;
-  start = w.start;
-  goal = w.goal;
 }
 
 -- The walk steps back.
 abbrev pub stepped_back : Way → Way
-stepped_back w = record { slots = w.slots; walked = w.walked - 1; rest = w.rest; joint = w.joint; sent = w.sent; start = w.start; goal = w.goal }
-
--- All links have left.
-abbrev pub emptied : Way → Way
-emptied w = record { slots = w.slots; walked = 0; rest = length w.slots; joint = w.goal; sent = w.sent; start = w.start; goal = w.goal }
+stepped_back w = record w { walked = w.walked - 1 }
 
 -- Other slots, all of them free.
 abbrev pub with_slots : Way → List Slot → Way
-with_slots w slots = record { slots = slots; walked = 0; rest = length slots; joint = w.goal; sent = w.sent; start = w.start; goal = w.goal }
+with_slots w slots = record w { slots = slots; walked = 0; rest = length slots; joint = w.goal }
+
+-- All links have left.
+abbrev pub emptied : Way → Way
+emptied w = with_slots w w.slots
 
 -- No link in a slot before `first` is full, and none from `behind` on.
 pub record AreOpen (sent : ℕ) (slots : List Slot) (first behind : ℕ) : Type 0 where
   pub before : (i : ℕ) → i < first → (slot_at slots i).full_at ≢ sent
   pub after : (i : ℕ) → behind ≤ i → i < length slots → (slot_at slots i).full_at ≢ sent
-
--- The full links of a path leave, with those between them; or none is full.
-pub data IsSplit (l : Links) (takes_back : Bool) (old : Way) (rooms : List ℕ) (new : Way) (after : List ℕ) : Type 0 where
-  stays : (first behind : ℕ) → behind ≤ first → AreOpen old.sent old.slots first behind → new ≡ old → after ≡ rooms → IsSplit l takes_back old rooms new after
-  split_at : (first behind : ℕ) → first < behind → behind ≤ length old.slots → AreOpen old.sent old.slots first behind
-      → new ≡ record { slots = old.slots; walked = first; rest = behind; joint = slice_index l.heads (slot_at old.slots (behind - 1)).place; sent = old.sent; start = old.start; goal = old.goal }
-      → after ≡ put_each l takes_back old.sent (take (behind - first) (drop first old.slots)) rooms → IsSplit l takes_back old rooms new after

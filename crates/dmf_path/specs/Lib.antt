@@ -9,6 +9,7 @@ pub mod Listed
 pub mod Labels
 pub mod Walk
 pub mod Held
+pub mod Residual
 pub mod Search
 pub mod Passed
 pub mod Searching

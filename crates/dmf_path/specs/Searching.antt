@@ -1,15 +1,17 @@
 -- What a search keeps.
 -- Private: only contracts inside the crate and proofs use this.
 use Rattle.std.specs.Prelude.{ℕ, ◌≡◌, ◌≢◌, ◌+◌, ◌^◌, ◌<◌, ◌≤◌, ◌⊎◌, Bool, true, false, List, length, replicate, slice_index, slice_set, vec_capacity}
-use Rattle.dmf_node.specs.Node.{IsNode}
-use Rattle.dmf_path.specs.Links.{Links, LiesAt, AreLinks, ArePlaces, AreRooms, AreFlags, pairs_at}
-use Rattle.dmf_path.specs.Walk.{IsTrail, IsWalking, end_of}
-use Rattle.dmf_path.specs.Held.{Way, places_of, walked_slots, rest_slots, filled_slots, rooms_with, HaveLeft}
-use Rattle.dmf_path.specs.Search.{Searched}
+use Rattle.dmf_path.specs.declared.levels.Levels.{Levels}
 use Rattle.dmf_path.specs.declared.frontier.Frontier.{Frontier}
 use Rattle.dmf_path.specs.Labels.{no_label, AreQueued}
 use Rattle.dmf_path.specs.Frontier.{IsClean}
 use Rattle.dmf_path.specs.BothEnds.{AreSound}
+use Rattle.dmf_node.specs.Node.{IsNode}
+use Rattle.dmf_path.specs.Links.{Links, LiesAt, AreLinks, ArePlaces, AreRooms, pairs_at}
+use Rattle.dmf_path.specs.Walk.{IsTrail, IsWalking, end_of}
+use Rattle.dmf_path.specs.Held.{Way, places_of, walked_slots, rest_slots, filled_slots, HaveLeft}
+use Rattle.dmf_path.specs.Residual.{Residual, told}
+use Rattle.dmf_path.specs.Search.{Searched}
 
 -- How far the search for the next path has come: the walk, and the end of the last path, which leads on to the goal along
 -- admissible current links. There is a slot for each label below that of the start.
@@ -23,12 +25,52 @@ pub record IsUnderWay (l : Links) (labels rooms current : List ℕ) (w : Way) : 
   pub one_slot_each : length w.slots ≡ slice_index labels w.start
   pub goal_label : slice_index labels w.goal ≡ 0
 
--- What is held can be put on; flags tell of the rooms before that.
-pub record IsHolding (l : Links) (w : Way) (rooms flags : List ℕ) : Type 0 where
+-- What is held can be put on.
+pub record IsHolding (l : Links) (w : Way) (rooms : List ℕ) : Type 0 where
   pub rooms_are : AreRooms l rooms
-  pub flags_are : AreFlags l rooms flags
   pub small : w.sent < 2 ^ 64
   pub have : HaveLeft w.sent rooms (filled_slots w)
+
+-- the labels of the nodes, and their current links
+pub record Labelling : Type 0 where
+  pub labels : List ℕ
+  pub current : List ℕ
+
+-- what levels tell of the nodes
+abbrev pub labelling_of : Levels → Labelling
+labelling_of v = record { labels = v.near.labels.items; current = v.current.items }
+
+-- the residual network in which a search looks for paths, as it is told, and the ends of these
+pub record Sought : Type 0 where
+  pub residual : Residual
+  pub start : ℕ
+  pub goal : ℕ
+
+-- what a search looks for paths in
+abbrev pub sought : Residual → Way → Sought
+sought r w = record { residual = told r w; start = w.start; goal = w.goal }
+
+-- The labels are sound in the residual network as it is told, between its ends, which differ, and there is memory for so many links
+-- of a path.
+pub record IsAimed (s : Sought) (labels : List ℕ) (capacity : ℕ) : Type 0 where
+  pub links : AreLinks s.residual.links
+  pub one_label_each : length labels ≡ s.residual.links.nodes + 1
+  pub start_label : slice_index labels s.start ≤ s.residual.links.nodes
+  pub sound : AreSound s.residual.links labels s.residual.rooms (slice_index labels s.start)
+  pub start_is : IsNode s.residual.links.nodes s.start
+  pub goal_is : IsNode s.residual.links.nodes s.goal
+  pub apart : s.start ≢ s.goal
+  pub capacity_is : s.residual.links.nodes ≤ capacity
+
+-- What a search has between two paths: labels that are sound, what is held, which can be put on, and how far it has come.
+pub record IsSearching (r : Residual) (v : Labelling) (w : Way) : Type 0 where
+  pub aimed : IsAimed (sought r w) v.labels w.capacity
+  pub holding : IsHolding r.links w r.rooms
+  pub under_way : IsUnderWay r.links v.labels (told r w).rooms v.current w
+
+-- The walk has come to where the end of the last path begins: a path from the start to the goal.
+abbrev pub IsFound : Residual → Way → Type 0
+IsFound r w = end_of r.links w.start (places_of (walked_slots w)) ≡ w.joint
 
 -- The labels of a search that has not begun: 0 at both ends, and no others.
 abbrev pub fresh_labels : ℕ → ℕ → ℕ → List ℕ
@@ -51,27 +93,25 @@ pub record IsReady (nodes : ℕ) (near far : Frontier) : Type 0 where
   pub capacity : nodes + 1 ≤ vec_capacity near.queue
   pub clean : IsClean nodes far
 
--- The vectors of a search fit together: links, the places of the pairs, rooms and flags, with what is held, labels that are
--- sound, how far it has come, and whether it has not begun.
-pub record IsSearch (l : Links) (takes_back : Bool) (places rooms flags labels current : List ℕ) (w : Way) (queue_capacity slots_capacity : ℕ) (is_fresh : Bool) : Type 0 where
-  pub links : AreLinks l
-  pub places_are : ArePlaces l places
-  pub holding : IsHolding l w rooms flags
-  pub one_label_each : length labels ≡ l.nodes + 1
-  pub start_label : slice_index labels w.start ≤ l.nodes
-  pub sound : AreSound l labels (rooms_with l takes_back w rooms) (slice_index labels w.start)
-  pub under_way : IsUnderWay l labels (rooms_with l takes_back w rooms) current w
-  pub start_is : IsNode l.nodes w.start
-  pub goal_is : IsNode l.nodes w.goal
-  pub apart : w.start ≢ w.goal
-  pub queue_capacity_is : l.nodes + 1 ≤ queue_capacity
-  pub slots_capacity_is : l.nodes ≤ slots_capacity
-  pub marked : IsMarked l labels w.start is_fresh
+-- So they can, whatever the number of nodes is.
+abbrev pub AreReady : Levels → Type 0
+AreReady v = (nodes : ℕ) × IsReady nodes v.near v.far
+
+-- What a search keeps: the places of the pairs, what it has between two paths, and whether it has not begun.
+pub record IsSearch (r : Residual) (places : List ℕ) (v : Labelling) (w : Way) (is_fresh : Bool) : Type 0 where
+  pub places_are : ArePlaces r.links places
+  pub searching : IsSearching r v w
+  pub marked : IsMarked r.links v.labels w.start is_fresh
 
 -- what callers see of it
-abbrev pub searched : Links → List ℕ → List ℕ → ℕ → ℕ → Bool → Searched
-searched l places rooms start goal takes_back =
-    record { nodes = l.nodes; pairs = pairs_at l places rooms; start = start; goal = goal; takes_back = takes_back }
+abbrev pub searched : Sought → List ℕ → Searched
+searched s places = record {
+  nodes = s.residual.links.nodes;
+  pairs = pairs_at s.residual.links places s.residual.rooms;
+  start = s.start;
+  goal = s.goal;
+  takes_back = s.residual.takes_back;
+}
 
 -- No link with room leads out of this set of nodes.
 abbrev pub IsClosed : Links → List ℕ → (ℕ → Bool) → Type 0

@@ -5,8 +5,8 @@ ghost use Rattle.dmf_path.specs.Held.{slot_at};
 ghost use Rattle.dmf_path.specs.Passed.{is_passed};
 ghost use Rattle.dmf_path.specs.Passing.{HasMarks};
 
-use crate::table::LinkTable;
-use crate::trail::Slot;
+use crate::push::Links;
+use crate::trail::Trail;
 
 /// Whether a node is marked. One without a mark of its own counts as marked.
 pub fn is_passed(passed: &[bool], node: u32) -> bool
@@ -18,19 +18,20 @@ pub fn is_passed(passed: &[bool], node: u32) -> bool
     }
 }
 
-/// Marks the ends of these links. Where there are no marks nothing is looked at.
-pub fn mark_ends(table: &LinkTable, slots: &[Slot], passed: &mut [bool])
-    requires places { (i : ℕ) → i < length slots.now → (slot_at slots.now i).place < length table.now.heads.items }
+/// Marks the ends of the links in slots. Where there are no marks nothing is looked at.
+pub fn mark_ends(links: &Links, trail: &Trail, passed: &mut [bool])
+    requires places { (i : ℕ) → i < length trail.now.slots.items → (slot_at trail.now.slots.items i).place < length links.now.table.heads.items }
     ensures more { (v : ℕ) → is_passed passed.new v ≡ false → is_passed passed.old v ≡ false }
-    ensures marked { (i : ℕ) → i < length slots.now → HasMarks (links_of table.now) passed.new (slot_at slots.now i).place }
+    ensures marked { (i : ℕ) → i < length trail.now.slots.items →
+        HasMarks (links_of links.now.table) passed.new (slot_at trail.now.slots.items i).place }
 {
     if passed.is_empty() {
         return;
     }
-    for slot in slots {
-        let place = slot.place as usize;
-        mark(table.heads[place], passed);
-        mark(table.heads[table.partners[place] as usize], passed);
+    let table = &links.table;
+    for slot in &trail.slots {
+        mark(table.heads[slot.place as usize], passed);
+        mark(table.tail(slot.place), passed);
     }
 }
 

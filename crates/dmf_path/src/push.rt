@@ -1,76 +1,89 @@
-//! Pushing along a link.
-ghost use Rattle.std.specs.Prelude.{◌≡◌, ◌+◌, ◌^◌, ◌≤◌, ◌<◌, length, slice_index, slice_set};
+//! Links with their rooms, which pushes change.
+ghost use Rattle.std.specs.Prelude.{◌≡◌, ◌<◌, length, slice_index, slice_set};
 ghost use Rattle.dmf_path.specs.Links.{AreRooms, AreFlags, open_flag};
 ghost use Rattle.dmf_path.specs.LinkTable.{links_of};
-ghost use Rattle.dmf_path.specs.Walk.{pushed_once, rooms_set};
 
 use crate::links::open_flag;
 use crate::table::LinkTable;
 
-/// Pushes an amount along one link.
-pub fn push_once(
-    table: &LinkTable,
-    place: u32,
-    amount: u64,
-    takes_back: bool,
-    rooms: &mut [u64],
-    flags: &mut [u8],
-)
-    requires rooms { AreRooms (links_of table.now) rooms.old }
-    requires flags { AreFlags (links_of table.now) rooms.old flags.old }
-    requires within { place < length table.now.heads.items }
-    requires room { amount ≤ slice_index rooms.old place }
-    ensures rooms { rooms.new ≡ pushed_once (links_of table.now) takes_back amount place rooms.old }
-    ensures sums { AreRooms (links_of table.now) rooms.new }
-    ensures flags { AreFlags (links_of table.now) rooms.new flags.new }
-{
-    let place = place as usize;
-    let partner = table.partners[place] as usize;
-    let room = rooms[place];
-    rooms[place] = room - amount;
-    renew_flag(flags, partner, room, room - amount);
-    if takes_back {
-        let room = rooms[partner];
-        rooms[partner] = room + amount;
-        renew_flag(flags, place, room, room + amount);
-    }
+/// Links with their rooms.
+#[derive(Drop)]
+pub struct Links {
+    /// The links.
+    pub table: LinkTable,
+    /// Whether what is pushed along a link can be pushed back along the opposite one.
+    pub takes_back: bool,
+    /// The room of each link.
+    pub rooms: Vec<u64>,
+    /// Of each link whether the opposite one has room: 1, or else 0.
+    pub flags: Vec<u8>,
+    // The rooms of two opposite links fit 64 bits together, and the flags tell of the rooms.
+    ghost rooms_are: { AreRooms (links_of table) rooms.items },
+    ghost flags_are: { AreFlags (links_of table) rooms.items flags.items },
 }
 
-/// Gives a link and its opposite these rooms.
-pub fn set_pair(
-    table: &LinkTable,
-    place: u32,
-    along: u64,
-    against: u64,
-    rooms: &mut [u64],
-    flags: &mut [u8],
-)
-    requires rooms { AreRooms (links_of table.now) rooms.old }
-    requires flags { AreFlags (links_of table.now) rooms.old flags.old }
-    requires within { place < length table.now.heads.items }
-    requires fits { along + against < 2 ^ 64 }
-    ensures rooms { rooms.new ≡ rooms_set (links_of table.now) place along against rooms.old }
-    ensures sums { AreRooms (links_of table.now) rooms.new }
-    ensures flags { AreFlags (links_of table.now) rooms.new flags.new }
-{
-    let place = place as usize;
-    let partner = table.partners[place] as usize;
-    let before = rooms[place];
-    rooms[place] = along;
-    renew_flag(flags, partner, before, along);
-    let before = rooms[partner];
-    rooms[partner] = against;
-    renew_flag(flags, place, before, against);
+impl Links {
+    ghost use Rattle.std.specs.Prelude.{◌+◌, ◌^◌, ◌≤◌};
+    ghost use Rattle.dmf_path.specs.Residual.{residual_of, put_at, pushed_along, lowered, pair_set};
+
+    /// Pushes an amount along a link.
+    pub fn push(&mut self, place: u32, amount: u64)
+        requires within { place < length self.old.table.heads.items }
+        requires room { amount ≤ slice_index self.old.rooms.items place }
+        ensures { residual_of self.new ≡ pushed_along (residual_of self.old) place amount }
+    {
+        self.lower(place, amount);
+        if self.takes_back {
+            let opposite = self.table.opposite(place);
+            let room = self.rooms[opposite as usize];
+            self.put(opposite, place, room + amount);
+        }
+    }
+
+    /// Takes an amount off the room of a link.
+    pub fn lower(&mut self, place: u32, amount: u64)
+        requires within { place < length self.old.table.heads.items }
+        requires room { amount ≤ slice_index self.old.rooms.items place }
+        ensures { residual_of self.new ≡ lowered (residual_of self.old) place amount }
+    {
+        let opposite = self.table.opposite(place);
+        let room = self.rooms[place as usize];
+        self.put(place, opposite, room - amount);
+    }
+
+    /// Gives a link and its opposite these rooms.
+    pub fn set_pair(&mut self, place: u32, along: u64, against: u64)
+        requires within { place < length self.old.table.heads.items }
+        requires fits { along + against < 2 ^ 64 }
+        ensures { residual_of self.new ≡ pair_set (residual_of self.old) place along against }
+    {
+        let opposite = self.table.opposite(place);
+        self.put(place, opposite, 0);
+        self.put(opposite, place, against);
+        self.put(place, opposite, along);
+    }
+
+    /// Gives a link this room, of which the flag of its opposite tells.
+    fn put(&mut self, place: u32, opposite: u32, room: u64)
+        requires within { place < length self.old.table.heads.items }
+        requires opposite { opposite ≡ slice_index self.old.table.partners.items place }
+        requires fits { room + slice_index self.old.rooms.items opposite < 2 ^ 64 }
+        ensures { residual_of self.new ≡ put_at (residual_of self.old) place room }
+    {
+        let before = self.rooms[place as usize];
+        self.rooms[place as usize] = room;
+        renew_flag(&mut self.flags, opposite, before, room);
+    }
 }
 
 /// Makes a flag tell of a room what it told of the room before. It is written only where it changes: mostly it does not,
 /// and then the place of the flag is not looked at.
-fn renew_flag(flags: &mut [u8], place: usize, before: u64, after: u64)
+fn renew_flag(flags: &mut [u8], place: u32, before: u64, after: u64)
     requires within { place < length flags.old }
     requires told { slice_index flags.old place ≡ open_flag before }
     ensures { flags.new ≡ slice_set flags.old place (open_flag after) }
 {
     if (before > 0) != (after > 0) {
-        flags[place] = open_flag(after);
+        flags[place as usize] = open_flag(after);
     }
 }

@@ -1,41 +1,48 @@
 //! What paths reach: the labels from the start, once what is held is put on, and which nodes have one.
-ghost use Rattle.std.specs.Prelude.{◌≡◌, ℕ, List, drop, length, map, IfOk};
+ghost use Rattle.std.specs.Prelude.{◌≡◌, drop, length, map, IfOk};
 ghost use Rattle.dmf_node.specs.Node.{IsNode};
 ghost use Rattle.dmf_path.specs.Links.{open_flag};
 ghost use Rattle.dmf_path.specs.LinkTable.{links_of};
 ghost use Rattle.dmf_path.specs.Labels.{AreLabels, is_label};
-ghost use Rattle.dmf_path.specs.Held.{way_of, rooms_with};
-ghost use Rattle.dmf_path.specs.Searching.{IsHolding, IsUnderWay};
+ghost use Rattle.dmf_path.specs.Held.{way_of, filled_slots, HaveLeft};
+ghost use Rattle.dmf_path.specs.Residual.{residual_of, told};
 
 use crate::label::{NO_LABEL, label_nodes};
 use crate::open::Roomy;
+use crate::push::Links;
 use crate::table::LinkTable;
-use crate::trail::{Trail, put_on_rooms};
+use crate::trail::Trail;
 use std::alloc::{AllocError, Global};
 
 /// Labels from the start over the links that have room, once what is held is put on. Takes memory for two numbers a node,
-/// and as long as some links are in slots, for the rooms and flags too.
+/// and as long as some links are in slots, for the rooms too.
 pub fn labels_from_start(
     alloc: Global,
-    table: &LinkTable,
-    takes_back: bool,
-    rooms: &[u64],
-    flags: &[u8],
+    links: &Links,
     trail: &Trail,
 ) -> Result<Vec<u32>, AllocError>
-    requires start { IsNode table.now.nodes trail.now.start }
-    requires holding { IsHolding (links_of table.now) (way_of trail.now) rooms.now flags.now }
-    requires under_way { (labels : List ℕ) × (after : List ℕ) × (current : List ℕ) × IsUnderWay (links_of table.now) labels after current (way_of trail.now) }
-    ensures { IfOk result (λ labels. AreLabels (links_of table.now)
-        (map open_flag (rooms_with (links_of table.now) takes_back (way_of trail.now) rooms.now)) trail.now.start 0 labels.items) }
+    requires start { IsNode links.now.table.nodes trail.now.start }
+    requires have { HaveLeft trail.now.sent links.now.rooms.items (filled_slots (way_of trail.now)) }
+    ensures { IfOk result (λ labels. AreLabels (links_of links.now.table)
+        (map open_flag (told (residual_of links.now) (way_of trail.now)).rooms) trail.now.start 0 labels.items) }
 {
     if trail.is_empty() {
-        return labels_over(alloc, table, rooms, trail.start);
+        return labels_over(alloc, &links.table, &links.rooms, trail.start);
     }
-    let mut settled = Vec::from_slice(alloc, rooms)?;
-    let mut flags = Vec::from_slice(alloc, flags)?;
-    put_on_rooms(table, takes_back, &mut settled, &mut flags, trail);
-    labels_over(alloc, table, &settled, trail.start)
+    let settled = settled_rooms(alloc, links, trail)?;
+    labels_over(alloc, &links.table, &settled, trail.start)
+}
+
+/// The rooms of all links, once what is held is put on. Takes memory for them.
+fn settled_rooms(alloc: Global, links: &Links, trail: &Trail) -> Result<Vec<u64>, AllocError>
+    requires have { HaveLeft trail.now.sent links.now.rooms.items (filled_slots (way_of trail.now)) }
+    ensures { IfOk result (λ rooms. rooms.items ≡ (told (residual_of links.now) (way_of trail.now)).rooms) }
+{
+    let mut settled = Vec::with_capacity(alloc, links.rooms.len())?;
+    for place in 0..links.rooms.len() {
+        settled.push(links.settled_room(trail, place as u32))?;
+    }
+    Ok(settled)
 }
 
 /// Labels from a root over the links with room. Takes memory for them, and for a queue.

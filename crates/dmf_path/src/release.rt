@@ -1,44 +1,28 @@
 //! Nothing is held for a link any more, so that its room can be changed.
-ghost use Rattle.std.specs.Prelude.{◌≡◌, ℕ, List, ◌+◌, ◌<◌, ◌==◌, length, slice_index, vec_capacity};
-ghost use Rattle.dmf_node.specs.Node.{IsNode};
+ghost use Rattle.std.specs.Prelude.{◌≡◌, ◌+◌, ◌<◌, ◌==◌, length, slice_index};
 ghost use Rattle.dmf_path.specs.Links.{tail_of};
 ghost use Rattle.dmf_path.specs.LinkTable.{links_of};
-ghost use Rattle.dmf_path.specs.Held.{way_of, places_of, filled_slots, rooms_with, IsOff};
-ghost use Rattle.dmf_path.specs.Searching.{IsHolding, IsUnderWay};
+ghost use Rattle.dmf_path.specs.Held.{way_of, places_of, filled_slots, IsOff};
+ghost use Rattle.dmf_path.specs.Residual.{residual_of, told};
+ghost use Rattle.dmf_path.specs.Searching.{labelling_of, sought, IsSearching};
 
+use crate::levels::Levels;
+use crate::push::Links;
 use crate::table::LinkTable;
-use crate::trail::{Trail, settle};
+use crate::trail::Trail;
 
 /// Sees to it that nothing is held for the link at a place, and that nothing is to be given to it. All links leave where
 /// that may be so: pushes can be taken back, or the link falls, as those of a trail do.
-pub fn release(
-    table: &LinkTable,
-    takes_back: bool,
-    labels: &[u32],
-    place: u32,
-    rooms: &mut [u64],
-    flags: &mut [u8],
-    trail: &mut Trail,
-)
-    requires one_label_each { length labels.now ≡ table.now.nodes + 1 }
-    requires place { place < length table.now.heads.items }
-    requires start { IsNode table.now.nodes trail.old.start }
-    requires goal { IsNode table.now.nodes trail.old.goal }
-    requires holding { IsHolding (links_of table.now) (way_of trail.old) rooms.old flags.old }
-    requires under_way { (after : List ℕ) × (current : List ℕ) × IsUnderWay (links_of table.now) labels.now after current (way_of trail.old) }
-    ensures holding { IsHolding (links_of table.now) (way_of trail.new) rooms.new flags.new }
-    ensures same { rooms_with (links_of table.now) takes_back (way_of trail.new) rooms.new
-        ≡ rooms_with (links_of table.now) takes_back (way_of trail.old) rooms.old }
-    ensures under_way { (after current : List ℕ) → IsUnderWay (links_of table.now) labels.now after current (way_of trail.old)
-        → IsUnderWay (links_of table.now) labels.now after current (way_of trail.new) }
+pub fn release(links: &mut Links, levels: &Levels, trail: &mut Trail, place: u32)
+    requires place { place < length links.old.table.heads.items }
+    requires searching { IsSearching (residual_of links.old) (labelling_of levels.now) (way_of trail.old) }
+    ensures searching { IsSearching (residual_of links.new) (labelling_of levels.now) (way_of trail.new) }
+    ensures same { sought (residual_of links.new) (way_of trail.new) ≡ sought (residual_of links.old) (way_of trail.old) }
     ensures off { IsOff place (places_of (filled_slots (way_of trail.new))) }
-    ensures room { slice_index (rooms_with (links_of table.now) takes_back (way_of trail.old) rooms.old) place ≡ slice_index rooms.new place }
-    ensures start { trail.new.start ≡ trail.old.start }
-    ensures goal { trail.new.goal ≡ trail.old.goal }
-    ensures slots_capacity { vec_capacity trail.new.slots ≡ vec_capacity trail.old.slots }
+    ensures room { slice_index (told (residual_of links.new) (way_of trail.new)).rooms place ≡ slice_index links.new.rooms.items place }
 {
-    if takes_back || falls(table, labels, place) {
-        settle(table, takes_back, rooms, flags, trail);
+    if links.takes_back || falls(&links.table, &levels.near.labels, place) {
+        trail.settle(links);
     }
 }
 
@@ -50,6 +34,5 @@ fn falls(table: &LinkTable, labels: &[u32], place: u32) -> bool
         == slice_index labels.now (tail_of (links_of table.now) place)) }
 {
     let head = table.heads[place as usize];
-    let tail = table.heads[table.partners[place as usize] as usize];
-    u64::from(labels[head as usize]) + 1 == u64::from(labels[tail as usize])
+    u64::from(labels[head as usize]) + 1 == u64::from(labels[table.tail(place) as usize])
 }

@@ -10,12 +10,10 @@ use crate::levels::Levels;
 use crate::passed::mark_ends;
 use crate::phase::{begin_anew, find};
 use crate::places::{Indices, Places};
-use crate::push::{push_once, set_pair};
+use crate::push::Links;
 use crate::reach::{labelled, labels_from_start};
 use crate::release::release;
-use crate::room::settled_room;
-use crate::table::LinkTable;
-use crate::trail::{Trail, bottleneck, settle, split_path};
+use crate::trail::Trail;
 use std::alloc::{AllocError, Global};
 use std::marker::Model;
 
@@ -38,32 +36,25 @@ pub struct AugmentingPath {
 /// labelled from both ends, which looks at few of them where few paths are left.
 #[derive(Drop)]
 pub struct Search {
-    table: LinkTable,
+    links: Links,
     places: Places,
-    rooms: Vec<u64>,
-    flags: Vec<u8>,
     levels: Levels,
     trail: Trail,
-    takes_back: bool,
     /// Whether no path was looked for since the search began, or began anew: then nothing is held, and no link is passed.
     is_fresh: bool,
 }
 
 impl Model for Search {
-    ghost use Rattle.std.specs.Prelude.{vec_capacity};
-    ghost use Rattle.dmf_path.specs.LinkTable.{links_of};
-    ghost use Rattle.dmf_path.specs.Held.{way_of, rooms_with};
+    ghost use Rattle.dmf_path.specs.Held.{way_of};
+    ghost use Rattle.dmf_path.specs.Residual.{residual_of};
     ghost use Rattle.dmf_path.specs.Search.{Searched};
-    ghost use Rattle.dmf_path.specs.Searching.{searched, IsReady, IsSearch};
+    ghost use Rattle.dmf_path.specs.Searching.{labelling_of, sought, searched, AreReady, IsSearch};
 
     ghost Value = { Searched };
 
-    ghost view = { λ a. searched (links_of a.table) a.places (rooms_with (links_of a.table) a.takes_back (way_of a.trail) a.rooms.items)
-        a.trail.start a.trail.goal a.takes_back };
+    ghost view = { λ a. searched (sought (residual_of a.links) (way_of a.trail)) a.places };
 
-    ghost invariant = { λ a. IsReady a.table.nodes a.levels.near a.levels.far
-        × IsSearch (links_of a.table) a.takes_back a.places a.rooms.items a.flags.items a.levels.near.labels.items
-        a.levels.current.items (way_of a.trail) (vec_capacity a.levels.near.queue) (vec_capacity a.trail.slots) a.is_fresh };
+    ghost invariant = { λ a. AreReady a.levels × IsSearch (residual_of a.links) a.places (labelling_of a.levels) (way_of a.trail) a.is_fresh };
 }
 
 impl Search {
@@ -77,28 +68,14 @@ impl Search {
         ensures passed { Passes passed.old passed.new self.old.pairs self.new.pairs }
     {
         self.is_fresh = false;
-        let found = find(
-            &self.table,
-            self.takes_back,
-            &mut self.levels,
-            &mut self.rooms,
-            &mut self.flags,
-            &mut self.trail,
-        );
-        if !found {
+        if !find(&mut self.links, &mut self.levels, &mut self.trail) {
             return None;
         }
-        let amount = bottleneck(&self.trail.slots, self.trail.sent, limit);
+        let amount = self.trail.bottleneck(limit);
         let links = self.trail.slots.len() as u32;
-        mark_ends(&self.table, &self.trail.slots, passed);
+        mark_ends(&self.links, &self.trail, passed);
         self.trail.sent = self.trail.sent.wrapping_add(amount);
-        split_path(
-            &self.table,
-            self.takes_back,
-            &mut self.rooms,
-            &mut self.flags,
-            &mut self.trail,
-        );
+        self.trail.split(&mut self.links);
         Some(AugmentingPath { amount, links })
     }
 
@@ -108,15 +85,8 @@ impl Search {
         ensures { result ≡ against_at self.now.pairs k }
     {
         let place = self.places.place_of(k)?;
-        let partner = self.table.partners[place as usize];
-        let against = settled_room(
-            &self.table,
-            self.takes_back,
-            &self.rooms,
-            &self.trail,
-            partner,
-        );
-        Some(against)
+        let opposite = self.links.table.opposite(place);
+        Some(self.links.settled_room(&self.trail, opposite))
     }
 
     /// The room of the link along the pair at index `k`, and nothing where there is no pair. Takes no memory.
@@ -134,14 +104,7 @@ impl Search {
         ensures { result ≡ along_at self.now.pairs k }
     {
         let place = self.places.place_near(k, i)?;
-        let along = settled_room(
-            &self.table,
-            self.takes_back,
-            &self.rooms,
-            &self.trail,
-            place,
-        );
-        Some(along)
+        Some(self.links.settled_room(&self.trail, place))
     }
 
     /// The indices of all pairs that are there; where pairs were listed, of these alone. Takes no memory.
@@ -157,23 +120,8 @@ impl Search {
         ensures { self.new ≡ with_pairs self.old (lowered_along self.old.pairs k amount) }
     {
         let place = self.places.place_of(k).unwrap();
-        release(
-            &self.table,
-            self.takes_back,
-            &self.levels.near.labels,
-            place,
-            &mut self.rooms,
-            &mut self.flags,
-            &mut self.trail,
-        );
-        push_once(
-            &self.table,
-            place,
-            amount,
-            false,
-            &mut self.rooms,
-            &mut self.flags,
-        );
+        release(&mut self.links, &self.levels, &mut self.trail, place);
+        self.links.lower(place, amount);
     }
 
     /// Puts on all links what is held for them, so that each room is read at once, and not looked for on the path. Takes no
@@ -181,13 +129,7 @@ impl Search {
     pub fn settle(&mut self)
         ensures { self.new ≡ self.old }
     {
-        settle(
-            &self.table,
-            self.takes_back,
-            &mut self.rooms,
-            &mut self.flags,
-            &mut self.trail,
-        );
+        self.trail.settle(&mut self.links);
     }
 
     /// Makes it a search from another start to another goal, over the same links with their present rooms. Takes no memory.
@@ -197,17 +139,13 @@ impl Search {
         requires apart { start ≢ goal }
         ensures { self.new ≡ aimed self.old start goal }
     {
-        self.trail.start = start;
-        self.trail.goal = goal;
         begin_anew(
-            &self.table,
-            self.takes_back,
-            &mut self.rooms,
-            &mut self.flags,
+            &mut self.links,
             &mut self.levels,
             &mut self.trail,
+            start,
+            goal,
         );
-        self.levels.both = true;
         self.is_fresh = true;
     }
 
@@ -219,45 +157,30 @@ impl Search {
         ensures { self.new ≡ with_pairs self.old (with_rooms self.old.pairs k along against) }
     {
         if !self.is_fresh {
+            let (start, goal) = (self.trail.start, self.trail.goal);
             begin_anew(
-                &self.table,
-                self.takes_back,
-                &mut self.rooms,
-                &mut self.flags,
+                &mut self.links,
                 &mut self.levels,
                 &mut self.trail,
+                start,
+                goal,
             );
-            self.levels.both = true;
             self.is_fresh = true;
         }
         let Some(place) = self.places.place_of(k) else {
             return;
         };
-        set_pair(
-            &self.table,
-            place,
-            along,
-            against,
-            &mut self.rooms,
-            &mut self.flags,
-        );
+        self.links.set_pair(place, along, against);
     }
 
     /// Which nodes paths lead to from the start, that of node 1 first. Takes memory for a mark and two numbers a node; as long
-    /// as paths may be left, for a room and a flag a link too.
+    /// as paths may be left, for a room a link too.
     pub fn reached(&self, alloc: Global) -> Result<Vec<bool>, AllocError>
         ensures one_each { IfOk result (λ marks. length marks.items ≡ self.now.nodes) }
         ensures marks { IfOk result (λ marks. (v : ℕ) → IsNode self.now.nodes v →
             IsTrue (slice_index_or marks.items (v - 1) false) ↔ IsReachable (steps_of self.now.pairs) self.now.start v) }
     {
-        let labels = labels_from_start(
-            alloc,
-            &self.table,
-            self.takes_back,
-            &self.rooms,
-            &self.flags,
-            &self.trail,
-        )?;
+        let labels = labels_from_start(alloc, &self.links, &self.trail)?;
         labelled(alloc, &labels)
     }
 }

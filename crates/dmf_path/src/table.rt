@@ -15,3 +15,26 @@ pub struct LinkTable {
     // Links are at each node side by side, and each has an opposite one.
     ghost are: { AreLinks (record { nodes = nodes; first = first.items; heads = heads.items; partners = partners.items }) },
 }
+
+impl LinkTable {
+    ghost use Rattle.std.specs.Prelude.{◌≡◌, ◌<◌, length, slice_index};
+    ghost use Rattle.dmf_path.specs.Links.{tail_of};
+    ghost use Rattle.dmf_path.specs.LinkTable.{links_of};
+
+    /// The place of the link that is opposite to the one at a place.
+    pub fn opposite(&self, place: u32) -> u32
+        requires { place < length self.now.heads.items }
+        ensures is { result ≡ slice_index self.now.partners.items place }
+        ensures within { result < length self.now.heads.items }
+    {
+        self.partners[place as usize]
+    }
+
+    /// The node from which the link at a place leads.
+    pub fn tail(&self, place: u32) -> u32
+        requires { place < length self.now.heads.items }
+        ensures { result ≡ tail_of (links_of self.now) place }
+    {
+        self.heads[self.opposite(place) as usize]
+    }
+}

@@ -1,11 +1,7 @@
 //! The trail: a slot for each link of a path, in which what is sent along the link is held until it leaves.
-ghost use Rattle.std.specs.Prelude.{◌≡◌, ◌≢◌, ℕ, true, [], ◌+◌, ◌-◌, ◌≤◌, ◌<◌, length, take, drop, vec_capacity};
-ghost use Rattle.dmf_path.specs.Links.{AreRooms, AreFlags};
-ghost use Rattle.dmf_path.specs.LinkTable.{links_of};
-ghost use Rattle.dmf_path.specs.Held.{room_left, least_left, put_once, put_each, CanPut, IsSlot, MakesWay, way_of, IsSplit, walked_slots, rest_slots, filled_slots, slot_at, entered, stepped_back, emptied, with_slots};
+ghost use Rattle.std.specs.Prelude.{◌≡◌, ◌≤◌, length, vec_capacity};
 
-use crate::push::push_once;
-use crate::table::LinkTable;
+use crate::push::Links;
 
 /// A link of a path. Its room is as it was when it came into the slot: what was sent since is held.
 #[derive(Clone, Copy)]
@@ -33,271 +29,188 @@ pub struct Trail {
     pub start: u32,
     /// The node at which they end.
     pub goal: u32,
+    ghost order: { walked ≤ rest },
+    ghost within: { rest ≤ length slots.items },
 }
 
-/// The room that is left to a link.
-pub fn room_left(slot: Slot, sent: u64) -> u64
-    ensures { result ≡ room_left sent slot.full_at }
-{
-    slot.full_at.wrapping_sub(sent)
-}
+impl Slot {
+    ghost use Rattle.dmf_path.specs.Held.{room_left};
 
-/// The least of the limit and the rooms that are left to these links: the bottleneck.
-pub fn bottleneck(slots: &[Slot], sent: u64, limit: u64) -> u64
-    ensures { result ≡ least_left sent limit slots.now }
-{
-    let mut least = limit;
-    for slot in slots {
-        least = least.min(room_left(*slot, sent));
-    }
-    least
-}
-
-/// Puts on each of these links what is held for it.
-pub fn put_each_on(
-    table: &LinkTable,
-    slots: &[Slot],
-    sent: u64,
-    takes_back: bool,
-    rooms: &mut [u64],
-    flags: &mut [u8],
-)
-    requires rooms { AreRooms (links_of table.now) rooms.old }
-    requires flags { AreFlags (links_of table.now) rooms.old flags.old }
-    requires can { CanPut (links_of table.now) takes_back sent slots.now rooms.old }
-    ensures rooms { rooms.new ≡ put_each (links_of table.now) takes_back sent slots.now rooms.old }
-    ensures sums { AreRooms (links_of table.now) rooms.new }
-    ensures flags { AreFlags (links_of table.now) rooms.new flags.new }
-{
-    for slot in slots {
-        put_on(table, *slot, sent, takes_back, rooms, flags);
+    /// The room that is left to a link, once so much is sent in all.
+    pub fn room_left(self, sent: u64) -> u64
+        ensures { result ≡ room_left sent self.full_at }
+    {
+        self.full_at.wrapping_sub(sent)
     }
 }
 
-/// Puts on a link what is held for it.
-pub fn put_on(
-    table: &LinkTable,
-    slot: Slot,
-    sent: u64,
-    takes_back: bool,
-    rooms: &mut [u64],
-    flags: &mut [u8],
-)
-    requires rooms { AreRooms (links_of table.now) rooms.old }
-    requires flags { AreFlags (links_of table.now) rooms.old flags.old }
-    requires slot { IsSlot (links_of table.now) sent rooms.old slot }
-    ensures rooms { rooms.new ≡ put_once (links_of table.now) takes_back sent slot rooms.old }
-    ensures sums { AreRooms (links_of table.now) rooms.new }
-    ensures flags { AreFlags (links_of table.now) rooms.new flags.new }
-{
-    let held = rooms[slot.place as usize] - room_left(slot, sent);
-    push_once(table, slot.place, held, takes_back, rooms, flags);
-}
+impl Links {
+    ghost use Rattle.dmf_path.specs.Held.{CanPut, IsSlot};
+    ghost use Rattle.dmf_path.specs.LinkTable.{links_of};
+    ghost use Rattle.dmf_path.specs.Residual.{residual_of, put_on, put_each_on};
 
-/// Makes the next slot free: where it has the first link of the end of the last path, that one leaves.
-pub fn make_way(
-    table: &LinkTable,
-    takes_back: bool,
-    rooms: &mut [u64],
-    flags: &mut [u8],
-    trail: &mut Trail,
-)
-    requires rooms { AreRooms (links_of table.now) rooms.old }
-    requires flags { AreFlags (links_of table.now) rooms.old flags.old }
-    requires order { trail.old.walked ≤ trail.old.rest }
-    requires within { trail.old.walked < length trail.old.slots.items }
-    requires slot { trail.old.walked ≡ trail.old.rest →
-        IsSlot (links_of table.now) trail.old.sent rooms.old (slot_at trail.old.slots.items trail.old.rest) }
-    ensures way { MakesWay (links_of table.now) takes_back (way_of trail.old) rooms.old (way_of trail.new) rooms.new }
-    ensures sums { AreRooms (links_of table.now) rooms.new }
-    ensures flags { AreFlags (links_of table.now) rooms.new flags.new }
-    ensures slots_capacity { vec_capacity trail.new.slots ≡ vec_capacity trail.old.slots }
-{
-    if trail.walked == trail.rest {
-        let slot = trail.slots[trail.rest];
-        put_on(table, slot, trail.sent, takes_back, rooms, flags);
-        trail.rest += 1;
-        trail.joint = table.heads[slot.place as usize];
+    /// Puts on each of these links what is held for it.
+    fn put_each_on(&mut self, slots: &[Slot], sent: u64)
+        requires can { CanPut (links_of self.old.table) self.old.takes_back sent slots.now self.old.rooms.items }
+        ensures { residual_of self.new ≡ put_each_on (residual_of self.old) sent slots.now }
+    {
+        for slot in slots {
+            self.put_on(*slot, sent);
+        }
     }
-}
 
-/// Goes on along a link with so much room, for which the next slot is free.
-pub fn enter(place: u32, room: u64, trail: &mut Trail)
-    requires free { trail.old.walked < length trail.old.slots.items }
-    ensures way { way_of trail.new ≡ entered (way_of trail.old) place room }
-    ensures slots_capacity { vec_capacity trail.new.slots ≡ vec_capacity trail.old.slots }
-{
-    trail.slots[trail.walked] = Slot {
-        place,
-        full_at: trail.sent.wrapping_add(room),
-    };
-    trail.walked += 1;
-}
-
-/// Steps back over the last link, which leaves, and tells its place.
-pub fn step_back(
-    table: &LinkTable,
-    takes_back: bool,
-    rooms: &mut [u64],
-    flags: &mut [u8],
-    trail: &mut Trail,
-) -> u32
-    requires rooms { AreRooms (links_of table.now) rooms.old }
-    requires flags { AreFlags (links_of table.now) rooms.old flags.old }
-    requires some { 0 < trail.old.walked }
-    requires within { trail.old.walked ≤ length trail.old.slots.items }
-    requires slot { IsSlot (links_of table.now) trail.old.sent rooms.old (slot_at trail.old.slots.items (trail.old.walked - 1)) }
-    ensures place { result ≡ (slot_at trail.old.slots.items (trail.old.walked - 1)).place }
-    ensures way { way_of trail.new ≡ stepped_back (way_of trail.old) }
-    ensures rooms { rooms.new ≡ put_once (links_of table.now) takes_back trail.old.sent
-        (slot_at trail.old.slots.items (trail.old.walked - 1)) rooms.old }
-    ensures sums { AreRooms (links_of table.now) rooms.new }
-    ensures flags { AreFlags (links_of table.now) rooms.new flags.new }
-    ensures slots_capacity { vec_capacity trail.new.slots ≡ vec_capacity trail.old.slots }
-{
-    trail.walked -= 1;
-    let slot = trail.slots[trail.walked];
-    put_on(table, slot, trail.sent, takes_back, rooms, flags);
-    slot.place
-}
-
-/// Lets all links leave.
-pub fn settle(
-    table: &LinkTable,
-    takes_back: bool,
-    rooms: &mut [u64],
-    flags: &mut [u8],
-    trail: &mut Trail,
-)
-    requires rooms { AreRooms (links_of table.now) rooms.old }
-    requires flags { AreFlags (links_of table.now) rooms.old flags.old }
-    requires order { trail.old.walked ≤ trail.old.rest }
-    requires within { trail.old.rest ≤ length trail.old.slots.items }
-    requires walked { CanPut (links_of table.now) takes_back trail.old.sent (walked_slots (way_of trail.old)) rooms.old }
-    requires rest { CanPut (links_of table.now) takes_back trail.old.sent (rest_slots (way_of trail.old))
-        (put_each (links_of table.now) takes_back trail.old.sent (walked_slots (way_of trail.old)) rooms.old) }
-    ensures way { way_of trail.new ≡ emptied (way_of trail.old) }
-    ensures rooms { rooms.new ≡ put_each (links_of table.now) takes_back trail.old.sent (rest_slots (way_of trail.old))
-        (put_each (links_of table.now) takes_back trail.old.sent (walked_slots (way_of trail.old)) rooms.old) }
-    ensures sums { AreRooms (links_of table.now) rooms.new }
-    ensures flags { AreFlags (links_of table.now) rooms.new flags.new }
-    ensures slots_capacity { vec_capacity trail.new.slots ≡ vec_capacity trail.old.slots }
-{
-    put_on_rooms(table, takes_back, rooms, flags, trail);
-    trail.walked = 0;
-    trail.rest = trail.slots.len();
-    trail.joint = trail.goal;
-}
-
-/// Puts on all links what is held for them.
-pub fn put_on_rooms(
-    table: &LinkTable,
-    takes_back: bool,
-    rooms: &mut [u64],
-    flags: &mut [u8],
-    trail: &Trail,
-)
-    requires rooms { AreRooms (links_of table.now) rooms.old }
-    requires flags { AreFlags (links_of table.now) rooms.old flags.old }
-    requires order { trail.now.walked ≤ trail.now.rest }
-    requires within { trail.now.rest ≤ length trail.now.slots.items }
-    requires walked { CanPut (links_of table.now) takes_back trail.now.sent (walked_slots (way_of trail.now)) rooms.old }
-    requires rest { CanPut (links_of table.now) takes_back trail.now.sent (rest_slots (way_of trail.now))
-        (put_each (links_of table.now) takes_back trail.now.sent (walked_slots (way_of trail.now)) rooms.old) }
-    ensures rooms { rooms.new ≡ put_each (links_of table.now) takes_back trail.now.sent (rest_slots (way_of trail.now))
-        (put_each (links_of table.now) takes_back trail.now.sent (walked_slots (way_of trail.now)) rooms.old) }
-    ensures sums { AreRooms (links_of table.now) rooms.new }
-    ensures flags { AreFlags (links_of table.now) rooms.new flags.new }
-{
-    let walked = &trail.slots[..trail.walked];
-    put_each_on(table, walked, trail.sent, takes_back, rooms, flags);
-    let rest = &trail.slots[trail.rest..];
-    put_each_on(table, rest, trail.sent, takes_back, rooms, flags);
+    /// Puts on a link what is held for it.
+    fn put_on(&mut self, slot: Slot, sent: u64)
+        requires slot { IsSlot (links_of self.old.table) sent self.old.rooms.items slot }
+        ensures { residual_of self.new ≡ put_on (residual_of self.old) sent slot }
+    {
+        let held = self.rooms[slot.place as usize] - slot.room_left(sent);
+        self.push(slot.place, held);
+    }
 }
 
 impl Trail {
+    ghost use Rattle.std.specs.Prelude.{◌≢◌, ℕ, ◌<◌, true, [], ◌-◌, take, drop};
+    ghost use Rattle.dmf_path.specs.LinkTable.{links_of};
+    ghost use Rattle.dmf_path.specs.Held.{least_left, way_of, filled_slots, slot_at, CanPut, IsSlot, entered, stepped_back, emptied, with_slots};
+    ghost use Rattle.dmf_path.specs.Residual.{residual_of, told, put_on, CanSettle, MakesWay, IsSplit};
+
     /// Whether no slot is filled.
     pub fn is_empty(&self) -> bool
-        requires { self.now.rest ≤ length self.now.slots.items }
         ensures { result ≡ true → filled_slots (way_of self.now) ≡ [] }
     {
         self.walked == 0 && self.rest == self.slots.len()
     }
-}
 
-/// Cuts a path at its full links: the first leaves, the last, and those between.
-pub fn split_path(
-    table: &LinkTable,
-    takes_back: bool,
-    rooms: &mut [u64],
-    flags: &mut [u8],
-    trail: &mut Trail,
-)
-    requires rooms { AreRooms (links_of table.now) rooms.old }
-    requires flags { AreFlags (links_of table.now) rooms.old flags.old }
-    requires can { (first behind : ℕ) → first < behind → behind ≤ length trail.old.slots.items →
-        CanPut (links_of table.now) takes_back trail.old.sent (take (behind - first) (drop first trail.old.slots.items)) rooms.old }
-    requires places { (i : ℕ) → i < length trail.old.slots.items →
-        (slot_at trail.old.slots.items i).place < length table.now.heads.items }
-    ensures way { IsSplit (links_of table.now) takes_back (way_of trail.old) rooms.old (way_of trail.new) rooms.new }
-    ensures sums { AreRooms (links_of table.now) rooms.new }
-    ensures flags { AreFlags (links_of table.now) rooms.new flags.new }
-    ensures slots_capacity { vec_capacity trail.new.slots ≡ vec_capacity trail.old.slots }
-{
-    let first = first_full(&trail.slots, trail.sent);
-    let behind = behind_last_full(&trail.slots, trail.sent);
-    if first < behind {
-        let full = &trail.slots[first..behind];
-        put_each_on(table, full, trail.sent, takes_back, rooms, flags);
-        trail.walked = first;
-        trail.rest = behind;
-        trail.joint = table.heads[trail.slots[behind - 1].place as usize];
+    /// The least of the limit and the rooms that are left to the links in slots: the bottleneck.
+    pub fn bottleneck(&self, limit: u64) -> u64
+        ensures { result ≡ least_left self.now.sent limit self.now.slots.items }
+    {
+        let mut least = limit;
+        for slot in &self.slots {
+            least = least.min(slot.room_left(self.sent));
+        }
+        least
     }
-}
 
-/// The index of the first full link; where there is none, the number of links.
-fn first_full(slots: &[Slot], sent: u64) -> usize
-    ensures within { result ≤ length slots.now }
-    ensures open_links { (i : ℕ) → i < result → (slot_at slots.now i).full_at ≢ sent }
-{
-    for i in 0..slots.len() {
-        if slots[i].full_at == sent {
-            return i;
+    /// Makes the next slot free: where it has the first link of the end of the last path, that one leaves.
+    pub fn make_way(&mut self, links: &mut Links)
+        requires within { self.old.walked < length self.old.slots.items }
+        requires slot { self.old.walked ≡ self.old.rest →
+            IsSlot (links_of links.old.table) self.old.sent links.old.rooms.items (slot_at self.old.slots.items self.old.rest) }
+        ensures { MakesWay (residual_of links.old) (way_of self.old) (residual_of links.new) (way_of self.new) }
+    {
+        if self.walked == self.rest {
+            let slot = self.slots[self.rest];
+            links.put_on(slot, self.sent);
+            self.rest += 1;
+            self.joint = links.table.heads[slot.place as usize];
         }
     }
-    slots.len()
-}
 
-/// The index behind the last full link; where there is none, 0.
-fn behind_last_full(slots: &[Slot], sent: u64) -> usize
-    ensures within { result ≤ length slots.now }
-    ensures open_links { (i : ℕ) → result ≤ i → i < length slots.now → (slot_at slots.now i).full_at ≢ sent }
-{
-    let mut behind = slots.len();
-    while behind > 0 && slots[behind - 1].full_at != sent {
-        behind -= 1;
+    /// Goes on along a link with so much room, for which the next slot is free.
+    pub fn enter(&mut self, place: u32, room: u64)
+        requires free { self.old.walked < self.old.rest }
+        ensures { way_of self.new ≡ entered (way_of self.old) place room }
+    {
+        self.slots[self.walked] = Slot {
+            place,
+            full_at: self.sent.wrapping_add(room),
+        };
+        self.walked += 1;
     }
-    behind
-}
 
-/// Makes the slots free, and as many as paths have links.
-pub fn free_slots(trail: &mut Trail, links: u32)
-    requires slots_capacity { links ≤ vec_capacity trail.old.slots }
-    ensures count { length trail.new.slots.items ≡ links }
-    ensures way { way_of trail.new ≡ with_slots (way_of trail.old) trail.new.slots.items }
-    ensures slots_capacity { vec_capacity trail.new.slots ≡ vec_capacity trail.old.slots }
-{
-    make_slots(&mut trail.slots, links);
-    trail.walked = 0;
-    trail.rest = trail.slots.len();
-    trail.joint = trail.goal;
+    /// Steps back over the last link, which leaves, and tells its place.
+    pub fn step_back(&mut self, links: &mut Links) -> u32
+        requires some { 0 < self.old.walked }
+        requires slot { IsSlot (links_of links.old.table) self.old.sent links.old.rooms.items
+            (slot_at self.old.slots.items (self.old.walked - 1)) }
+        ensures place { result ≡ (slot_at self.old.slots.items (self.old.walked - 1)).place }
+        ensures way { way_of self.new ≡ stepped_back (way_of self.old) }
+        ensures links { residual_of links.new ≡ put_on (residual_of links.old) self.old.sent
+            (slot_at self.old.slots.items (self.old.walked - 1)) }
+    {
+        self.walked -= 1;
+        let slot = self.slots[self.walked];
+        links.put_on(slot, self.sent);
+        slot.place
+    }
+
+    /// Lets all links leave.
+    pub fn settle(&mut self, links: &mut Links)
+        requires can { CanSettle (residual_of links.old) (way_of self.old) }
+        ensures way { way_of self.new ≡ emptied (way_of self.old) }
+        ensures links { residual_of links.new ≡ told (residual_of links.old) (way_of self.old) }
+    {
+        links.put_each_on(&self.slots[..self.walked], self.sent);
+        links.put_each_on(&self.slots[self.rest..], self.sent);
+        self.walked = 0;
+        self.rest = self.slots.len();
+        self.joint = self.goal;
+    }
+
+    /// Cuts a path at its full links: the first leaves, the last, and those between.
+    pub fn split(&mut self, links: &mut Links)
+        requires can { (first behind : ℕ) → first < behind → behind ≤ length self.old.slots.items →
+            CanPut (links_of links.old.table) links.old.takes_back self.old.sent
+            (take (behind - first) (drop first self.old.slots.items)) links.old.rooms.items }
+        requires places { (i : ℕ) → i < length self.old.slots.items →
+            (slot_at self.old.slots.items i).place < length links.old.table.heads.items }
+        ensures { IsSplit (residual_of links.old) (way_of self.old) (residual_of links.new) (way_of self.new) }
+    {
+        let first = self.first_full();
+        let behind = self.behind_last_full();
+        if first < behind {
+            links.put_each_on(&self.slots[first..behind], self.sent);
+            self.walked = first;
+            self.rest = behind;
+            self.joint = links.table.heads[self.slots[behind - 1].place as usize];
+        }
+    }
+
+    /// The index of the first full link; where there is none, the number of links.
+    fn first_full(&self) -> usize
+        ensures within { result ≤ length self.now.slots.items }
+        ensures open_links { (i : ℕ) → i < result → (slot_at self.now.slots.items i).full_at ≢ self.now.sent }
+    {
+        for i in 0..self.slots.len() {
+            if self.slots[i].full_at == self.sent {
+                return i;
+            }
+        }
+        self.slots.len()
+    }
+
+    /// The index behind the last full link; where there is none, 0.
+    fn behind_last_full(&self) -> usize
+        ensures within { result ≤ length self.now.slots.items }
+        ensures open_links { (i : ℕ) → result ≤ i → i < length self.now.slots.items → (slot_at self.now.slots.items i).full_at ≢ self.now.sent }
+    {
+        let mut behind = self.slots.len();
+        while behind > 0 && self.slots[behind - 1].full_at != self.sent {
+            behind -= 1;
+        }
+        behind
+    }
+
+    /// Makes the slots free, and as many as paths have links.
+    pub fn free(&mut self, links: u32)
+        requires capacity { links ≤ vec_capacity self.old.slots }
+        ensures count { length self.new.slots.items ≡ links }
+        ensures way { way_of self.new ≡ with_slots (way_of self.old) self.new.slots.items }
+    {
+        make_slots(&mut self.slots, links);
+        self.walked = 0;
+        self.rest = self.slots.len();
+        self.joint = self.goal;
+    }
 }
 
 /// Makes so many slots.
 fn make_slots(slots: &mut Vec<Slot>, links: u32)
-    requires slots_capacity { links ≤ vec_capacity slots.old }
+    requires capacity { links ≤ vec_capacity slots.old }
     ensures count { length slots.new.items ≡ links }
-    ensures slots_capacity { vec_capacity slots.new ≡ vec_capacity slots.old }
+    ensures capacity { vec_capacity slots.new ≡ vec_capacity slots.old }
 {
     slots.clear();
     for _ in 0..links {

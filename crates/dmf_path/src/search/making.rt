@@ -12,6 +12,7 @@ use crate::listed::list_pairs;
 use crate::pair::Pairs;
 use crate::phase::make_fresh;
 use crate::places::Places;
+use crate::push::Links;
 use crate::search::Search;
 use crate::table::LinkTable;
 use crate::trail::Trail;
@@ -77,14 +78,17 @@ impl Search {
             goal,
         };
         make_fresh(&table, &mut levels, &mut trail);
-        Ok(Search {
+        let links = Links {
             table,
-            places,
+            takes_back,
             rooms,
             flags,
+        };
+        Ok(Search {
+            links,
+            places,
             levels,
             trail,
-            takes_back,
             is_fresh: true,
         })
     }

@@ -8,5 +8,5 @@ use Rattle.dmf_path.proofs.passed.mark_ends.Given as goal
 abbrev pub invariant-loop-slot : goal.invariant-loop-slot
 invariant-loop-slot l = record {
   more : (v : ℕ) → is_passed l.passed v ≡ false → is_passed l.initial.passed v ≡ false;
-  marked : (i : ℕ) → i < l.slot-index → HasMarks (links_of l.table) l.passed (slot_at l.slots i).place;
+  marked : (i : ℕ) → i < l.slot-index → HasMarks (links_of l.links.table) l.passed (slot_at l.trail.slots.items i).place;
 }

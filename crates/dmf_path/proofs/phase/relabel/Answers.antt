@@ -1,92 +1,115 @@
 -- The labels, the current links and the slots fit together; or the search is fresh.
-use Rattle.std.proofs.Common.{◌≡◌, length, replicate, get_or, ap, sym, ◌∙◌, subst, arith}
+use Rattle.std.proofs.Common.{◌≡◌, replicate, get_or, ap, sym, ◌∙◌, subst, arith}
 use Rattle.std.proofs.lemmas.List.{with_items_is, get_or_default}
 use Rattle.dmf_path.specs.LinkTable.{links_of}
 use Rattle.dmf_path.specs.Labels.{no_label}
 use Rattle.dmf_path.specs.Walk.{AreCurrent}
-use Rattle.dmf_path.specs.Held.{way_of}
-use Rattle.dmf_path.proofs.Settling.{way-free}
-use Rattle.dmf_path.proofs.Beginning.{BeginsFresh, begins-fresh, first-queued, passed-first, passed-fresh, sound-fresh}
+use Rattle.dmf_path.specs.Held.{Way, way_of, with_slots}
+use Rattle.dmf_path.specs.Residual.{residual_of}
+use Rattle.dmf_path.specs.Searching.{Labelling, labelling_of, IsAimed, IsReady}
+use Rattle.dmf_path.proofs.Beginning.{first-queued, passed-first, ready-at}
+use Rattle.dmf_path.proofs.SearchTurns.{plainly, searching-free, searching-anew}
 use Rattle.dmf_path.proofs.phase.relabel.Goals as goal
-use Rattle.dmf_path.proofs.phase.relabel.Goals.{After-index-start_label}
+use Rattle.dmf_path.proofs.phase.relabel.Goals.{Start, After-index-start_label}
 
-pub label_anew-requires-clause-near : goal.label_anew-requires-clause-near
-label_anew-requires-clause-near c = record {
-  labels_are = c.unlabel.ensures.labels ∙ ap (λ n. replicate n no_label) c.requires.ready.one_label_each;
-  capacity = omega (arith, c.unlabel.ensures.capacity, c.requires.ready.capacity);
+-- As many nodes have labels as there are.
+ready : (c : Start) → IsReady c.args.links.now.table.nodes c.args.levels.now.near c.args.levels.now.far
+ready c = ready-at c.args.links.now.table.nodes c.args.levels.now c.requires.ready c.requires.searching.aimed.one_label_each
+
+pub unlabel-requires : goal.unlabel-requires
+unlabel-requires c = record { queued = c.requires.ready.1.queued }
+
+pub label_anew-requires : goal.label_anew-requires
+label_anew-requires c =
+    let a = c.requires.searching.aimed in
+    let links = c.args.links.now in
+    let is = ready-at links.table.nodes c.args.levels.now c.requires.ready a.one_label_each in
+    record {
+      rooms = rw c.deref.ensures.value links.rooms_are;
+      flags = rw (c.deref.ensures.value, c.deref-2.ensures.value) links.flags_are;
+      near = record {
+        labels_are = c.unlabel.ensures.labels ∙ ap (λ n. replicate n no_label) is.one_label_each;
+        capacity = omega (arith, c.unlabel.ensures.capacity, is.capacity);
+      };
+      far = is.clean;
+      start = a.start_is;
+      goal = a.goal_is;
+      apart = a.apart;
+    }
+
+pub make_fresh-requires : goal.make_fresh-requires
+make_fresh-requires c = record {
+  ready = c.label_anew.ensures.ready;
+  start = c.requires.searching.aimed.start_is;
+  goal = c.requires.searching.aimed.goal_is;
 }
 
-pub returns-then-not-label_anew-clause-start_label : goal.returns-then-not-label_anew-clause-start_label
-returns-then-not-label_anew-clause-start_label c =
-    let l = links_of c.args.table.now in
+pub returns-then-not-label_anew : goal.returns-then-not-label_anew
+returns-then-not-label_anew c =
+    let a = c.requires.searching.aimed in
+    let m = c.make_fresh.ensures in
     let w = way_of c.args.trail.now in
-    let begins = subst (λ ls. BeginsFresh l ls w.start w.goal) (sym c.make_fresh.ensures.labels)
-    (begins-fresh l w.start w.goal c.requires.start c.requires.goal c.requires.apart) in
-    omega (arith, begins.fresh.label)
+    let anew = searching-anew (residual_of c.args.links.now) (labelling_of c.args.levels.now) w (labelling_of c.make_fresh.new.levels) w.start w.goal
+    (way_of c.make_fresh.new.trail) c.requires.searching a.start_is a.goal_is a.apart m.labels
+    (ap (λ v. v.items) (m.current ∙ c.label_anew.ensures.current)) m.way in
+    record {
+      searching = anew.0;
+      ready = (c.args.links.now.table.nodes, m.ready);
+      way = m.way ∙ ap (with_slots w) (sym (ap (λ (u : Way). u.slots) m.way));
+      labelled = λ e. absurd (cc);
+      none = λ e. rw c.deref.ensures.value at (c.label_anew.ensures.none c.if-not-label_anew.true);
+    }
 
-pub returns-then-not-label_anew-clause-sound : goal.returns-then-not-label_anew-clause-sound
-returns-then-not-label_anew-clause-sound c =
-    let l = links_of c.args.table.now in
-    let w = way_of c.args.trail.now in
-    let begins = subst (λ ls. BeginsFresh l ls w.start w.goal) (sym c.make_fresh.ensures.labels)
-    (begins-fresh l w.start w.goal c.requires.start c.requires.goal c.requires.apart) in
-    sound-fresh l c.make_fresh.new.levels.near.labels.items c.args.rooms.now w.start begins.long begins.fresh
-
-pub returns-then-not-label_anew-clause-under_way : goal.returns-then-not-label_anew-clause-under_way
-returns-then-not-label_anew-clause-under_way c =
-    let l = links_of c.args.table.now in
-    let w = way_of c.args.trail.now in
-    let labels = c.make_fresh.new.levels.near.labels.items in
-    let begins = subst (λ ls. BeginsFresh l ls w.start w.goal) (sym c.make_fresh.ensures.labels)
-    (begins-fresh l w.start w.goal c.requires.start c.requires.goal c.requires.apart) in
-    let same = ap (λ v. v.items) (c.make_fresh.ensures.current ∙ c.label_anew.ensures.current) in
-    let current_is : AreCurrent l c.make_fresh.new.levels.current.items = subst (AreCurrent l) (sym same) c.requires.current in
-    way-free l labels c.args.rooms.now c.make_fresh.new.levels.current.items w c.make_fresh.new.trail.slots.items c.requires.goal current_is
-    (passed-fresh l labels c.args.rooms.now w.start w.goal c.make_fresh.new.levels.current.items c.args.table.now.are begins.fresh)
-    (ap length c.make_fresh.ensures.none ∙ sym begins.fresh.label) begins.goal_label
-
-pub set_current-requires-clause-nodes : goal.set_current-requires-clause-nodes
-set_current-requires-clause-nodes c =
-    let ready = c.label_anew.ensures.ready in
-    rw c.deref.ensures.value (λ i before. omega (arith, ready.queued.within i before, ready.one_label_each))
-
-pub set_current-requires-clause-current : goal.set_current-requires-clause-current
-set_current-requires-clause-current c =
+pub set_current-requires : goal.set_current-requires
+set_current-requires c =
+    let is = c.label_anew.ensures.ready in
     let same = ap (λ v. v.items) c.label_anew.ensures.current in
-    subst (AreCurrent (links_of c.args.table.now)) (sym (c.deref_mut.ensures.value ∙ same)) c.requires.current
+    record {
+      nodes = rw c.deref-3.ensures.value (λ i before. omega (arith, is.queued.within i before, is.one_label_each));
+      current = subst (AreCurrent (links_of c.args.links.now.table)) (sym (c.deref_mut.ensures.value ∙ same)) c.requires.searching.under_way.walking.current_is;
+    }
 
 -- the label of the start is read
 read : (c : After-index-start_label) → c.index-start_label.result.now ≡ get_or c.label_anew.new.levels.near.labels.items c.args.trail.now.start 0
 read c =
-    c.index-start_label.ensures ∙ sym (get_or_default c.label_anew.new.levels.near.labels.items c.args.trail.now.start 0 _
-    (omega (arith, c.label_anew.ensures.ready.one_label_each, c.requires.start.to_last)))
+    c.index-start_label.ensures
+    ∙ sym (get_or_default c.label_anew.new.levels.near.labels.items c.args.trail.now.start 0 _ (omega (arith, c.label_anew.ensures.ready.one_label_each, c.requires.searching.aimed.start_is.to_last)))
 
-pub free_slots-requires : goal.free_slots-requires
-free_slots-requires c =
+pub free-requires : goal.free-requires
+free-requires c =
     let labelled = c.label_anew.ensures.labelled c.if-not-label_anew.false in
-    record { slots_capacity = omega (arith, read (goal.at.free_slots-requires c).After-index-start_label, labelled.start_label, c.requires.slots_capacity) }
+    record { capacity = omega (arith, read (goal.at.free-requires c).After-index-start_label, labelled.start_label, c.requires.searching.aimed.capacity_is) }
 
-pub returns-clause-start_label : goal.returns-clause-start_label
-returns-clause-start_label c = (c.label_anew.ensures.labelled c.if-not-label_anew.false).start_label
-
-pub returns-clause-sound : goal.returns-clause-sound
-returns-clause-sound c = (c.label_anew.ensures.labelled c.if-not-label_anew.false).sound
-
-pub returns-clause-labelled : goal.returns-clause-labelled
-returns-clause-labelled c _ = (c.label_anew.ensures.labelled c.if-not-label_anew.false).walk
-
-pub returns-clause-under_way : goal.returns-clause-under_way
-returns-clause-under_way c =
-    let l = links_of c.args.table.now in
+pub returns : goal.returns
+returns c =
+    let a = c.requires.searching.aimed in
+    let links = c.args.links.now in
+    let l = links_of links.table in
     let w = way_of c.args.trail.now in
     let levels = c.label_anew.new.levels in
-    let ready = c.label_anew.ensures.ready in
-    let labelled = c.label_anew.ensures.labelled c.if-not-label_anew.false in
+    let is = c.label_anew.ensures.ready in
+    let labelled = rw c.deref.ensures.value at (c.label_anew.ensures.labelled c.if-not-label_anew.false) in
+    let slots = c.free.new.self.slots.items in
     let current = with_items_is levels.current c.set_current.new.current (c.set_current.auto.current ∙ c.deref_mut.ensures.len) in
-    let first = first-queued l levels.near.labels.items levels.near.queue.items c.set_current.new.current ready.one_label_each ready.queued
-    (rw c.deref.ensures.value at c.set_current.ensures.first) in
-    rw current
-    (way-free l levels.near.labels.items c.args.rooms.now c.set_current.new.current w c.free_slots.new.trail.slots.items c.requires.goal
-    c.set_current.ensures.current
-    (passed-first l levels.near.labels.items c.args.rooms.now w.goal c.set_current.new.current c.args.table.now.are labelled.sound.small first)
-    (c.free_slots.ensures.count ∙ read (goal.at.returns-clause-under_way c).After-index-start_label) labelled.goal_label)
+    let first = first-queued l levels.near.labels.items levels.near.queue.items c.set_current.new.current is.one_label_each is.queued (rw c.deref-3.ensures.value at c.set_current.ensures.first) in
+    let aimed : IsAimed (plainly (residual_of links) w) levels.near.labels.items w.capacity = record {
+      links = a.links;
+      one_label_each = is.one_label_each;
+      start_label = labelled.start_label;
+      sound = labelled.sound;
+      start_is = a.start_is;
+      goal_is = a.goal_is;
+      apart = a.apart;
+      capacity_is = a.capacity_is;
+    } in
+    let v : Labelling = record { labels = levels.near.labels.items; current = c.set_current.new.current } in
+    let searching = searching-free (residual_of links) v w slots aimed links.rooms_are c.requires.searching.holding.small c.set_current.ensures.current
+    (passed-first l levels.near.labels.items links.rooms.items w.goal c.set_current.new.current a.links labelled.sound.small first)
+    (c.free.ensures.count ∙ read (goal.at.returns c).After-index-start_label) labelled.goal_label in
+    record {
+      searching = rw (current, c.free.ensures.way) searching;
+      ready = (links.table.nodes, is);
+      way = c.free.ensures.way;
+      labelled = λ yes. labelled.walk;
+      none = λ e. absurd (cc);
+    }

@@ -1,36 +1,42 @@
 -- All links have left, or the link is in no slot, and its room is as it is told.
-use Rattle.std.proofs.Common.{get_or, ap, sym, ◌∙◌}
+use Rattle.std.proofs.Common.{◌≡◌, get_or, ap, sym}
 use Rattle.std.proofs.lemmas.Bool.{eqb-false}
-use Rattle.dmf_path.specs.LinkTable.{links_of}
-use Rattle.dmf_path.specs.Held.{Way, way_of, rooms_with}
-use Rattle.dmf_path.proofs.Settling.{can-settle, rooms_with-free}
+use Rattle.dmf_path.specs.Held.{way_of}
+use Rattle.dmf_path.specs.Residual.{Residual, residual_of, told}
+use Rattle.dmf_path.specs.Searching.{labelling_of}
+use Rattle.dmf_path.proofs.Settling.{can-settle}
+use Rattle.dmf_path.proofs.SearchTurns.{searching-settled, sought-settled, told-settled, off-settled}
 use Rattle.dmf_path.proofs.Released.{off-slots, room-alone}
 use Rattle.dmf_path.proofs.release.release.Goals as goal
 
-pub settle-requires-clause-walked : goal.settle-requires-clause-walked
-settle-requires-clause-walked c = (can-settle (links_of c.args.table.now) c.args.takes_back _ _ _ (way_of c.args.trail.now) c.args.rooms.now c.args.flags.now c.args.table.now.are c.requires.start c.requires.under_way.2 c.requires.holding).walked
+pub settle-requires : goal.settle-requires
+settle-requires c = record { can = can-settle c.requires.searching }
 
-pub settle-requires-clause-rest : goal.settle-requires-clause-rest
-settle-requires-clause-rest c = (can-settle (links_of c.args.table.now) c.args.takes_back _ _ _ (way_of c.args.trail.now) c.args.rooms.now c.args.flags.now c.args.table.now.are c.requires.start c.requires.under_way.2 c.requires.holding).rest
-
-pub returns-then-takes_back-clause-same : goal.returns-then-takes_back-clause-same
-returns-then-takes_back-clause-same c =
-    let l = links_of c.args.table.now in
-    let settles = can-settle l c.args.takes_back _ _ _ (way_of c.args.trail.now) c.args.rooms.now c.args.flags.now c.args.table.now.are c.requires.start c.requires.under_way.2 c.requires.holding in
-    ap (λ (w : Way). rooms_with l c.args.takes_back w c.settle.new.rooms) c.settle.ensures.way
-    ∙ rooms_with-free l c.args.takes_back (way_of c.args.trail.now) c.args.trail.now.slots.items c.settle.new.rooms ∙ c.settle.ensures.rooms ∙ sym settles.same
-
-pub returns-then-takes_back-clause-room : goal.returns-then-takes_back-clause-room
-returns-then-takes_back-clause-room c =
-    let settles = can-settle (links_of c.args.table.now) c.args.takes_back _ _ _ (way_of c.args.trail.now) c.args.rooms.now c.args.flags.now c.args.table.now.are c.requires.start c.requires.under_way.2 c.requires.holding in
-    ap (λ rs. get_or rs c.args.place 0) (settles.same ∙ sym c.settle.ensures.rooms)
+pub returns-then-links : goal.returns-then-links
+returns-then-links c =
+    let e = c.settle.ensures in
+    let r = residual_of c.args.links.now in
+    let w = way_of c.args.trail.now in
+    let next = residual_of c.settle.new.links in
+    let new = way_of c.settle.new.self in
+    let free : told next new ≡ next = told-settled w next new e.way in
+    record {
+      searching = searching-settled r (labelling_of c.args.levels.now) w next new c.requires.searching e.links e.way;
+      same = sought-settled r w next new e.links e.way;
+      off = off-settled w new c.args.place e.way;
+      room = ap (λ (x : Residual). get_or x.rooms c.args.place 0) free;
+    }
 
 pub returns-else-falls-clause-off : goal.returns-else-falls-clause-off
 returns-else-falls-clause-off c =
-    off-slots (links_of c.args.table.now) c.args.labels.now _ _ (way_of c.args.trail.now) c.args.place c.args.table.now.are c.requires.start c.requires.under_way.2 (eqb-false _ _ (sym c.if-falls.ensures))
+    let is = c.requires.searching in
+    let r = residual_of c.args.links.now in
+    let w = way_of c.args.trail.now in
+    let rises = rw c.deref.ensures.value at c.if-falls.ensures in
+    off-slots r.links c.args.levels.now.near.labels.items (told r w).rooms c.args.levels.now.current.items w c.args.place is.aimed.links is.aimed.start_is is.under_way (eqb-false _ _ (sym rises))
 
 pub returns-else-falls-clause-room : goal.returns-else-falls-clause-room
 returns-else-falls-clause-room c =
-    let l = links_of c.args.table.now in
-    room-alone l c.args.takes_back (way_of c.args.trail.now) c.args.rooms.now c.args.place c.requires.place c.requires.holding.rooms_are.0 c.if-takes_back.false
-    (off-slots l c.args.labels.now _ _ (way_of c.args.trail.now) c.args.place c.args.table.now.are c.requires.start c.requires.under_way.2 (eqb-false _ _ (sym c.if-falls.ensures)))
+    let is = c.requires.searching in
+    let r = residual_of c.args.links.now in
+    room-alone r.links r.takes_back (way_of c.args.trail.now) r.rooms c.args.place c.requires.place is.holding.rooms_are.0 c.if-links.false (returns-else-falls-clause-off c)

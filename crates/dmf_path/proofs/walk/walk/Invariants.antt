@@ -1,17 +1,18 @@
 use Rattle.std.proofs.Common.{◌≡◌, vec_capacity}
 use Rattle.dmf_path.specs.LinkTable.{links_of}
-use Rattle.dmf_path.specs.Held.{way_of, rooms_with}
+use Rattle.dmf_path.specs.Held.{way_of}
+use Rattle.dmf_path.specs.Residual.{residual_of, told}
 use Rattle.dmf_path.proofs.WalkingTurn.{work_left}
 use Rattle.dmf_path.proofs.WayTurn.{IsOnWay}
 use Rattle.dmf_path.proofs.walk.walk.Given as goal
 
 abbrev pub invariant-loop-node : goal.invariant-loop-node
 invariant-loop-node l = record {
-  on : IsOnWay (links_of l.table) l.takes_back l.labels (rooms_with (links_of l.table) l.takes_back (way_of l.fn.trail) l.fn.rooms) l.current (way_of l.trail) l.rooms l.flags l.node;
+  on : IsOnWay (residual_of l.links) l.labels l.current (told (residual_of l.fn.links) (way_of l.fn.trail)) (way_of l.trail) l.node;
   start : l.trail.start ≡ l.fn.trail.start;
   goal : l.trail.goal ≡ l.fn.trail.goal;
-  slots_capacity : vec_capacity l.trail.slots ≡ vec_capacity l.fn.trail.slots;
+  capacity : vec_capacity l.trail.slots ≡ vec_capacity l.fn.trail.slots;
 }
 
 abbrev pub decreases-loop-node : goal.decreases-loop-node
-decreases-loop-node l = work_left (links_of l.table) l.labels l.fn.trail.start l.current l.node
+decreases-loop-node l = work_left (links_of l.fn.links.table) l.labels l.fn.trail.start l.current l.node

@@ -1,37 +1,42 @@
 -- The pair's place, and the room of the link there.
-use Rattle.std.proofs.Common.{◌≡◌, get_or, ap, sym, ◌∙◌, Some}
+use Rattle.std.proofs.Common.{ap, sym, ◌∙◌, Some}
 use Rattle.std.specs.Option.{option_map}
 use Rattle.dmf_path.specs.declared.pair.Pair.{Pair}
-use Rattle.dmf_path.specs.LinkTable.{links_of}
-use Rattle.dmf_path.specs.Held.{way_of, rooms_with}
+use Rattle.dmf_path.specs.Held.{way_of}
+use Rattle.dmf_path.specs.Residual.{residual_of}
+use Rattle.dmf_path.specs.Searching.{sought}
 use Rattle.dmf_path.proofs.PairRead.{index-within, place-within, no-pair, its-pair}
 use Rattle.dmf_path.proofs.search.Search.along_near.Goals as goal
 
 pub place_near-requires : goal.place_near-requires
 place_near-requires c =
     let of = c.self.inside in
-    index-within (links_of of.table) of.places (rooms_with (links_of of.table) of.takes_back (way_of of.trail) of.rooms.items) c.args.k (rw (← c.self.view_is) at c.requires)
+    let s = sought (residual_of of.links) (way_of of.trail) in
+    index-within s.residual.links of.places s.residual.rooms c.args.k (rw (← c.self.view_is) at c.requires)
 
 pub returns-in_err-place : goal.returns-in_err-place
 returns-in_err-place c =
     let of = c.self.inside in
-    let l = links_of of.table in
-    let rooms = rooms_with l of.takes_back (way_of of.trail) of.rooms.items in
-    let index = index-within l of.places rooms c.args.k (rw (← c.self.view_is) at c.requires) in
-    rw (c.from_residual.ensures, ← c.self.view_is) (sym (ap (option_map (λ (p : Pair). p.along)) (no-pair l of.places rooms c.args.k index c.in_err-place.ensures)))
+    let s = sought (residual_of of.links) (way_of of.trail) in
+    let index = index-within s.residual.links of.places s.residual.rooms c.args.k (rw (← c.self.view_is) at c.requires) in
+    rw (c.from_residual.ensures, ← c.self.view_is)
+    (sym (ap (option_map (λ (p : Pair). p.along)) (no-pair s.residual.links of.places s.residual.rooms c.args.k index c.in_err-place.ensures)))
 
-pub settled_room-along-requires-clause-place : goal.settled_room-along-requires-clause-place
-settled_room-along-requires-clause-place c =
+pub settled_room-requires-clause-place : goal.settled_room-requires-clause-place
+settled_room-requires-clause-place c =
     let of = c.self.inside in
-    let l = links_of of.table in
-    let index = index-within l of.places (rooms_with l of.takes_back (way_of of.trail) of.rooms.items) c.args.k (rw (← c.self.view_is) at c.requires) in
-    place-within l of.places c.args.k c.in_ok-place.place c.self.invariant.1.places_are index c.in_ok-place.ensures
+    let s = sought (residual_of of.links) (way_of of.trail) in
+    let index = index-within s.residual.links of.places s.residual.rooms c.args.k (rw (← c.self.view_is) at c.requires) in
+    place-within s.residual.links of.places c.args.k c.in_ok-place.place c.self.invariant.1.places_are index c.in_ok-place.ensures
+
+pub settled_room-requires-clause-have : goal.settled_room-requires-clause-have
+settled_room-requires-clause-have c = c.self.invariant.1.searching.holding.have
 
 pub returns : goal.returns
 returns c =
     let of = c.self.inside in
-    let l = links_of of.table in
-    let rooms = rooms_with l of.takes_back (way_of of.trail) of.rooms.items in
-    let index = index-within l of.places rooms c.args.k (rw (← c.self.view_is) at c.requires) in
-    let room : c.settled_room-along.result ≡ get_or rooms c.in_ok-place.place 0 = rw c.deref.ensures.value at c.settled_room-along.ensures in
-    rw (← c.self.view_is) (ap Some room ∙ sym (ap (option_map (λ (p : Pair). p.along)) (its-pair l of.places rooms c.args.k c.in_ok-place.place index c.in_ok-place.ensures)))
+    let s = sought (residual_of of.links) (way_of of.trail) in
+    let index = index-within s.residual.links of.places s.residual.rooms c.args.k (rw (← c.self.view_is) at c.requires) in
+    rw (← c.self.view_is)
+    (ap Some c.settled_room.ensures
+    ∙ sym (ap (option_map (λ (p : Pair). p.along)) (its-pair s.residual.links of.places s.residual.rooms c.args.k c.in_ok-place.place index c.in_ok-place.ensures)))

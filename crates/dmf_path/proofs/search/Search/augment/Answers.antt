@@ -1,171 +1,111 @@
 -- A path is found, or none is left; what is sent along it, and the split.
-use Rattle.std.proofs.Common.{◌≡◌, ◌+◌, ◌%◌, ◌^◌, false, List, length, ap, sym, ◌∙◌, subst, arith, get_or, vec_capacity}
-use Rattle.std.specs.Vec.{with_items}
-use Rattle.std.proofs.lemmas.List.{with_items_is}
-use Rattle.dmf_path.specs.declared.trail.Slot.{Slot}
-use Rattle.dmf_path.specs.Links.{pairs_at}
-use Rattle.dmf_path.specs.LinkTable.{links_of}
-use Rattle.dmf_path.specs.Held.{way_of, least_left, settled, rooms_with, IsSplit}
-use Rattle.dmf_path.specs.Search.{Searched, pair_number}
+use Rattle.std.proofs.Common.{◌≡◌, false, length, ap, sym, refl, ◌∙◌, subst, arith}
+use Rattle.dmf_path.specs.declared.search.AugmentingPath.{AugmentingPath}
+use Rattle.dmf_path.specs.Links.{ArePlaces, pairs_at}
+use Rattle.dmf_path.specs.Held.{way_of, settled}
+use Rattle.dmf_path.specs.Residual.{residual_of}
+use Rattle.dmf_path.specs.Search.{Searched, Augments, pair_number}
 use Rattle.dmf_path.specs.Passed.{KeepsUnpassed}
-use Rattle.dmf_path.specs.Searching.{IsSearch}
-use Rattle.dmf_path.proofs.SettledSent.{HaveLeft-sent}
+use Rattle.dmf_path.specs.Searching.{Sought, sought, searched, labelling_of, begun}
 use Rattle.dmf_path.proofs.UnderWayWhole.{slot-within}
-use Rattle.dmf_path.proofs.Splitting.{HasSplit, middle-leaves, has-split, split-start, split-goal}
-use Rattle.dmf_path.proofs.Searching.{CanAugment, can-augment}
+use Rattle.dmf_path.proofs.Splitting.{sent_along, middle-leaves}
+use Rattle.dmf_path.proofs.SettledSent.{HaveLeft-sent}
+use Rattle.dmf_path.proofs.Searching.{sent_on, CanAugment, can-augment, IsOn, split-on}
 use Rattle.dmf_path.proofs.Reaching.{no_path-separated}
-use Rattle.dmf_path.proofs.SearchTurns.{IsSearch-found, sent_on, is-sent, IsSearch-split, same-searched, augments-between}
+use Rattle.dmf_path.proofs.SearchTurns.{search-next}
 use Rattle.dmf_path.proofs.Unpassed.{AreMarked, kept-unpassed}
 use Rattle.dmf_path.proofs.search.Search.augment.Goals as goal
-use Rattle.dmf_path.proofs.search.Search.augment.Goals.{After-split_path-arg-2-1, After-self-6-1}
+use Rattle.dmf_path.proofs.search.Search.augment.Goals.{After-bottleneck-amount, After-split}
 
-pub find-found-requires-clause-sound : goal.find-found-requires-clause-sound
-find-found-requires-clause-sound c = rw c.deref_mut.ensures.value c.self.invariant.1.sound
-
-pub find-found-requires-clause-under_way : goal.find-found-requires-clause-under_way
-find-found-requires-clause-under_way c = rw c.deref_mut.ensures.value c.self.invariant.1.under_way
+pub find-requires : goal.find-requires
+find-requires c = record { searching = c.self.invariant.1.searching; ready = c.self.invariant.0 }
 
 pub invariant_of-self : goal.invariant_of-self
 invariant_of-self c =
-    let l = links_of c.self.inside.table in
-    let w = way_of c.find-found.new.trail in
-    let f = IsSearch-found _ _ _ c.self.inside.rooms.items c.self.inside.flags.items c.self.inside.levels.near.labels.items c.self.inside.levels.current.items (way_of c.self.inside.trail) _ _ c.find-found.new.rooms c.find-found.new.flags c.find-found.new.levels.near.labels.items c.find-found.new.levels.current.items w _ _ c.self.invariant.1
-    (omega (arith, c.find-found.ensures.ready.one_label_each, c.self.invariant.1.one_label_each)) c.find-found.ensures.start_label c.find-found.ensures.holding
-    (rw c.deref_mut.ensures.value at c.find-found.ensures.same) (rw c.deref_mut.ensures.value at c.find-found.ensures.sound) (rw c.deref_mut.ensures.value at c.find-found.ensures.under_way)
-    c.find-found.ensures.start c.find-found.ensures.goal c.find-found.ensures.queue_capacity c.find-found.ensures.slots_capacity in
-    let rooms = with_items_is c.self.inside.rooms c.find-found.new.rooms (c.find-found.auto.rooms ∙ c.deref_mut.ensures.len) in
-    let flags = with_items_is c.self.inside.flags c.find-found.new.flags (c.find-found.auto.flags ∙ c.deref_mut-2.ensures.len) in
-    rw (rooms, flags) (c.find-found.ensures.ready, f)
+    let of = c.self.inside in
+    let e = c.find.ensures in
+    (e.ready, search-next (residual_of of.links) of.places (labelling_of of.levels) (way_of of.trail) (residual_of c.find.new.links) (labelling_of c.find.new.levels) (way_of c.find.new.trail) of.is_fresh false c.self.invariant.1 (ap (λ (s : Sought). s.residual.links) e.same) e.searching (begun refl))
 
-pub returns-then-not-found-clause-found : goal.returns-then-not-found-clause-found
-returns-then-not-found-clause-found c =
-    let l = links_of c.self.inside.table in
-    let rooms = with_items_is c.self.inside.rooms c.find-found.new.rooms (c.find-found.auto.rooms ∙ c.deref_mut.ensures.len) in
-    let flags = with_items_is c.self.inside.flags c.find-found.new.flags (c.find-found.auto.flags ∙ c.deref_mut-2.ensures.len) in
+pub returns-then-not-find-clause-found : goal.returns-then-not-find-clause-found
+returns-then-not-find-clause-found c =
     let i = c.self.invariant.1 in
-    let none = rw c.deref_mut.ensures.value at (c.find-found.ensures.none c.if-not-found.true) in
-    rw (← c.self.view_is, rooms) (
-      no_path-separated _ _ _ _ _ i.links i.places_are i.start_is none,
-      same-searched l c.self.inside.places _ _ _ _ _ _ c.self.inside.takes_back (rw c.deref_mut.ensures.value at c.find-found.ensures.same) c.find-found.ensures.start c.find-found.ensures.goal,
+    let of = c.self.inside in
+    let s = sought (residual_of of.links) (way_of of.trail) in
+    rw (← c.self.view_is) (
+      no_path-separated s.residual.links of.places s.residual.rooms s.start s.goal i.searching.aimed.links i.places_are i.searching.aimed.start_is (c.find.ensures.none c.if-not-find.true),
+      ap (λ (s : Sought). searched s c.self.inside.places) c.find.ensures.same,
     )
 
-pub returns-then-not-found-clause-passed : goal.returns-then-not-found-clause-passed
-returns-then-not-found-clause-passed c = record {
+pub returns-then-not-find-clause-passed : goal.returns-then-not-find-clause-passed
+returns-then-not-find-clause-passed c = record {
   more = λ v e. e;
-  kept = λ k unpassed. ap (λ (s : Searched). pair_number s.pairs k) (returns-then-not-found-clause-found c).1;
+  kept = λ k unpassed. ap (λ (s : Searched). pair_number s.pairs k) (returns-then-not-find-clause-found c).1;
 }
 
--- what the search keeps once a path is found
-found : (c : After-split_path-arg-2-1) → IsSearch (links_of c.self.inside.table) c.self.inside.takes_back c.self.inside.places c.find-found.new.rooms c.find-found.new.flags c.find-found.new.levels.near.labels.items c.find-found.new.levels.current.items (way_of c.find-found.new.trail) (vec_capacity c.find-found.new.levels.near.queue) (vec_capacity c.find-found.new.trail.slots) false
-found c =
-    IsSearch-found _ _ _ c.self.inside.rooms.items c.self.inside.flags.items c.self.inside.levels.near.labels.items c.self.inside.levels.current.items (way_of c.self.inside.trail) _ _ c.find-found.new.rooms c.find-found.new.flags c.find-found.new.levels.near.labels.items c.find-found.new.levels.current.items (way_of c.find-found.new.trail) _ _ c.self.invariant.1
-    (omega (arith, c.find-found.ensures.ready.one_label_each, c.self.invariant.1.one_label_each)) c.find-found.ensures.start_label c.find-found.ensures.holding
-    (rw c.deref_mut.ensures.value at c.find-found.ensures.same) (rw c.deref_mut.ensures.value at c.find-found.ensures.sound) (rw c.deref_mut.ensures.value at c.find-found.ensures.under_way)
-    c.find-found.ensures.start c.find-found.ensures.goal c.find-found.ensures.queue_capacity c.find-found.ensures.slots_capacity
-
--- So much can be sent along it,
-can : (c : After-split_path-arg-2-1) → CanAugment (links_of c.self.inside.table) c.self.inside.takes_back c.self.inside.places c.find-found.new.rooms c.find-found.new.levels.near.labels.items c.find-found.new.levels.current.items (way_of c.find-found.new.trail) c.args.limit c.bottleneck-amount.result
+-- So much can be sent along the path that was found.
+can : (c : After-bottleneck-amount) → CanAugment (residual_of c.find.new.links) c.self.inside.places (labelling_of c.find.new.levels) (way_of c.find.new.trail) c.args.limit c.bottleneck-amount.result
 can c =
-    let w = way_of c.find-found.new.trail in
-    let least : c.bottleneck-amount.result ≡ least_left w.sent c.args.limit w.slots = rw c.deref.ensures.value at c.bottleneck-amount.ensures in
-    can-augment (links_of c.self.inside.table) c.self.inside.takes_back c.self.inside.places c.find-found.new.rooms c.find-found.new.flags c.find-found.new.levels.near.labels.items c.find-found.new.levels.current.items w _ _ c.args.limit c.bottleneck-amount.result (found c) (c.find-found.ensures.found c.if-not-found.false) least
-
--- and its rooms are read.
-read : (c : After-split_path-arg-2-1) → c.deref_mut-3.result.now ≡ c.find-found.new.rooms
-read c = c.deref_mut-3.ensures.value ∙ with_items_is c.self.inside.rooms c.find-found.new.rooms (c.find-found.auto.rooms ∙ c.deref_mut.ensures.len)
+    let e = c.find.ensures in
+    let are = subst (λ (s : Sought). ArePlaces s.residual.links c.self.inside.places) (sym e.same) c.self.invariant.1.places_are in
+    can-augment (residual_of c.find.new.links) c.self.inside.places (labelling_of c.find.new.levels) (way_of c.find.new.trail) c.args.limit c.bottleneck-amount.result are e.searching (e.found c.if-not-find.false) c.bottleneck-amount.ensures
 
 pub mark_ends-requires : goal.mark_ends-requires
 mark_ends-requires c =
-    let l = links_of c.self.inside.table in
-    let w = way_of c.find-found.new.trail in
-    let is =
-    IsSearch-found l c.self.inside.takes_back c.self.inside.places c.self.inside.rooms.items c.self.inside.flags.items c.self.inside.levels.near.labels.items c.self.inside.levels.current.items (way_of c.self.inside.trail) _ _ c.find-found.new.rooms c.find-found.new.flags c.find-found.new.levels.near.labels.items c.find-found.new.levels.current.items w _ _ c.self.invariant.1
-    (omega (arith, c.find-found.ensures.ready.one_label_each, c.self.invariant.1.one_label_each)) c.find-found.ensures.start_label c.find-found.ensures.holding
-    (rw c.deref_mut.ensures.value at c.find-found.ensures.same) (rw c.deref_mut.ensures.value at c.find-found.ensures.sound) (rw c.deref_mut.ensures.value at c.find-found.ensures.under_way)
-    c.find-found.ensures.start c.find-found.ensures.goal c.find-found.ensures.queue_capacity c.find-found.ensures.slots_capacity in
-    let least : c.bottleneck-amount.result ≡ least_left w.sent c.args.limit w.slots = rw c.deref.ensures.value at c.bottleneck-amount.ensures in
-    let can = can-augment l c.self.inside.takes_back c.self.inside.places c.find-found.new.rooms c.find-found.new.flags c.find-found.new.levels.near.labels.items c.find-found.new.levels.current.items w _ _ c.args.limit c.bottleneck-amount.result is (c.find-found.ensures.found c.if-not-found.false) least in
-    record { places = rw c.deref-2.ensures.value (λ i inside. slot-within l c.find-found.new.levels.near.labels.items _ _ w.slots i can.descends inside) }
+    let at = (goal.at.mark_ends-requires c).After-bottleneck-amount in
+    record { places = λ i inside. slot-within (residual_of c.find.new.links).links c.find.new.levels.near.labels.items _ _ (way_of c.find.new.trail).slots i (can at).descends inside }
 
-pub split_path-requires-clause-rooms : goal.split_path-requires-clause-rooms
-split_path-requires-clause-rooms c =
-    let at = (goal.at.split_path-requires-clause-rooms c).After-split_path-arg-2-1 in
-    rw (read at) (found at).holding.rooms_are
-
-pub split_path-requires-clause-flags : goal.split_path-requires-clause-flags
-split_path-requires-clause-flags c =
-    let at = (goal.at.split_path-requires-clause-flags c).After-split_path-arg-2-1 in
-    let flags = with_items_is c.self.inside.flags c.find-found.new.flags (c.find-found.auto.flags ∙ c.deref_mut-2.ensures.len) in
-    rw (read at, c.deref_mut-4.ensures.value, flags) (found at).holding.flags_are
-
-pub split_path-requires-clause-can : goal.split_path-requires-clause-can
-split_path-requires-clause-can c =
-    let at = (goal.at.split_path-requires-clause-can c).After-split_path-arg-2-1 in
-    let w = way_of c.find-found.new.trail in
+pub split-requires-clause-can : goal.split-requires-clause-can
+split-requires-clause-can c =
+    let at = (goal.at.split-requires-clause-can c).After-bottleneck-amount in
+    let r = residual_of c.find.new.links in
+    let w = way_of c.find.new.trail in
+    let is = c.find.ensures.searching in
     λ first behind less within.
-    rw (read at) (middle-leaves (links_of c.self.inside.table) c.self.inside.takes_back c.find-found.new.levels.near.labels.items ((w.sent + c.bottleneck-amount.result) % 2 ^ 64) (get_or c.find-found.new.levels.near.labels.items w.start 0) c.find-found.new.rooms w.slots first behind (found at).links (found at).holding.rooms_are.0 (can at).descends
-    (HaveLeft-sent w.sent c.bottleneck-amount.result c.find-found.new.rooms w.slots (found at).holding.small (can at).can (can at).have) less).1.can
+    (middle-leaves r.links r.takes_back c.find.new.levels.near.labels.items (sent_on w c.bottleneck-amount.result).sent _ r.rooms w.slots first behind is.aimed.links is.holding.rooms_are.0 (can at).descends
+    (HaveLeft-sent w.sent c.bottleneck-amount.result r.rooms w.slots is.holding.small (can at).can (can at).have) less).1.can
 
-pub split_path-requires-clause-places : goal.split_path-requires-clause-places
-split_path-requires-clause-places c =
-    λ i inside. slot-within (links_of c.self.inside.table) c.find-found.new.levels.near.labels.items _ _ (way_of c.find-found.new.trail).slots i (can (goal.at.split_path-requires-clause-places c).After-split_path-arg-2-1).descends inside
+pub split-requires-clause-places : goal.split-requires-clause-places
+split-requires-clause-places c =
+    λ i inside. slot-within (residual_of c.find.new.links).links c.find.new.levels.near.labels.items _ _ (way_of c.find.new.trail).slots i (can (goal.at.split-requires-clause-places c).After-bottleneck-amount).descends inside
 
--- The path is split,
-way : (c : After-self-6-1) → IsSplit (links_of c.self.inside.table) c.self.inside.takes_back (sent_on (way_of c.find-found.new.trail) c.bottleneck-amount.result) c.find-found.new.rooms (way_of c.split_path.new.trail) c.split_path.new.rooms
-way c = rw (read (goal.at.After-self-6-1 c).After-split_path-arg-2-1) at c.split_path.ensures.way
-
--- and what was sent along it is held.
-split : (c : After-self-6-1) → HasSplit (links_of c.self.inside.table) c.self.inside.takes_back c.find-found.new.levels.near.labels.items (settled (links_of c.self.inside.table) c.self.inside.takes_back ((c.find-found.new.trail.sent + c.bottleneck-amount.result) % 2 ^ 64) c.find-found.new.trail.slots.items c.find-found.new.rooms) c.find-found.new.levels.current.items (way_of c.split_path.new.trail) c.split_path.new.rooms c.split_path.new.flags
+-- The path is split, and what was sent along it is held.
+split : (c : After-split) → IsOn (residual_of c.find.new.links) c.self.inside.places (labelling_of c.find.new.levels) (way_of c.find.new.trail) c.bottleneck-amount.result (residual_of c.split.new.links) (way_of c.split.new.self)
 split c =
-    let at = (goal.at.After-self-6-1 c).After-split_path-arg-2-1 in
-    let l = links_of c.self.inside.table in
-    let w = way_of c.find-found.new.trail in
-    let sent = is-sent l c.self.inside.takes_back c.self.inside.places c.find-found.new.rooms c.find-found.new.flags c.find-found.new.levels.near.labels.items c.find-found.new.levels.current.items w _ _ c.args.limit c.bottleneck-amount.result (found at) (c.find-found.ensures.found c.if-not-found.false) (can at) in
-    has-split l c.self.inside.takes_back c.find-found.new.levels.near.labels.items _ c.find-found.new.levels.current.items (sent_on w c.bottleneck-amount.result) (way_of c.split_path.new.trail) c.find-found.new.rooms c.split_path.new.rooms c.split_path.new.flags sent (found at).under_way.joint_is (way c) c.split_path.ensures.sums c.split_path.ensures.flags
-
-start : (c : After-self-6-1) → c.split_path.new.trail.start ≡ c.find-found.new.trail.start
-start c = split-start (links_of c.self.inside.table) c.self.inside.takes_back (sent_on (way_of c.find-found.new.trail) c.bottleneck-amount.result) (way_of c.split_path.new.trail) c.find-found.new.rooms c.split_path.new.rooms (way c)
-
-end : (c : After-self-6-1) → c.split_path.new.trail.goal ≡ c.find-found.new.trail.goal
-end c = split-goal (links_of c.self.inside.table) c.self.inside.takes_back (sent_on (way_of c.find-found.new.trail) c.bottleneck-amount.result) (way_of c.split_path.new.trail) c.find-found.new.rooms c.split_path.new.rooms (way c)
+    let e = c.find.ensures in
+    split-on (residual_of c.find.new.links) c.self.inside.places (labelling_of c.find.new.levels) (way_of c.find.new.trail) c.args.limit c.bottleneck-amount.result (residual_of c.split.new.links) (way_of c.split.new.self) e.searching (e.found c.if-not-find.false) (can (goal.at.After-split c).After-bottleneck-amount) c.split.ensures c.split.new.links.rooms_are
 
 pub invariant_of-self-2 : goal.invariant_of-self-2
 invariant_of-self-2 c =
-    let after = (goal.at.invariant_of-self-2 c).After-self-6-1 in
-    let at = (goal.at.invariant_of-self-2 c).After-split_path-arg-2-1 in
-    let rooms = with_items_is (with_items c.self.inside.rooms c.find-found.new.rooms) c.split_path.new.rooms (c.split_path.auto.rooms ∙ c.deref_mut-3.ensures.len) in
-    let flags = with_items_is (with_items c.self.inside.flags c.find-found.new.flags) c.split_path.new.flags (c.split_path.auto.flags ∙ c.deref_mut-4.ensures.len) in
-    rw (rooms, flags) (
-      c.find-found.ensures.ready,
-      IsSearch-split (links_of c.self.inside.table) c.self.inside.takes_back c.self.inside.places c.find-found.new.rooms c.find-found.new.flags c.find-found.new.levels.near.labels.items c.find-found.new.levels.current.items (way_of c.find-found.new.trail) _ _ c.args.limit c.bottleneck-amount.result c.split_path.new.rooms c.split_path.new.flags (way_of c.split_path.new.trail) _ (found at) (can at) (split after) (start after) (end after) c.split_path.ensures.slots_capacity,
-    )
+    let on = split (goal.at.invariant_of-self-2 c).After-split in
+    let links = ap (λ (s : Sought). s.residual.links) on.same ∙ ap (λ (s : Sought). s.residual.links) c.find.ensures.same in
+    let of = c.self.inside in
+    (c.find.ensures.ready, search-next (residual_of of.links) of.places (labelling_of of.levels) (way_of of.trail) (residual_of c.split.new.links) (labelling_of c.find.new.levels) (way_of c.split.new.self) of.is_fresh false c.self.invariant.1 links on.searching (begun refl))
 
 pub returns-clause-found : goal.returns-clause-found
 returns-clause-found c =
-    let after = (goal.at.returns-clause-found c).After-self-6-1 in
-    let l = links_of c.self.inside.table in
-    let rooms = with_items_is (with_items c.self.inside.rooms c.find-found.new.rooms) c.split_path.new.rooms (c.split_path.auto.rooms ∙ c.deref_mut-3.ensures.len) in
-    let links : c.len-links.result ≡ length c.find-found.new.trail.slots.items = omega (arith, c.len-links.ensures, c.find-found.new.trail.slots.ok.0) in
-    rw (← c.self.view_is, rooms, links)
-    (augments-between c.args.limit (record { amount = c.bottleneck-amount.result; links = length c.find-found.new.trail.slots.items }) _ _ _ _
-    (same-searched l c.self.inside.places _ _ _ _ _ _ c.self.inside.takes_back (rw c.deref_mut.ensures.value at c.find-found.ensures.same) c.find-found.ensures.start c.find-found.ensures.goal)
-    (same-searched l c.self.inside.places _ _ _ _ _ _ c.self.inside.takes_back (sym (split after).same) (sym (start after)) (sym (end after)))
-    (can (goal.at.returns-clause-found c).After-split_path-arg-2-1).augments)
+    let at = (goal.at.returns-clause-found c).After-bottleneck-amount in
+    let on = split (goal.at.returns-clause-found c).After-split in
+    let found : AugmentingPath = record { amount = c.bottleneck-amount.result; links = length c.find.new.trail.slots.items } in
+    let links : c.len-links.result ≡ length c.find.new.trail.slots.items = omega (arith, c.len-links.ensures, c.find.new.trail.slots.ok.0) in
+    rw (← c.self.view_is, links)
+    (subst (λ (s : Sought). Augments c.args.limit found (searched s c.self.inside.places) (searched (sought (residual_of c.split.new.links) (way_of c.split.new.self)) c.self.inside.places)) c.find.ensures.same
+    (subst (λ (s : Sought). Augments c.args.limit found (searched (sought (residual_of c.find.new.links) (way_of c.find.new.trail)) c.self.inside.places) (searched s c.self.inside.places)) (sym on.same) (can at).augments))
 
 pub returns-clause-passed : goal.returns-clause-passed
 returns-clause-passed c =
-    let after = (goal.at.returns-clause-passed c).After-self-6-1 in
-    let at = (goal.at.returns-clause-passed c).After-split_path-arg-2-1 in
-    let l = links_of c.self.inside.table in
-    let back = c.self.inside.takes_back in
+    let at = (goal.at.returns-clause-passed c).After-bottleneck-amount in
+    let on = split (goal.at.returns-clause-passed c).After-split in
+    let r = residual_of c.find.new.links in
+    let w = way_of c.find.new.trail in
     let places = c.self.inside.places in
-    let w = way_of c.find-found.new.trail in
     let marks = c.mark_ends.new.passed in
-    let rooms = with_items_is (with_items c.self.inside.rooms c.find-found.new.rooms) c.split_path.new.rooms (c.split_path.auto.rooms ∙ c.deref_mut-3.ensures.len) in
-    let marked : AreMarked l marks w.slots = rw c.deref-2.ensures.value at c.mark_ends.ensures.marked in
-    let kept = kept-unpassed l back places c.find-found.new.rooms w.sent ((w.sent + c.bottleneck-amount.result) % 2 ^ 64) w.slots marks (found at).links (found at).places_are (found at).holding.rooms_are.0 marked in
-    let filled : settled l back w.sent w.slots c.find-found.new.rooms ≡ rooms_with l back w c.find-found.new.rooms = sym (ap (λ (ss : List Slot). settled l back w.sent ss c.find-found.new.rooms) (can at).whole.filled) in
-    let before = filled ∙ (rw c.deref_mut.ensures.value at c.find-found.ensures.same) in
-    let old = subst (λ rs. KeepsUnpassed marks (pairs_at l places rs) (pairs_at l places (settled l back ((w.sent + c.bottleneck-amount.result) % 2 ^ 64) w.slots c.find-found.new.rooms))) before kept in
-    let new = subst (λ rs. KeepsUnpassed marks (pairs_at l places (rooms_with l back (way_of c.self.inside.trail) c.self.inside.rooms.items)) (pairs_at l places rs)) (sym (split after).same) old in
-    rw (← c.self.view_is, rooms) (record { more = c.mark_ends.ensures.more; kept = new })
+    let is = c.find.ensures.searching in
+    let marked : AreMarked r.links marks w.slots = c.mark_ends.ensures.marked in
+    let are = subst (λ (s : Sought). ArePlaces s.residual.links places) (sym c.find.ensures.same) c.self.invariant.1.places_are in
+    let kept = kept-unpassed r.links r.takes_back places r.rooms w.sent (sent_on w c.bottleneck-amount.result).sent w.slots marks is.aimed.links are is.holding.rooms_are.0 marked in
+    let filled = ap (λ ss. pairs_at r.links places (settled r.links r.takes_back w.sent ss r.rooms)) (sym (can at).whole.filled) in
+    let before = filled ∙ ap (λ (s : Sought). pairs_at s.residual.links places s.residual.rooms) c.find.ensures.same in
+    let after = ap (λ (s : Sought). pairs_at s.residual.links places s.residual.rooms) (sym on.same) in
+    let old = subst (λ ps. KeepsUnpassed marks ps (pairs_at r.links places (sent_along r (sent_on w c.bottleneck-amount.result)).rooms)) before kept in
+    let new = subst (λ ps. KeepsUnpassed marks (pairs_at (residual_of c.self.inside.links).links places (sought (residual_of c.self.inside.links) (way_of c.self.inside.trail)).residual.rooms) ps) after old in
+    rw (← c.self.view_is) (record { more = c.mark_ends.ensures.more; kept = new })

@@ -1,7 +1,0 @@
-use Rattle.std.proofs.Common.{◌≢◌, ℕ, ◌+◌, ◌≤◌, ◌<◌, slice_index}
-use Rattle.dmf_path.proofs.walk.first_admissible.Given as goal
-
-abbrev pub invariant-loop-place : goal.invariant-loop-place
-invariant-loop-place l =
-    (p : ℕ) → l.from ≤ p → p < l.place → 0 < slice_index l.rooms p
-    → slice_index l.labels (slice_index l.heads p) + 1 ≢ l.label
