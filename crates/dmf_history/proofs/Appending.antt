@@ -56,7 +56,8 @@ before-extended t s new present =
     let same : t.place ≡ t.place + 1 - 1 = omega arith in
     subst (λ k. slice_get (front ++ new ∷ []) k ≡ Some s) same
     (slice_get-get_or (front ++ new ∷ []) t.place s (omega (arith, length_push front new, long))
-    ∙ ap (λ x. Some x) (get_or_append_left front (new ∷ []) s t.place (omega (arith, long)) ∙ get_or-take (t.place + 1) t.states t.place s (omega arith) ∙ get_or_from_slice_get t.states t.place s s present))
+    ∙ ap (λ x. Some x) (get_or_append_left front (new ∷ []) s t.place (omega (arith, long)) ∙ get_or-take (t.place + 1) t.states t.place s
+    (omega arith) ∙ get_or_from_slice_get t.states t.place s s present))
 
 -- What was appended is present.
 pub appended-present : (t : Timeline) (s : NetworkState) → t.place < length t.states → IsPresent (appended t s) s
@@ -70,7 +71,8 @@ appends-all edit t s present fewer =
     record { state = s; present = present; gives = sym (within_bound-all (extended t (applied edit s)) (omega (arith, fewer))) }
 
 -- And where it leaves none, the oldest state is forgotten, and the place stays.
-pub appends-past : (edit : Edit) (t : Timeline) (s : NetworkState) → IsPresent t s → t.bound ≤ t.place → Appends edit t (record { states = drop 1 (take (t.place + 1) t.states ++ applied edit s ∷ []); place = t.place; bound = t.bound })
+pub appends-past : (edit : Edit) (t : Timeline) (s : NetworkState) → IsPresent t s → t.bound ≤ t.place
+    → Appends edit t (record { states = drop 1 (take (t.place + 1) t.states ++ applied edit s ∷ []); place = t.place; bound = t.bound })
 appends-past edit t s present full =
     let same : t.place ≡ t.place + 1 - 1 = omega arith in
     record {
@@ -89,4 +91,5 @@ appends-applied t u s edit present appends = appends.gives ∙ ap (λ x. appende
 pub now-present : (t u : Timeline) (s p : NetworkState) (edit : Edit) → IsPresent t s → Appends edit t u → IsPresent u p → p ≡ applied edit s
 now-present t u s p edit present appends shown =
     let new = applied edit s in
-    one-present (appended t new) p new (subst (λ v. IsPresent v p) (appends-applied t u s edit present appends) shown) (appended-present t new (slice_get_within t.states t.place s present))
+    one-present (appended t new) p new (subst (λ v. IsPresent v p) (appends-applied t u s edit present appends) shown)
+    (appended-present t new (slice_get_within t.states t.place s present))

@@ -1,7 +1,9 @@
 -- Histories of edits: the timeline that they stand for, and steps on it.
-use Rattle.std.proofs.Common.{ℕ, ◌↔◌, Bor, Option, None, MatchOption, IfSome, ◌≡◌, ◌+◌, ◌-◌, ◌<◌, ◌≤◌, List, [], ◌∷◌, ◌++◌, length, take, drop, get_or, suc, zero, Some, refl, ap, ◌∙◌, sym, subst, arith, ⊎_elim}
+use Rattle.std.proofs.Common.{ℕ, ◌↔◌, Bor, Option, None, MatchOption, IfSome, ◌≡◌, ◌+◌, ◌-◌, ◌<◌, ◌≤◌, List, [], ◌∷◌, ◌++◌, length, take, drop, get_or, suc}
+use Rattle.std.proofs.Common.{zero, Some, refl, ap, ◌∙◌, sym, subst, arith, ⊎_elim}
 use Rattle.std.specs.List.{slice_get, HoldsAt}
-use Rattle.std.proofs.lemmas.List.{length_push, length-drop, length-take-le, take-append-le, take_all, take-take, get_or_append_left, get_or_push, get_or-take, take_more}
+use Rattle.std.proofs.lemmas.List.{length_push, length-drop, length-take-le, take-append-le, take_all, take-take, get_or_append_left, get_or_push, get_or-take}
+use Rattle.std.proofs.lemmas.List.{take_more}
 use Rattle.std.proofs.lemmas.Bool.{cases_lt}
 use Rattle.std.proofs.lemmas.Option.{get_or_from_slice_get, slice_get-get_or, slice_get_within, slice_get_cases}
 use Rattle.dmf_state.specs.declared.edit.Edit.{Edit}
@@ -27,7 +29,8 @@ states_from-at (edit ∷ edits) s zero h = refl
 states_from-at (edit ∷ edits) s (suc k) h = states_from-at edits (applied edit s) k (omega (arith, h))
 
 -- the states where an edit is put in the place of those past a place
-states_from-put : (edits : List Edit) (s : NetworkState) (k : ℕ) (edit : Edit) → k ≤ length edits → states_from s (take k edits ++ edit ∷ []) ≡ take (suc k) (states_from s edits) ++ applied edit (after (take k edits) s) ∷ []
+states_from-put : (edits : List Edit) (s : NetworkState) (k : ℕ) (edit : Edit) → k ≤ length edits
+    → states_from s (take k edits ++ edit ∷ []) ≡ take (suc k) (states_from s edits) ++ applied edit (after (take k edits) s) ∷ []
 states_from-put [] s zero edit h = refl
 states_from-put [] s (suc k) edit h = absurd (omega (arith, h))
 states_from-put (first ∷ edits) s zero edit h = refl
@@ -47,10 +50,12 @@ next edits k edit is =
     take_more edits k edit (slice_get_within edits k edit is)
     ∙ ap (λ e. take k edits ++ e ∷ []) (get_or_from_slice_get edits k edit edit is)
 
-after-next : (edits : List Edit) (s : NetworkState) (k : ℕ) (edit : Edit) → slice_get edits k ≡ Some edit → after (take (k + 1) edits) s ≡ applied edit (after (take k edits) s)
+after-next : (edits : List Edit) (s : NetworkState) (k : ℕ) (edit : Edit) → slice_get edits k ≡ Some edit
+    → after (take (k + 1) edits) s ≡ applied edit (after (take k edits) s)
 after-next edits s k edit is = ap (λ es. after es s) (next edits k edit is) ∙ after-push (take k edits) edit s
 
-before-next : (edits : List Edit) (s : NetworkState) (k : ℕ) (edit : Edit) → slice_get edits k ≡ Some edit → before (take (k + 1) edits) s ≡ before (take k edits) (reverted edit s)
+before-next : (edits : List Edit) (s : NetworkState) (k : ℕ) (edit : Edit) → slice_get edits k ≡ Some edit
+    → before (take (k + 1) edits) s ≡ before (take k edits) (reverted edit s)
 before-next edits s k edit is = ap (λ es. before es s) (next edits k edit is) ∙ before-push (take k edits) edit s
 
 -- the first edits, and one put behind them
@@ -62,7 +67,9 @@ take-put edits k j edit h le =
     take-append-le j (take k edits) (edit ∷ []) (omega (arith, length-take-le k edits h, le)) ∙ take-take j k edits le
 
 -- each of them fits
-put-fit : (edits : List Edit) (k : ℕ) (new : Edit) (s : NetworkState) → k ≤ length edits → ((j : ℕ) (edit : Edit) → slice_get edits j ≡ Some edit → Fits edit (after (take j edits) s)) → Fits new (after (take k edits) s) → (j : ℕ) (edit : Edit) → slice_get (take k edits ++ new ∷ []) j ≡ Some edit → Fits edit (after (take j (take k edits ++ new ∷ [])) s)
+put-fit : (edits : List Edit) (k : ℕ) (new : Edit) (s : NetworkState) → k ≤ length edits
+    → ((j : ℕ) (edit : Edit) → slice_get edits j ≡ Some edit → Fits edit (after (take j edits) s)) → Fits new (after (take k edits) s) → (j : ℕ) (edit : Edit)
+    → slice_get (take k edits ++ new ∷ []) j ≡ Some edit → Fits edit (after (take j (take k edits ++ new ∷ [])) s)
 put-fit edits k new s h fit fits j edit is =
     let put : List Edit = take k edits ++ new ∷ [] in
     let long = length-take-le k edits h in
@@ -80,12 +87,14 @@ put-fit edits k new s h fit fits j edit is =
     ⊎_elim earlier (λ ge. last (omega (arith, ge, up_to))) (cases_lt j k)
 
 -- What a queue of edits tells at a place is the edit that stands there.
-pub found : (edits : List Edit) (k : ℕ) (told : Option (Bor Edit)) → MatchOption told (length edits ≤ k) (λ x. (k < length edits) × HoldsAt (λ edit. x.now ≡ edit) edits k) → IfSome told (λ x. slice_get edits k ≡ Some x.now)
+pub found : (edits : List Edit) (k : ℕ) (told : Option (Bor Edit)) → MatchOption told (length edits ≤ k)
+    (λ x. (k < length edits) × HoldsAt (λ edit. x.now ≡ edit) edits k) → IfSome told (λ x. slice_get edits k ≡ Some x.now)
 found edits k None m = tt
 found edits k (Some x) m = slice_get-get_or edits k x.now m.0 ∙ ap (λ e. Some e) (sym (m.1 x.now))
 
 -- It tells none just past the last one.
-pub none-past : (edits : List Edit) (k : ℕ) (told : Option (Bor Edit)) → MatchOption told (length edits ≤ k) (λ x. (k < length edits) × HoldsAt (λ edit. x.now ≡ edit) edits k) → (told ≡ None) ↔ (length edits ≤ k)
+pub none-past : (edits : List Edit) (k : ℕ) (told : Option (Bor Edit))
+    → MatchOption told (length edits ≤ k) (λ x. (k < length edits) × HoldsAt (λ edit. x.now ≡ edit) edits k) → (told ≡ None) ↔ (length edits ≤ k)
 none-past edits k None m = (λ e. m, λ past. refl)
 none-past edits k (Some x) m = (λ e. absurd (cc), λ past. absurd (omega (arith, m.0, past)))
 
@@ -100,7 +109,8 @@ more-arcs (Solve moves) s adds = absurd adds
 -- ---- the oldest edit is dropped
 
 -- Edits that fit are taken back to where they began.
-before-after : GivesBack → (edits : List Edit) (s : NetworkState) (k : ℕ) → ((j : ℕ) (edit : Edit) → slice_get edits j ≡ Some edit → Fits edit (after (take j edits) s)) → before (take k edits) (after (take k edits) s) ≡ s
+before-after : GivesBack → (edits : List Edit) (s : NetworkState) (k : ℕ)
+    → ((j : ℕ) (edit : Edit) → slice_get edits j ≡ Some edit → Fits edit (after (take j edits) s)) → before (take k edits) (after (take k edits) s) ≡ s
 before-after law [] s zero fit = refl
 before-after law [] s (suc k) fit = refl
 before-after law (edit ∷ edits) s zero fit = refl
@@ -108,11 +118,13 @@ before-after law (edit ∷ edits) s (suc k) fit =
     ap (reverted edit) (before-after law edits (applied edit s) k (λ j e is. fit (suc j) e is)) ∙ law edit s (fit zero edit refl)
 
 -- The edits behind the oldest one are taken back to what it makes of the first state.
-forgotten-first : GivesBack → (present : NetworkState) (place : ℕ) (edit : Edit) (edits : List Edit) (are : AreEdits present (edit ∷ edits) (suc place)) → before (take place edits) present ≡ applied edit are.first
+forgotten-first : GivesBack → (present : NetworkState) (place : ℕ) (edit : Edit) (edits : List Edit) (are : AreEdits present (edit ∷ edits) (suc place))
+    → before (take place edits) present ≡ applied edit are.first
 forgotten-first law present place edit edits are =
     ap (before (take place edits)) (sym are.present_is) ∙ before-after law edits (applied edit are.first) place (λ j e is. are.fit (suc j) e is)
 
-forgotten-next : GivesBack → (present : NetworkState) (place : ℕ) (edits : List Edit) → AreEdits present edits (suc place) → AreEdits present (drop 1 edits) place
+forgotten-next : GivesBack → (present : NetworkState) (place : ℕ) (edits : List Edit) → AreEdits present edits (suc place)
+    → AreEdits present (drop 1 edits) place
 forgotten-next law present place [] are = absurd (omega (arith, are.within))
 forgotten-next law present place (edit ∷ edits) are =
     record {
@@ -125,10 +137,12 @@ forgotten-next law present place (edit ∷ edits) are =
     }
 
 -- What the edits behind the oldest one are.
-forgotten-edits : GivesBack → (present : NetworkState) (place : ℕ) (edits : List Edit) (next : ℕ) → next ≡ suc place → AreEdits present edits next → AreEdits present (drop 1 edits) place
+forgotten-edits : GivesBack → (present : NetworkState) (place : ℕ) (edits : List Edit) (next : ℕ) → next ≡ suc place → AreEdits present edits next
+    → AreEdits present (drop 1 edits) place
 forgotten-edits law present place edits next is are = forgotten-next law present place edits (subst (AreEdits present edits) is are)
 
-forgotten-rest : GivesBack → (present : NetworkState) (place bound : ℕ) (edits : List Edit) → AreEdits present edits (suc place) → timeline_of present (drop 1 edits) place bound ≡ forgotten (timeline_of present edits (suc place) bound)
+forgotten-rest : GivesBack → (present : NetworkState) (place bound : ℕ) (edits : List Edit) → AreEdits present edits (suc place)
+    → timeline_of present (drop 1 edits) place bound ≡ forgotten (timeline_of present edits (suc place) bound)
 forgotten-rest law present place bound [] are = absurd (omega (arith, are.within))
 forgotten-rest law present place bound (edit ∷ edits) are =
     let first : before (take place edits) present ≡ applied edit (reverted edit (before (take place edits) present)) =
@@ -136,7 +150,8 @@ forgotten-rest law present place bound (edit ∷ edits) are =
     let fewer : place ≡ suc place - 1 = omega arith in
     λ i. record { states = states_from (first i) edits; place = fewer i; bound = bound }
 
-forgotten-timeline : GivesBack → (present : NetworkState) (place bound : ℕ) (edits : List Edit) (next : ℕ) → next ≡ suc place → AreEdits present edits next → timeline_of present (drop 1 edits) place bound ≡ forgotten (timeline_of present edits next bound)
+forgotten-timeline : GivesBack → (present : NetworkState) (place bound : ℕ) (edits : List Edit) (next : ℕ) → next ≡ suc place → AreEdits present edits next
+    → timeline_of present (drop 1 edits) place bound ≡ forgotten (timeline_of present edits next bound)
 forgotten-timeline law present place bound edits next is are =
     forgotten-rest law present place bound edits (subst (AreEdits present edits) is are)
     ∙ ap (λ n. forgotten (timeline_of present edits n bound)) (sym is)
@@ -311,19 +326,22 @@ module _ (present : NetworkState) (edits : List Edit) (place bound : ℕ) (are :
         ∙ ap (λ n. take n (states_from are.first edits) ++ applied edit (after (take place edits) are.first) ∷ []) next_place
         ∙ ap (λ s. take (place + 1) (states_from are.first edits) ++ applied edit s ∷ []) are.present_is in
         let first : before (take (place + 1) put) (applied edit present) ≡ are.first = same-first-put law ∙ are.first_is in
-        let gives : states_from (before (take (place + 1) put) (applied edit present)) put ≡ take (place + 1) (states_from (before (take place edits) present) edits) ++ applied edit present ∷ [] =
+        let gives : states_from (before (take (place + 1) put) (applied edit present)) put ≡ take (place + 1)
+        (states_from (before (take place edits) present) edits) ++ applied edit present ∷ [] =
         ap (λ s. states_from s put) first ∙ states
         ∙ ap (λ s. take (place + 1) (states_from s edits) ++ applied edit present ∷ []) (sym are.first_is) in
         λ i. record { states = gives i; place = place + 1; bound = bound }
 
     -- It is appended where the bound allows one state more before the present one.
-    pub put-appends : GivesBack → place < bound → Appends edit (timeline_of present edits place bound) (timeline_of (applied edit present) put (place + 1) bound)
+    pub put-appends : GivesBack → place < bound → Appends edit (timeline_of present edits place bound)
+        (timeline_of (applied edit present) put (place + 1) bound)
     put-appends law fewer =
         subst (Appends edit (timeline_of present edits place bound)) (sym (put-extends law))
         (appends-all edit (timeline_of present edits place bound) present is-present fewer)
 
     -- And where it leaves none, the oldest edit is dropped.
-    pub put-forgets : GivesBack → bound ≤ place → Appends edit (timeline_of present edits place bound) (timeline_of (applied edit present) (drop 1 put) place bound)
+    pub put-forgets : GivesBack → bound ≤ place → Appends edit (timeline_of present edits place bound)
+        (timeline_of (applied edit present) (drop 1 put) place bound)
     put-forgets law full = record {
       state = present;
       present = is-present;

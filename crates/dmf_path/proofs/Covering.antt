@@ -49,12 +49,14 @@ covers-more n P indices covers =
       below = λ i h.
           ⊎_elim
           (λ (same : i ≡ length indices). rw (same, last) (omega arith))
-          (λ (other : i ≢ length indices). let before : i < length indices = omega (arith, h, long, other) in let below = covers.below i before in rw (earlier i before) (omega (arith, below)))
+          (λ (other : i ≢ length indices). let before : i < length indices = omega (arith, h, long, other) in let below = covers.below i before in
+          rw (earlier i before) (omega (arith, below)))
           (cases_eq i (length indices));
       ascending = λ i j h within.
           ⊎_elim
           (λ (same : j ≡ length indices). let first : i < length indices = omega (arith, h, same) in rw (same, last, earlier i first) (covers.below i first))
-          (λ (other : j ≢ length indices). let second : j < length indices = omega (arith, within, long, other) in rw (earlier j second, earlier i (omega (arith, h, second))) (covers.ascending i j h second))
+          (λ (other : j ≢ length indices). let second : j < length indices = omega (arith, within, long, other) in
+          rw (earlier j second, earlier i (omega (arith, h, second))) (covers.ascending i j h second))
           (cases_eq j (length indices));
       others = λ k h.
           ⊎_elim

@@ -17,25 +17,29 @@ abbrev pub Descends : Links → List ℕ → ℕ → ℕ → List ℕ → Type 0
 Descends l labels top bottom [] = bottom ≤ top
 Descends l labels top bottom (p ∷ ps) = FallsBelow l labels top p × Descends l labels (get_or labels (get_or l.heads p 0) 0) bottom ps
 
-pub descends-raised : (l : Links) (labels : List ℕ) (top higher bottom : ℕ) (ps : List ℕ) → top ≤ higher → Descends l labels top bottom ps → Descends l labels higher bottom ps
+pub descends-raised : (l : Links) (labels : List ℕ) (top higher bottom : ℕ) (ps : List ℕ) → top ≤ higher → Descends l labels top bottom ps
+    → Descends l labels higher bottom ps
 descends-raised l labels top higher bottom [] more descends = omega arith
 descends-raised l labels top higher bottom (p ∷ ps) more descends =
     (record { within = descends.0.within; label = descends.0.label; below = omega (arith, descends.0.below, more) }, descends.1)
 
-pub descends-append : (l : Links) (labels : List ℕ) (top middle bottom : ℕ) (ps qs : List ℕ) → Descends l labels top middle ps → Descends l labels middle bottom qs → Descends l labels top bottom (ps ++ qs)
+pub descends-append : (l : Links) (labels : List ℕ) (top middle bottom : ℕ) (ps qs : List ℕ) → Descends l labels top middle ps
+    → Descends l labels middle bottom qs → Descends l labels top bottom (ps ++ qs)
 descends-append l labels top middle bottom [] qs first later = descends-raised l labels middle top bottom qs first later
 descends-append l labels top middle bottom (p ∷ ps) qs first later =
     (first.0, descends-append l labels (get_or labels (get_or l.heads p 0) 0) middle bottom ps qs first.1 later)
 
 -- Those behind some of them descend.
-pub descends-behind : (l : Links) (labels : List ℕ) (top bottom : ℕ) (ps qs : List ℕ) → Descends l labels top bottom (ps ++ qs) → Descends l labels top bottom qs
+pub descends-behind : (l : Links) (labels : List ℕ) (top bottom : ℕ) (ps qs : List ℕ) → Descends l labels top bottom (ps ++ qs)
+    → Descends l labels top bottom qs
 descends-behind l labels top bottom [] qs descends = descends
 descends-behind l labels top bottom (p ∷ ps) qs descends =
     descends-raised l labels (get_or labels (get_or l.heads p 0) 0) top bottom qs (omega (arith, descends.0.label, descends.0.below))
     (descends-behind l labels (get_or labels (get_or l.heads p 0) 0) bottom ps qs descends.1)
 
 -- The links of a trail descend.
-pub descends-trail : (l : Links) (labels rooms current : List ℕ) (v : ℕ) (ps : List ℕ) → AreLinks l → IsNode l.nodes v → IsTrail l labels rooms current v ps → Descends l labels (get_or labels v 0) (get_or labels (end_of l v ps) 0) ps
+pub descends-trail : (l : Links) (labels rooms current : List ℕ) (v : ℕ) (ps : List ℕ) → AreLinks l → IsNode l.nodes v → IsTrail l labels rooms current v ps
+    → Descends l labels (get_or labels v 0) (get_or labels (end_of l v ps) 0) ps
 descends-trail l labels rooms current v [] links node trail = omega arith
 descends-trail l labels rooms current v (p ∷ ps) links node trail =
     let within = lies-within l v p links node trail.0.lies in
@@ -49,7 +53,8 @@ descends-trail l labels rooms current v (p ∷ ps) links node trail =
     )
 
 -- A link from a higher label is none of them,
-pub off-above : (l : Links) (labels : List ℕ) (top bottom p : ℕ) (ps : List ℕ) → Descends l labels top bottom ps → top < get_or labels (tail_of l p) 0 → IsOff p ps
+pub off-above : (l : Links) (labels : List ℕ) (top bottom p : ℕ) (ps : List ℕ) → Descends l labels top bottom ps → top < get_or labels (tail_of l p) 0
+    → IsOff p ps
 off-above l labels top bottom p [] descends above = tt
 off-above l labels top bottom p (q ∷ qs) descends above = (
   λ same. omega (arith, descends.0.below, above, ap (λ r. get_or labels (tail_of l r) 0) same),
@@ -62,15 +67,23 @@ descends-le l labels top bottom (p ∷ ps) descends =
     omega (arith, descends-le l labels (get_or labels (get_or l.heads p 0) 0) bottom ps descends.1, descends.0.below, descends.0.label)
 
 -- nor is one from a lower label,
-pub off-below : (l : Links) (labels : List ℕ) (top bottom p : ℕ) (ps : List ℕ) → Descends l labels top bottom ps → get_or labels (tail_of l p) 0 ≤ bottom → IsOff p ps
+pub off-below : (l : Links) (labels : List ℕ) (top bottom p : ℕ) (ps : List ℕ) → Descends l labels top bottom ps → get_or labels (tail_of l p) 0 ≤ bottom
+    → IsOff p ps
 off-below l labels top bottom p [] descends low = tt
 off-below l labels top bottom p (q ∷ qs) descends low = (
-  λ same. omega (arith, descends-le l labels (get_or labels (get_or l.heads q 0) 0) bottom qs descends.1, descends.0.label, low, ap (λ r. get_or labels (tail_of l r) 0) same),
+  λ same. omega (
+    arith,
+    descends-le l labels (get_or labels (get_or l.heads q 0) 0) bottom qs descends.1,
+    descends.0.label,
+    low,
+    ap (λ r. get_or labels (tail_of l r) 0) same,
+  ),
   off-below l labels (get_or labels (get_or l.heads q 0) 0) bottom p qs descends.1 low,
 )
 
 -- nor one that does not fall.
-pub off-rising : (l : Links) (labels : List ℕ) (top bottom p : ℕ) (ps : List ℕ) → Descends l labels top bottom ps → get_or labels (get_or l.heads p 0) 0 + 1 ≢ get_or labels (tail_of l p) 0 → IsOff p ps
+pub off-rising : (l : Links) (labels : List ℕ) (top bottom p : ℕ) (ps : List ℕ) → Descends l labels top bottom ps
+    → get_or labels (get_or l.heads p 0) 0 + 1 ≢ get_or labels (tail_of l p) 0 → IsOff p ps
 off-rising l labels top bottom p [] descends rises = tt
 off-rising l labels top bottom p (q ∷ qs) descends rises = (
   λ same. rises (sym (ap (λ r. get_or labels (get_or l.heads r 0) 0 + 1) same) ∙ descends.0.label ∙ ap (λ r. get_or labels (tail_of l r) 0) same),
@@ -78,12 +91,14 @@ off-rising l labels top bottom p (q ∷ qs) descends rises = (
 )
 
 -- The opposite of a link that falls does not.
-pub partner-rises : (l : Links) (labels : List ℕ) (p : ℕ) → AreLinks l → p < length l.heads → get_or labels (get_or l.heads p 0) 0 + 1 ≡ get_or labels (tail_of l p) 0 →
+pub partner-rises : (l : Links) (labels : List ℕ) (p : ℕ) → AreLinks l → p < length l.heads
+    → get_or labels (get_or l.heads p 0) 0 + 1 ≡ get_or labels (tail_of l p) 0 →
     get_or labels (get_or l.heads (get_or l.partners p 0) 0) 0 + 1 ≢ get_or labels (tail_of l (get_or l.partners p 0)) 0
 partner-rises l labels p links within falls rises =
     omega (arith, falls, rises, ap (λ q. get_or labels (get_or l.heads q 0) 0) (links.each p within).partner_back)
 
-pub off-partner : (l : Links) (labels : List ℕ) (top bottom p : ℕ) (ps : List ℕ) → AreLinks l → p < length l.heads → get_or labels (get_or l.heads p 0) 0 + 1 ≡ get_or labels (tail_of l p) 0 → Descends l labels top bottom ps → IsOff (get_or l.partners p 0) ps
+pub off-partner : (l : Links) (labels : List ℕ) (top bottom p : ℕ) (ps : List ℕ) → AreLinks l → p < length l.heads
+    → get_or labels (get_or l.heads p 0) 0 + 1 ≡ get_or labels (tail_of l p) 0 → Descends l labels top bottom ps → IsOff (get_or l.partners p 0) ps
 off-partner l labels top bottom p ps links within falls descends =
     off-rising l labels top bottom (get_or l.partners p 0) ps descends (partner-rises l labels p links within falls)
 
@@ -98,7 +113,8 @@ pub record IsBetween (l : Links) (labels : List ℕ) (top bottom p : ℕ) (ps qs
   pub behind : IsOff p qs
   pub without : Descends l labels top bottom (ps ++ qs)
 
-pub between : (l : Links) (labels : List ℕ) (top bottom p : ℕ) (ps qs : List ℕ) → Descends l labels top bottom (ps ++ p ∷ qs) → IsBetween l labels top bottom p ps qs
+pub between : (l : Links) (labels : List ℕ) (top bottom p : ℕ) (ps qs : List ℕ) → Descends l labels top bottom (ps ++ p ∷ qs)
+    → IsBetween l labels top bottom p ps qs
 between l labels top bottom p [] qs descends = record {
   falls = descends.0;
   before = tt;

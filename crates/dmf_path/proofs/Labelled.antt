@@ -1,6 +1,7 @@
 -- What labels found backwards from the goal tell of links with room: no link falls by more than one, and from each node with
 -- a label a walk leads to the goal.
-use Rattle.std.proofs.Common.{ℕ, ◌≡◌, ◌≢◌, ◌<◌, inl, inr, ⊎_elim, List, [], ◌∷◌, length, slice_index, zero, suc, ap, sym, refl, subst, ◌∙◌, arith, true, false, ◌==◌}
+use Rattle.std.proofs.Common.{ℕ, ◌≡◌, ◌≢◌, ◌<◌, inl, inr, ⊎_elim, List, [], ◌∷◌, length, slice_index, zero, suc, ap, sym, refl, subst, ◌∙◌, arith, true, false}
+use Rattle.std.proofs.Common.{◌==◌}
 use Rattle.std.proofs.lemmas.Bool.Decides.{eqb_tells}
 use Rattle.std.proofs.lemmas.List.{ext_get_or, get_or-map, length-map}
 use Rattle.dmf_node.specs.Node.{IsNode}
@@ -44,7 +45,8 @@ walk-from l rooms flags labels start goal are flagged labelled (suc n) v is node
     (λ (none : slice_index labels v ≡ no_label). absurd (has none))
     (λ (below : slice_index labels v < l.nodes). omega (arith, below, are.at_most_nodes))
     (labelled.small v node) in
-    let on = walk-from l rooms flags labels start goal are flagged labelled n (tail_of l back.place) (omega (arith, is, back.label)) link.tail (λ none. absurd (omega (arith, none, small, back.label))) in
+    let on = walk-from l rooms flags labels start goal are flagged labelled n (tail_of l back.place) (omega (arith, is, back.label)) link.tail
+    (λ none. absurd (omega (arith, none, small, back.label))) in
     (p ∷ on.0, (record { lies = lies; room = room; falls = back.label }, on.1)))
     (eqb_tells v goal)
 
@@ -63,7 +65,8 @@ filled_label-none label = ⊎_elim
 filled-none : (labels : List ℕ) → filled no_label labels ≡ labels
 filled-none labels =
     ext_get_or 0 (filled no_label labels) labels (length-map labels (filled_label no_label))
-    (λ v within. get_or-map (filled_label no_label) labels v 0 0 (omega (arith, within, length-map labels (filled_label no_label))) ∙ filled_label-none (slice_index labels v))
+    (λ v within. get_or-map (filled_label no_label) labels v 0 0 (omega (arith, within, length-map labels (filled_label no_label))) ∙ filled_label-none
+    (slice_index labels v))
 
 -- A start that has a label found backwards from the goal is labelled.
 pub labelled-one : (l : Links) (rooms flags labels : List ℕ) (start goal : ℕ) → AreLinks l → AreFlags l rooms flags → AreLabels l flags goal start labels
@@ -78,7 +81,8 @@ labelled-one l rooms flags labels start goal are flagged labelled node has = rec
         | inr below ↦ inr (omega (arith, below))
       ],
     );
-    valid = subst (λ ls. AreValid l ls rooms (slice_index labels start)) (sym (filled-none labels)) (valid-labelled l rooms flags labels start goal are flagged labelled);
+    valid = subst (λ ls. AreValid l ls rooms (slice_index labels start)) (sym (filled-none labels))
+        (valid-labelled l rooms flags labels start goal are flagged labelled);
     gated = λ v p is lies room label none. elim (labelled.small v is) [
       | inl same ↦ omega (arith, label, same)
       | inr below ↦ omega (arith, label, below, are.at_most_nodes)

@@ -1,5 +1,6 @@
 -- Spreading labels from a root, node by node in the order of a queue.
-use Rattle.std.proofs.Common.{ℕ, ◌≡◌, ◌≢◌, ◌+◌, ◌≤◌, ◌<◌, ◌⊎◌, ⊎_elim, inl, inr, List, [], ◌∷◌, length, set, replicate, slice_index, refl, ap, sym, subst, ◌∙◌, arith, true, false, ◌==◌, cond}
+use Rattle.std.proofs.Common.{ℕ, ◌≡◌, ◌≢◌, ◌+◌, ◌≤◌, ◌<◌, ◌⊎◌, ⊎_elim, inl, inr, List, [], ◌∷◌, length, set, replicate, slice_index, refl, ap, sym, subst, ◌∙◌}
+use Rattle.std.proofs.Common.{arith, true, false, ◌==◌, cond}
 use Rattle.std.proofs.lemmas.Bool.Decides.{eqb_tells}
 use Rattle.std.proofs.lemmas.Bool.{cases_lt}
 use Rattle.std.proofs.lemmas.List.{get_or-replicate, get_or-set_same, length-set, length-replicate, get_or_default, ext_get_or}
@@ -13,7 +14,8 @@ use Rattle.dmf_path.proofs.Spreading.{unlabelled_count-set, cases-set}
 -- Number 0 is never in the queue, so that its capacity is enough for the nodes.
 pub queue-short : (l : Links) (opens : List ℕ) (root : ℕ) (labels queue : List ℕ) (done : ℕ) → AreSpread l opens root labels queue done → length queue ≤ l.nodes
 queue-short l opens root labels queue done so_far =
-    let one : 1 + unlabelled_count (set labels 0 0) ≡ unlabelled_count labels = unlabelled_count-set labels 0 0 (omega (arith, so_far.one_each)) so_far.zero (λ e. absurd (omega arith)) in
+    let one : 1 + unlabelled_count (set labels 0 0) ≡ unlabelled_count labels =
+    unlabelled_count-set labels 0 0 (omega (arith, so_far.one_each)) so_far.zero (λ e. absurd (omega arith)) in
     omega (arith, one, so_far.counted)
 
 -- A node with a label stands in the queue, at a place no less than its label.
@@ -32,7 +34,8 @@ unlabelled_count-replicate n =
 
 -- the labels at first: 0 at the root, and no others
 first-cases : (nodes root v : ℕ) → IsNode nodes root → v ≤ nodes
-    → ((v ≡ root) × (slice_index (set (replicate (nodes + 1) no_label) root 0) v ≡ 0)) ⊎ ((v ≢ root) × (slice_index (set (replicate (nodes + 1) no_label) root 0) v ≡ no_label))
+    → ((v ≡ root) × (slice_index (set (replicate (nodes + 1) no_label) root 0) v ≡ 0))
+    ⊎ ((v ≢ root) × (slice_index (set (replicate (nodes + 1) no_label) root 0) v ≡ no_label))
 first-cases nodes root v at_root within =
     ⊎_elim
     (λ (here : (v ≡ root) × (slice_index (set (replicate (nodes + 1) no_label) root 0) v ≡ 0)). inl here)
@@ -44,8 +47,10 @@ pub spread-first : (l : Links) (opens : List ℕ) (root : ℕ) → IsNode l.node
     → AreSpread l opens root (set (replicate (l.nodes + 1) no_label) root 0) (root ∷ []) 0
 spread-first l opens root at_root =
     let labels : List ℕ = set (replicate (l.nodes + 1) no_label) root 0 in
-    let at : (v : ℕ) → v ≤ l.nodes → ((v ≡ root) × (slice_index labels v ≡ 0)) ⊎ ((v ≢ root) × (slice_index labels v ≡ no_label)) = λ v within. first-cases l.nodes root v at_root within in
-    let zero_at : slice_index labels root ≡ 0 = get_or-set_same (replicate (l.nodes + 1) no_label) root 0 0 (omega (arith, length-replicate {A = ℕ} (l.nodes + 1) no_label, at_root.to_last)) in
+    let at : (v : ℕ) → v ≤ l.nodes → ((v ≡ root) × (slice_index labels v ≡ 0))
+    ⊎ ((v ≢ root) × (slice_index labels v ≡ no_label)) = λ v within. first-cases l.nodes root v at_root within in
+    let zero_at : slice_index labels root ≡ 0 = get_or-set_same (replicate (l.nodes + 1) no_label) root 0 0
+    (omega (arith, length-replicate {A = ℕ} (l.nodes + 1) no_label, at_root.to_last)) in
     let only : (k : ℕ) → k < 1 → slice_index (root ∷ []) k ≡ root = λ k first. let e : k ≡ 0 = omega arith in rw e refl in
     record {
       one_each = length-set (replicate (l.nodes + 1) no_label) root 0 ∙ length-replicate (l.nodes + 1) no_label;
@@ -54,7 +59,13 @@ spread-first l opens root at_root =
           (λ (here : (0 ≡ root) × (slice_index labels 0 ≡ 0)). absurd (omega (arith, here.0, at_root.from_one)))
           (λ (elsewhere : (0 ≢ root) × (slice_index labels 0 ≡ no_label)). elsewhere.1)
           (at 0 (omega arith));
-      counted = omega (arith, unlabelled_count-set (replicate (l.nodes + 1) no_label) root 0 (omega (arith, length-replicate {A = ℕ} (l.nodes + 1) no_label, at_root.to_last)) (get_or-replicate (l.nodes + 1) root no_label 0 (omega (arith, at_root.to_last))) (λ e. absurd (omega arith)), unlabelled_count-replicate (l.nodes + 1));
+      counted = omega (
+        arith,
+        unlabelled_count-set (replicate (l.nodes + 1) no_label) root 0
+            (omega (arith, length-replicate {A = ℕ} (l.nodes + 1) no_label, at_root.to_last))
+            (get_or-replicate (l.nodes + 1) root no_label 0 (omega (arith, at_root.to_last))) (λ e. absurd (omega arith)),
+        unlabelled_count-replicate (l.nodes + 1),
+      );
       come = omega arith;
       queued = λ k first. record { node = rw (only k first) at_root; small = rw (only k first) (omega (arith, zero_at)) };
       listed = λ v node has. ⊎_elim
@@ -129,7 +140,9 @@ left-last labels queue k all left =
 pub labels-spread : (l : Links) (opens : List ℕ) (root stop : ℕ) (labels queue : List ℕ) (done : ℕ) → AreLinks l → AreSpread l opens root labels queue done
     → stop ≤ l.nodes → (done ≡ length queue) ⊎ (slice_index labels stop ≢ no_label) → AreLabels l opens root stop labels
 labels-spread l opens root stop labels queue done are spread within ended =
-    let find : (v : ℕ) → IsNode l.nodes v → slice_index labels v ≢ no_label → (k : ℕ) × (k < length queue) × (slice_index queue k ≡ v) × (slice_index labels v ≤ k) = λ v node has. queued-at l opens root labels queue done v spread node has in
+    let find : (v : ℕ) → IsNode l.nodes v → slice_index labels v ≢ no_label
+    → (k : ℕ) × (k < length queue) × (slice_index queue k ≡ v) × (slice_index labels v ≤ k) =
+    λ v node has. queued-at l opens root labels queue done v spread node has in
     record {
       one_each = spread.one_each;
       root_is = spread.root_is;
@@ -147,7 +160,8 @@ labels-spread l opens root stop labels queue done are spread within ended =
           let stands = find v node has.1 in
           let same : slice_index labels (slice_index queue stands.0) ≡ slice_index labels v = ap (λ u. slice_index labels u) stands.2 in
           ⊎_elim
-          (λ (before : stands.0 < done). let P : ℕ → Type 0 = λ u. LiesAt l u p in omega (arith, same, spread.scanned stands.0 p before (subst P (sym stands.2) lies) opened))
+          (λ (before : stands.0 < done). let P : ℕ → Type 0 = λ u. LiesAt l u p in
+          omega (arith, same, spread.scanned stands.0 p before (subst P (sym stands.2) lies) opened))
           (λ (behind : done ≤ stands.0). ⊎_elim
           (λ (all : done ≡ length queue). absurd (omega (arith, stands.1)))
           (λ (some : slice_index labels stop ≢ no_label).

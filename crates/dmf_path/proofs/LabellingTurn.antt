@@ -1,5 +1,6 @@
 -- One turn of spreading labels from a root: the node that is next in the queue.
-use Rattle.std.proofs.Common.{ℕ, ◌≡◌, ◌≢◌, ◌+◌, ◌-◌, ◌*◌, ◌^◌, ◌≤◌, ◌<◌, ◌⊎◌, ⊎_elim, inl, inr, List, ◌++◌, length, slice_index, get_or, refl, ap, sym, subst, ◌∙◌, arith, true, false, ◌==◌, Contains}
+use Rattle.std.proofs.Common.{ℕ, ◌≡◌, ◌≢◌, ◌+◌, ◌-◌, ◌*◌, ◌^◌, ◌≤◌, ◌<◌, ◌⊎◌, ⊎_elim, inl, inr, List, ◌++◌, length, slice_index, get_or, refl, ap, sym, subst}
+use Rattle.std.proofs.Common.{◌∙◌, arith, true, false, ◌==◌, Contains}
 use Rattle.std.proofs.lemmas.Bool.Decides.{eqb_tells}
 use Rattle.std.proofs.lemmas.Bool.{cases_lt}
 use Rattle.std.proofs.lemmas.List.{length-append, get_or_append_left, get_or-append_right, get_or_default}
@@ -25,7 +26,8 @@ pub record Turn : Type 0 where
   pub so_far : AreSpread l opens root old queue done
   pub ahead : done < length queue
   pub long : length new ≡ length old
-  pub spreads : Spreads l.heads opens (slice_index l.first (slice_index queue done)) (slice_index l.first (slice_index queue done + 1)) (slice_index old (slice_index queue done) + 1) old new fresh
+  pub spreads : Spreads l.heads opens (slice_index l.first (slice_index queue done)) (slice_index l.first (slice_index queue done + 1))
+      (slice_index old (slice_index queue done) + 1) old new fresh
 
 -- the node that is next
 next_node : (t : Turn) → IsNode t.l.nodes (slice_index t.queue t.done)
@@ -36,7 +38,8 @@ label-is_one : (t : Turn) (k v : ℕ) → k < length t.queue → slice_index t.o
 label-is_one t k v within small none = absurd (omega (arith, queue-short t.l t.opens t.root t.old t.queue t.done t.so_far, t.are.at_most_nodes))
 
 -- the open link that leads to a node which is given a label
-led-place : (t : Turn) (v : ℕ) → Contains t.fresh v → (p : ℕ) × LiesAt t.l (slice_index t.queue t.done) p × (slice_index t.l.heads p ≡ v) × (slice_index t.opens p ≡ 1)
+led-place : (t : Turn) (v : ℕ) → Contains t.fresh v → (p : ℕ) × LiesAt t.l (slice_index t.queue t.done) p × (slice_index t.l.heads p ≡ v)
+    × (slice_index t.opens p ≡ 1)
 led-place t v among =
     let led = t.spreads.led_to v among in
     (led.place, record { from = led.from_first; below = led.to_last }, led.leads, led.opened)
@@ -66,7 +69,8 @@ stood t k within =
     record {
       within = within;
       same = same;
-      label = ap (λ v. slice_index t.new v) same ∙ t.spreads.kept (slice_index t.queue k) (label-is_one t k (slice_index t.queue k) within (t.so_far.queued k within).small);
+      label = ap (λ v. slice_index t.new v) same ∙ t.spreads.kept (slice_index t.queue k)
+          (label-is_one t k (slice_index t.queue k) within (t.so_far.queued k within).small);
     }
 
 place-cases : (t : Turn) (k : ℕ) → k < length (t.queue ++ t.fresh) → StoodAt t k ⊎ ComesAt t k
@@ -74,7 +78,8 @@ place-cases t k within =
     ⊎_elim
     (λ (before : k < length t.queue). inl (stood t k before))
     (λ (behind : length t.queue ≤ k).
-    let same : slice_index (t.queue ++ t.fresh) k ≡ slice_index t.fresh (k - length t.queue) = get_or-append_right t.queue t.fresh (length t.queue) k 0 refl behind in
+    let same : slice_index (t.queue ++ t.fresh) k ≡ slice_index t.fresh (k - length t.queue) =
+    get_or-append_right t.queue t.fresh (length t.queue) k 0 refl behind in
     let inside : k - length t.queue < length t.fresh = omega (arith, length-append t.queue t.fresh) in
     let P : ℕ → Type 0 = Contains t.fresh in
     let among : Contains t.fresh (slice_index (t.queue ++ t.fresh) k) = subst P (sym same) (Contains-get_or t.fresh (k - length t.queue) 0 inside) in
@@ -82,7 +87,9 @@ place-cases t k within =
     (cases_lt k (length t.queue))
 
 -- A node with a label had it before, or is given it.
-label-cases : (t : Turn) (v : ℕ) → v ≤ t.l.nodes → slice_index t.new v ≢ no_label → ((slice_index t.old v ≢ no_label) × (slice_index t.new v ≡ slice_index t.old v)) ⊎ ((slice_index t.old v ≡ no_label) × Contains t.fresh v × (slice_index t.new v ≡ slice_index t.old (slice_index t.queue t.done) + 1))
+label-cases : (t : Turn) (v : ℕ) → v ≤ t.l.nodes → slice_index t.new v ≢ no_label
+    → ((slice_index t.old v ≢ no_label) × (slice_index t.new v ≡ slice_index t.old v))
+    ⊎ ((slice_index t.old v ≡ no_label) × Contains t.fresh v × (slice_index t.new v ≡ slice_index t.old (slice_index t.queue t.done) + 1))
 label-cases t v within has =
     ⊎_elim
     (λ (was : ((slice_index t.old v == no_label) ≡ true) × (slice_index t.old v ≡ no_label)).
@@ -116,11 +123,14 @@ queued-next t k within =
 listed-next : (t : Turn) (v : ℕ) → IsNode t.l.nodes v → slice_index t.new v ≢ no_label → Contains (t.queue ++ t.fresh) v
 listed-next t v node has =
     ⊎_elim
-    (λ (was : (slice_index t.old v ≢ no_label) × (slice_index t.new v ≡ slice_index t.old v)). Contains-append_left t.queue t.fresh v (t.so_far.listed v node was.0))
-    (λ (comes : (slice_index t.old v ≡ no_label) × Contains t.fresh v × (slice_index t.new v ≡ slice_index t.old (slice_index t.queue t.done) + 1)). Contains-append_right t.queue t.fresh v comes.1)
+    (λ (was : (slice_index t.old v ≢ no_label) × (slice_index t.new v ≡ slice_index t.old v)). Contains-append_left t.queue t.fresh v
+    (t.so_far.listed v node was.0))
+    (λ (comes : (slice_index t.old v ≡ no_label) × Contains t.fresh v × (slice_index t.new v ≡ slice_index t.old (slice_index t.queue t.done) + 1)).
+    Contains-append_right t.queue t.fresh v comes.1)
     (label-cases t v node.to_last has)
 
-ascending-next : (t : Turn) (i j : ℕ) → i ≤ j → j < length (t.queue ++ t.fresh) → slice_index t.new (slice_index (t.queue ++ t.fresh) i) ≤ slice_index t.new (slice_index (t.queue ++ t.fresh) j)
+ascending-next : (t : Turn) (i j : ℕ) → i ≤ j → j < length (t.queue ++ t.fresh)
+    → slice_index t.new (slice_index (t.queue ++ t.fresh) i) ≤ slice_index t.new (slice_index (t.queue ++ t.fresh) j)
 ascending-next t i j order within =
     ⊎_elim
     (λ (i_was : StoodAt t i). ⊎_elim
@@ -133,7 +143,8 @@ ascending-next t i j order within =
     (place-cases t j within))
     (place-cases t i (omega arith))
 
-close-next : (t : Turn) (i j : ℕ) → t.done + 1 ≤ i + 1 → i < length (t.queue ++ t.fresh) → j < length (t.queue ++ t.fresh) → slice_index t.new (slice_index (t.queue ++ t.fresh) j) ≤ slice_index t.new (slice_index (t.queue ++ t.fresh) i) + 1
+close-next : (t : Turn) (i j : ℕ) → t.done + 1 ≤ i + 1 → i < length (t.queue ++ t.fresh) → j < length (t.queue ++ t.fresh)
+    → slice_index t.new (slice_index (t.queue ++ t.fresh) j) ≤ slice_index t.new (slice_index (t.queue ++ t.fresh) i) + 1
 close-next t i j from within_i within_j =
     ⊎_elim
     (λ (i_was : StoodAt t i). ⊎_elim
@@ -147,7 +158,8 @@ close-next t i j from within_i within_j =
     (place-cases t i within_i)
 
 -- the label of a node to which an open link of a node leads that is looked at
-label-next : (t : Turn) (k p : ℕ) → k < t.done + 1 → LiesAt t.l (slice_index t.queue k) p → slice_index t.opens p ≡ 1 → slice_index t.new (slice_index t.l.heads p) ≤ slice_index t.old (slice_index t.queue k) + 1
+label-next : (t : Turn) (k p : ℕ) → k < t.done + 1 → LiesAt t.l (slice_index t.queue k) p → slice_index t.opens p ≡ 1
+    → slice_index t.new (slice_index t.l.heads p) ≤ slice_index t.old (slice_index t.queue k) + 1
 label-next t k p before lies opened =
     let head : ℕ = slice_index t.l.heads p in
     let within : k < length t.queue = omega (arith, t.ahead) in
@@ -156,20 +168,24 @@ label-next t k p before lies opened =
     ⊎_elim
     (λ (last : ((k == t.done) ≡ true) × (k ≡ t.done)).
     let at_done : LiesAt t.l (slice_index t.queue t.done) p = rw (← last.1) lies in
-    let same : slice_index t.old (slice_index t.queue k) ≡ slice_index t.old (slice_index t.queue t.done) = ap (λ i. slice_index t.old (slice_index t.queue i)) last.1 in
+    let same : slice_index t.old (slice_index t.queue k) ≡ slice_index t.old (slice_index t.queue t.done) =
+    ap (λ i. slice_index t.old (slice_index t.queue i)) last.1 in
     ⊎_elim
     (λ (was : (slice_index t.old head ≢ no_label) × (slice_index t.new head ≡ slice_index t.old head)).
     let stands = queued-at t.l t.opens t.root t.old t.queue t.done head t.so_far node was.0 in
     omega (arith, was.1, same, ap (λ v. slice_index t.old v) stands.2, t.so_far.close t.done stands.0 (omega arith) t.ahead stands.1))
-    (λ (comes : (slice_index t.old head ≡ no_label) × Contains t.fresh head × (slice_index t.new head ≡ slice_index t.old (slice_index t.queue t.done) + 1)). omega (arith, comes.2, same))
+    (λ (comes : (slice_index t.old head ≡ no_label) × Contains t.fresh head × (slice_index t.new head ≡ slice_index t.old (slice_index t.queue t.done) + 1)).
+    omega (arith, comes.2, same))
     (label-cases t head node.to_last (t.spreads.done p at_done.from at_done.below opened)))
     (λ (other : ((k == t.done) ≡ false) × (k ≢ t.done)).
     let was = t.so_far.scanned k p (omega (arith, other.1)) lies opened in
-    let has : slice_index t.old head ≢ no_label = λ none. absurd (omega (arith, none, was, entry.small, queue-short t.l t.opens t.root t.old t.queue t.done t.so_far, t.are.at_most_nodes)) in
+    let has : slice_index t.old head ≢ no_label = λ none. absurd (omega
+    (arith, none, was, entry.small, queue-short t.l t.opens t.root t.old t.queue t.done t.so_far, t.are.at_most_nodes)) in
     omega (arith, was, t.spreads.kept head has))
     (eqb_tells k t.done)
 
-scanned-next : (t : Turn) (k p : ℕ) → k < t.done + 1 → LiesAt t.l (slice_index (t.queue ++ t.fresh) k) p → slice_index t.opens p ≡ 1 → slice_index t.new (slice_index t.l.heads p) ≤ slice_index t.new (slice_index (t.queue ++ t.fresh) k) + 1
+scanned-next : (t : Turn) (k p : ℕ) → k < t.done + 1 → LiesAt t.l (slice_index (t.queue ++ t.fresh) k) p → slice_index t.opens p ≡ 1
+    → slice_index t.new (slice_index t.l.heads p) ≤ slice_index t.new (slice_index (t.queue ++ t.fresh) k) + 1
 scanned-next t k p before lies opened =
     let was = stood t k (omega (arith, t.ahead)) in
     let P : ℕ → Type 0 = λ v. LiesAt t.l v p in
@@ -214,27 +230,44 @@ spread-next t = record {
 }
 
 -- What is read of the queue is the node that is next, and its label and one more is a label.
-pub node-read : (l : Links) (opens : List ℕ) (root : ℕ) (labels queue : List ℕ) (done node : ℕ) → AreLinks l → AreSpread l opens root labels queue done → done < length queue → node ≡ get_or queue done node → (slice_index queue done ≡ node) × IsNode l.nodes node × (slice_index labels node + 1 < no_label)
+pub node-read : (l : Links) (opens : List ℕ) (root : ℕ) (labels queue : List ℕ) (done node : ℕ) → AreLinks l → AreSpread l opens root labels queue done
+    → done < length queue → node ≡ get_or queue done node → (slice_index queue done ≡ node) × IsNode l.nodes node × (slice_index labels node + 1 < no_label)
 node-read l opens root labels queue done node are so_far ahead read =
     let is : slice_index queue done ≡ node = get_or_default queue done 0 node ahead ∙ sym read in
     let next = so_far.queued done ahead in
-    let P : ℕ → Type 0 = IsNode l.nodes in
-    (is, subst P is next.node, omega (arith, ap (λ v. slice_index labels v) is, next.small, queue-short l opens root labels queue done so_far, are.at_most_nodes))
+    let P : ℕ → Type 0 = IsNode l.nodes in (
+      is,
+      subst P is next.node,
+      omega (
+        arith,
+        ap (λ v. slice_index labels v) is,
+        next.small,
+        queue-short l opens root labels queue done so_far,
+        are.at_most_nodes,
+      ),
+    )
 
 -- How many links are looked at by the end of a turn.
-pub looked-next : (l : Links) (opens : List ℕ) (root : ℕ) (labels queue : List ℕ) (done node from end looked : ℕ) → AreLinks l → AreSpread l opens root labels queue done → done < length queue → node ≡ get_or queue done node → end ≡ get_or l.first (node + 1) end → looked ≤ done * 2 ^ 31 → (looked + (end - from) ≤ (done + 1) * 2 ^ 31) × ((done + 1) * 2 ^ 31 < 2 ^ 62)
+pub looked-next : (l : Links) (opens : List ℕ) (root : ℕ) (labels queue : List ℕ) (done node from end looked : ℕ) → AreLinks l
+    → AreSpread l opens root labels queue done → done < length queue → node ≡ get_or queue done node → end ≡ get_or l.first (node + 1) end
+    → looked ≤ done * 2 ^ 31 → (looked + (end - from) ≤ (done + 1) * 2 ^ 31) × ((done + 1) * 2 ^ 31 < 2 ^ 62)
 looked-next l opens root labels queue done node from end looked are so_far ahead node_read end_read before =
     let read = node-read l opens root labels queue done node are so_far ahead node_read in
     let within : end ≤ length l.heads = end-within l node end are read.1.to_last end_read in
     (omega (arith, within, are.at_most, before), omega (arith, ahead, queue-short l opens root labels queue done so_far, are.at_most_nodes))
 
 -- A turn, where what is read has names of its own.
-pub spread-turn : (l : Links) (opens : List ℕ) (root : ℕ) (old queue : List ℕ) (done : ℕ) (new after heads : List ℕ) (node from end : ℕ) → AreLinks l → AreSpread l opens root old queue done → done < length queue → length new ≡ length old → heads ≡ l.heads → node ≡ get_or queue done node → from ≡ get_or l.first node from → end ≡ get_or l.first (node + 1) end → (fresh : List ℕ) × (after ≡ queue ++ fresh) × Spreads heads opens from end (slice_index old node + 1) old new fresh → AreSpread l opens root new after (done + 1)
+pub spread-turn : (l : Links) (opens : List ℕ) (root : ℕ) (old queue : List ℕ) (done : ℕ) (new after heads : List ℕ) (node from end : ℕ) → AreLinks l
+    → AreSpread l opens root old queue done → done < length queue → length new ≡ length old → heads ≡ l.heads → node ≡ get_or queue done node
+    → from ≡ get_or l.first node from → end ≡ get_or l.first (node + 1) end
+    → (fresh : List ℕ) × (after ≡ queue ++ fresh) × Spreads heads opens from end (slice_index old node + 1) old new fresh
+    → AreSpread l opens root new after (done + 1)
 spread-turn l opens root old queue done new after heads node from end are so_far ahead long same_heads node_read from_read end_read spreads =
     let read = node-read l opens root old queue done node are so_far ahead node_read in
     let is_node : slice_index queue done ≡ node = read.0 in
     let from_is : slice_index l.first node ≡ from = get_or_default l.first node 0 from (omega (arith, read.1.to_last, are.first_long)) ∙ sym from_read in
-    let end_is : slice_index l.first (node + 1) ≡ end = get_or_default l.first (node + 1) 0 end (omega (arith, read.1.to_last, are.first_long)) ∙ sym end_read in
+    let end_is : slice_index l.first (node + 1) ≡ end = get_or_default l.first (node + 1) 0 end
+    (omega (arith, read.1.to_last, are.first_long)) ∙ sym end_read in
     rw spreads.1
     (spread-next (record {
       l = l;
@@ -253,10 +286,14 @@ spread-turn l opens root old queue done new after heads node from end are so_far
     }))
 
 -- What a turn does, where what is read has names of its own.
-pub expands-turn : (l : Links) (opens : List ℕ) (root : ℕ) (old queue : List ℕ) (done : ℕ) (new after heads : List ℕ) (node from end : ℕ) → AreLinks l → AreSpread l opens root old queue done → done < length queue → heads ≡ l.heads → node ≡ get_or queue done node → from ≡ get_or l.first node from → end ≡ get_or l.first (node + 1) end → (fresh : List ℕ) × (after ≡ queue ++ fresh) × Spreads heads opens from end (slice_index old node + 1) old new fresh → Expands l opens old queue done new after
+pub expands-turn : (l : Links) (opens : List ℕ) (root : ℕ) (old queue : List ℕ) (done : ℕ) (new after heads : List ℕ) (node from end : ℕ) → AreLinks l
+    → AreSpread l opens root old queue done → done < length queue → heads ≡ l.heads → node ≡ get_or queue done node → from ≡ get_or l.first node from
+    → end ≡ get_or l.first (node + 1) end → (fresh : List ℕ) × (after ≡ queue ++ fresh) × Spreads heads opens from end (slice_index old node + 1) old new fresh
+    → Expands l opens old queue done new after
 expands-turn l opens root old queue done new after heads node from end are so_far ahead same_heads node_read from_read end_read spreads =
     let read = node-read l opens root old queue done node are so_far ahead node_read in
     let is_node : slice_index queue done ≡ node = read.0 in
     let from_is : slice_index l.first node ≡ from = get_or_default l.first node 0 from (omega (arith, read.1.to_last, are.first_long)) ∙ sym from_read in
-    let end_is : slice_index l.first (node + 1) ≡ end = get_or_default l.first (node + 1) 0 end (omega (arith, read.1.to_last, are.first_long)) ∙ sym end_read in
+    let end_is : slice_index l.first (node + 1) ≡ end = get_or_default l.first (node + 1) 0 end
+    (omega (arith, read.1.to_last, are.first_long)) ∙ sym end_read in
     record { fresh = spreads.0; queued = spreads.1; spreads = rw (is_node, from_is, end_is, ← same_heads) spreads.2 }

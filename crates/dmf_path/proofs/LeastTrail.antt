@@ -98,7 +98,8 @@ none-before l places rooms labels current goal v (p ∷ ps) (q ∷ qs) links are
 path-long : (l : Links) (rooms labels : List ℕ) (start goal : ℕ) (ps : List ℕ) → AreLinks l → AreValid l labels rooms (get_or labels start 0)
     → IsNode l.nodes start → IsOpenPath l rooms goal start ps → get_or labels start 0 ≤ length ps + get_or labels goal 0
 path-long l rooms labels start goal ps links valid node leads = ⊎_elim
-    (λ (short : length ps + get_or labels goal 0 < get_or labels start 0). label-at_most l rooms labels (get_or labels start 0) goal start ps links valid node leads short)
+    (λ (short : length ps + get_or labels goal 0 < get_or labels start 0). label-at_most l rooms labels
+    (get_or labels start 0) goal start ps links valid node leads short)
     (λ (long : get_or labels start 0 ≤ length ps + get_or labels goal 0). long)
     (cases_lt (length ps + get_or labels goal 0) (get_or labels start 0))
 
@@ -114,16 +115,26 @@ least-trail l places rooms labels current trail start goal links are node goal_i
     let walk : IsWalk l labels rooms goal start trail = walk-trail l rooms labels current goal start trail walking.trail_is ends in
     let long : length trail + get_or labels goal 0 ≡ get_or labels start 0 = walk-long l rooms labels goal start trail walk in
     let on = λ (other : List Step) (leads : IsPath steps start goal other). links-of_path l places rooms goal start other links are leads in
-    let count = λ (other : List Step) (leads : IsPath steps start goal other). let e : length (on other leads).on ≡ length other = sym (length-map (on other leads).on (step_on l places rooms)) ∙ ap length (on other leads).steps in e in
+    let count = λ (other : List Step) (leads : IsPath steps start goal other). let e : length (on other leads).on ≡ length other =
+    sym (length-map (on other leads).on (step_on l places rooms)) ∙ ap length (on other leads).steps in e in
     let trail_count : length path ≡ length trail = length-map trail (step_on l places rooms) in
     let counts : List ℕ = filled sound.beyond labels in
     let has : get_or labels start 0 ≢ no_label = λ none. omega (arith, none, start_label, links.at_most_nodes) in
     let at_start : get_or counts start 0 ≡ get_or labels start 0 = counts-set l.nodes sound.beyond labels start sound.small node has in
-    let at_goal : get_or counts goal 0 ≡ get_or labels goal 0 = counts-set l.nodes sound.beyond labels goal sound.small goal_is (λ none. omega (arith, none, goal_label)) in
+    let at_goal : get_or counts goal 0 ≡ get_or labels goal 0 = counts-set l.nodes sound.beyond labels goal sound.small goal_is
+    (λ none. omega (arith, none, goal_label)) in
     let valid : AreValid l counts rooms (get_or counts start 0) = subst (λ top. AreValid l counts rooms top) (sym at_start) sound.valid in
     record {
       leads = path-of_links l places rooms goal start trail links are node (open-walk l rooms labels goal start trail walk);
-      shortest = λ other leads. omega (arith, long, trail_count, count other leads, at_start, at_goal, path-long l rooms counts start goal (on other leads).on links valid node (on other leads).leads);
+      shortest = λ other leads. omega (
+        arith,
+        long,
+        trail_count,
+        count other leads,
+        at_start,
+        at_goal,
+        path-long l rooms counts start goal (on other leads).on links valid node (on other leads).leads,
+      );
       first = λ other leads same before.
           let counted : IsWalk l counts rooms goal start (on other leads).on =
           walk-from_label l rooms counts (get_or counts start 0) goal start (on other leads).on links valid node (on other leads).leads

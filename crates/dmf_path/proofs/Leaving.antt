@@ -1,5 +1,6 @@
 -- Links leave their slots: what is held for them is put on, and the settled rooms stay.
-use Rattle.std.proofs.Common.{ℕ, ◌≡◌, ◌+◌, ◌-◌, ◌<◌, Bool, true, false, List, [], ◌∷◌, ◌++◌, length, get_or, set, drop, refl, ap, sym, ◌∙◌, subst, arith, get_or-set_other}
+use Rattle.std.proofs.Common.{ℕ, ◌≡◌, ◌+◌, ◌-◌, ◌<◌, Bool, true, false, List, [], ◌∷◌, ◌++◌, length, get_or, set, drop, refl, ap, sym, ◌∙◌, subst, arith}
+use Rattle.std.proofs.Common.{get_or-set_other}
 use Rattle.std.proofs.lemmas.List.{drop_more}
 use Rattle.dmf_path.specs.declared.trail.Slot.{Slot}
 use Rattle.dmf_path.specs.Links.{Links, AreLinks}
@@ -15,36 +16,43 @@ pub record IsPutting (r : Residual) (sent : ℕ) (slots : List Slot) (whole : Re
   pub goes_on : put_each_on r sent slots ≡ whole
   pub can : CanPut r.links r.takes_back sent slots r.rooms
 
-pub HaveLeft-append : (sent : ℕ) (rooms : List ℕ) (slots others : List Slot) → HaveLeft sent rooms slots → HaveLeft sent rooms others → HaveLeft sent rooms (slots ++ others)
+pub HaveLeft-append : (sent : ℕ) (rooms : List ℕ) (slots others : List Slot) → HaveLeft sent rooms slots → HaveLeft sent rooms others
+    → HaveLeft sent rooms (slots ++ others)
 HaveLeft-append sent rooms [] others first later = later
 HaveLeft-append sent rooms (s ∷ slots) others first later = (first.0, first.1, HaveLeft-append sent rooms slots others first.2 later)
 
-pub HaveLeft-split : (sent : ℕ) (rooms : List ℕ) (slots others : List Slot) → HaveLeft sent rooms (slots ++ others) → HaveLeft sent rooms slots × HaveLeft sent rooms others
+pub HaveLeft-split : (sent : ℕ) (rooms : List ℕ) (slots others : List Slot) → HaveLeft sent rooms (slots ++ others)
+    → HaveLeft sent rooms slots × HaveLeft sent rooms others
 HaveLeft-split sent rooms [] others have = (tt, have)
 HaveLeft-split sent rooms (s ∷ slots) others have =
     let later = HaveLeft-split sent rooms slots others have.2 in
     ((have.0, have.1, later.0), later.1)
 
 -- Another room of a link that is in none of these slots leaves them as they are,
-pub HaveLeft-set : (sent p x : ℕ) (rooms : List ℕ) (slots : List Slot) → IsOff p (places_of slots) → HaveLeft sent rooms slots → HaveLeft sent (set rooms p x) slots
+pub HaveLeft-set : (sent p x : ℕ) (rooms : List ℕ) (slots : List Slot) → IsOff p (places_of slots) → HaveLeft sent rooms slots
+    → HaveLeft sent (set rooms p x) slots
 HaveLeft-set sent p x rooms [] off have = tt
 HaveLeft-set sent p x rooms (s ∷ slots) off have =
     (have.0, omega (arith, have.1, get_or-set_other rooms p s.place x 0 off.0), HaveLeft-set sent p x rooms slots off.1 have.2)
 
 -- and so does a push along it.
-HaveLeft-other : (l : Links) (takes_back : Bool) (sent amount p : ℕ) (rooms : List ℕ) (slots : List Slot) → IsOff p (places_of slots) → IsOff (get_or l.partners p 0) (places_of slots) → HaveLeft sent rooms slots → HaveLeft sent (pushed_once l takes_back amount p rooms) slots
-HaveLeft-other l true sent amount p rooms slots off partner_off have = HaveLeft-set sent (get_or l.partners p 0) _ _ slots partner_off (HaveLeft-set sent p _ rooms slots off have)
+HaveLeft-other : (l : Links) (takes_back : Bool) (sent amount p : ℕ) (rooms : List ℕ) (slots : List Slot) → IsOff p (places_of slots)
+    → IsOff (get_or l.partners p 0) (places_of slots) → HaveLeft sent rooms slots → HaveLeft sent (pushed_once l takes_back amount p rooms) slots
+HaveLeft-other l true sent amount p rooms slots off partner_off have =
+    HaveLeft-set sent (get_or l.partners p 0) _ _ slots partner_off (HaveLeft-set sent p _ rooms slots off have)
 HaveLeft-other l false sent amount p rooms slots off partner_off have = HaveLeft-set sent p _ rooms slots off have
 
 -- One link leaves.
-pub record HasLeft (l : Links) (takes_back : Bool) (labels : List ℕ) (sent top bottom : ℕ) (before behind : List Slot) (s : Slot) (rooms : List ℕ) : Type 0 where
+pub record HasLeft (l : Links) (takes_back : Bool) (labels : List ℕ) (sent top bottom : ℕ) (before behind : List Slot) (s : Slot)
+    (rooms : List ℕ) : Type 0 where
   pub slot : IsSlot l sent rooms s
   pub same : settled l takes_back sent (before ++ s ∷ behind) rooms ≡ settled l takes_back sent (before ++ behind) (put_once l takes_back sent s rooms)
   pub have : HaveLeft sent (put_once l takes_back sent s rooms) (before ++ behind)
   pub descends : Descends l labels top bottom (places_of before ++ places_of behind)
   pub long : length (put_once l takes_back sent s rooms) ≡ length l.heads
 
-pub has-left : (l : Links) (takes_back : Bool) (labels : List ℕ) (sent top bottom : ℕ) (before behind : List Slot) (s : Slot) (rooms : List ℕ) → AreLinks l → length rooms ≡ length l.heads
+pub has-left : (l : Links) (takes_back : Bool) (labels : List ℕ) (sent top bottom : ℕ) (before behind : List Slot) (s : Slot) (rooms : List ℕ) → AreLinks l
+    → length rooms ≡ length l.heads
     → Descends l labels top bottom (places_of before ++ s.place ∷ places_of behind) → HaveLeft sent rooms (before ++ s ∷ behind)
     → HasLeft l takes_back labels sent top bottom before behind s rooms
 has-left l takes_back labels sent top bottom before behind s rooms links long descends have =
@@ -52,11 +60,13 @@ has-left l takes_back labels sent top bottom before behind s rooms links long de
     let amount : ℕ = get_or rooms s.place 0 - room_left sent s.full_at in
     let parts = HaveLeft-split sent rooms before (s ∷ behind) have in
     let off : IsOff s.place (places_of (before ++ behind)) = rw places-append (off-append s.place (places_of before) (places_of behind) b.before b.behind) in
-    let partner_off : IsOff (get_or l.partners s.place 0) (places_of (before ++ behind)) = rw places-append (off-partner l labels top bottom s.place (places_of before ++ places_of behind) links b.falls.within b.falls.label b.without) in
+    let partner_off : IsOff (get_or l.partners s.place 0) (places_of (before ++ behind)) =
+    rw places-append (off-partner l labels top bottom s.place (places_of before ++ places_of behind) links b.falls.within b.falls.label b.without) in
     record {
       slot = record { within = b.falls.within; left = parts.1.1 };
       same = settled-leave l takes_back sent before behind s rooms labels top bottom links long descends;
-      have = HaveLeft-other l takes_back sent amount s.place rooms (before ++ behind) off partner_off (HaveLeft-append sent rooms before behind parts.0 parts.1.2);
+      have = HaveLeft-other l takes_back sent amount s.place rooms (before ++ behind) off partner_off
+          (HaveLeft-append sent rooms before behind parts.0 parts.1.2);
       descends = b.without;
       long = length-pushed_once l takes_back amount s.place rooms ∙ long;
     }
@@ -64,17 +74,20 @@ has-left l takes_back labels sent top bottom before behind s rooms links long de
 -- Some links leave, one after the other.
 pub record HaveAllLeft (l : Links) (takes_back : Bool) (sent : ℕ) (before slots behind : List Slot) (rooms : List ℕ) : Type 0 where
   pub can : CanPut l takes_back sent slots rooms
-  pub same : settled l takes_back sent (before ++ (slots ++ behind)) rooms ≡ settled l takes_back sent (before ++ behind) (put_each l takes_back sent slots rooms)
+  pub same : settled l takes_back sent (before ++ (slots ++ behind)) rooms ≡ settled l takes_back sent (before ++ behind)
+      (put_each l takes_back sent slots rooms)
   pub have : HaveLeft sent (put_each l takes_back sent slots rooms) (before ++ behind)
   pub long : length (put_each l takes_back sent slots rooms) ≡ length l.heads
 
-pub have-all-left : (l : Links) (takes_back : Bool) (labels : List ℕ) (sent top bottom : ℕ) (before slots behind : List Slot) (rooms : List ℕ) → AreLinks l → length rooms ≡ length l.heads
+pub have-all-left : (l : Links) (takes_back : Bool) (labels : List ℕ) (sent top bottom : ℕ) (before slots behind : List Slot) (rooms : List ℕ) → AreLinks l
+    → length rooms ≡ length l.heads
     → Descends l labels top bottom (places_of before ++ places_of (slots ++ behind)) → HaveLeft sent rooms (before ++ (slots ++ behind))
     → HaveAllLeft l takes_back sent before slots behind rooms
 have-all-left l takes_back labels sent top bottom before [] behind rooms links long descends have = record { can = tt; same = refl; have = have; long = long }
 have-all-left l takes_back labels sent top bottom before (s ∷ slots) behind rooms links long descends have =
     let first = has-left l takes_back labels sent top bottom before (slots ++ behind) s rooms links long descends have in
-    let later = have-all-left l takes_back labels sent top bottom before slots behind (put_once l takes_back sent s rooms) links first.long first.descends first.have in
+    let later = have-all-left l takes_back labels sent top bottom before slots behind
+    (put_once l takes_back sent s rooms) links first.long first.descends first.have in
     record { can = (first.slot, later.can); same = first.same ∙ later.same; have = later.have; long = later.long }
 
 -- The next link can leave, and then it goes on.

@@ -6,7 +6,8 @@ use Rattle.dmf_path.specs.Links.{Links, LiesAt, AreLinks}
 
 -- The links of a later node begin later.
 first-later : (l : Links) (v n : ℕ) → AreLinks l → v + n ≤ l.nodes + 1 → get_or l.first v 0 ≤ get_or l.first (v + n) 0
-first-later l v zero are within = let same : get_or l.first (v + 0) 0 ≡ get_or l.first v 0 = ap (λ u. get_or l.first u 0) (let e : v + 0 ≡ v = omega arith in e) in omega (arith, same)
+first-later l v zero are within = let same : get_or l.first (v + 0) 0 ≡ get_or l.first v 0 =
+    ap (λ u. get_or l.first u 0) (let e : v + 0 ≡ v = omega arith in e) in omega (arith, same)
 first-later l v (suc n) are within =
     let before : get_or l.first v 0 ≤ get_or l.first (v + n) 0 = first-later l v n are (omega arith) in
     let next : get_or l.first (v + n) 0 ≤ get_or l.first (v + n + 1) 0 = are.ascending (v + n) (omega arith) in
@@ -18,7 +19,8 @@ pub last-within : (l : Links) (v : ℕ) → AreLinks l → v ≤ l.nodes → get
 last-within l v are within =
     let n : ℕ = l.nodes - v in
     let later : get_or l.first (v + 1) 0 ≤ get_or l.first (v + 1 + n) 0 = first-later l (v + 1) n are (omega arith) in
-    let same : get_or l.first (v + 1 + n) 0 ≡ get_or l.first (l.nodes + 1) 0 = ap (λ u. get_or l.first u 0) (let e : v + 1 + n ≡ l.nodes + 1 = omega arith in e) in
+    let same : get_or l.first (v + 1 + n) 0 ≡ get_or l.first (l.nodes + 1) 0 =
+    ap (λ u. get_or l.first u 0) (let e : v + 1 + n ≡ l.nodes + 1 = omega arith in e) in
     omega (arith, later, same, are.last)
 
 -- The same, where the end is read under a name of its own.

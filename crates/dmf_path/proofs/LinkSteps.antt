@@ -1,5 +1,6 @@
 -- The steps of the pairs are those of the links with room.
-use Rattle.std.proofs.Common.{ℕ, ◌≡◌, ◌≢◌, ◌+◌, ◌*◌, ◌<◌, List, [], ◌∷◌, length, get_or, Bool, true, false, cond, eqb, ltb, zero, suc, None, Some, Contains, refl, ap, sym, subst, ◌∙◌, ⊎_elim, arith}
+use Rattle.std.proofs.Common.{ℕ, ◌≡◌, ◌≢◌, ◌+◌, ◌*◌, ◌<◌, List, [], ◌∷◌, length, get_or, Bool, true, false, cond, eqb, ltb, zero, suc, None, Some, Contains}
+use Rattle.std.proofs.Common.{refl, ap, sym, subst, ◌∙◌, ⊎_elim, arith}
 use Rattle.std.proofs.lemmas.Bool.{both_ways, ltb-true, lt-ltb, eqb-false, ne_eqb}
 use Rattle.std.proofs.lemmas.List.Elements.{Contains-append_left, Contains-append_right, Contains-append_cases}
 use Rattle.dmf_path.specs.declared.pair.Pair.{Pair}
@@ -33,8 +34,10 @@ optional-in false x e = absurd (both_ways false refl e)
 
 is_step_of : (j : ℕ) (p : Pair) (s : Step) → Contains (pair_steps j (Some p)) s → IsStepOf j p s
 is_step_of j p s c = ⊎_elim
-    (λ (first : Contains (cond (ltb 0 p.along) (step_along j p ∷ []) []) s). let e = in-optional (ltb 0 p.along) (step_along j p) s first in along (ltb-true 0 p.along e.0) e.1)
-    (λ (second : Contains (cond (ltb 0 p.against) (step_against j p ∷ []) []) s). let e = in-optional (ltb 0 p.against) (step_against j p) s second in against (ltb-true 0 p.against e.0) e.1)
+    (λ (first : Contains (cond (ltb 0 p.along) (step_along j p ∷ []) []) s). let e = in-optional (ltb 0 p.along) (step_along j p) s first in
+    along (ltb-true 0 p.along e.0) e.1)
+    (λ (second : Contains (cond (ltb 0 p.against) (step_against j p ∷ []) []) s). let e = in-optional (ltb 0 p.against) (step_against j p) s second in
+    against (ltb-true 0 p.against e.0) e.1)
     (Contains-append_cases (cond (ltb 0 p.along) (step_along j p ∷ []) []) (cond (ltb 0 p.against) (step_against j p ∷ []) []) s c)
 
 has_along : (j : ℕ) (p : Pair) → 0 < p.along → Contains (pair_steps j (Some p)) (step_along j p)
@@ -69,7 +72,8 @@ there_is : (b : Bool) (j : ℕ) (p : Pair) (s : Step) → Contains (pair_steps j
 there_is true j p s c = absurd (omega (arith, c.1))
 there_is false j p s c = (refl, c)
 
-is_step_at : (l : Links) (rooms : List ℕ) (j : ℕ) (places : List ℕ) (s : Step) → Contains (steps_from j (pairs_at l places rooms)) s → IsStepAt l rooms j places s
+is_step_at : (l : Links) (rooms : List ℕ) (j : ℕ) (places : List ℕ) (s : Step) → Contains (steps_from j (pairs_at l places rooms)) s
+    → IsStepAt l rooms j places s
 is_step_at l rooms j [] s c = absurd (omega (arith, c.1))
 is_step_at l rooms j (q ∷ places) s c = ⊎_elim
     (λ (own : Contains (pair_steps j (pair_at l rooms q)) s).
@@ -96,7 +100,8 @@ there : (b : Bool) (j : ℕ) (p : Pair) (s : Step) → b ≡ false → Contains 
 there true j p s e c = absurd (both_ways true e refl)
 there false j p s e c = c
 
-has_step_at : (l : Links) (rooms : List ℕ) (j : ℕ) (places : List ℕ) (k : ℕ) (s : Step) → k < length places → get_or places k 0 ≢ no_place → Contains (pair_steps (j + k) (Some (pair_of l rooms (get_or places k 0)))) s → Contains (steps_from j (pairs_at l places rooms)) s
+has_step_at : (l : Links) (rooms : List ℕ) (j : ℕ) (places : List ℕ) (k : ℕ) (s : Step) → k < length places → get_or places k 0 ≢ no_place
+    → Contains (pair_steps (j + k) (Some (pair_of l rooms (get_or places k 0)))) s → Contains (steps_from j (pairs_at l places rooms)) s
 has_step_at l rooms j [] k s within has c = absurd (omega (arith, within))
 has_step_at l rooms j (q ∷ places) zero s within has c =
     let number : j + 0 ≡ j = omega arith in
@@ -112,14 +117,16 @@ has_step_at l rooms j (q ∷ places) (suc k) s within has c =
 -- ---- the links
 
 -- the step along the pair at index `k`
-along-is : (l : Links) (places rooms : List ℕ) (k : ℕ) → AreLinks l → ArePlaces l places → k < length places → get_or places k 0 ≢ no_place → step_on l places rooms (get_or places k 0) ≡ step_along (1 + k) (pair_of l rooms (get_or places k 0))
+along-is : (l : Links) (places rooms : List ℕ) (k : ℕ) → AreLinks l → ArePlaces l places → k < length places → get_or places k 0 ≢ no_place
+    → step_on l places rooms (get_or places k 0) ≡ step_along (1 + k) (pair_of l rooms (get_or places k 0))
 along-is l places rooms k links are within has =
     let q : ℕ = get_or places k 0 in
     let rank : rank_of l places q ≡ 2 * (1 + k) = rank_of-along l places q k are (are.within k within has) within has refl in
     λ i. record { from = tail_of l q; to = get_or l.heads q 0; rank = rank i; room = get_or rooms q 0 }
 
 -- the step against the pair at index `k`
-against-is : (l : Links) (places rooms : List ℕ) (k : ℕ) → AreLinks l → ArePlaces l places → k < length places → get_or places k 0 ≢ no_place → step_on l places rooms (get_or l.partners (get_or places k 0) 0) ≡ step_against (1 + k) (pair_of l rooms (get_or places k 0))
+against-is : (l : Links) (places rooms : List ℕ) (k : ℕ) → AreLinks l → ArePlaces l places → k < length places → get_or places k 0 ≢ no_place
+    → step_on l places rooms (get_or l.partners (get_or places k 0) 0) ≡ step_against (1 + k) (pair_of l rooms (get_or places k 0))
 against-is l places rooms k links are within has =
     let q : ℕ = get_or places k 0 in
     let p : ℕ = get_or l.partners q 0 in
@@ -135,7 +142,8 @@ pub record IsLinkStep (l : Links) (places rooms : List ℕ) (s : Step) : Type 0 
   pub room : 0 < get_or rooms place 0
   pub step : step_on l places rooms place ≡ s
 
-link-of : (l : Links) (places rooms : List ℕ) (k : ℕ) (s : Step) → AreLinks l → ArePlaces l places → k < length places → get_or places k 0 ≢ no_place → IsStepOf (1 + k) (pair_of l rooms (get_or places k 0)) s → IsLinkStep l places rooms s
+link-of : (l : Links) (places rooms : List ℕ) (k : ℕ) (s : Step) → AreLinks l → ArePlaces l places → k < length places → get_or places k 0 ≢ no_place
+    → IsStepOf (1 + k) (pair_of l rooms (get_or places k 0)) s → IsLinkStep l places rooms s
 link-of l places rooms k s links are within has (along room is) = record {
   place = get_or places k 0;
   within = are.within k within has;
@@ -150,13 +158,15 @@ link-of l places rooms k s links are within has (against room is) = record {
 }
 
 -- Each step of the pairs is that of a link with room.
-pub link-of_step : (l : Links) (places rooms : List ℕ) (s : Step) → AreLinks l → ArePlaces l places → Contains (steps_of (pairs_at l places rooms)) s → IsLinkStep l places rooms s
+pub link-of_step : (l : Links) (places rooms : List ℕ) (s : Step) → AreLinks l → ArePlaces l places → Contains (steps_of (pairs_at l places rooms)) s
+    → IsLinkStep l places rooms s
 link-of_step l places rooms s links are c =
     let h = is_step_at l rooms 1 places s c in
     link-of l places rooms h.index s links are h.within h.has h.step
 
 -- Each link with room gives a step of the pairs.
-pub step-of_link : (l : Links) (places rooms : List ℕ) (p : ℕ) → AreLinks l → ArePlaces l places → p < length l.heads → 0 < get_or rooms p 0 → Contains (steps_of (pairs_at l places rooms)) (step_on l places rooms p)
+pub step-of_link : (l : Links) (places rooms : List ℕ) (p : ℕ) → AreLinks l → ArePlaces l places → p < length l.heads → 0 < get_or rooms p 0
+    → Contains (steps_of (pairs_at l places rooms)) (step_on l places rooms p)
 step-of_link l places rooms p links are within room =
     let found = are.each p within in
     let k : ℕ = found.0 in

@@ -43,7 +43,8 @@ path-within steps fewer a b [] are leads = leads
 path-within steps fewer a b (s ∷ path) are leads = (are.within s leads.0, leads.1, path-within steps fewer s.to b path are leads.2)
 
 -- The least path of the fewer steps is that of them all.
-pub least-without_loops : (steps fewer : List Step) (a b : ℕ) (path : List Step) → AreWithoutLoops steps fewer → IsLeastPath fewer a b path → IsLeastPath steps a b path
+pub least-without_loops : (steps fewer : List Step) (a b : ℕ) (path : List Step) → AreWithoutLoops steps fewer → IsLeastPath fewer a b path
+    → IsLeastPath steps a b path
 least-without_loops steps fewer a b path are least = record {
   leads = path-within steps fewer a b path are least.leads;
   shortest = λ other leads.

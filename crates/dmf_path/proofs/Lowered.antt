@@ -1,5 +1,6 @@
 -- Taking an amount off the room of one link.
-use Rattle.std.proofs.Common.{ℕ, ◌≡◌, ◌≢◌, ◌-◌, ◌<◌, ◌≤◌, false, List, [], ◌∷◌, length, map, get_or, set, zero, suc, refl, ap, sym, ◌∙◌, arith, ⊎_elim, eq-eqb, get_or-set_other, get_or-set_same, inl, inr, Some, None}
+use Rattle.std.proofs.Common.{ℕ, ◌≡◌, ◌≢◌, ◌-◌, ◌<◌, ◌≤◌, false, List, [], ◌∷◌, length, map, get_or, set, zero, suc, refl, ap, sym, ◌∙◌, arith, ⊎_elim, eq-eqb}
+use Rattle.std.proofs.Common.{get_or-set_other, get_or-set_same, inl, inr, Some, None}
 use Rattle.std.specs.Option.{option_map}
 use Rattle.std.proofs.lemmas.Option.{slice_get_within, get_or_from_slice_get, same_Some}
 use Rattle.std.proofs.lemmas.Bool.{cases_eq, ne_eqb}
@@ -19,11 +20,13 @@ pub record HasPlace (l : Links) (places rooms : List ℕ) (k amount : ℕ) : Typ
   pub enough : amount ≤ get_or rooms (get_or places k 0) 0
 
 -- the place of a pair that is there
-pub HasPlace-along : (l : Links) (places rooms : List ℕ) (k amount : ℕ) → ArePlaces l places → HasAlong (pairs_at l places rooms) k amount → HasPlace l places rooms k amount
+pub HasPlace-along : (l : Links) (places rooms : List ℕ) (k amount : ℕ) → ArePlaces l places → HasAlong (pairs_at l places rooms) k amount
+    → HasPlace l places rooms k amount
 HasPlace-along l places rooms k amount are has =
     let found = slice_get_within (pairs_at l places rooms) k (Some has.pair) has.is in
     let index : k < length places = omega (arith, found, length-map places (pair_at l rooms)) in
-    let same : pair_at l rooms (get_or places k 0) ≡ Some has.pair = sym (get_or-map (pair_at l rooms) places k 0 None index) ∙ get_or_from_slice_get (pairs_at l places rooms) k (Some has.pair) None has.is in
+    let same : pair_at l rooms (get_or places k 0) ≡ Some has.pair = sym (get_or-map (pair_at l rooms) places k 0 None index) ∙ get_or_from_slice_get
+    (pairs_at l places rooms) k (Some has.pair) None has.is in
     ⊎_elim
     (λ (none : get_or places k 0 ≡ no_place). let nothing = rw (eq-eqb (get_or places k 0) no_place none) at same in absurd (cc))
     (λ (there : get_or places k 0 ≢ no_place).
@@ -41,18 +44,21 @@ same-map f g (q ∷ qs) same =
     λ i. first i ∷ rest i
 
 -- one element of a list is another
-pub map-set : {X : Type 0} (f g : ℕ → X) (qs : List ℕ) (k : ℕ) (x : X) → k < length qs → f (get_or qs k 0) ≡ x → ((j : ℕ) → j < length qs → j ≢ k → f (get_or qs j 0) ≡ g (get_or qs j 0)) → map f qs ≡ set (map g qs) k x
+pub map-set : {X : Type 0} (f g : ℕ → X) (qs : List ℕ) (k : ℕ) (x : X) → k < length qs → f (get_or qs k 0) ≡ x
+    → ((j : ℕ) → j < length qs → j ≢ k → f (get_or qs j 0) ≡ g (get_or qs j 0)) → map f qs ≡ set (map g qs) k x
 map-set f g [] k x within here others = absurd (omega (arith, within))
 map-set f g (q ∷ qs) zero x within here others =
     let rest : map f qs ≡ map g qs = same-map f g qs (λ j h. others (suc j) (omega (arith, h)) (λ e. omega (arith, e))) in
     λ i. here i ∷ rest i
 map-set f g (q ∷ qs) (suc k) x within here others =
     let first : f q ≡ g q = others 0 (omega arith) (λ e. omega (arith, e)) in
-    let rest : map f qs ≡ set (map g qs) k x = map-set f g qs k x (omega (arith, within)) here (λ j h apart. others (suc j) (omega (arith, h)) (λ e. apart (omega (arith, e)))) in
+    let rest : map f qs ≡ set (map g qs) k x = map-set f g qs k x (omega (arith, within)) here
+    (λ j h apart. others (suc j) (omega (arith, h)) (λ e. apart (omega (arith, e)))) in
     λ i. first i ∷ rest i
 
 -- The pairs, once the room of one link along is lowered.
-pub pairs-lowered : (l : Links) (places rooms : List ℕ) (k amount : ℕ) → AreLinks l → ArePlaces l places → length rooms ≡ length l.heads → HasPlace l places rooms k amount →
+pub pairs-lowered : (l : Links) (places rooms : List ℕ) (k amount : ℕ) → AreLinks l → ArePlaces l places → length rooms ≡ length l.heads
+    → HasPlace l places rooms k amount →
     pairs_at l places (pushed_once l false amount (get_or places k 0) rooms) ≡ lowered_along (pairs_at l places rooms) k amount
 pairs-lowered l places rooms k amount links are long has =
     let p : ℕ = get_or places k 0 in
@@ -77,7 +83,8 @@ pairs-lowered l places rooms k amount links are long has =
     (cases_eq (get_or places j 0) no_place))
 
 -- Lowering opens no link.
-pub opens-lowered : (l : Links) (labels rooms : List ℕ) (p amount : ℕ) → length rooms ≡ length l.heads → p < length l.heads → OpensUpwards l labels rooms (pushed_once l false amount p rooms)
+pub opens-lowered : (l : Links) (labels rooms : List ℕ) (p amount : ℕ) → length rooms ≡ length l.heads → p < length l.heads
+    → OpensUpwards l labels rooms (pushed_once l false amount p rooms)
 opens-lowered l labels rooms p amount long within v q node lies room =
     ⊎_elim
     (λ (same : q ≡ p).

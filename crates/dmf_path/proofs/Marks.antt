@@ -10,14 +10,16 @@ use Rattle.dmf_path.specs.Labels.{AreLabels, is_label}
 use Rattle.dmf_path.proofs.Reaching.{AreOpen-map, label-from, label-to, reachable-labelled}
 
 -- the mark of a node
-mark_is : (labels : List ℕ) (marks : List Bool) (nodes v : ℕ) → length labels ≡ nodes + 1 → marks ≡ map is_label (drop 1 labels) → IsNode nodes v → slice_index_or marks (v - 1) false ≡ is_label (get_or labels v 0)
+mark_is : (labels : List ℕ) (marks : List Bool) (nodes v : ℕ) → length labels ≡ nodes + 1 → marks ≡ map is_label (drop 1 labels) → IsNode nodes v
+    → slice_index_or marks (v - 1) false ≡ is_label (get_or labels v 0)
 mark_is labels marks nodes v long are node =
     let within : v - 1 < length (drop 1 labels) = omega (arith, long, node.from_one, node.to_last, length-drop 1 labels) in
     let place : 1 + (v - 1) ≡ v = omega (arith, node.from_one) in
     rw are (get_or-map is_label (drop 1 labels) (v - 1) 0 false within ∙ ap is_label (get_or-drop 1 labels (v - 1) 0 ∙ ap (λ k. get_or labels k 0) place))
 
 -- The marks tell which nodes paths lead to from the root.
-pub marks-reached : (l : Links) (places rooms opens labels : List ℕ) (root : ℕ) (marks : List Bool) → AreLinks l → ArePlaces l places → AreRooms l rooms → opens ≡ map open_flag rooms → AreLabels l opens root 0 labels → IsNode l.nodes root → marks ≡ map is_label (drop 1 labels)
+pub marks-reached : (l : Links) (places rooms opens labels : List ℕ) (root : ℕ) (marks : List Bool) → AreLinks l → ArePlaces l places → AreRooms l rooms
+    → opens ≡ map open_flag rooms → AreLabels l opens root 0 labels → IsNode l.nodes root → marks ≡ map is_label (drop 1 labels)
     → (v : ℕ) → IsNode l.nodes v → IsTrue (slice_index_or marks (v - 1) false) ↔ IsReachable (steps_of (pairs_at l places rooms)) root v
 marks-reached l places rooms opens labels root marks links places_are rooms_are told are node is v inside =
     let reached = reachable-labelled l places rooms opens labels root links places_are (AreOpen-map l rooms opens rooms_are told) are node v inside in

@@ -141,12 +141,14 @@ few-levels l flags opens start goal g queue_g done_g s queue_s done_s spread_g a
     )
 
 -- The goal's side has met the start's.
-pub has-met_goal : (l : Links) (rooms flags opens : List ℕ) (start goal at : ℕ) (g queue_g : List ℕ) (done_g : ℕ) (s queue_s : List ℕ) (done_s : ℕ) (new : List ℕ)
+pub has-met_goal : (l : Links) (rooms flags opens : List ℕ) (start goal at : ℕ) (g queue_g : List ℕ) (done_g : ℕ) (s queue_s : List ℕ) (done_s : ℕ)
+    (new : List ℕ)
     → AreLinks l → AreFlags l rooms flags → AreOpen l rooms opens → AreSpread l flags goal g queue_g done_g → done_g < length queue_g
     → AreSpread l opens start s queue_s done_s → done_s < length queue_s → IsAtRest s queue_s done_s → AreApart g s
     → AreLevels l flags goal (get_or g (get_or queue_g done_g 0) 0) new → MeetBeyond (get_or g (get_or queue_g done_g 0) 0) new s → IsNode l.nodes at
     → get_or new at 0 ≢ no_label → get_or s at 0 ≢ no_label → HasMetAt l flags opens start goal at new s
-has-met_goal l rooms flags opens start goal at g queue_g done_g s queue_s done_s new are flagged opened spread_g ahead_g spread_s ahead_s rest apart levels beyond node has_g has_s =
+has-met_goal l rooms flags opens start goal at g queue_g done_g s queue_s done_s new are flagged opened spread_g ahead_g spread_s ahead_s rest apart levels
+    beyond node has_g has_s =
     let near : ℕ = get_or g (get_or queue_g done_g 0) 0 in
     let far : ℕ = get_or s (get_or queue_s done_s 0) 0 in
     let few = few-levels l flags opens start goal g queue_g done_g s queue_s done_s spread_g ahead_g spread_s ahead_s apart in
@@ -172,12 +174,14 @@ has-met_goal l rooms flags opens start goal at g queue_g done_g s queue_s done_s
     }
 
 -- The start's side has met the goal's.
-pub has-met_start : (l : Links) (rooms flags opens : List ℕ) (start goal at : ℕ) (g queue_g : List ℕ) (done_g : ℕ) (s queue_s : List ℕ) (done_s : ℕ) (new : List ℕ)
+pub has-met_start : (l : Links) (rooms flags opens : List ℕ) (start goal at : ℕ) (g queue_g : List ℕ) (done_g : ℕ) (s queue_s : List ℕ) (done_s : ℕ)
+    (new : List ℕ)
     → AreLinks l → AreFlags l rooms flags → AreOpen l rooms opens → AreSpread l flags goal g queue_g done_g → done_g < length queue_g
     → IsAtRest g queue_g done_g → AreSpread l opens start s queue_s done_s → done_s < length queue_s → AreApart g s
     → AreLevels l opens start (get_or s (get_or queue_s done_s 0) 0) new → MeetBeyond (get_or s (get_or queue_s done_s 0) 0) new g → IsNode l.nodes at
     → get_or new at 0 ≢ no_label → get_or g at 0 ≢ no_label → HasMetAt l flags opens start goal at g new
-has-met_start l rooms flags opens start goal at g queue_g done_g s queue_s done_s new are flagged opened spread_g ahead_g rest spread_s ahead_s apart levels beyond node has_s has_g =
+has-met_start l rooms flags opens start goal at g queue_g done_g s queue_s done_s new are flagged opened spread_g ahead_g rest spread_s ahead_s apart levels
+    beyond node has_s has_g =
     let near : ℕ = get_or g (get_or queue_g done_g 0) 0 in
     let far : ℕ = get_or s (get_or queue_s done_s 0) 0 in
     let few = few-levels l flags opens start goal g queue_g done_g s queue_s done_s spread_g ahead_g spread_s ahead_s apart in

@@ -20,7 +20,8 @@ pub head-node : (l : Links) (v p : ℕ) → AreLinks l → IsNode l.nodes v → 
 head-node l v p links node lies = (links.each p (lies-within l v p links node lies)).head
 
 -- The steps of links with room that lead to the goal are a path.
-pub path-of_links : (l : Links) (places rooms : List ℕ) (goal v : ℕ) (ps : List ℕ) → AreLinks l → ArePlaces l places → IsNode l.nodes v → IsOpenPath l rooms goal v ps → IsPath (steps_of (pairs_at l places rooms)) v goal (path_on l places rooms ps)
+pub path-of_links : (l : Links) (places rooms : List ℕ) (goal v : ℕ) (ps : List ℕ) → AreLinks l → ArePlaces l places → IsNode l.nodes v
+    → IsOpenPath l rooms goal v ps → IsPath (steps_of (pairs_at l places rooms)) v goal (path_on l places rooms ps)
 path-of_links l places rooms goal v [] links are node leads = leads
 path-of_links l places rooms goal v (p ∷ ps) links are node leads = (
   step-of_link l places rooms p links are (lies-within l v p links node leads.0) leads.1,
@@ -35,7 +36,8 @@ pub record IsPathOn (l : Links) (places rooms : List ℕ) (goal v : ℕ) (path :
   pub leads : IsOpenPath l rooms goal v on
 
 -- Each path is one of links with room.
-pub links-of_path : (l : Links) (places rooms : List ℕ) (goal v : ℕ) (path : List Step) → AreLinks l → ArePlaces l places → IsPath (steps_of (pairs_at l places rooms)) v goal path → IsPathOn l places rooms goal v path
+pub links-of_path : (l : Links) (places rooms : List ℕ) (goal v : ℕ) (path : List Step) → AreLinks l → ArePlaces l places
+    → IsPath (steps_of (pairs_at l places rooms)) v goal path → IsPathOn l places rooms goal v path
 links-of_path l places rooms goal v [] links are leads = record { on = []; steps = refl; leads = leads }
 links-of_path l places rooms goal v (s ∷ path) links are leads =
     let link : IsLinkStep l places rooms s = link-of_step l places rooms s links are leads.0 in

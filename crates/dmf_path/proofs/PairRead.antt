@@ -18,12 +18,19 @@ no-pair l places rooms k index none = get_or-map (pair_at l rooms) places k 0 No
 
 -- or the pair has the rooms of two links.
 pub its-pair : (l : Links) (places rooms : List ℕ) (k place : ℕ) → k < length places → IsPlaceOf places k place
-    → pair_number (pairs_at l places rooms) k ≡ Some (record { tail = tail_of l place; head = get_or l.heads place 0; along = get_or rooms place 0; against = get_or rooms (get_or l.partners place 0) 0 })
+    → pair_number (pairs_at l places rooms) k ≡ Some (record {
+      tail = tail_of l place;
+      head = get_or l.heads place 0;
+      along = get_or rooms place 0;
+      against =
+          get_or rooms (get_or l.partners place 0) 0;
+    })
 its-pair l places rooms k place index of =
     let same : pair_number (pairs_at l places rooms) k ≡ pair_at l rooms (get_or places k 0) = get_or-map (pair_at l rooms) places k 0 None index in
     rw of.is (same ∙ rw (ne_eqb (get_or places k 0) no_place (λ none. of.there (of.is ∙ none))) refl)
 
 -- A pair that is there has a place.
-pub has-place : (found : Option ℕ) (places : List ℕ) (k : ℕ) → MatchOption found (get_or places k 0 ≡ no_place) (IsPlaceOf places k) → get_or places k 0 ≢ no_place → IsSome found
+pub has-place : (found : Option ℕ) (places : List ℕ) (k : ℕ) → MatchOption found (get_or places k 0 ≡ no_place) (IsPlaceOf places k)
+    → get_or places k 0 ≢ no_place → IsSome found
 has-place None places k none there = absurd (there none)
 has-place (Some place) places k of there = refl

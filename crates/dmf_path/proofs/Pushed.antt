@@ -28,7 +28,8 @@ Falls-admissible l labels rooms v p links node can = record {
 }
 
 -- so do those of a trail
-pub FallsOn-trail : (l : Links) (labels rooms current : List ℕ) (v : ℕ) (ps : List ℕ) → AreLinks l → IsNode l.nodes v → IsTrail l labels rooms current v ps → FallsOn l labels v ps
+pub FallsOn-trail : (l : Links) (labels rooms current : List ℕ) (v : ℕ) (ps : List ℕ) → AreLinks l → IsNode l.nodes v → IsTrail l labels rooms current v ps
+    → FallsOn l labels v ps
 FallsOn-trail l labels rooms current v [] links node trail = tt
 FallsOn-trail l labels rooms current v (p ∷ ps) links node trail =
     let falls = Falls-admissible l labels rooms v p links node trail.0 in
@@ -41,7 +42,8 @@ OpensUpwards l labels old new =
     → (0 < get_or old p 0) ⊎ (get_or labels (get_or l.heads p 0) 0 ≡ get_or labels v 0 + 1)
 
 -- A push along a link that falls opens at most its opposite.
-opens-once : (l : Links) (takes_back : Bool) (amount : ℕ) (labels rooms : List ℕ) (u q : ℕ) → AreLinks l → length rooms ≡ length l.heads → Falls l labels u q → OpensUpwards l labels rooms (pushed_once l takes_back amount q rooms)
+opens-once : (l : Links) (takes_back : Bool) (amount : ℕ) (labels rooms : List ℕ) (u q : ℕ) → AreLinks l → length rooms ≡ length l.heads → Falls l labels u q
+    → OpensUpwards l labels rooms (pushed_once l takes_back amount q rooms)
 opens-once l takes_back amount labels rooms u q links long falls v p node lies room =
     let within = lies-within l v p links node lies in
     elim (is_beside l q p links falls.within within) [
@@ -56,13 +58,15 @@ opens-once l takes_back amount labels rooms u q links long falls v p node lies r
     ]
 
 -- the same of a push along links that fall
-pub opens-pushed : (l : Links) (takes_back : Bool) (amount : ℕ) (labels rooms : List ℕ) (u : ℕ) (qs : List ℕ) → AreLinks l → length rooms ≡ length l.heads → FallsOn l labels u qs → OpensUpwards l labels rooms (pushed l takes_back amount qs rooms)
+pub opens-pushed : (l : Links) (takes_back : Bool) (amount : ℕ) (labels rooms : List ℕ) (u : ℕ) (qs : List ℕ) → AreLinks l → length rooms ≡ length l.heads
+    → FallsOn l labels u qs → OpensUpwards l labels rooms (pushed l takes_back amount qs rooms)
 opens-pushed l takes_back amount labels rooms u [] links long falls v p node lies room = inl room
 opens-pushed l takes_back amount labels rooms u (q ∷ qs) links long falls v p node lies room =
     ⊎_elim
     (λ (had : 0 < get_or (pushed_once l takes_back amount q rooms) p 0). opens-once l takes_back amount labels rooms u q links long falls.0 v p node lies had)
     (λ (up : get_or labels (get_or l.heads p 0) 0 ≡ get_or labels v 0 + 1). inr up)
-    (opens-pushed l takes_back amount labels (pushed_once l takes_back amount q rooms) (get_or l.heads q 0) qs links (length-pushed_once l takes_back amount q rooms ∙ long) falls.1 v p node lies room)
+    (opens-pushed l takes_back amount labels (pushed_once l takes_back amount q rooms) (get_or l.heads q 0) qs links
+    (length-pushed_once l takes_back amount q rooms ∙ long) falls.1 v p node lies room)
 
 -- Labels stay valid.
 pub AreValid-opens : (l : Links) (labels old new : List ℕ) (top : ℕ) → OpensUpwards l labels old new → AreValid l labels old top → AreValid l labels new top
@@ -73,7 +77,8 @@ AreValid-opens l labels old new top opens valid v p node lies room below =
     (opens v p node lies room)
 
 -- An admissible link was one before
-admissible-before : (l : Links) (labels old new : List ℕ) (v p : ℕ) → IsNode l.nodes v → OpensUpwards l labels old new → IsAdmissible l labels new v p → IsAdmissible l labels old v p
+admissible-before : (l : Links) (labels old new : List ℕ) (v p : ℕ) → IsNode l.nodes v → OpensUpwards l labels old new → IsAdmissible l labels new v p
+    → IsAdmissible l labels old v p
 admissible-before l labels old new v p node opens can = record {
   lies = can.lies;
   room = ⊎_elim
@@ -84,19 +89,22 @@ admissible-before l labels old new v p node opens can = record {
 }
 
 -- so a walk was one
-walk-before : (l : Links) (labels old new : List ℕ) (goal v : ℕ) (ps : List ℕ) → AreLinks l → IsNode l.nodes v → OpensUpwards l labels old new → IsWalk l labels new goal v ps → IsWalk l labels old goal v ps
+walk-before : (l : Links) (labels old new : List ℕ) (goal v : ℕ) (ps : List ℕ) → AreLinks l → IsNode l.nodes v → OpensUpwards l labels old new
+    → IsWalk l labels new goal v ps → IsWalk l labels old goal v ps
 walk-before l labels old new goal v [] links node opens walks = walks
 walk-before l labels old new goal v (p ∷ ps) links node opens walks =
     let can = admissible-before l labels old new v p node opens walks.0 in
     (can, walk-before l labels old new goal (get_or l.heads p 0) ps links (links.each p (lies-within l v p links node can.lies)).head opens walks.1)
 
 -- and what was passed stays passed.
-pub ArePassed-opens : (l : Links) (labels old new : List ℕ) (goal : ℕ) (current : List ℕ) → AreLinks l → OpensUpwards l labels old new → ArePassed l labels old goal current → ArePassed l labels new goal current
+pub ArePassed-opens : (l : Links) (labels old new : List ℕ) (goal : ℕ) (current : List ℕ) → AreLinks l → OpensUpwards l labels old new
+    → ArePassed l labels old goal current → ArePassed l labels new goal current
 ArePassed-opens l labels old new goal current links opens passed v p ps node lies before walks =
     passed v p ps node lies before (walk-before l labels old new goal v (p ∷ ps) links node opens walks)
 
 -- The links of a trail that have room still are one.
-pub IsTrail-open : (l : Links) (labels old new current : List ℕ) (v : ℕ) (ps : List ℕ) → IsTrail l labels old current v ps → All (λ p. 0 < get_or new p 0) ps → IsTrail l labels new current v ps
+pub IsTrail-open : (l : Links) (labels old new current : List ℕ) (v : ℕ) (ps : List ℕ) → IsTrail l labels old current v ps → All (λ p. 0 < get_or new p 0) ps
+    → IsTrail l labels new current v ps
 IsTrail-open l labels old new current v [] trail room = tt
 IsTrail-open l labels old new current v (p ∷ ps) trail room = (
   record { lies = trail.0.lies; room = room 0 0 (omega arith); falls = trail.0.falls },
@@ -105,7 +113,8 @@ IsTrail-open l labels old new current v (p ∷ ps) trail room = (
 )
 
 -- The front of a trail is one.
-pub IsTrail-take : (l : Links) (labels rooms current : List ℕ) (v k : ℕ) (ps : List ℕ) → IsTrail l labels rooms current v ps → IsTrail l labels rooms current v (take k ps)
+pub IsTrail-take : (l : Links) (labels rooms current : List ℕ) (v k : ℕ) (ps : List ℕ) → IsTrail l labels rooms current v ps
+    → IsTrail l labels rooms current v (take k ps)
 IsTrail-take l labels rooms current v zero ps trail = tt
 IsTrail-take l labels rooms current v (suc k) [] trail = tt
 IsTrail-take l labels rooms current v (suc k) (p ∷ ps) trail = (trail.0, trail.1, IsTrail-take l labels rooms current (get_or l.heads p 0) k ps trail.2)

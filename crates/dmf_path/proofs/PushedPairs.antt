@@ -1,5 +1,6 @@
 -- Pushing along a trail changes the pairs as pushing along its path does.
-use Rattle.std.proofs.Common.{ℕ, ◌≡◌, ◌≢◌, ◌+◌, ◌-◌, ◌*◌, ◌<◌, ◌==◌, Bool, true, false, cond, List, [], ◌∷◌, length, map, get_or, suc, refl, ap, sym, ◌∙◌, subst, arith, ⊎_elim, eq-eqb, Option, Some}
+use Rattle.std.proofs.Common.{ℕ, ◌≡◌, ◌≢◌, ◌+◌, ◌-◌, ◌*◌, ◌<◌, ◌==◌, Bool, true, false, cond, List, [], ◌∷◌, length, map, get_or, suc, refl, ap, sym, ◌∙◌}
+use Rattle.std.proofs.Common.{subst, arith, ⊎_elim, eq-eqb, Option, Some}
 use Rattle.std.specs.List.{list_any}
 use Rattle.std.proofs.lemmas.Bool.{cases_eq, ne_eqb}
 use Rattle.dmf_path.specs.declared.pair.Pair.{Pair}
@@ -20,7 +21,8 @@ abbrev pub is_on : ℕ → List ℕ → Bool
 is_on p ps = list_any (λ q. q == p) ps
 
 -- Links that fall on from the end of one that falls are neither that link nor its opposite.
-on-falls : (l : Links) (labels : List ℕ) (u q v : ℕ) (ps : List ℕ) → AreLinks l → Falls l labels u q → get_or labels v 0 < get_or labels u 0 → FallsOn l labels v ps → (is_on q ps ≡ false) × (is_on (get_or l.partners q 0) ps ≡ false)
+on-falls : (l : Links) (labels : List ℕ) (u q v : ℕ) (ps : List ℕ) → AreLinks l → Falls l labels u q → get_or labels v 0 < get_or labels u 0
+    → FallsOn l labels v ps → (is_on q ps ≡ false) × (is_on (get_or l.partners q 0) ps ≡ false)
 on-falls l labels u q v [] links first lower falls = (refl, refl)
 on-falls l labels u q v (p ∷ ps) links first lower falls =
     let not_own : p ≢ q = λ e. let same : v ≡ u = sym falls.0.tail ∙ ap (tail_of l) e ∙ first.tail in omega (arith, lower, ap (λ r. get_or labels r 0) same) in
@@ -45,7 +47,8 @@ IsLeft l takes_back amount rooms q ps p =
     ≡ get_or rooms p 0 - loss amount p (q ∷ ps) + cond takes_back (loss amount (get_or l.partners p 0) (q ∷ ps)) 0
 
 -- where the link is `q` itself
-left-own : (l : Links) (takes_back : Bool) (amount : ℕ) (rooms : List ℕ) (q : ℕ) (ps : List ℕ) → AreLinks l → length rooms ≡ length l.heads → q < length l.heads → (is_on q ps ≡ false) × (is_on (get_or l.partners q 0) ps ≡ false) → IsLeft l takes_back amount rooms q ps q
+left-own : (l : Links) (takes_back : Bool) (amount : ℕ) (rooms : List ℕ) (q : ℕ) (ps : List ℕ) → AreLinks l → length rooms ≡ length l.heads → q < length l.heads
+    → (is_on q ps ≡ false) × (is_on (get_or l.partners q 0) ps ≡ false) → IsLeft l takes_back amount rooms q ps q
 left-own l takes_back amount rooms q ps links long within none =
     let mine = once-own l takes_back amount q rooms links long within in
     let self : (q == q) ≡ true = eq-eqb q q refl in
@@ -53,10 +56,13 @@ left-own l takes_back amount rooms q ps links long within none =
     rw (none.0, none.1, self, apart, mine) (omega arith)
 
 -- where it is the opposite of `q`
-left-partner : (l : Links) (takes_back : Bool) (amount : ℕ) (rooms : List ℕ) (q p : ℕ) (ps : List ℕ) → AreLinks l → length rooms ≡ length l.heads → q < length l.heads → (is_on q ps ≡ false) × (is_on (get_or l.partners q 0) ps ≡ false) → p ≡ get_or l.partners q 0 → get_or l.partners p 0 ≡ q → IsLeft l takes_back amount rooms q ps p
+left-partner : (l : Links) (takes_back : Bool) (amount : ℕ) (rooms : List ℕ) (q p : ℕ) (ps : List ℕ) → AreLinks l → length rooms ≡ length l.heads
+    → q < length l.heads → (is_on q ps ≡ false) × (is_on (get_or l.partners q 0) ps ≡ false) → p ≡ get_or l.partners q 0 → get_or l.partners p 0 ≡ q
+    → IsLeft l takes_back amount rooms q ps p
 left-partner l takes_back amount rooms q p ps links long within none same back =
     let its : get_or (pushed_once l takes_back amount q rooms) p 0 ≡ get_or rooms p 0 + cond takes_back amount 0 =
-    ap (λ r. get_or (pushed_once l takes_back amount q rooms) r 0) same ∙ once-partner l takes_back amount q rooms links long within ∙ ap (λ r. get_or rooms r 0 + cond takes_back amount 0) (sym same) in
+    ap (λ r. get_or (pushed_once l takes_back amount q rooms) r 0) same ∙ once-partner l takes_back amount q rooms links long within ∙ ap
+    (λ r. get_or rooms r 0 + cond takes_back amount 0) (sym same) in
     let own : is_on p ps ≡ false = ap (λ r. is_on r ps) same ∙ none.1 in
     let its_own : is_on (get_or l.partners p 0) ps ≡ false = ap (λ r. is_on r ps) back ∙ none.0 in
     let self : (q == get_or l.partners p 0) ≡ true = eq-eqb q (get_or l.partners p 0) (sym back) in
@@ -64,18 +70,21 @@ left-partner l takes_back amount rooms q p ps links long within none same back =
     rw (own, its_own, self, apart, its) (gain takes_back (get_or rooms p 0) amount)
 
 -- where it is another
-left-other : (l : Links) (takes_back : Bool) (amount : ℕ) (rooms : List ℕ) (q p : ℕ) (ps : List ℕ) → p ≢ q → p ≢ get_or l.partners q 0 → get_or l.partners p 0 ≢ q → IsLeft l takes_back amount rooms q ps p
+left-other : (l : Links) (takes_back : Bool) (amount : ℕ) (rooms : List ℕ) (q p : ℕ) (ps : List ℕ) → p ≢ q → p ≢ get_or l.partners q 0
+    → get_or l.partners p 0 ≢ q → IsLeft l takes_back amount rooms q ps p
 left-other l takes_back amount rooms q p ps a b c =
     rw (once-other l takes_back amount q p rooms a b, ne_eqb q p (λ e. a (sym e)), ne_eqb q (get_or l.partners p 0) (λ e. c (sym e))) refl
 
 -- The room of each link, once an amount is pushed along links that fall.
-pub room-pushed : (l : Links) (takes_back : Bool) (amount : ℕ) (labels rooms : List ℕ) (u : ℕ) (ps : List ℕ) (p : ℕ) → AreLinks l → length rooms ≡ length l.heads → FallsOn l labels u ps → p < length l.heads →
+pub room-pushed : (l : Links) (takes_back : Bool) (amount : ℕ) (labels rooms : List ℕ) (u : ℕ) (ps : List ℕ) (p : ℕ) → AreLinks l
+    → length rooms ≡ length l.heads → FallsOn l labels u ps → p < length l.heads →
     get_or (pushed l takes_back amount ps rooms) p 0 ≡ get_or rooms p 0 - loss amount p ps + cond takes_back (loss amount (get_or l.partners p 0) ps) 0
 room-pushed l true amount labels rooms u [] p links long falls within = omega arith
 room-pushed l false amount labels rooms u [] p links long falls within = omega arith
 room-pushed l takes_back amount labels rooms u (q ∷ ps) p links long falls within =
     let next : List ℕ = pushed_once l takes_back amount q rooms in
-    let later = room-pushed l takes_back amount labels next (get_or l.heads q 0) ps p links (length-pushed_once l takes_back amount q rooms ∙ long) falls.1 within in
+    let later = room-pushed l takes_back amount labels next (get_or l.heads q 0) ps p links
+    (length-pushed_once l takes_back amount q rooms ∙ long) falls.1 within in
     let none = on-falls l labels u q (get_or l.heads q 0) ps links falls.0 (omega (arith, falls.0.label)) falls.1 in
     later ∙ elim (is_beside l q p links falls.0.within within) [
       | own same ↦ subst (IsLeft l takes_back amount rooms q ps) (sym same) (left-own l takes_back amount rooms q ps links long falls.0.within none)
@@ -84,7 +93,8 @@ room-pushed l takes_back amount labels rooms u (q ∷ ps) p links long falls wit
     ]
 
 -- A link with the rank of a pair's link along is that
-along_only : (l : Links) (places : List ℕ) (k p j : ℕ) → AreLinks l → ArePlaces l places → p < length l.heads → IsOf l places p j → rank_of l places p ≡ 2 * (1 + k) → p ≡ get_or places k 0
+along_only : (l : Links) (places : List ℕ) (k p j : ℕ) → AreLinks l → ArePlaces l places → p < length l.heads → IsOf l places p j
+    → rank_of l places p ≡ 2 * (1 + k) → p ≡ get_or places k 0
 along_only l places k p j links are within of rank =
     ⊎_elim
     (λ (along : get_or places j 0 ≡ p).
@@ -97,7 +107,8 @@ along_only l places k p j links are within of rank =
     of.2
 
 -- and one with that of its link against is that.
-against_only : (l : Links) (places : List ℕ) (k p j : ℕ) → AreLinks l → ArePlaces l places → p < length l.heads → IsOf l places p j → rank_of l places p ≡ 2 * (1 + k) + 1 → p ≡ get_or l.partners (get_or places k 0) 0
+against_only : (l : Links) (places : List ℕ) (k p j : ℕ) → AreLinks l → ArePlaces l places → p < length l.heads → IsOf l places p j
+    → rank_of l places p ≡ 2 * (1 + k) + 1 → p ≡ get_or l.partners (get_or places k 0) 0
 against_only l places k p j links are within of rank =
     ⊎_elim
     (λ (along : get_or places j 0 ≡ p).
@@ -111,7 +122,8 @@ against_only l places k p j links are within of rank =
 
 -- The link along of a pair, or that against it, is the one with its rank.
 rank-is_on : (l : Links) (places : List ℕ) (k p : ℕ) → AreLinks l → ArePlaces l places → k < length places → get_or places k 0 ≢ no_place → p < length l.heads →
-    ((rank_of l places p == 2 * (1 + k)) ≡ (p == get_or places k 0)) × ((rank_of l places p == 2 * (1 + k) + 1) ≡ (p == get_or l.partners (get_or places k 0) 0))
+    ((rank_of l places p == 2 * (1 + k)) ≡ (p == get_or places k 0)) ×
+    ((rank_of l places p == 2 * (1 + k) + 1) ≡ (p == get_or l.partners (get_or places k 0) 0))
 rank-is_on l places k p links are within there link =
     let q : ℕ = get_or places k 0 in
     let q_within : q < length l.heads = are.within k within there in
@@ -121,17 +133,29 @@ rank-is_on l places k p links are within there link =
     let here = are.each p link in (
       ⊎_elim
           (λ (same : p ≡ q). rw (eq-eqb p q same, eq-eqb (rank_of l places p) (2 * (1 + k)) (ap (rank_of l places) same ∙ mine)) refl)
-          (λ (apart : p ≢ q). rw (ne_eqb p q apart, ne_eqb (rank_of l places p) (2 * (1 + k)) (λ e. apart (along_only l places k p here.0 links are link here.1 e))) refl)
+          (λ (apart : p ≢ q). rw (
+            ne_eqb p q apart,
+            ne_eqb (rank_of l places p) (2 * (1 + k))
+                (λ e. apart (along_only l places k p here.0 links are link here.1 e)),
+          ) refl)
           (cases_eq p q),
       ⊎_elim
-          (λ (same : p ≡ get_or l.partners q 0). rw (eq-eqb p (get_or l.partners q 0) same, eq-eqb (rank_of l places p) (2 * (1 + k) + 1) (ap (rank_of l places) same ∙ its)) refl)
-          (λ (apart : p ≢ get_or l.partners q 0). rw (ne_eqb p (get_or l.partners q 0) apart, ne_eqb (rank_of l places p) (2 * (1 + k) + 1) (λ e. apart (against_only l places k p here.0 links are link here.1 e))) refl)
+          (λ (same : p ≡ get_or l.partners q 0). rw (
+            eq-eqb p (get_or l.partners q 0) same,
+            eq-eqb (rank_of l places p) (2 * (1 + k) + 1) (ap (rank_of l places) same ∙ its),
+          ) refl)
+          (λ (apart : p ≢ get_or l.partners q 0). rw (
+            ne_eqb p (get_or l.partners q 0) apart,
+            ne_eqb (rank_of l places p) (2 * (1 + k) + 1) (λ e. apart (against_only l places k p here.0 links are link here.1 e)),
+          ) refl)
           (cases_eq p (get_or l.partners q 0)),
     )
 
 -- Whether a path has a rank of a pair is whether its links have the pair's link.
-has_rank-path_on : (l : Links) (places rooms labels : List ℕ) (k u : ℕ) (ps : List ℕ) → AreLinks l → ArePlaces l places → k < length places → get_or places k 0 ≢ no_place → FallsOn l labels u ps →
-    (has_rank (path_on l places rooms ps) (2 * (1 + k)) ≡ is_on (get_or places k 0) ps) × (has_rank (path_on l places rooms ps) (2 * (1 + k) + 1) ≡ is_on (get_or l.partners (get_or places k 0) 0) ps)
+has_rank-path_on : (l : Links) (places rooms labels : List ℕ) (k u : ℕ) (ps : List ℕ) → AreLinks l → ArePlaces l places → k < length places
+    → get_or places k 0 ≢ no_place → FallsOn l labels u ps →
+    (has_rank (path_on l places rooms ps) (2 * (1 + k)) ≡ is_on (get_or places k 0) ps)
+    × (has_rank (path_on l places rooms ps) (2 * (1 + k) + 1) ≡ is_on (get_or l.partners (get_or places k 0) 0) ps)
 has_rank-path_on l places rooms labels k u [] links are within there falls = (refl, refl)
 has_rank-path_on l places rooms labels k u (p ∷ ps) links are within there falls =
     let first = rank-is_on l places k p links are within there falls.0.within in
@@ -139,12 +163,15 @@ has_rank-path_on l places rooms labels k u (p ∷ ps) links are within there fal
     (rw (first.0, later.0) refl, rw (first.1, later.1) refl)
 
 -- a pair with other rooms
-pub pair-rooms : (tail head : ℕ) (a b c d : ℕ) → a ≡ c → b ≡ d → ◌≡◌ {A = Option Pair} (Some (record { tail = tail; head = head; along = a; against = b })) (Some (record { tail = tail; head = head; along = c; against = d }))
+pub pair-rooms : (tail head : ℕ) (a b c d : ℕ) → a ≡ c → b ≡ d → ◌≡◌ {A = Option Pair} (Some (record { tail = tail; head = head; along = a; against = b }))
+    (Some (record { tail = tail; head = head; along = c; against = d }))
 pair-rooms tail head a b c d along against = λ i. Some (record { tail = tail; head = head; along = along i; against = against i })
 
 -- The pair at each index
-pair-pushed : (l : Links) (takes_back : Bool) (places rooms labels : List ℕ) (u amount k : ℕ) (ps : List ℕ) → AreLinks l → ArePlaces l places → length rooms ≡ length l.heads → FallsOn l labels u ps → k < length places →
-    pair_at l (pushed l takes_back amount ps rooms) (get_or places k 0) ≡ pushed_pair takes_back (1 + k) amount (path_on l places rooms ps) (pair_at l rooms (get_or places k 0))
+pair-pushed : (l : Links) (takes_back : Bool) (places rooms labels : List ℕ) (u amount k : ℕ) (ps : List ℕ) → AreLinks l → ArePlaces l places
+    → length rooms ≡ length l.heads → FallsOn l labels u ps → k < length places →
+    pair_at l (pushed l takes_back amount ps rooms) (get_or places k 0) ≡ pushed_pair takes_back (1 + k) amount (path_on l places rooms ps)
+    (pair_at l rooms (get_or places k 0))
 pair-pushed l takes_back places rooms labels u amount k ps links are long falls within =
     let q : ℕ = get_or places k 0 in
     ⊎_elim
@@ -157,7 +184,8 @@ pair-pushed l takes_back places rooms labels u amount k ps links are long falls 
     let its = room-pushed l takes_back amount labels rooms u ps (get_or l.partners q 0) links long falls partner.partner in
     let back : loss amount (get_or l.partners (get_or l.partners q 0) 0) ps ≡ loss amount q ps = ap (λ r. loss amount r ps) partner.partner_back in
     rw (ne_eqb q no_place there, has.0, has.1)
-    (pair-rooms (tail_of l q) (get_or l.heads q 0) _ _ _ _ mine (its ∙ ap (λ x. get_or rooms (get_or l.partners q 0) 0 - loss amount (get_or l.partners q 0) ps + cond takes_back x 0) back)))
+    (pair-rooms (tail_of l q) (get_or l.heads q 0) _ _ _ _ mine (its ∙ ap
+    (λ x. get_or rooms (get_or l.partners q 0) 0 - loss amount (get_or l.partners q 0) ps + cond takes_back x 0) back)))
     (cases_eq q no_place)
 
 -- the pairs of the places from some index on
@@ -166,13 +194,16 @@ pairs-pushed : (l : Links) (takes_back : Bool) (amount j : ℕ) (rooms after : L
     → map (pair_at l after) qs ≡ pushed_from takes_back j amount path (map (pair_at l rooms) qs)
 pairs-pushed l takes_back amount j rooms after path [] each = refl
 pairs-pushed l takes_back amount j rooms after path (q ∷ qs) each =
-    let first : pair_at l after q ≡ pushed_pair takes_back j amount path (pair_at l rooms q) = each 0 (omega arith) ∙ ap (λ n. pushed_pair takes_back n amount path (pair_at l rooms q)) (let same : j + 0 ≡ j = omega arith in same) in
+    let first : pair_at l after q ≡ pushed_pair takes_back j amount path (pair_at l rooms q) =
+    each 0 (omega arith) ∙ ap (λ n. pushed_pair takes_back n amount path (pair_at l rooms q)) (let same : j + 0 ≡ j = omega arith in same) in
     let later = pairs-pushed l takes_back amount (j + 1) rooms after path qs (λ i h.
-    each (suc i) (omega (arith, h)) ∙ ap (λ n. pushed_pair takes_back n amount path (pair_at l rooms (get_or qs i 0))) (let same : j + suc i ≡ j + 1 + i = omega arith in same)) in
+    each (suc i) (omega (arith, h)) ∙ ap (λ n. pushed_pair takes_back n amount path (pair_at l rooms (get_or qs i 0)))
+    (let same : j + suc i ≡ j + 1 + i = omega arith in same)) in
     λ i. first i ∷ later i
 
 -- The pairs, once an amount is pushed along a trail, are pushed along the path of its steps.
-pub pushed_pairs-pushed : (l : Links) (takes_back : Bool) (places rooms labels current trail : List ℕ) (start amount : ℕ) → AreLinks l → ArePlaces l places → length rooms ≡ length l.heads → IsNode l.nodes start → IsTrail l labels rooms current start trail →
+pub pushed_pairs-pushed : (l : Links) (takes_back : Bool) (places rooms labels current trail : List ℕ) (start amount : ℕ) → AreLinks l → ArePlaces l places
+    → length rooms ≡ length l.heads → IsNode l.nodes start → IsTrail l labels rooms current start trail →
     pairs_at l places (pushed l takes_back amount trail rooms) ≡ pushed_pairs takes_back amount (path_on l places rooms trail) (pairs_at l places rooms)
 pushed_pairs-pushed l takes_back places rooms labels current trail start amount links are long node is =
     let falls = FallsOn-trail l labels rooms current start trail links node is in

@@ -1,5 +1,6 @@
 -- Pushing along links, one after the other: what becomes of the rooms and the flags.
-use Rattle.std.proofs.Common.{ℕ, ◌≡◌, ◌≢◌, ◌+◌, ◌-◌, ◌^◌, ◌<◌, Bool, true, false, cond, List, [], ◌∷◌, length, get_or, set, refl, ap, sym, ◌∙◌, arith, ⊎_elim, get_or-set_other, get_or-set_same, length-set}
+use Rattle.std.proofs.Common.{ℕ, ◌≡◌, ◌≢◌, ◌+◌, ◌-◌, ◌^◌, ◌<◌, Bool, true, false, cond, List, [], ◌∷◌, length, get_or, set, refl, ap, sym, ◌∙◌, arith, ⊎_elim}
+use Rattle.std.proofs.Common.{get_or-set_other, get_or-set_same, length-set}
 use Rattle.std.proofs.lemmas.Bool.{cases_eq}
 use Rattle.dmf_path.specs.Links.{Links, AreLinks, AreRooms, AreFlags, open_flag}
 use Rattle.dmf_path.specs.Walk.{pushed_once, pushed}
@@ -12,10 +13,12 @@ length-pushed_once l false amount p rooms = simp length-set
 
 pub length-pushed : (l : Links) (takes_back : Bool) (amount : ℕ) (ps rooms : List ℕ) → length (pushed l takes_back amount ps rooms) ≡ length rooms
 length-pushed l takes_back amount [] rooms = refl
-length-pushed l takes_back amount (p ∷ ps) rooms = length-pushed l takes_back amount ps (pushed_once l takes_back amount p rooms) ∙ length-pushed_once l takes_back amount p rooms
+length-pushed l takes_back amount (p ∷ ps) rooms = length-pushed l takes_back amount ps
+    (pushed_once l takes_back amount p rooms) ∙ length-pushed_once l takes_back amount p rooms
 
 -- what is left of the room of the link itself
-pub once-own : (l : Links) (takes_back : Bool) (amount p : ℕ) (rooms : List ℕ) → AreLinks l → length rooms ≡ length l.heads → p < length l.heads → get_or (pushed_once l takes_back amount p rooms) p 0 ≡ get_or rooms p 0 - amount
+pub once-own : (l : Links) (takes_back : Bool) (amount p : ℕ) (rooms : List ℕ) → AreLinks l → length rooms ≡ length l.heads → p < length l.heads
+    → get_or (pushed_once l takes_back amount p rooms) p 0 ≡ get_or rooms p 0 - amount
 once-own l true amount p rooms links long within =
     let other : p ≢ get_or l.partners p 0 = λ e. partner-other l p links within (sym e) in
     let lt : p < length rooms = omega (arith, long, within) in
@@ -25,17 +28,20 @@ once-own l false amount p rooms links long within =
     get_or-set_same rooms p _ 0 lt
 
 -- and of that of its opposite
-pub once-partner : (l : Links) (takes_back : Bool) (amount p : ℕ) (rooms : List ℕ) → AreLinks l → length rooms ≡ length l.heads → p < length l.heads → get_or (pushed_once l takes_back amount p rooms) (get_or l.partners p 0) 0 ≡ get_or rooms (get_or l.partners p 0) 0 + cond takes_back amount 0
+pub once-partner : (l : Links) (takes_back : Bool) (amount p : ℕ) (rooms : List ℕ) → AreLinks l → length rooms ≡ length l.heads → p < length l.heads
+    → get_or (pushed_once l takes_back amount p rooms) (get_or l.partners p 0) 0 ≡ get_or rooms (get_or l.partners p 0) 0 + cond takes_back amount 0
 once-partner l true amount p rooms links long within =
     let other : get_or l.partners p 0 ≢ p = partner-other l p links within in
     let lt : get_or l.partners p 0 < length (set rooms p (get_or rooms p 0 - amount)) = simp length-set (omega (arith, long, (links.each p within).partner)) in
-    get_or-set_same (set rooms p (get_or rooms p 0 - amount)) (get_or l.partners p 0) _ 0 lt ∙ ap (λ x. x + amount) (get_or-set_other rooms p (get_or l.partners p 0) _ 0 other)
+    get_or-set_same (set rooms p (get_or rooms p 0 - amount)) (get_or l.partners p 0) _ 0 lt ∙ ap (λ x. x + amount)
+    (get_or-set_other rooms p (get_or l.partners p 0) _ 0 other)
 once-partner l false amount p rooms links long within =
     let other : get_or l.partners p 0 ≢ p = partner-other l p links within in
     get_or-set_other rooms p (get_or l.partners p 0) _ 0 other ∙ omega arith
 
 -- The other rooms stay.
-pub once-other : (l : Links) (takes_back : Bool) (amount p q : ℕ) (rooms : List ℕ) → q ≢ p → q ≢ get_or l.partners p 0 → get_or (pushed_once l takes_back amount p rooms) q 0 ≡ get_or rooms q 0
+pub once-other : (l : Links) (takes_back : Bool) (amount p q : ℕ) (rooms : List ℕ) → q ≢ p → q ≢ get_or l.partners p 0
+    → get_or (pushed_once l takes_back amount p rooms) q 0 ≡ get_or rooms q 0
 once-other l true amount p q rooms own partner =
     get_or-set_other (set rooms p (get_or rooms p 0 - amount)) (get_or l.partners p 0) q _ 0 partner ∙ get_or-set_other rooms p q _ 0 own
 once-other l false amount p q rooms own partner = get_or-set_other rooms p q _ 0 own
@@ -85,8 +91,11 @@ AreFlags-put l p q room rooms flags links long told within is =
       length-set flags (get_or l.partners p 0) (open_flag room) ∙ told.0,
       λ x h.
           elim (is_beside l p x links within h) [
-            | own same ↦ rw same (get_or-set_other flags (get_or l.partners p 0) p _ 0 (λ e. apart (sym e)) ∙ told.1 p within ∙ sym (ap open_flag (get_or-set_other rooms p (get_or l.partners p 0) room 0 apart)))
-            | partner same back ↦ rw (back, same) (get_or-set_same flags (get_or l.partners p 0) _ 0 q_in ∙ sym (ap open_flag (get_or-set_same rooms p room 0 (omega (arith, long, within)))))
-            | other a b c d ↦ get_or-set_other flags (get_or l.partners p 0) x _ 0 b ∙ told.1 x h ∙ sym (ap open_flag (get_or-set_other rooms p (get_or l.partners x 0) room 0 c))
+            | own same ↦ rw same (get_or-set_other flags (get_or l.partners p 0) p _ 0
+                (λ e. apart (sym e)) ∙ told.1 p within ∙ sym (ap open_flag (get_or-set_other rooms p (get_or l.partners p 0) room 0 apart)))
+            | partner same back ↦ rw (back, same) (get_or-set_same flags
+                (get_or l.partners p 0) _ 0 q_in ∙ sym (ap open_flag (get_or-set_same rooms p room 0 (omega (arith, long, within)))))
+            | other a b c d ↦ get_or-set_other flags (get_or l.partners p 0) x _ 0 b ∙ told.1 x h ∙ sym
+                (ap open_flag (get_or-set_other rooms p (get_or l.partners x 0) room 0 c))
           ],
     )

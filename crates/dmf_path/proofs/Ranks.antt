@@ -1,5 +1,6 @@
 -- The ranks of links: two for each pair, in the order of the pairs.
-use Rattle.std.proofs.Common.{ℕ, ◌≡◌, ◌≢◌, ◌+◌, ◌*◌, ◌<◌, ◌≤◌, List, [], ◌∷◌, length, get_or, Bool, true, false, cond, eqb, zero, suc, refl, sym, ◌∙◌, ⊎_elim, inl, inr, arith}
+use Rattle.std.proofs.Common.{ℕ, ◌≡◌, ◌≢◌, ◌+◌, ◌*◌, ◌<◌, ◌≤◌, List, [], ◌∷◌, length, get_or, Bool, true, false, cond, eqb, zero, suc, refl, sym, ◌∙◌, ⊎_elim}
+use Rattle.std.proofs.Common.{inl, inr, arith}
 use Rattle.std.proofs.lemmas.Bool.{both_ways, eqb-true, eq-eqb, ne_eqb}
 use Rattle.dmf_node.specs.Node.{IsNode}
 use Rattle.dmf_path.specs.Links.{Links, LiesAt, AreLinks, IsOf, ArePlaces, no_place}
@@ -36,7 +37,8 @@ first-behind : (l : Links) (q : ℕ) (places : List ℕ) (p k : ℕ) → IsFirst
 first-behind l q places p k first i below of = first (suc i) (omega arith) (omega (arith, of.0), of.1, of.2)
 
 -- the rank of the link along
-rank_from-along : (l : Links) (j : ℕ) (places : List ℕ) (p k : ℕ) → IsFirst l places p k → k < length places → get_or places k 0 ≢ no_place → get_or places k 0 ≡ p → rank_from l j places p ≡ 2 * (j + k)
+rank_from-along : (l : Links) (j : ℕ) (places : List ℕ) (p k : ℕ) → IsFirst l places p k → k < length places → get_or places k 0 ≢ no_place
+    → get_or places k 0 ≡ p → rank_from l j places p ≡ 2 * (j + k)
 rank_from-along l j [] p k first within has is = absurd (omega (arith, within))
 rank_from-along l j (q ∷ places) p zero first within has is =
     first-choice (eqb q no_place) (eqb q p) _ _ _ (ne_eqb q no_place has) (eq-eqb q p is) ∙ (let e : 2 * j ≡ 2 * (j + 0) = omega arith in e)
@@ -46,7 +48,8 @@ rank_from-along l j (q ∷ places) p (suc k) first within has is =
     ∙ (let e : 2 * (j + 1 + k) ≡ 2 * (j + suc k) = omega arith in e)
 
 -- the rank of the link against
-rank_from-against : (l : Links) (j : ℕ) (places : List ℕ) (p k : ℕ) → IsFirst l places p k → k < length places → get_or places k 0 ≢ no_place → get_or places k 0 ≢ p → get_or l.partners (get_or places k 0) 0 ≡ p → rank_from l j places p ≡ 2 * (j + k) + 1
+rank_from-against : (l : Links) (j : ℕ) (places : List ℕ) (p k : ℕ) → IsFirst l places p k → k < length places → get_or places k 0 ≢ no_place
+    → get_or places k 0 ≢ p → get_or l.partners (get_or places k 0) 0 ≡ p → rank_from l j places p ≡ 2 * (j + k) + 1
 rank_from-against l j [] p k first within has other is = absurd (omega (arith, within))
 rank_from-against l j (q ∷ places) p zero first within has other is =
     second-choice (eqb q no_place) (eqb q p) (eqb (get_or l.partners q 0) p) _ _ _ _ (ne_eqb q no_place has) (ne_eqb q p other) (eq-eqb _ p is)
@@ -61,26 +64,31 @@ first-of : (l : Links) (places : List ℕ) (p k : ℕ) → ArePlaces l places �
 first-of l places p k are within of i below earlier = let same : i ≡ k = are.one p i k within earlier of in omega (arith, same)
 
 -- The rank of the link along is even.
-pub rank_of-along : (l : Links) (places : List ℕ) (p k : ℕ) → ArePlaces l places → p < length l.heads → k < length places → get_or places k 0 ≢ no_place → get_or places k 0 ≡ p → rank_of l places p ≡ 2 * (1 + k)
+pub rank_of-along : (l : Links) (places : List ℕ) (p k : ℕ) → ArePlaces l places → p < length l.heads → k < length places → get_or places k 0 ≢ no_place
+    → get_or places k 0 ≡ p → rank_of l places p ≡ 2 * (1 + k)
 rank_of-along l places p k are within low has is =
     rank_from-along l 1 places p k (first-of l places p k are within (low, has, inl is)) low has is
 
 -- The rank of the link against is odd.
-pub rank_of-against : (l : Links) (places : List ℕ) (p k : ℕ) → AreLinks l → ArePlaces l places → p < length l.heads → k < length places → get_or places k 0 ≢ no_place → get_or l.partners (get_or places k 0) 0 ≡ p → rank_of l places p ≡ 2 * (1 + k) + 1
+pub rank_of-against : (l : Links) (places : List ℕ) (p k : ℕ) → AreLinks l → ArePlaces l places → p < length l.heads → k < length places
+    → get_or places k 0 ≢ no_place → get_or l.partners (get_or places k 0) 0 ≡ p → rank_of l places p ≡ 2 * (1 + k) + 1
 rank_of-against l places p k links are within low has is =
     rank_from-against l 1 places p k (first-of l places p k are within (low, has, inr is)) low has
     (λ same. partner-other l (get_or places k 0) links (are.within k low has) (is ∙ sym same))
     is
 
 -- The rank of a link of a pair is one of the pair's two.
-rank_of-bounds : (l : Links) (places : List ℕ) (p k : ℕ) → AreLinks l → ArePlaces l places → p < length l.heads → IsOf l places p k → (2 * (1 + k) ≤ rank_of l places p) × (rank_of l places p ≤ 2 * (1 + k) + 1)
+rank_of-bounds : (l : Links) (places : List ℕ) (p k : ℕ) → AreLinks l → ArePlaces l places → p < length l.heads → IsOf l places p k
+    → (2 * (1 + k) ≤ rank_of l places p) × (rank_of l places p ≤ 2 * (1 + k) + 1)
 rank_of-bounds l places p k links are within of = ⊎_elim
     (λ (is : get_or places k 0 ≡ p). let rank = rank_of-along l places p k are within of.0 of.1 is in (omega (arith, rank), omega (arith, rank)))
-    (λ (is : get_or l.partners (get_or places k 0) 0 ≡ p). let rank = rank_of-against l places p k links are within of.0 of.1 is in (omega (arith, rank), omega (arith, rank)))
+    (λ (is : get_or l.partners (get_or places k 0) 0 ≡ p). let rank = rank_of-against l places p k links are within of.0 of.1 is in
+    (omega (arith, rank), omega (arith, rank)))
     of.2
 
 -- The links of a node lie in the order of their ranks.
-pub rank_of-ascends : (l : Links) (places : List ℕ) (v p q : ℕ) → AreLinks l → ArePlaces l places → IsNode l.nodes v → LiesAt l v p → LiesAt l v q → p < q → rank_of l places p < rank_of l places q
+pub rank_of-ascends : (l : Links) (places : List ℕ) (v p q : ℕ) → AreLinks l → ArePlaces l places → IsNode l.nodes v → LiesAt l v p → LiesAt l v q → p < q
+    → rank_of l places p < rank_of l places q
 rank_of-ascends l places v p q links are node at_p at_q less =
     let p_in = lies-within l v p links node at_p in
     let q_in = lies-within l v q links node at_q in

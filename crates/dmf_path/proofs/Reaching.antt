@@ -1,5 +1,6 @@
 -- What has a label is what paths reach.
-use Rattle.std.proofs.Common.{ℕ, ◌≡◌, ◌≢◌, ◌+◌, ◌<◌, ◌≤◌, ◌↔◌, ◌==◌, Bool, true, false, List, [], ◌∷◌, ◌++◌, length, get_or, map, zero, suc, refl, ap, sym, subst, ◌∙◌, ⊎_elim, arith, eq-eqb}
+use Rattle.std.proofs.Common.{ℕ, ◌≡◌, ◌≢◌, ◌+◌, ◌<◌, ◌≤◌, ◌↔◌, ◌==◌, Bool, true, false, List, [], ◌∷◌, ◌++◌, length, get_or, map, zero, suc, refl, ap, sym}
+use Rattle.std.proofs.Common.{subst, ◌∙◌, ⊎_elim, arith, eq-eqb}
 use Rattle.std.proofs.lemmas.Bool.{cases_eq, ne_eqb, eqb-true}
 use Rattle.std.proofs.lemmas.List.{get_or-map}
 use Rattle.dmf_node.specs.Node.{IsNode}
@@ -15,7 +16,8 @@ use Rattle.dmf_path.proofs.Steps.{path_on}
 use Rattle.dmf_path.proofs.OpenPaths.{IsOpenPath, IsPathOn, head-node, path-of_links, links-of_path}
 
 -- A label is far below the number that stands for none.
-label-below : (l : Links) (opens labels : List ℕ) (root stop v : ℕ) → AreLabels l opens root stop labels → IsNode l.nodes v → get_or labels v 0 ≢ no_label → get_or labels v 0 < l.nodes
+label-below : (l : Links) (opens labels : List ℕ) (root stop v : ℕ) → AreLabels l opens root stop labels → IsNode l.nodes v → get_or labels v 0 ≢ no_label
+    → get_or labels v 0 < l.nodes
 label-below l opens labels root stop v are node has = ⊎_elim
     (λ (none : get_or labels v 0 ≡ no_label). absurd (has none))
     (λ (small : get_or labels v 0 < l.nodes). small)
@@ -24,23 +26,27 @@ label-below l opens labels root stop v are node has = ⊎_elim
 -- ---- sets of nodes that no link with room leads out of
 
 -- What a path reaches from a node of such a set is in the set.
-inside-on_path : (l : Links) (rooms : List ℕ) (inside : ℕ → Bool) (u v : ℕ) (ps : List ℕ) → AreLinks l → IsClosed l rooms inside → IsNode l.nodes u → inside u ≡ true → IsOpenPath l rooms v u ps → inside v ≡ true
+inside-on_path : (l : Links) (rooms : List ℕ) (inside : ℕ → Bool) (u v : ℕ) (ps : List ℕ) → AreLinks l → IsClosed l rooms inside → IsNode l.nodes u
+    → inside u ≡ true → IsOpenPath l rooms v u ps → inside v ≡ true
 inside-on_path l rooms inside u v [] links closed node within leads = sym (ap inside leads) ∙ within
 inside-on_path l rooms inside u v (p ∷ ps) links closed node within leads =
     inside-on_path l rooms inside (get_or l.heads p 0) v ps links closed (head-node l u p links node leads.0) (closed u p node leads.0 leads.1 within) leads.2
 
 -- No path leads out of a set that has the start and not the goal.
-pub no_path-separated : (l : Links) (places rooms : List ℕ) (start goal : ℕ) → AreLinks l → ArePlaces l places → IsNode l.nodes start → IsSeparated l rooms start goal → HasNoPath (steps_of (pairs_at l places rooms)) start goal
+pub no_path-separated : (l : Links) (places rooms : List ℕ) (start goal : ℕ) → AreLinks l → ArePlaces l places → IsNode l.nodes start
+    → IsSeparated l rooms start goal → HasNoPath (steps_of (pairs_at l places rooms)) start goal
 no_path-separated l places rooms start goal links places_are node separated path leads =
     let on : IsPathOn l places rooms goal start path = links-of_path l places rooms goal start path links places_are leads in
-    let reached : separated.inside goal ≡ true = inside-on_path l rooms separated.inside start goal on.on links separated.closed node separated.start_in on.leads in
+    let reached : separated.inside goal ≡ true = inside-on_path l rooms separated.inside start goal on.on links separated.closed node separated.start_in
+    on.leads in
     let out = separated.goal_out in
     absurd (cc)
 
 -- ---- the search backwards from the goal
 
 -- Where the start has no label, the nodes without one are such a set.
-pub separated-unlabelled : (l : Links) (rooms flags labels : List ℕ) (start goal : ℕ) → AreLinks l → AreFlags l rooms flags → AreLabels l flags goal start labels → get_or labels start 0 ≡ no_label → IsSeparated l rooms start goal
+pub separated-unlabelled : (l : Links) (rooms flags labels : List ℕ) (start goal : ℕ) → AreLinks l → AreFlags l rooms flags
+    → AreLabels l flags goal start labels → get_or labels start 0 ≡ no_label → IsSeparated l rooms start goal
 separated-unlabelled l rooms flags labels start goal links told are unlabelled = record {
   inside = λ v. get_or labels v 0 == no_label;
   start_in = eq-eqb (get_or labels start 0) no_label unlabelled;
@@ -73,15 +79,18 @@ pub label-to : (label : ℕ) → label ≢ no_label → is_label label ≡ true
 label-to label other = rw (ne_eqb label no_label other) refl
 
 -- Where the node `stop` has no label, the nodes with one are such a set.
-closed-labelled : (l : Links) (rooms opens labels : List ℕ) (root stop : ℕ) → AreLinks l → AreOpen l rooms opens → AreLabels l opens root stop labels → get_or labels stop 0 ≡ no_label → IsClosed l rooms (λ v. is_label (get_or labels v 0))
+closed-labelled : (l : Links) (rooms opens labels : List ℕ) (root stop : ℕ) → AreLinks l → AreOpen l rooms opens → AreLabels l opens root stop labels
+    → get_or labels stop 0 ≡ no_label → IsClosed l rooms (λ v. is_label (get_or labels v 0))
 closed-labelled l rooms opens labels root stop links told are unlabelled v p node lies room within =
     let labelled = label-from (get_or labels v 0) within in
     let small : get_or labels v 0 < l.nodes = label-below l opens labels root stop v are node labelled in
     let flag : get_or opens p 0 ≡ 1 = told p (lies-within l v p links node lies) ∙ flag-of_room (get_or rooms p 0) room in
-    let near : get_or labels (get_or l.heads p 0) 0 ≤ get_or labels v 0 + 1 = are.near v p node lies flag (omega (arith, small, unlabelled, links.at_most_nodes)) in
+    let near : get_or labels (get_or l.heads p 0) 0 ≤ get_or labels v 0 + 1 =
+    are.near v p node lies flag (omega (arith, small, unlabelled, links.at_most_nodes)) in
     label-to (get_or labels (get_or l.heads p 0) 0) (omega (arith, near, small, links.at_most_nodes))
 
-pub separated-labelled : (l : Links) (rooms opens labels : List ℕ) (start goal : ℕ) → AreLinks l → AreOpen l rooms opens → AreLabels l opens start goal labels → get_or labels goal 0 ≡ no_label → IsSeparated l rooms start goal
+pub separated-labelled : (l : Links) (rooms opens labels : List ℕ) (start goal : ℕ) → AreLinks l → AreOpen l rooms opens → AreLabels l opens start goal labels
+    → get_or labels goal 0 ≡ no_label → IsSeparated l rooms start goal
 separated-labelled l rooms opens labels start goal links told are unlabelled = record {
   inside = λ v. is_label (get_or labels v 0);
   start_in = label-to (get_or labels start 0) (omega (arith, are.root_is));
@@ -90,12 +99,14 @@ separated-labelled l rooms opens labels start goal links told are unlabelled = r
 }
 
 -- a path, and one link more
-open-push : (l : Links) (rooms : List ℕ) (u v : ℕ) (ps : List ℕ) (p : ℕ) → IsOpenPath l rooms v u ps → LiesAt l v p → 0 < get_or rooms p 0 → IsOpenPath l rooms (get_or l.heads p 0) u (ps ++ p ∷ [])
+open-push : (l : Links) (rooms : List ℕ) (u v : ℕ) (ps : List ℕ) (p : ℕ) → IsOpenPath l rooms v u ps → LiesAt l v p → 0 < get_or rooms p 0
+    → IsOpenPath l rooms (get_or l.heads p 0) u (ps ++ p ∷ [])
 open-push l rooms u v [] p leads lies room = (subst (λ w. LiesAt l w p) (sym leads) lies, room, refl)
 open-push l rooms u v (q ∷ ps) p leads lies room = (leads.0, leads.1, open-push l rooms (get_or l.heads q 0) v ps p leads.2 lies room)
 
 -- A path leads from the root to each node with a label.
-path-to_labelled : (l : Links) (rooms opens labels : List ℕ) (root v n : ℕ) → AreLinks l → AreOpen l rooms opens → AreLabels l opens root 0 labels → IsNode l.nodes v → get_or labels v 0 ≢ no_label → get_or labels v 0 < n → (ps : List ℕ) × IsOpenPath l rooms v root ps
+path-to_labelled : (l : Links) (rooms opens labels : List ℕ) (root v n : ℕ) → AreLinks l → AreOpen l rooms opens → AreLabels l opens root 0 labels
+    → IsNode l.nodes v → get_or labels v 0 ≢ no_label → get_or labels v 0 < n → (ps : List ℕ) × IsOpenPath l rooms v root ps
 path-to_labelled l rooms opens labels root v zero links told are node labelled low = absurd (omega (arith, low))
 path-to_labelled l rooms opens labels root v (suc n) links told are node labelled low = ⊎_elim
     (λ (same : v ≡ root). ([], sym same))
@@ -112,7 +123,9 @@ path-to_labelled l rooms opens labels root v (suc n) links told are node labelle
     (cases_eq v root)
 
 -- The nodes with labels are those that paths reach from the root.
-pub reachable-labelled : (l : Links) (places rooms opens labels : List ℕ) (root : ℕ) → AreLinks l → ArePlaces l places → AreOpen l rooms opens → AreLabels l opens root 0 labels → IsNode l.nodes root → (v : ℕ) → IsNode l.nodes v → (get_or labels v 0 ≢ no_label) ↔ IsReachable (steps_of (pairs_at l places rooms)) root v
+pub reachable-labelled : (l : Links) (places rooms opens labels : List ℕ) (root : ℕ) → AreLinks l → ArePlaces l places → AreOpen l rooms opens
+    → AreLabels l opens root 0 labels → IsNode l.nodes root → (v : ℕ) → IsNode l.nodes v
+    → (get_or labels v 0 ≢ no_label) ↔ IsReachable (steps_of (pairs_at l places rooms)) root v
 reachable-labelled l places rooms opens labels root links places_are told are root_is v node = (
   (λ labelled.
       let found = path-to_labelled l rooms opens labels root v (get_or labels v 0 + 1) links told are node labelled (omega arith) in
@@ -120,6 +133,7 @@ reachable-labelled l places rooms opens labels root links places_are told are ro
   (λ reached.
       let on : IsPathOn l places rooms v root reached.0 = links-of_path l places rooms v root reached.0 links places_are reached.1 in
       label-from (get_or labels v 0)
-      (inside-on_path l rooms (λ u. is_label (get_or labels u 0)) root v on.on links (closed-labelled l rooms opens labels root 0 links told are are.zero) root_is
+      (inside-on_path l rooms (λ u. is_label (get_or labels u 0)) root v on.on links
+      (closed-labelled l rooms opens labels root 0 links told are are.zero) root_is
       (label-to (get_or labels root 0) (omega (arith, are.root_is))) on.leads)),
 )

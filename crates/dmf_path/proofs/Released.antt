@@ -1,5 +1,6 @@
 -- A link that is in no slot: what is held for others does not ask for its room, which can be lowered.
-use Rattle.std.proofs.Common.{ℕ, ◌≡◌, ◌≢◌, ◌+◌, ◌-◌, ◌<◌, ◌≤◌, Bool, true, false, cond, List, [], ◌∷◌, ◌++◌, length, get_or, set, ap, sym, ◌∙◌, subst, arith, ⊎_elim, get_or-set_other, get_or-set_same, length-set}
+use Rattle.std.proofs.Common.{ℕ, ◌≡◌, ◌≢◌, ◌+◌, ◌-◌, ◌<◌, ◌≤◌, Bool, true, false, cond, List, [], ◌∷◌, ◌++◌, length, get_or, set, ap, sym, ◌∙◌, subst, arith}
+use Rattle.std.proofs.Common.{⊎_elim, get_or-set_other, get_or-set_same, length-set}
 use Rattle.std.proofs.lemmas.Bool.{cases_eq}
 use Rattle.std.proofs.lemmas.List.{ext_get_or}
 use Rattle.dmf_path.specs.declared.trail.Slot.{Slot}
@@ -23,27 +24,32 @@ use Rattle.dmf_path.proofs.UnderWay.{descends-way}
 pub off-slots : (l : Links) (labels after current : List ℕ) (w : Way) (p : ℕ) → AreLinks l → IsNode l.nodes w.start → IsUnderWay l labels after current w
     → get_or labels (get_or l.heads p 0) 0 + 1 ≢ get_or labels (tail_of l p) 0 → IsOff p (places_of (filled_slots w))
 off-slots l labels after current w p links start way rises =
-    rw places-append (off-rising l labels (get_or labels w.start 0) 0 p (places_of (walked_slots w) ++ places_of (rest_slots w)) (descends-way l labels after current w links start way) rises)
+    rw places-append (off-rising l labels (get_or labels w.start 0) 0 p (places_of (walked_slots w) ++ places_of (rest_slots w))
+    (descends-way l labels after current w links start way) rises)
 
 -- The room of such a link is as it is told, where pushes cannot be taken back.
-pub room-alone : (l : Links) (takes_back : Bool) (w : Way) (rooms : List ℕ) (p : ℕ) → p < length l.heads → length rooms ≡ length l.heads → takes_back ≡ false → IsOff p (places_of (filled_slots w))
+pub room-alone : (l : Links) (takes_back : Bool) (w : Way) (rooms : List ℕ) (p : ℕ) → p < length l.heads → length rooms ≡ length l.heads → takes_back ≡ false
+    → IsOff p (places_of (filled_slots w))
     → get_or (rooms_with l takes_back w rooms) p 0 ≡ get_or rooms p 0
 room-alone l takes_back w rooms p within long is off =
     room-along l takes_back w.sent (filled_slots w) rooms p (omega (arith, within, long)) is ∙ rw (held-off w.sent rooms (filled_slots w) p off) (omega arith)
 
 -- What is held for links stays,
-held-set : (sent p x q : ℕ) (rooms : List ℕ) (slots : List Slot) → IsOff p (places_of slots) → held_for sent (set rooms p x) slots q ≡ held_for sent rooms slots q
+held-set : (sent p x q : ℕ) (rooms : List ℕ) (slots : List Slot) → IsOff p (places_of slots)
+    → held_for sent (set rooms p x) slots q ≡ held_for sent rooms slots q
 held-set sent p x q rooms slots off = ⊎_elim
     (λ (same : q ≡ p). rw same (held-off sent (set rooms p x) slots p off ∙ sym (held-off sent rooms slots p off)))
     (λ (apart : q ≢ p). held-rooms sent (set rooms p x) rooms slots q (get_or-set_other rooms p q x 0 apart))
     (cases_eq q p)
 
-less : (takes_back : Bool) (room amount gained : ℕ) → amount ≤ room → room - amount - 0 + cond takes_back gained 0 ≡ room - 0 + cond takes_back gained 0 - amount
+less : (takes_back : Bool) (room amount gained : ℕ) → amount ≤ room → room - amount - 0 + cond takes_back gained 0
+    ≡ room - 0 + cond takes_back gained 0 - amount
 less true room amount gained within = omega (arith, within)
 less false room amount gained within = omega arith
 
 -- and so lowering and putting on what is held come to the same in either order.
-settled-lowered : (l : Links) (takes_back : Bool) (sent p amount : ℕ) (slots : List Slot) (rooms : List ℕ) → p < length rooms → IsOff p (places_of slots) → amount ≤ get_or rooms p 0
+settled-lowered : (l : Links) (takes_back : Bool) (sent p amount : ℕ) (slots : List Slot) (rooms : List ℕ) → p < length rooms → IsOff p (places_of slots)
+    → amount ≤ get_or rooms p 0
     → settled l takes_back sent slots (pushed_once l false amount p rooms) ≡ pushed_once l false amount p (settled l takes_back sent slots rooms)
 settled-lowered l takes_back sent p amount slots rooms within off enough =
     let before : List ℕ = settled l takes_back sent slots rooms in
@@ -53,21 +59,30 @@ settled-lowered l takes_back sent p amount slots rooms within off enough =
     let after_settled : length (settled l takes_back sent slots after) ≡ length after = length-settled l takes_back sent slots after in
     let lowered : length (set before p (get_or before p 0 - amount)) ≡ length before = length-set before p (get_or before p 0 - amount) in
     let held : (q : ℕ) → held_for sent after slots q ≡ held_for sent rooms slots q = λ q. held-set sent p (get_or rooms p 0 - amount) q rooms slots off in
-    ext_get_or 0 (settled l takes_back sent slots after) (set before p (get_or before p 0 - amount)) (omega (arith, before_long, after_long, after_settled, lowered))
+    ext_get_or 0 (settled l takes_back sent slots after) (set before p (get_or before p 0 - amount))
+    (omega (arith, before_long, after_long, after_settled, lowered))
     (λ q inside.
     let here : q < length rooms = omega (arith, inside, after_long, after_settled) in
     let there : q < length after = omega (arith, inside, after_settled) in
     room-settled l takes_back sent slots after q there ∙ rw (held q, held (get_or l.partners q 0))
     (⊎_elim
     (λ (same : q ≡ p).
-    rw (same, get_or-set_same before p (get_or before p 0 - amount) 0 (omega (arith, within, before_long)), get_or-set_same rooms p (get_or rooms p 0 - amount) 0 within, room-settled l takes_back sent slots rooms p within, held-off sent rooms slots p off)
+    rw (
+      same,
+      get_or-set_same before p (get_or before p 0 - amount) 0 (omega (arith, within, before_long)),
+      get_or-set_same rooms p (get_or rooms p 0 - amount) 0 within,
+      room-settled l takes_back sent slots rooms p within,
+      held-off sent rooms slots p off,
+    )
     (less takes_back (get_or rooms p 0) amount (held_for sent rooms slots (get_or l.partners p 0)) enough))
     (λ (apart : q ≢ p).
-    rw (get_or-set_other before p q (get_or before p 0 - amount) 0 apart, get_or-set_other rooms p q (get_or rooms p 0 - amount) 0 apart) (sym (room-settled l takes_back sent slots rooms q here)))
+    rw (get_or-set_other before p q (get_or before p 0 - amount) 0 apart, get_or-set_other rooms p q (get_or rooms p 0 - amount) 0 apart)
+    (sym (room-settled l takes_back sent slots rooms q here)))
     (cases_eq q p)))
 
 -- The trail does not ask for the link's room.
-IsTrail-set : (l : Links) (labels rooms current : List ℕ) (v p x : ℕ) (ps : List ℕ) → IsOff p ps → IsTrail l labels rooms current v ps → IsTrail l labels (set rooms p x) current v ps
+IsTrail-set : (l : Links) (labels rooms current : List ℕ) (v p x : ℕ) (ps : List ℕ) → IsOff p ps → IsTrail l labels rooms current v ps
+    → IsTrail l labels (set rooms p x) current v ps
 IsTrail-set l labels rooms current v p x [] off trail = tt
 IsTrail-set l labels rooms current v p x (q ∷ ps) off trail = (
   record { lies = trail.0.lies; room = omega (arith, trail.0.room, get_or-set_other rooms p q x 0 off.0); falls = trail.0.falls },

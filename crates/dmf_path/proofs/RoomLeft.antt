@@ -7,7 +7,8 @@ pub room_left-now : (sent room : ℕ) → sent < 2 ^ 64 → room < 2 ^ 64 → ro
 room_left-now sent room a b = omega arith
 
 -- once more is sent
-pub room_left-sent : (sent amount full_at : ℕ) → sent < 2 ^ 64 → full_at < 2 ^ 64 → amount ≤ room_left sent full_at → room_left ((sent + amount) % 2 ^ 64) full_at ≡ room_left sent full_at - amount
+pub room_left-sent : (sent amount full_at : ℕ) → sent < 2 ^ 64 → full_at < 2 ^ 64 → amount ≤ room_left sent full_at
+    → room_left ((sent + amount) % 2 ^ 64) full_at ≡ room_left sent full_at - amount
 room_left-sent sent amount full_at a b enough = omega arith
 
 -- A link is full where as much is sent as fills it.

@@ -129,7 +129,8 @@ searching-set r v w next is is_fresh same sums =
     let node : (x : ℕ) → IsNode r.links.nodes x → IsNode next.links.nodes x = λ x. subst (λ (l : Links). IsNode l.nodes x) (sym same) in
     let current : AreCurrent next.links v.current = subst (λ (l : Links). AreCurrent l v.current) (sym same) is.under_way.walking.current_is in
     let begins : BeginsFresh next.links v.labels w.start w.goal =
-    subst (λ (l : Links). BeginsFresh l v.labels w.start w.goal) (sym same) (record { long = a.one_label_each; goal_label = is.under_way.goal_label; fresh = is_fresh }) in
+    subst (λ (l : Links). BeginsFresh l v.labels w.start w.goal) (sym same)
+    (record { long = a.one_label_each; goal_label = is.under_way.goal_label; fresh = is_fresh }) in
     let capacity : next.links.nodes ≤ w.capacity = subst (λ (l : Links). l.nodes ≤ w.capacity) (sym same) a.capacity_is in
     subst (IsSearching next v) (sym (fresh-way r v w is is_fresh))
     (searching-fresh next v w links sums is.holding.small (node w.start a.start_is) (node w.goal a.goal_is) a.apart capacity begins current)

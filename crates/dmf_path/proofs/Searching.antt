@@ -49,27 +49,34 @@ can-augment r places v w limit amount places_are is joins least =
     let after_long : length after ≡ length l.heads = length-settled l takes_back w.sent (filled_slots w) rooms ∙ long in
     let bottom : get_or labels (end_of l w.start (places_of w.slots)) 0 ≡ 0 = ap (λ v. get_or labels v 0) whole.ends ∙ way.goal_label in
     let descends : Descends l labels (get_or labels w.start 0) 0 (places_of w.slots) =
-    subst (λ b. Descends l labels (get_or labels w.start 0) b (places_of w.slots)) bottom (descends-trail l labels after v.current w.start (places_of w.slots) a.links a.start_is whole.trail) in
+    subst (λ b. Descends l labels (get_or labels w.start 0) b (places_of w.slots)) bottom
+    (descends-trail l labels after v.current w.start (places_of w.slots) a.links a.start_is whole.trail) in
     let falls = FallsOn-trail l labels after v.current w.start (places_of w.slots) a.links a.start_is whole.trail in
     let have : HaveLeft w.sent rooms w.slots = subst (HaveLeft w.sent rooms) whole.filled is.holding.have in
     let can = CanSend-least w.sent amount limit w.slots (omega (arith, least)) in
-    let sent = settled-sent l takes_back w.sent amount w.slots rooms labels w.start (get_or labels w.start 0) 0 a.links long is.holding.small falls descends can have in
-    let made : settled l takes_back ((w.sent + amount) % 2 ^ 64) w.slots rooms ≡ pushed l takes_back amount (places_of w.slots) after = sent ∙ ap (pushed l takes_back amount (places_of w.slots)) (sym told) in
-    let walking : IsWalking l labels after w.start w.goal v.current (places_of w.slots) = record { current_is = way.walking.current_is; passed = way.walking.passed; trail_is = whole.trail } in
+    let sent = settled-sent l takes_back w.sent amount w.slots rooms labels w.start
+    (get_or labels w.start 0) 0 a.links long is.holding.small falls descends can have in
+    let made : settled l takes_back ((w.sent + amount) % 2 ^ 64) w.slots rooms ≡ pushed l takes_back amount (places_of w.slots) after =
+    sent ∙ ap (pushed l takes_back amount (places_of w.slots)) (sym told) in
+    let walking : IsWalking l labels after w.start w.goal v.current (places_of w.slots) =
+    record { current_is = way.walking.current_is; passed = way.walking.passed; trail_is = whole.trail } in
     record {
       whole = whole;
       descends = descends;
       have = have;
       can = can;
-      opens = subst (OpensUpwards l labels after) (sym made) (opens-pushed l takes_back amount labels after w.start (places_of w.slots) a.links after_long falls);
+      opens = subst (OpensUpwards l labels after) (sym made) (opens-pushed l takes_back amount labels after w.start
+          (places_of w.slots) a.links after_long falls);
       augments = record {
         path = path_on l places after (places_of w.slots);
-        least = least-trail l places after labels v.current (places_of w.slots) w.start w.goal a.links places_are a.start_is a.goal_is a.sound a.start_label way.goal_label walking whole.ends;
+        least = least-trail l places after labels v.current (places_of w.slots) w.start w.goal a.links places_are a.start_is a.goal_is a.sound a.start_label
+            way.goal_label walking whole.ends;
         amount_is = least ∙ sym (bottleneck-settled l takes_back labels w.sent limit rooms w.slots (get_or labels w.start 0) 0 a.links long descends have)
             ∙ ap (λ rs. bottleneck_on rs limit (places_of w.slots)) (sym told) ∙ sym (bottleneck_up_to-path_on l places after (places_of w.slots) limit);
         links_are = sym (length-map (places_of w.slots) (step_on l places after) ∙ length-map w.slots (λ s. s.place));
         gives = ap (λ pairs. record { nodes = l.nodes; pairs = pairs; start = w.start; goal = w.goal; takes_back = takes_back })
-            (ap (pairs_at l places) made ∙ pushed_pairs-pushed l takes_back places after labels v.current (places_of w.slots) w.start amount a.links places_are after_long a.start_is whole.trail);
+            (ap (pairs_at l places) made ∙ pushed_pairs-pushed l takes_back places after labels v.current
+            (places_of w.slots) w.start amount a.links places_are after_long a.start_is whole.trail);
       };
     }
 
@@ -83,7 +90,8 @@ is-sent r places v w limit amount is joins can = record {
   ends = can.whole.ends;
   joins = joins;
   current_is = is.under_way.walking.current_is;
-  passed = ArePassed-opens r.links v.labels (told r w).rooms (sent_along r (sent_on w amount)).rooms w.goal v.current is.aimed.links can.opens is.under_way.walking.passed;
+  passed = ArePassed-opens r.links v.labels (told r w).rooms (sent_along r (sent_on w amount)).rooms w.goal v.current is.aimed.links can.opens
+      is.under_way.walking.passed;
   meets = can.whole.meets;
   filled = can.whole.filled;
   within = is.under_way.within;
@@ -104,10 +112,12 @@ pub split-on : (r : Residual) (places : List ℕ) (v : Labelling) (w : Way) (lim
     → IsFound r w → CanAugment r places v w limit amount → IsSplit r (sent_on w amount) next new → AreRooms next.links next.rooms
     → IsOn r places v w amount next new
 split-on r places v w limit amount next new is joins can split sums =
-    let has = has-split r v.labels (told r w).rooms v.current (sent_on w amount) next new (is-sent r places v w limit amount is joins can) is.under_way.joint_is split sums in
+    let has = has-split r v.labels (told r w).rooms v.current (sent_on w amount) next new
+    (is-sent r places v w limit amount is joins can) is.under_way.joint_is split sums in
     let same : sought next new ≡ record { residual = sent_along r (sent_on w amount); start = w.start; goal = w.goal } =
     λ i. record { residual = has.same i; start = split-start r (sent_on w amount) next new split i; goal = split-goal r (sent_on w amount) next new split i } in
-    let sound = sound-opens r.links v.labels (told r w).rooms (sent_along r (sent_on w amount)).rooms (get_or v.labels w.start 0) is.aimed.links can.opens is.aimed.sound in
+    let sound = sound-opens r.links v.labels (told r w).rooms (sent_along r (sent_on w amount)).rooms
+    (get_or v.labels w.start 0) is.aimed.links can.opens is.aimed.sound in
     let aimed : IsAimed (record { residual = sent_along r (sent_on w amount); start = w.start; goal = w.goal }) v.labels w.capacity = record {
       links = is.aimed.links;
       one_label_each = is.aimed.one_label_each;
@@ -120,7 +130,8 @@ split-on r places v w limit amount next new is joins can split sums =
     } in
     record {
       searching = record {
-        aimed = subst (IsAimed (sought next new) v.labels) (sym (split-capacity r (sent_on w amount) next new split)) (subst (λ (s : Sought). IsAimed s v.labels w.capacity) (sym same) aimed);
+        aimed = subst (IsAimed (sought next new) v.labels) (sym (split-capacity r (sent_on w amount) next new split))
+            (subst (λ (s : Sought). IsAimed s v.labels w.capacity) (sym same) aimed);
         holding = has.holding;
         under_way = subst (λ (x : Residual). IsUnderWay next.links v.labels x.rooms v.current new) (sym has.same) has.way;
       };

@@ -1,5 +1,6 @@
 -- The rooms, once what is held on a path is put on: what becomes of them where a link comes or leaves.
-use Rattle.std.proofs.Common.{ℕ, ◌≡◌, ◌≢◌, ◌+◌, ◌-◌, ◌<◌, ◌≤◌, ◌==◌, Bool, true, false, cond, List, [], ◌∷◌, ◌++◌, length, get_or, refl, ap, sym, ◌∙◌, subst, arith, ⊎_elim, eq-eqb}
+use Rattle.std.proofs.Common.{ℕ, ◌≡◌, ◌≢◌, ◌+◌, ◌-◌, ◌<◌, ◌≤◌, ◌==◌, Bool, true, false, cond, List, [], ◌∷◌, ◌++◌, length, get_or, refl, ap, sym, ◌∙◌, subst}
+use Rattle.std.proofs.Common.{arith, ⊎_elim, eq-eqb}
 use Rattle.std.proofs.lemmas.Bool.{cases_eq, ne_eqb}
 use Rattle.std.proofs.lemmas.List.{ext_get_or}
 use Rattle.std.proofs.lemmas.List.FromFn.{get_or-map-range_with_len, length-map-range_with_len}
@@ -10,12 +11,15 @@ use Rattle.dmf_path.proofs.LinkPlaces.{partner-other}
 use Rattle.dmf_path.proofs.Pushing.{own, partner, other, is_beside, once-own, once-partner, once-other, length-pushed_once}
 use Rattle.dmf_path.proofs.Descending.{Descends, between, off-append, off-partner}
 
-pub length-settled : (l : Links) (takes_back : Bool) (sent : ℕ) (slots : List Slot) (rooms : List ℕ) → length (settled l takes_back sent slots rooms) ≡ length rooms
+pub length-settled : (l : Links) (takes_back : Bool) (sent : ℕ) (slots : List Slot) (rooms : List ℕ)
+    → length (settled l takes_back sent slots rooms) ≡ length rooms
 length-settled l takes_back sent slots rooms = length-map-range_with_len (settled_room l takes_back sent slots rooms) 0 (length rooms)
 
 -- the room of each link
-pub room-settled : (l : Links) (takes_back : Bool) (sent : ℕ) (slots : List Slot) (rooms : List ℕ) (p : ℕ) → p < length rooms → get_or (settled l takes_back sent slots rooms) p 0 ≡ settled_room l takes_back sent slots rooms p
-room-settled l takes_back sent slots rooms p within = get_or-map-range_with_len (settled_room l takes_back sent slots rooms) 0 (length rooms) p p 0 within (omega arith)
+pub room-settled : (l : Links) (takes_back : Bool) (sent : ℕ) (slots : List Slot) (rooms : List ℕ) (p : ℕ) → p < length rooms
+    → get_or (settled l takes_back sent slots rooms) p 0 ≡ settled_room l takes_back sent slots rooms p
+room-settled l takes_back sent slots rooms p within = get_or-map-range_with_len (settled_room l takes_back sent slots rooms) 0 (length rooms) p p 0 within
+    (omega arith)
 
 -- Rooms are the same where each is.
 pub same-settled : (l : Links) (takes_back : Bool) (sent : ℕ) (slots others : List Slot) (rooms after : List ℕ) → length rooms ≡ length after
@@ -35,17 +39,21 @@ held-off sent rooms [] p off = refl
 held-off sent rooms (s ∷ slots) p off = rw (ne_eqb s.place p off.0) (held-off sent rooms slots p off.1)
 
 -- What is held for a link,
-pub held-own : (sent : ℕ) (rooms : List ℕ) (before behind : List Slot) (s : Slot) → IsOff s.place (places_of before) → held_for sent rooms (before ++ s ∷ behind) s.place ≡ get_or rooms s.place 0 - room_left sent s.full_at
+pub held-own : (sent : ℕ) (rooms : List ℕ) (before behind : List Slot) (s : Slot) → IsOff s.place (places_of before)
+    → held_for sent rooms (before ++ s ∷ behind) s.place ≡ get_or rooms s.place 0 - room_left sent s.full_at
 held-own sent rooms [] behind s off = rw (eq-eqb s.place s.place refl) refl
 held-own sent rooms (t ∷ before) behind s off = rw (ne_eqb t.place s.place off.0) (held-own sent rooms before behind s off.1)
 
 -- and for another.
-pub held-other : (sent : ℕ) (rooms : List ℕ) (before behind : List Slot) (s : Slot) (p : ℕ) → s.place ≢ p → held_for sent rooms (before ++ s ∷ behind) p ≡ held_for sent rooms (before ++ behind) p
+pub held-other : (sent : ℕ) (rooms : List ℕ) (before behind : List Slot) (s : Slot) (p : ℕ) → s.place ≢ p
+    → held_for sent rooms (before ++ s ∷ behind) p ≡ held_for sent rooms (before ++ behind) p
 held-other sent rooms [] behind s p apart = rw (ne_eqb s.place p apart) refl
-held-other sent rooms (t ∷ before) behind s p apart = ap (λ held. cond (t.place == p) (get_or rooms p 0 - room_left sent t.full_at) held) (held-other sent rooms before behind s p apart)
+held-other sent rooms (t ∷ before) behind s p apart = ap (λ held. cond (t.place == p) (get_or rooms p 0 - room_left sent t.full_at) held)
+    (held-other sent rooms before behind s p apart)
 
 -- It depends on the link's own room alone.
-pub held-rooms : (sent : ℕ) (rooms after : List ℕ) (slots : List Slot) (p : ℕ) → get_or rooms p 0 ≡ get_or after p 0 → held_for sent rooms slots p ≡ held_for sent after slots p
+pub held-rooms : (sent : ℕ) (rooms after : List ℕ) (slots : List Slot) (p : ℕ) → get_or rooms p 0 ≡ get_or after p 0
+    → held_for sent rooms slots p ≡ held_for sent after slots p
 held-rooms sent rooms after [] p same = refl
 held-rooms sent rooms after (s ∷ slots) p same =
     let later = held-rooms sent rooms after slots p same in
@@ -64,7 +72,8 @@ places-append [] others = refl
 places-append (s ∷ slots) others = ap (λ ps. s.place ∷ ps) (places-append slots others)
 
 -- A link leaves its slot, and what is held for it is put on.
-pub settled-leave : (l : Links) (takes_back : Bool) (sent : ℕ) (before behind : List Slot) (s : Slot) (rooms labels : List ℕ) (top bottom : ℕ) → AreLinks l → length rooms ≡ length l.heads
+pub settled-leave : (l : Links) (takes_back : Bool) (sent : ℕ) (before behind : List Slot) (s : Slot) (rooms labels : List ℕ) (top bottom : ℕ) → AreLinks l
+    → length rooms ≡ length l.heads
     → Descends l labels top bottom (places_of before ++ s.place ∷ places_of behind)
     → settled l takes_back sent (before ++ s ∷ behind) rooms ≡ settled l takes_back sent (before ++ behind) (put_once l takes_back sent s rooms)
 settled-leave l takes_back sent before behind s rooms labels top bottom links long descends =
@@ -75,7 +84,8 @@ settled-leave l takes_back sent before behind s rooms labels top bottom links lo
     let within : p0 < length l.heads = b.falls.within in
     let amount : ℕ = get_or rooms p0 0 - room_left sent s.full_at in
     let off : IsOff p0 (places_of (before ++ behind)) = rw places-append (off-append p0 (places_of before) (places_of behind) b.before b.behind) in
-    let partner_off : IsOff q0 (places_of (before ++ behind)) = rw places-append (off-partner l labels top bottom p0 (places_of before ++ places_of behind) links within b.falls.label b.without) in
+    let partner_off : IsOff q0 (places_of (before ++ behind)) = rw places-append
+    (off-partner l labels top bottom p0 (places_of before ++ places_of behind) links within b.falls.label b.without) in
     let partner_out : held_for sent rooms (before ++ s ∷ behind) q0 ≡ 0 =
     held-other sent rooms before behind s q0 (λ e. partner-other l p0 links within (sym e)) ∙ held-off sent rooms (before ++ behind) q0 partner_off in
     let held : held_for sent rooms (before ++ s ∷ behind) p0 ≡ amount = held-own sent rooms before behind s b.before in
@@ -85,7 +95,8 @@ settled-leave l takes_back sent before behind s rooms labels top bottom links lo
     let its = once-partner l takes_back amount p0 rooms links long within in
     same-settled l takes_back sent (before ++ s ∷ behind) (before ++ behind) rooms after (sym (length-pushed_once l takes_back amount p0 rooms))
     (λ p inside. elim (is_beside l p0 p links within (omega (arith, inside, long))) [
-      | own same ↦ subst (λ r. settled_room l takes_back sent (before ++ s ∷ behind) rooms r ≡ settled_room l takes_back sent (before ++ behind) after r) (sym same)
+      | own same ↦ subst (λ r. settled_room l takes_back sent (before ++ s ∷ behind) rooms r ≡ settled_room l takes_back sent (before ++ behind) after r)
+          (sym same)
           (rw (held, partner_out, none, partner_none, mine) (omega arith))
       | partner same back ↦ rw (back, same) (rw (held, partner_out, none, partner_none, its) (gained takes_back (get_or rooms q0 0) amount))
       | other a b c d ↦
@@ -101,10 +112,12 @@ settled-leave l takes_back sent before behind s rooms labels top bottom links lo
     ])
 
 -- A link comes into a slot, with its room: nothing is held for it yet.
-pub settled-enter : (l : Links) (takes_back : Bool) (sent : ℕ) (before behind : List Slot) (s : Slot) (rooms : List ℕ) → IsOff s.place (places_of before) → IsOff s.place (places_of behind) → room_left sent s.full_at ≡ get_or rooms s.place 0
+pub settled-enter : (l : Links) (takes_back : Bool) (sent : ℕ) (before behind : List Slot) (s : Slot) (rooms : List ℕ) → IsOff s.place (places_of before)
+    → IsOff s.place (places_of behind) → room_left sent s.full_at ≡ get_or rooms s.place 0
     → settled l takes_back sent (before ++ s ∷ behind) rooms ≡ settled l takes_back sent (before ++ behind) rooms
 settled-enter l takes_back sent before behind s rooms off later_off now =
-    let none : held_for sent rooms (before ++ behind) s.place ≡ 0 = held-off sent rooms (before ++ behind) s.place (rw places-append (off-append s.place (places_of before) (places_of behind) off later_off)) in
+    let none : held_for sent rooms (before ++ behind) s.place ≡ 0 = held-off sent rooms (before ++ behind) s.place
+    (rw places-append (off-append s.place (places_of before) (places_of behind) off later_off)) in
     let held : (p : ℕ) → held_for sent rooms (before ++ s ∷ behind) p ≡ held_for sent rooms (before ++ behind) p = λ p. ⊎_elim
     (λ (same : s.place ≡ p).
     subst (λ q. held_for sent rooms (before ++ s ∷ behind) q ≡ held_for sent rooms (before ++ behind) q) same
@@ -115,7 +128,8 @@ settled-enter l takes_back sent before behind s rooms off later_off now =
     (λ p inside. rw (held p, held (get_or l.partners p 0)) refl)
 
 -- For a link that is in no slot, and whose opposite is in none, nothing is held.
-pub room-off : (l : Links) (takes_back : Bool) (sent : ℕ) (slots : List Slot) (rooms : List ℕ) (p : ℕ) → p < length rooms → IsOff p (places_of slots) → IsOff (get_or l.partners p 0) (places_of slots) → get_or (settled l takes_back sent slots rooms) p 0 ≡ get_or rooms p 0
+pub room-off : (l : Links) (takes_back : Bool) (sent : ℕ) (slots : List Slot) (rooms : List ℕ) (p : ℕ) → p < length rooms → IsOff p (places_of slots)
+    → IsOff (get_or l.partners p 0) (places_of slots) → get_or (settled l takes_back sent slots rooms) p 0 ≡ get_or rooms p 0
 room-off l takes_back sent slots rooms p within off partner_off =
     room-settled l takes_back sent slots rooms p within
     ∙ rw (held-off sent rooms slots p off, held-off sent rooms slots (get_or l.partners p 0) partner_off) (nothing takes_back (get_or rooms p 0))
@@ -133,13 +147,19 @@ fits true a b c d n below also less = omega arith
 fits false a b c d n below also less = omega arith
 
 -- The settled rooms of each pair fit 64 bits together too.
-pub AreRooms-settled : (l : Links) (takes_back : Bool) (sent : ℕ) (slots : List Slot) (rooms : List ℕ) → AreLinks l → AreRooms l rooms → AreRooms l (settled l takes_back sent slots rooms)
+pub AreRooms-settled : (l : Links) (takes_back : Bool) (sent : ℕ) (slots : List Slot) (rooms : List ℕ) → AreLinks l → AreRooms l rooms
+    → AreRooms l (settled l takes_back sent slots rooms)
 AreRooms-settled l takes_back sent slots rooms links are = (
   length-settled l takes_back sent slots rooms ∙ are.0,
   λ p within.
       let q : ℕ = get_or l.partners p 0 in
       let partner_in = (links.each p within).partner in
       let back : get_or l.partners q 0 ≡ p = (links.each p within).partner_back in
-      rw (room-settled l takes_back sent slots rooms p (omega (arith, within, are.0)), room-settled l takes_back sent slots rooms q (omega (arith, partner_in, are.0)), back)
-      (fits takes_back (get_or rooms p 0) (get_or rooms q 0) (held_for sent rooms slots p) (held_for sent rooms slots q) _ (held-le sent rooms slots p) (held-le sent rooms slots q) (are.1 p within)),
+      rw (
+        room-settled l takes_back sent slots rooms p (omega (arith, within, are.0)),
+        room-settled l takes_back sent slots rooms q (omega (arith, partner_in, are.0)),
+        back,
+      )
+      (fits takes_back (get_or rooms p 0) (get_or rooms q 0) (held_for sent rooms slots p) (held_for sent rooms slots q) _ (held-le sent rooms slots p)
+      (held-le sent rooms slots q) (are.1 p within)),
 )

@@ -1,5 +1,6 @@
 -- The room of one link, once what is held is put on, as it is found by its slot.
-use Rattle.std.proofs.Common.{ℕ, ◌≡◌, ◌≢◌, ◌+◌, ◌-◌, ◌^◌, ◌<◌, Bool, true, false, List, [], ◌∷◌, ◌++◌, length, get_or, refl, ap, ◌∙◌, arith, ⊎_elim, eq-eqb, Some, None, unwrap_or}
+use Rattle.std.proofs.Common.{ℕ, ◌≡◌, ◌≢◌, ◌+◌, ◌-◌, ◌^◌, ◌<◌, Bool, true, false, List, [], ◌∷◌, ◌++◌, length, get_or, refl, ap, ◌∙◌, arith, ⊎_elim, eq-eqb}
+use Rattle.std.proofs.Common.{Some, None, unwrap_or}
 use Rattle.std.proofs.lemmas.Bool.{cases_eq, ne_eqb}
 use Rattle.dmf_path.specs.declared.trail.Slot.{Slot}
 use Rattle.dmf_path.specs.Links.{Links, AreLinks, AreRooms}
@@ -8,7 +9,8 @@ use Rattle.dmf_path.proofs.Settled.{room-settled, AreRooms-settled}
 use Rattle.dmf_path.proofs.Settling.{settled-none}
 
 -- What is held for a link that is in one of the first slots,
-pub held-here : (sent : ℕ) (rooms : List ℕ) (slots others : List Slot) (p held : ℕ) → held_in sent rooms slots p ≡ Some held → held ≡ held_for sent rooms (slots ++ others) p
+pub held-here : (sent : ℕ) (rooms : List ℕ) (slots others : List Slot) (p held : ℕ) → held_in sent rooms slots p ≡ Some held
+    → held ≡ held_for sent rooms (slots ++ others) p
 held-here sent rooms [] others p held found = absurd (cc)
 held-here sent rooms (s ∷ slots) others p held found = ⊎_elim
     (λ (same : s.place ≡ p). let here = rw (eq-eqb s.place p same) at found in rw (eq-eqb s.place p same) (cc))
@@ -16,7 +18,8 @@ held-here sent rooms (s ∷ slots) others p held found = ⊎_elim
     (cases_eq s.place p)
 
 -- and for one that is in none of them.
-pub held-behind : (sent : ℕ) (rooms : List ℕ) (slots others : List Slot) (p : ℕ) → held_in sent rooms slots p ≡ None → held_for sent rooms (slots ++ others) p ≡ held_for sent rooms others p
+pub held-behind : (sent : ℕ) (rooms : List ℕ) (slots others : List Slot) (p : ℕ) → held_in sent rooms slots p ≡ None
+    → held_for sent rooms (slots ++ others) p ≡ held_for sent rooms others p
 held-behind sent rooms [] others p none = refl
 held-behind sent rooms (s ∷ slots) others p none = ⊎_elim
     (λ (same : s.place ≡ p). let here = rw (eq-eqb s.place p same) at none in absurd (cc))
@@ -35,12 +38,15 @@ pub rooms_with-empty : (l : Links) (takes_back : Bool) (w : Way) (rooms : List �
 rooms_with-empty l takes_back w rooms empty = ap (λ (ss : List Slot). settled l takes_back w.sent ss rooms) empty ∙ settled-none l takes_back w.sent rooms
 
 -- the room of a link whose pushes cannot be taken back,
-pub room-along : (l : Links) (takes_back : Bool) (sent : ℕ) (slots : List Slot) (rooms : List ℕ) (p : ℕ) → p < length rooms → takes_back ≡ false → get_or (settled l takes_back sent slots rooms) p 0 ≡ get_or rooms p 0 - held_for sent rooms slots p
+pub room-along : (l : Links) (takes_back : Bool) (sent : ℕ) (slots : List Slot) (rooms : List ℕ) (p : ℕ) → p < length rooms → takes_back ≡ false
+    → get_or (settled l takes_back sent slots rooms) p 0 ≡ get_or rooms p 0 - held_for sent rooms slots p
 room-along l takes_back sent slots rooms p within is = room-settled l takes_back sent slots rooms p within ∙ rw is (omega arith)
 
 -- and of one whose pushes can.
-pub room-back : (l : Links) (takes_back : Bool) (sent : ℕ) (slots : List Slot) (rooms : List ℕ) (p : ℕ) → p < length rooms → takes_back ≡ true → get_or (settled l takes_back sent slots rooms) p 0 ≡ get_or rooms p 0 - held_for sent rooms slots p + held_for sent rooms slots (get_or l.partners p 0)
+pub room-back : (l : Links) (takes_back : Bool) (sent : ℕ) (slots : List Slot) (rooms : List ℕ) (p : ℕ) → p < length rooms → takes_back ≡ true
+    → get_or (settled l takes_back sent slots rooms) p 0 ≡ get_or rooms p 0 - held_for sent rooms slots p + held_for sent rooms slots (get_or l.partners p 0)
 room-back l takes_back sent slots rooms p within is = room-settled l takes_back sent slots rooms p within ∙ rw is refl
 
-pub room-fits : (l : Links) (takes_back : Bool) (sent : ℕ) (slots : List Slot) (rooms : List ℕ) (p : ℕ) → AreLinks l → AreRooms l rooms → p < length l.heads → get_or (settled l takes_back sent slots rooms) p 0 < 2 ^ 64
+pub room-fits : (l : Links) (takes_back : Bool) (sent : ℕ) (slots : List Slot) (rooms : List ℕ) (p : ℕ) → AreLinks l → AreRooms l rooms → p < length l.heads
+    → get_or (settled l takes_back sent slots rooms) p 0 < 2 ^ 64
 room-fits l takes_back sent slots rooms p links are within = omega (arith, (AreRooms-settled l takes_back sent slots rooms links are).1 p within)

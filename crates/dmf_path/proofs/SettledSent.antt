@@ -1,5 +1,6 @@
 -- The rooms, once what is held on a path is put on: what becomes of them where more is sent along the path.
-use Rattle.std.proofs.Common.{ℕ, ◌≡◌, ◌≢◌, ◌+◌, ◌-◌, ◌^◌, ◌%◌, ◌<◌, ◌≤◌, ◌⊎◌, inl, inr, Bool, true, false, cond, List, [], ◌∷◌, length, get_or, refl, ap, sym, ◌∙◌, arith, ⊎_elim, eq-eqb}
+use Rattle.std.proofs.Common.{ℕ, ◌≡◌, ◌≢◌, ◌+◌, ◌-◌, ◌^◌, ◌%◌, ◌<◌, ◌≤◌, ◌⊎◌, inl, inr, Bool, true, false, cond, List, [], ◌∷◌, length, get_or, refl, ap, sym}
+use Rattle.std.proofs.Common.{◌∙◌, arith, ⊎_elim, eq-eqb}
 use Rattle.std.proofs.lemmas.Bool.{cases_eq, ne_eqb}
 use Rattle.std.proofs.lemmas.List.{ext_get_or}
 use Rattle.dmf_path.specs.declared.trail.Slot.{Slot}
@@ -23,7 +24,8 @@ CanSend-least sent amount limit [] within = tt
 CanSend-least sent amount limit (s ∷ slots) within = (omega (arith, within), CanSend-least sent amount limit slots (omega (arith, within)))
 
 -- What is left fits what is there.
-pub HaveLeft-sent : (sent amount : ℕ) (rooms : List ℕ) (slots : List Slot) → sent < 2 ^ 64 → CanSend sent amount slots → HaveLeft sent rooms slots → HaveLeft ((sent + amount) % 2 ^ 64) rooms slots
+pub HaveLeft-sent : (sent amount : ℕ) (rooms : List ℕ) (slots : List Slot) → sent < 2 ^ 64 → CanSend sent amount slots → HaveLeft sent rooms slots
+    → HaveLeft ((sent + amount) % 2 ^ 64) rooms slots
 HaveLeft-sent sent amount rooms [] small can have = tt
 HaveLeft-sent sent amount rooms (s ∷ slots) small can have =
     (have.0, omega (arith, have.1, room_left-sent sent amount s.full_at small have.0 can.0), HaveLeft-sent sent amount rooms slots small can.1 have.2)
@@ -50,7 +52,8 @@ more-held true room held partner lost gained none = ⊎_elim (λ (a : partner �
 more-held false room held partner lost gained none = omega arith
 
 -- As much as is sent more is pushed along the path.
-pub settled-sent : (l : Links) (takes_back : Bool) (sent amount : ℕ) (slots : List Slot) (rooms labels : List ℕ) (v top bottom : ℕ) → AreLinks l → length rooms ≡ length l.heads → sent < 2 ^ 64
+pub settled-sent : (l : Links) (takes_back : Bool) (sent amount : ℕ) (slots : List Slot) (rooms labels : List ℕ) (v top bottom : ℕ) → AreLinks l
+    → length rooms ≡ length l.heads → sent < 2 ^ 64
     → FallsOn l labels v (places_of slots) → Descends l labels top bottom (places_of slots) → CanSend sent amount slots → HaveLeft sent rooms slots
     → settled l takes_back ((sent + amount) % 2 ^ 64) slots rooms ≡ pushed l takes_back amount (places_of slots) (settled l takes_back sent slots rooms)
 settled-sent l takes_back sent amount slots rooms labels v top bottom links long small falls descends can have =
@@ -65,13 +68,17 @@ settled-sent l takes_back sent amount slots rooms labels v top bottom links long
     let here : p < length rooms = omega (arith, within, long) in
     let q : ℕ = get_or l.partners p 0 in
     let apart : (held_for sent rooms slots q ≡ 0) ⊎ (loss amount p (places_of slots) ≡ 0) = ⊎_elim
-    (λ (falls_here : get_or labels (get_or l.heads p 0) 0 + 1 ≡ get_or labels (tail_of l p) 0). inl (held-off sent rooms slots q (off-partner l labels top bottom p (places_of slots) links within falls_here descends)))
-    (λ (rises : get_or labels (get_or l.heads p 0) 0 + 1 ≢ get_or labels (tail_of l p) 0). inr (loss-off amount p (places_of slots) (off-rising l labels top bottom p (places_of slots) descends rises)))
+    (λ (falls_here : get_or labels (get_or l.heads p 0) 0 + 1 ≡ get_or labels (tail_of l p) 0). inl
+    (held-off sent rooms slots q (off-partner l labels top bottom p (places_of slots) links within falls_here descends)))
+    (λ (rises : get_or labels (get_or l.heads p 0) 0 + 1 ≢ get_or labels (tail_of l p) 0). inr
+    (loss-off amount p (places_of slots) (off-rising l labels top bottom p (places_of slots) descends rises)))
     (cases_eq (get_or labels (get_or l.heads p 0) 0 + 1) (get_or labels (tail_of l p) 0)) in
     room-settled l takes_back next slots rooms p here
     ∙ rw (held-sent sent amount rooms slots p small can have, held-sent sent amount rooms slots q small can have)
-    (more-held takes_back (get_or rooms p 0) (held_for sent rooms slots p) (held_for sent rooms slots q) (loss amount p (places_of slots)) (loss amount q (places_of slots)) apart)
-    ∙ ap (λ r. r - loss amount p (places_of slots) + cond takes_back (loss amount q (places_of slots)) 0) (sym (room-settled l takes_back sent slots rooms p here))
+    (more-held takes_back (get_or rooms p 0) (held_for sent rooms slots p) (held_for sent rooms slots q) (loss amount p (places_of slots))
+    (loss amount q (places_of slots)) apart)
+    ∙ ap (λ r. r - loss amount p (places_of slots) + cond takes_back (loss amount q (places_of slots)) 0)
+    (sym (room-settled l takes_back sent slots rooms p here))
     ∙ sym (room-pushed l takes_back amount labels before v (places_of slots) p links before_long falls within))
 
 -- what is held for each of these links, as the first of their slots tells
@@ -95,19 +102,25 @@ left-alone true room left within = omega arith
 left-alone false room left within = omega arith
 
 -- the bottleneck on links whose rooms are those that are left
-bottleneck-left : (l : Links) (takes_back : Bool) (labels : List ℕ) (sent limit : ℕ) (rooms : List ℕ) (all slots : List Slot) (top low high bottom : ℕ) → AreLinks l → length rooms ≡ length l.heads
+bottleneck-left : (l : Links) (takes_back : Bool) (labels : List ℕ) (sent limit : ℕ) (rooms : List ℕ) (all slots : List Slot) (top low high bottom : ℕ)
+    → AreLinks l → length rooms ≡ length l.heads
     → Descends l labels high low (places_of all) → Descends l labels top bottom (places_of slots) → HoldOwn sent rooms all slots → HaveLeft sent rooms slots
     → bottleneck_on (settled l takes_back sent all rooms) limit (places_of slots) ≡ least_left sent limit slots
 bottleneck-left l takes_back labels sent limit rooms all [] top low high bottom links long whole descends own have = refl
 bottleneck-left l takes_back labels sent limit rooms all (s ∷ slots) top low high bottom links long whole descends own have =
-    let later = bottleneck-left l takes_back labels sent limit rooms all slots (get_or labels (get_or l.heads s.place 0) 0) low high bottom links long whole descends.1 own.1 have.2 in
-    let partner = held-off sent rooms all (get_or l.partners s.place 0) (off-partner l labels high low s.place (places_of all) links descends.0.within descends.0.label whole) in
+    let later = bottleneck-left l takes_back labels sent limit rooms all slots
+    (get_or labels (get_or l.heads s.place 0) 0) low high bottom links long whole descends.1 own.1 have.2 in
+    let partner = held-off sent rooms all (get_or l.partners s.place 0)
+    (off-partner l labels high low s.place (places_of all) links descends.0.within descends.0.label whole) in
     let room : get_or (settled l takes_back sent all rooms) s.place 0 ≡ room_left sent s.full_at =
-    room-settled l takes_back sent all rooms s.place (omega (arith, descends.0.within, long)) ∙ rw (own.0, partner) (left-alone takes_back (get_or rooms s.place 0) (room_left sent s.full_at) have.1) in
+    room-settled l takes_back sent all rooms s.place (omega (arith, descends.0.within, long)) ∙ rw (own.0, partner)
+    (left-alone takes_back (get_or rooms s.place 0) (room_left sent s.full_at) have.1) in
     rw (room, later) refl
 
-pub bottleneck-settled : (l : Links) (takes_back : Bool) (labels : List ℕ) (sent limit : ℕ) (rooms : List ℕ) (slots : List Slot) (top bottom : ℕ) → AreLinks l → length rooms ≡ length l.heads
+pub bottleneck-settled : (l : Links) (takes_back : Bool) (labels : List ℕ) (sent limit : ℕ) (rooms : List ℕ) (slots : List Slot) (top bottom : ℕ) → AreLinks l
+    → length rooms ≡ length l.heads
     → Descends l labels top bottom (places_of slots) → HaveLeft sent rooms slots
     → bottleneck_on (settled l takes_back sent slots rooms) limit (places_of slots) ≡ least_left sent limit slots
 bottleneck-settled l takes_back labels sent limit rooms slots top bottom links long descends have =
-    bottleneck-left l takes_back labels sent limit rooms slots slots top bottom top bottom links long descends descends (hold-own l labels sent rooms slots slots top bottom descends (λ p low. refl)) have
+    bottleneck-left l takes_back labels sent limit rooms slots slots top bottom top bottom links long descends descends
+    (hold-own l labels sent rooms slots slots top bottom descends (λ p low. refl)) have

@@ -33,7 +33,8 @@ can-settle {r = r} {v = v} {w = w} is =
     (subst (Descends l labels top 0) (sym (places-append (walked_slots w) (rest_slots w))) whole) is.holding.have in
     let none : rest_slots w ++ [] ≡ rest_slots w = append-nil (rest_slots w) in
     let between : List ℕ = put_each l r.takes_back w.sent (walked_slots w) r.rooms in
-    let low : Descends l labels top 0 (places_of (rest_slots w)) = descends-behind l labels top 0 (places_of (walked_slots w)) (places_of (rest_slots w)) whole in
+    let low : Descends l labels top 0 (places_of (rest_slots w)) = descends-behind l labels top 0 (places_of (walked_slots w))
+    (places_of (rest_slots w)) whole in
     let later = have-all-left l r.takes_back labels w.sent top 0 [] (rest_slots w) [] between links first.long
     (subst (λ (ss : List Slot). Descends l labels top 0 (places_of ss)) (sym none) low)
     (subst (HaveLeft w.sent between) (sym none) first.have) in
@@ -45,7 +46,8 @@ can-settle {r = r} {v = v} {w = w} is =
     }
 
 -- With free slots nothing is held,
-pub rooms_with-free : (l : Links) (takes_back : Bool) (w : Way) (slots : List Slot) (rooms : List ℕ) → rooms_with l takes_back (with_slots w slots) rooms ≡ rooms
+pub rooms_with-free : (l : Links) (takes_back : Bool) (w : Way) (slots : List Slot) (rooms : List ℕ)
+    → rooms_with l takes_back (with_slots w slots) rooms ≡ rooms
 rooms_with-free l takes_back w slots rooms =
     ap (λ (ss : List Slot). settled l takes_back w.sent ss rooms) (drop_all (length slots) slots (omega arith)) ∙ settled-none l takes_back w.sent rooms
 
@@ -60,7 +62,8 @@ holding-free l w slots rooms sums small = record {
 }
 
 -- and where nothing was passed that leads to the goal the walk begins.
-pub way-free : (l : Links) (labels after current : List ℕ) (w : Way) (slots : List Slot) → IsNode l.nodes w.goal → AreCurrent l current → ArePassed l labels after w.goal current
+pub way-free : (l : Links) (labels after current : List ℕ) (w : Way) (slots : List Slot) → IsNode l.nodes w.goal → AreCurrent l current
+    → ArePassed l labels after w.goal current
     → length slots ≡ get_or labels w.start 0 → get_or labels w.goal 0 ≡ 0 → IsUnderWay l labels after current (with_slots w slots)
 way-free l labels after current w slots goal current_is passed count label =
     let none : drop (length slots) slots ≡ [] = drop_all (length slots) slots (omega arith) in
@@ -76,7 +79,8 @@ way-free l labels after current w slots goal current_is passed count label =
     }
 
 -- Once all links have left it goes on from the start.
-pub way-emptied : (l : Links) (labels after current : List ℕ) (w : Way) → IsNode l.nodes w.goal → IsUnderWay l labels after current w → IsUnderWay l labels after current (emptied w)
+pub way-emptied : (l : Links) (labels after current : List ℕ) (w : Way) → IsNode l.nodes w.goal → IsUnderWay l labels after current w
+    → IsUnderWay l labels after current (emptied w)
 way-emptied l labels after current w goal way =
     let none : drop (length w.slots) w.slots ≡ [] = drop_all (length w.slots) w.slots (omega arith) in
     record {

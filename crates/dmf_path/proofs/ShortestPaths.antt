@@ -19,7 +19,8 @@ Avoids v (s ∷ path) = (s.from ≢ v) × (s.to ≢ v) × Avoids v path
 
 -- A path from another node avoids `a`, if it is shorter than each that begins at `a`: what follows a step that touches
 -- `a` is such a path.
-avoids-from_shorter : (steps : List Step) (a b c : ℕ) (path : List Step) → IsPath steps c b path → ((other : List Step) → IsPath steps a b other → length path < length other) → Avoids a path
+avoids-from_shorter : (steps : List Step) (a b c : ℕ) (path : List Step) → IsPath steps c b path
+    → ((other : List Step) → IsPath steps a b other → length path < length other) → Avoids a path
 avoids-from_shorter steps a b c [] leads shorter = tt
 avoids-from_shorter steps a b c (s ∷ path) leads shorter = (
   (λ leaves. let less : length (s ∷ path) < length (s ∷ path) = shorter (s ∷ path) (leads.0, leaves, leads.2) in omega (arith, less)),

@@ -1,5 +1,6 @@
 -- Either no path leads from a node to another, or there is a least path.
-use Rattle.std.proofs.Common.{ℕ, ◌≡◌, ◌≢◌, ◌<◌, ◌⊎◌, List, [], ◌∷◌, ◌++◌, length, get_or, suc, zero, Contains, ⊎_elim, inl, inr, refl, ap, sym, ◌∙◌, subst, arith}
+use Rattle.std.proofs.Common.{ℕ, ◌≡◌, ◌≢◌, ◌<◌, ◌⊎◌, List, [], ◌∷◌, ◌++◌, length, get_or, suc, zero, Contains, ⊎_elim, inl, inr, refl, ap, sym, ◌∙◌, subst}
+use Rattle.std.proofs.Common.{arith}
 use Rattle.std.proofs.lemmas.Bool.{cases_eq, cases_lt}
 use Rattle.dmf_path.specs.Step.{Step}
 use Rattle.dmf_path.specs.Path.{IsPath, HasNoPath, ComesBefore, ranks, IsLeastPath}
@@ -38,7 +39,8 @@ record GoesBy (s : Step) (steps : List Step) (a b : ℕ) : Type 0 where
   after : SomePath steps s.to b
 
 -- a step in front of what is left of a path
-split-first : (s : Step) (steps : List Step) (a b : ℕ) (t : Step) → t.from ≡ a → (t ≡ s) ⊎ Contains steps t → SomePath steps t.to b ⊎ GoesBy s steps t.to b → SomePath steps a b ⊎ GoesBy s steps a b
+split-first : (s : Step) (steps : List Step) (a b : ℕ) (t : Step) → t.from ≡ a → (t ≡ s) ⊎ Contains steps t → SomePath steps t.to b ⊎ GoesBy s steps t.to b
+    → SomePath steps a b ⊎ GoesBy s steps a b
 split-first s steps a b t leaves (inl is) (inl without) = inr (record {
   before = record { path = []; leads = sym leaves ∙ ap (λ u. u.from) is };
   after = subst (λ u. SomePath steps u.to b) is without;
@@ -72,7 +74,8 @@ by-way s steps a b before after = record {
 }
 
 -- one step more, when it is known where paths lead without it
-path-with : (s : Step) (steps : List Step) (a b : ℕ) → HasNoPath steps a b ⊎ SomePath steps a b → HasNoPath steps a s.from ⊎ SomePath steps a s.from → HasNoPath steps s.to b ⊎ SomePath steps s.to b → HasNoPath (s ∷ steps) a b ⊎ SomePath (s ∷ steps) a b
+path-with : (s : Step) (steps : List Step) (a b : ℕ) → HasNoPath steps a b ⊎ SomePath steps a b → HasNoPath steps a s.from ⊎ SomePath steps a s.from
+    → HasNoPath steps s.to b ⊎ SomePath steps s.to b → HasNoPath (s ∷ steps) a b ⊎ SomePath (s ∷ steps) a b
 path-with s steps a b (inr found) before after = inr (record { path = found.path; leads = with-more s steps a b found.path found.leads })
 path-with s steps a b (inl without) (inl none) after = inl (no-way s steps a b without (λ by. none by.before.path by.before.leads))
 path-with s steps a b (inl without) (inr before) (inl none) = inl (no-way s steps a b without (λ by. none by.after.path by.after.leads))
@@ -96,7 +99,8 @@ record FirstGood (Bad Good : Step → Type 0) (steps : List Step) : Type 0 where
   before : (t : Step) → Contains steps t → t.rank < step.rank → Bad t
 
 -- one step more in front
-good-with : (Bad Good : Step → Type 0) (s : Step) (steps : List Step) → Ascend (s ∷ steps) → Bad s ⊎ Good s → ((t : Step) → Contains steps t → Bad t) ⊎ FirstGood Bad Good steps → ((t : Step) → Contains (s ∷ steps) t → Bad t) ⊎ FirstGood Bad Good (s ∷ steps)
+good-with : (Bad Good : Step → Type 0) (s : Step) (steps : List Step) → Ascend (s ∷ steps) → Bad s ⊎ Good s
+    → ((t : Step) → Contains steps t → Bad t) ⊎ FirstGood Bad Good steps → ((t : Step) → Contains (s ∷ steps) t → Bad t) ⊎ FirstGood Bad Good (s ∷ steps)
 good-with Bad Good s steps ascend (inr good) rest = inr (record {
   step = s;
   among = (0, omega arith, refl);
@@ -116,7 +120,8 @@ good-with Bad Good s steps ascend (inl bad) (inr found) = inr (record {
 })
 
 -- Where each step is bad or good, all are bad, or there is a first good one.
-first-good : (Bad Good : Step → Type 0) → ((s : Step) → Bad s ⊎ Good s) → (steps : List Step) → Ascend steps → ((s : Step) → Contains steps s → Bad s) ⊎ FirstGood Bad Good steps
+first-good : (Bad Good : Step → Type 0) → ((s : Step) → Bad s ⊎ Good s) → (steps : List Step) → Ascend steps
+    → ((s : Step) → Contains steps s → Bad s) ⊎ FirstGood Bad Good steps
 first-good Bad Good decide [] ascend = inl (λ s has. absurd (omega (arith, has.1)))
 first-good Bad Good decide (s ∷ steps) ascend =
     let tail : Ascend steps = λ i j d earlier within. ascend (suc i) (suc j) d (omega arith) (omega arith) in
@@ -142,7 +147,8 @@ record BeginsFirst (steps : List Step) (count a b : ℕ) (s : Step) : Type 0 whe
   leaves : s.from ≡ a
   onward : FirstOf steps count s.to b
 
-begins : (steps : List Step) (count a b : ℕ) (s : Step) → HasNoneOf steps count s.to b ⊎ FirstOf steps count s.to b → BeginsNone steps count a b s ⊎ BeginsFirst steps count a b s
+begins : (steps : List Step) (count a b : ℕ) (s : Step) → HasNoneOf steps count s.to b ⊎ FirstOf steps count s.to b
+    → BeginsNone steps count a b s ⊎ BeginsFirst steps count a b s
 begins steps count a b s (inl none) = inl (λ path leaves leads long. none path leads long)
 begins steps count a b s (inr onward) =
     ⊎_elim (λ leaves. inr (record { leaves = leaves; onward = onward })) (λ elsewhere. inl (λ path leaves leads long. elsewhere leaves)) (cases_eq s.from a)
@@ -158,7 +164,8 @@ none-begun steps count a b all [] leads long = absurd (omega (arith, long))
 none-begun steps count a b all (s ∷ path) leads long = all s leads.0 path leads.1 leads.2 (omega (arith, long))
 
 -- No path comes before the one by the first step that begins one, and by the first path onward.
-none-before : (steps : List Step) → Ascend steps → (count a b : ℕ) (found : FirstGood (BeginsNone steps count a b) (BeginsFirst steps count a b) steps) (other : List Step) → IsPath steps a b other → length other ≡ suc count → ComesBefore (ranks other) (ranks (found.step ∷ found.good.onward.path)) → ⊥
+none-before : (steps : List Step) → Ascend steps → (count a b : ℕ) (found : FirstGood (BeginsNone steps count a b) (BeginsFirst steps count a b) steps)
+    (other : List Step) → IsPath steps a b other → length other ≡ suc count → ComesBefore (ranks other) (ranks (found.step ∷ found.good.onward.path)) → ⊥
 none-before steps ascend count a b found [] leads long before = absurd (omega (arith, long))
 none-before steps ascend count a b found (t ∷ other) leads long before =
     elim before [
@@ -171,9 +178,11 @@ none-before steps ascend count a b found (t ∷ other) leads long before =
 -- Of each length there is no path, or a first one.
 first-or-none : (steps : List Step) → Ascend steps → (count a b : ℕ) → HasNoneOf steps count a b ⊎ FirstOf steps count a b
 first-or-none steps ascend zero a b =
-    ⊎_elim (λ same. inr (record { path = []; leads = same; long = refl; first = λ other leads long before. before })) (λ differ. inl (none-of-0 steps a b differ)) (cases_eq a b)
+    ⊎_elim (λ same. inr (record { path = []; leads = same; long = refl; first = λ other leads long before. before }))
+    (λ differ. inl (none-of-0 steps a b differ)) (cases_eq a b)
 first-or-none steps ascend (suc count) a b =
-    elim (first-good (BeginsNone steps count a b) (BeginsFirst steps count a b) (λ s. begins steps count a b s (first-or-none steps ascend count s.to b)) steps ascend) [
+    elim (first-good (BeginsNone steps count a b) (BeginsFirst steps count a b)
+    (λ s. begins steps count a b s (first-or-none steps ascend count s.to b)) steps ascend) [
       | inl all ↦ inl (none-begun steps count a b all)
       | inr found ↦ inr (record {
         path = found.step ∷ found.good.onward.path;
@@ -197,7 +206,8 @@ least-good Bad Good decide (suc bound) = one-more (least-good Bad Good decide bo
     one-more : ((k : ℕ) → k < bound → Bad k) ⊎ LeastGood Bad Good → Bad bound ⊎ Good bound → ((k : ℕ) → k < suc bound → Bad k) ⊎ LeastGood Bad Good
     one-more (inr found) here = inr found
     one-more (inl all) (inr good) = inr (record { at = bound; good = good; before = all })
-    one-more (inl all) (inl bad) = inl (λ k below. ⊎_elim (λ same. subst Bad (sym same) bad) (λ differ. all k (omega (arith, below, differ))) (cases_eq k bound))
+    one-more (inl all) (inl bad) = inl (λ k below. ⊎_elim (λ same. subst Bad (sym same) bad) (λ differ. all k (omega (arith, below, differ)))
+        (cases_eq k bound))
 
 -- A least path from the one node to the other.
 pub record SomeLeast (steps : List Step) (a b : ℕ) : Type 0 where
@@ -207,7 +217,8 @@ pub record SomeLeast (steps : List Step) (a b : ℕ) : Type 0 where
 -- Where a path leads from the one node to the other there is a least path.
 pub least-path : (steps : List Step) → Ascend steps → (a b : ℕ) → SomePath steps a b → SomeLeast steps a b
 least-path steps ascend a b some =
-    elim (least-good (λ count. HasNoneOf steps count a b) (λ count. FirstOf steps count a b) (λ count. first-or-none steps ascend count a b) (suc (length some.path))) [
+    elim (least-good (λ count. HasNoneOf steps count a b) (λ count. FirstOf steps count a b) (λ count. first-or-none steps ascend count a b)
+    (suc (length some.path))) [
       | inl none ↦ absurd (none (length some.path) (omega arith) some.path some.leads refl)
       | inr found ↦ record {
         path = found.good.path;

@@ -1,7 +1,9 @@
 -- A path is split at its full links: the links before them and behind them are the walk and the rest from then on.
-use Rattle.std.proofs.Common.{ℕ, ◌≡◌, ◌≢◌, ◌+◌, ◌-◌, ◌^◌, ◌<◌, ◌≤◌, min, Bool, List, [], ◌∷◌, ◌++◌, length, take, drop, get_or, ap, sym, ◌∙◌, subst, ⊎_elim, arith}
+use Rattle.std.proofs.Common.{ℕ, ◌≡◌, ◌≢◌, ◌+◌, ◌-◌, ◌^◌, ◌<◌, ◌≤◌, min, Bool, List, [], ◌∷◌, ◌++◌, length, take, drop, get_or, ap, sym, ◌∙◌, subst, ⊎_elim}
+use Rattle.std.proofs.Common.{arith}
 use Rattle.std.proofs.lemmas.Bool.{cases_lt}
-use Rattle.std.proofs.lemmas.List.{take-append-drop, drop-drop, take_more, take-map, get_or-map, get_or-take, get_or-drop, length-take, length-drop, length-map, map_push}
+use Rattle.std.proofs.lemmas.List.{take-append-drop, drop-drop, take_more, take-map, get_or-map, get_or-take, get_or-drop, length-take, length-drop, length-map}
+use Rattle.std.proofs.lemmas.List.{map_push}
 use Rattle.dmf_path.specs.declared.trail.Slot.{Slot}
 use Rattle.dmf_node.specs.Node.{IsNode}
 use Rattle.dmf_path.specs.Links.{Links, AreLinks, AreRooms}
@@ -36,42 +38,54 @@ pub record IsSent (r : Residual) (labels before current : List ℕ) (w : Way) : 
   pub descends : Descends r.links labels (get_or labels w.start 0) 0 (places_of w.slots)
 
 -- The links of its first slots, of which none is full, are a trail,
-front-open : (r : Residual) (labels before current : List ℕ) (w : Way) (n : ℕ) → IsSent r labels before current w → ((i : ℕ) → i < n → i < length w.slots → (slot_at w.slots i).full_at ≢ w.sent)
+front-open : (r : Residual) (labels before current : List ℕ) (w : Way) (n : ℕ) → IsSent r labels before current w
+    → ((i : ℕ) → i < n → i < length w.slots → (slot_at w.slots i).full_at ≢ w.sent)
     → IsTrail r.links labels (settled r.links r.takes_back w.sent w.slots r.rooms) current w.start (places_of (take n w.slots))
 front-open r labels before current w n is not_full =
     IsTrail-open r.links labels before (settled r.links r.takes_back w.sent w.slots r.rooms) current w.start (places_of (take n w.slots))
-    (subst (IsTrail r.links labels before current w.start) (take-map (λ (s : Slot). s.place) n w.slots) (IsTrail-take r.links labels before current w.start n (places_of w.slots) is.trail))
+    (subst (IsTrail r.links labels before current w.start) (take-map (λ (s : Slot). s.place) n w.slots)
+    (IsTrail-take r.links labels before current w.start n (places_of w.slots) is.trail))
     (λ k d inside.
     let short : length (places_of (take n w.slots)) ≡ min n (length w.slots) = length-map (take n w.slots) (λ (s : Slot). s.place) ∙ length-take n w.slots in
     let below : k < n = omega (arith, inside, short) in
     let here : k < length w.slots = omega (arith, inside, short) in
     let read : get_or (places_of (take n w.slots)) k d ≡ (slot_at w.slots k).place =
-    get_or-map (λ (s : Slot). s.place) (take n w.slots) k (record { place = 0; full_at = 0 }) d (omega (arith, inside, length-map (take n w.slots) (λ (s : Slot). s.place)))
+    get_or-map (λ (s : Slot). s.place) (take n w.slots) k (record { place = 0; full_at = 0 }) d
+    (omega (arith, inside, length-map (take n w.slots) (λ (s : Slot). s.place)))
     ∙ ap (λ (s : Slot). s.place) (get_or-take n w.slots k (record { place = 0; full_at = 0 }) below) in
-    let room = slot-open r.links r.takes_back labels w.sent (get_or labels w.start 0) 0 r.rooms w.slots k is.links is.rooms_are.0 is.small is.descends is.have here (not_full k below here) in
+    let room = slot-open r.links r.takes_back labels w.sent (get_or labels w.start 0) 0 r.rooms w.slots k is.links is.rooms_are.0 is.small is.descends is.have
+    here (not_full k below here) in
     omega (arith, room, ap (λ p. get_or (settled r.links r.takes_back w.sent w.slots r.rooms) p 0) read))
 
 split-whole : (slots : List Slot) (n : ℕ) → places_of slots ≡ places_of (take n slots) ++ places_of (drop n slots)
 split-whole slots n = ap places_of (sym (take-append-drop n slots)) ∙ places-append (take n slots) (drop n slots)
 
 -- and so are those of its last ones.
-rest-open : (r : Residual) (labels before current : List ℕ) (w : Way) (n : ℕ) → IsSent r labels before current w → ((i : ℕ) → n ≤ i → i < length w.slots → (slot_at w.slots i).full_at ≢ w.sent)
-    → IsTrail r.links labels (settled r.links r.takes_back w.sent w.slots r.rooms) current (end_of r.links w.start (places_of (take n w.slots))) (places_of (drop n w.slots))
+rest-open : (r : Residual) (labels before current : List ℕ) (w : Way) (n : ℕ) → IsSent r labels before current w
+    → ((i : ℕ) → n ≤ i → i < length w.slots → (slot_at w.slots i).full_at ≢ w.sent)
+    → IsTrail r.links labels (settled r.links r.takes_back w.sent w.slots r.rooms) current (end_of r.links w.start (places_of (take n w.slots)))
+    (places_of (drop n w.slots))
 rest-open r labels before current w n is not_full =
-    IsTrail-open r.links labels before (settled r.links r.takes_back w.sent w.slots r.rooms) current (end_of r.links w.start (places_of (take n w.slots))) (places_of (drop n w.slots))
-    (IsTrail-behind r.links labels before current w.start (places_of (take n w.slots)) (places_of (drop n w.slots)) (subst (IsTrail r.links labels before current w.start) (split-whole w.slots n) is.trail))
+    IsTrail-open r.links labels before (settled r.links r.takes_back w.sent w.slots r.rooms) current (end_of r.links w.start (places_of (take n w.slots)))
+    (places_of (drop n w.slots))
+    (IsTrail-behind r.links labels before current w.start (places_of (take n w.slots)) (places_of (drop n w.slots))
+    (subst (IsTrail r.links labels before current w.start) (split-whole w.slots n) is.trail))
     (λ k d inside.
     let short : length (places_of (drop n w.slots)) ≡ length w.slots - n = length-map (drop n w.slots) (λ (s : Slot). s.place) ∙ length-drop n w.slots in
     let here : n + k < length w.slots = omega (arith, inside, short) in
     let read : get_or (places_of (drop n w.slots)) k d ≡ (slot_at w.slots (n + k)).place =
-    get_or-map (λ (s : Slot). s.place) (drop n w.slots) k (record { place = 0; full_at = 0 }) d (omega (arith, inside, length-map (drop n w.slots) (λ (s : Slot). s.place)))
+    get_or-map (λ (s : Slot). s.place) (drop n w.slots) k (record { place = 0; full_at = 0 }) d
+    (omega (arith, inside, length-map (drop n w.slots) (λ (s : Slot). s.place)))
     ∙ ap (λ (s : Slot). s.place) (get_or-drop n w.slots k (record { place = 0; full_at = 0 })) in
-    let room = slot-open r.links r.takes_back labels w.sent (get_or labels w.start 0) 0 r.rooms w.slots (n + k) is.links is.rooms_are.0 is.small is.descends is.have here (not_full (n + k) (omega arith) here) in
+    let room = slot-open r.links r.takes_back labels w.sent (get_or labels w.start 0) 0 r.rooms w.slots
+    (n + k) is.links is.rooms_are.0 is.small is.descends is.have here (not_full (n + k) (omega arith) here) in
     omega (arith, room, ap (λ p. get_or (settled r.links r.takes_back w.sent w.slots r.rooms) p 0) read))
 
-rest-ends : (r : Residual) (labels before current : List ℕ) (w : Way) (n : ℕ) → IsSent r labels before current w → end_of r.links (end_of r.links w.start (places_of (take n w.slots))) (places_of (drop n w.slots)) ≡ w.goal
+rest-ends : (r : Residual) (labels before current : List ℕ) (w : Way) (n : ℕ) → IsSent r labels before current w
+    → end_of r.links (end_of r.links w.start (places_of (take n w.slots))) (places_of (drop n w.slots)) ≡ w.goal
 rest-ends r labels before current w n is =
-    sym (end_of-append r.links w.start (places_of (take n w.slots)) (places_of (drop n w.slots))) ∙ ap (end_of r.links w.start) (sym (split-whole w.slots n)) ∙ is.ends
+    sym (end_of-append r.links w.start (places_of (take n w.slots)) (places_of (drop n w.slots))) ∙ ap (end_of r.links w.start)
+    (sym (split-whole w.slots n)) ∙ is.ends
 
 -- What the split leaves.
 pub record HasSplit (r : Residual) (labels : List ℕ) (aim : Residual) (current : List ℕ) (w : Way) : Type 0 where
@@ -80,14 +94,17 @@ pub record HasSplit (r : Residual) (labels : List ℕ) (aim : Residual) (current
   pub same : told r w ≡ aim
 
 -- The links from index `first` on, before `behind`, can leave.
-pub middle-leaves : (l : Links) (takes_back : Bool) (labels : List ℕ) (sent top : ℕ) (rooms : List ℕ) (slots : List Slot) (first behind : ℕ) → AreLinks l → length rooms ≡ length l.heads → Descends l labels top 0 (places_of slots) → HaveLeft sent rooms slots → first < behind
-    → (slots ≡ take first slots ++ (take (behind - first) (drop first slots) ++ drop behind slots)) × HaveAllLeft l takes_back sent (take first slots) (take (behind - first) (drop first slots)) (drop behind slots) rooms
+pub middle-leaves : (l : Links) (takes_back : Bool) (labels : List ℕ) (sent top : ℕ) (rooms : List ℕ) (slots : List Slot) (first behind : ℕ) → AreLinks l
+    → length rooms ≡ length l.heads → Descends l labels top 0 (places_of slots) → HaveLeft sent rooms slots → first < behind
+    → (slots ≡ take first slots ++ (take (behind - first) (drop first slots) ++ drop behind slots))
+    × HaveAllLeft l takes_back sent (take first slots) (take (behind - first) (drop first slots)) (drop behind slots) rooms
 middle-leaves l takes_back labels sent top rooms slots first behind links long descends have less =
     let middle : List Slot = take (behind - first) (drop first slots) in
     let sum : first + (behind - first) ≡ behind = omega (arith, less) in
     let last : drop (behind - first) (drop first slots) ≡ drop behind slots = drop-drop (behind - first) first slots ∙ ap (λ n. drop n slots) sum in
     let parts : slots ≡ take first slots ++ (middle ++ drop behind slots) =
-    sym (take-append-drop first slots) ∙ ap (λ (ss : List Slot). take first slots ++ ss) (sym (take-append-drop (behind - first) (drop first slots)) ∙ ap (λ (ss : List Slot). middle ++ ss) last) in (
+    sym (take-append-drop first slots) ∙ ap (λ (ss : List Slot). take first slots ++ ss)
+    (sym (take-append-drop (behind - first) (drop first slots)) ∙ ap (λ (ss : List Slot). middle ++ ss) last) in (
       parts,
       have-all-left l takes_back labels sent top 0 (take first slots) middle (drop behind slots) rooms links long
           (subst (Descends l labels top 0) (ap places_of parts ∙ places-append (take first slots) (middle ++ drop behind slots)) descends)
@@ -119,12 +136,19 @@ has-split r labels before current w next new is joint_is (stays first behind non
     (λ (early : i < first). open_links.before i early)
     (λ (late : first ≤ i). open_links.after i (omega (arith, late, none)) inside)
     (cases_lt i first) in
-    let joins : end_of r.links w.start (places_of (take w.rest w.slots)) ≡ w.joint = ap (λ n. end_of r.links w.start (places_of (take n w.slots))) (sym is.meets) ∙ is.joins in
+    let joins : end_of r.links w.start (places_of (take w.rest w.slots)) ≡ w.joint =
+    ap (λ n. end_of r.links w.start (places_of (take n w.slots))) (sym is.meets) ∙ is.joins in
     rw (same, kept)
     (record {
       way = record {
-        walking = record { current_is = is.current_is; passed = is.passed; trail_is = front-open r labels before current w w.walked is (λ i below inside. not_full i inside) };
-        rest_is = subst (λ v. IsTrail r.links labels after current v (places_of (rest_slots w))) joins (rest-open r labels before current w w.rest is (λ i from inside. not_full i inside));
+        walking = record {
+          current_is = is.current_is;
+          passed = is.passed;
+          trail_is =
+              front-open r labels before current w w.walked is (λ i below inside. not_full i inside);
+        };
+        rest_is = subst (λ v. IsTrail r.links labels after current v (places_of (rest_slots w))) joins
+            (rest-open r labels before current w w.rest is (λ i from inside. not_full i inside));
         ends = ap (λ v. end_of r.links v (places_of (rest_slots w))) (sym joins) ∙ rest-ends r labels before current w w.rest is;
         joint_is = joint_is;
         order = omega (arith, is.meets);
@@ -137,21 +161,31 @@ has-split r labels before current w next new is joint_is (stays first behind non
     })
 has-split r labels before current w next new is joint_is (split_at first behind less within open_links same kept) sums =
     let after : List ℕ = settled r.links r.takes_back w.sent w.slots r.rooms in
-    let left = middle-leaves r.links r.takes_back labels w.sent (get_or labels w.start 0) r.rooms w.slots first behind is.links is.rooms_are.0 is.descends is.have less in
+    let left = middle-leaves r.links r.takes_back labels w.sent (get_or labels w.start 0) r.rooms w.slots first behind is.links is.rooms_are.0 is.descends
+    is.have less in
     let p : ℕ = (slot_at w.slots (behind - 1)).place in
     let one : behind - 1 + 1 ≡ behind = omega (arith, less) in
     let last : places_of (take behind w.slots) ≡ places_of (take (behind - 1) w.slots) ++ p ∷ [] =
-    ap (λ n. places_of (take n w.slots)) (sym one) ∙ ap places_of (take_more w.slots (behind - 1) _ (omega (arith, less, within))) ∙ map_push (λ (s : Slot). s.place) (take (behind - 1) w.slots) (slot_at w.slots (behind - 1)) in
-    let joins : end_of r.links w.start (places_of (take behind w.slots)) ≡ get_or r.links.heads p 0 = ap (end_of r.links w.start) last ∙ end_of-push r.links w.start (places_of (take (behind - 1) w.slots)) p in
+    ap (λ n. places_of (take n w.slots)) (sym one) ∙ ap places_of (take_more w.slots (behind - 1) _ (omega (arith, less, within))) ∙ map_push
+    (λ (s : Slot). s.place) (take (behind - 1) w.slots) (slot_at w.slots (behind - 1)) in
+    let joins : end_of r.links w.start (places_of (take behind w.slots)) ≡ get_or r.links.heads p 0 =
+    ap (end_of r.links w.start) last ∙ end_of-push r.links w.start (places_of (take (behind - 1) w.slots)) p in
     let front = IsTrail-take r.links labels before current w.start behind (places_of w.slots) is.trail in
     let split_sums = subst (λ (x : Residual). AreRooms x.links x.rooms) kept sums in
     rw (same, kept)
     (record {
       way = record {
-        walking = record { current_is = is.current_is; passed = is.passed; trail_is = front-open r labels before current w first is (λ i below inside. open_links.before i below) };
-        rest_is = subst (λ v. IsTrail r.links labels after current v (places_of (drop behind w.slots))) joins (rest-open r labels before current w behind is (λ i from inside. open_links.after i from inside));
+        walking = record {
+          current_is = is.current_is;
+          passed = is.passed;
+          trail_is =
+              front-open r labels before current w first is (λ i below inside. open_links.before i below);
+        };
+        rest_is = subst (λ v. IsTrail r.links labels after current v (places_of (drop behind w.slots))) joins
+            (rest-open r labels before current w behind is (λ i from inside. open_links.after i from inside));
         ends = ap (λ v. end_of r.links v (places_of (drop behind w.slots))) (sym joins) ∙ rest-ends r labels before current w behind is;
-        joint_is = subst (IsNode r.links.nodes) (ap (end_of r.links w.start) (take-map (λ (s : Slot). s.place) behind w.slots) ∙ joins) (end-node r.links labels before current w.start (take behind (places_of w.slots)) is.links is.start_is front);
+        joint_is = subst (IsNode r.links.nodes) (ap (end_of r.links w.start) (take-map (λ (s : Slot). s.place) behind w.slots) ∙ joins)
+            (end-node r.links labels before current w.start (take behind (places_of w.slots)) is.links is.start_is front);
         order = omega (arith, less);
         within = within;
         one_slot_each = is.one_slot_each;

@@ -1,5 +1,6 @@
 -- The places of the listed pairs, each beside its index, are those of all pairs.
-use Rattle.std.proofs.Common.{ℕ, ◌≡◌, ◌≢◌, ◌+◌, ◌^◌, ◌<◌, ◌≤◌, ◌⊎◌, zero, suc, inl, inr, List, [], ◌∷◌, length, map, get_or, Option, Some, None, refl, ap, sym, ◌∙◌, subst, ⊎_elim, arith}
+use Rattle.std.proofs.Common.{ℕ, ◌≡◌, ◌≢◌, ◌+◌, ◌^◌, ◌<◌, ◌≤◌, ◌⊎◌, zero, suc, inl, inr, List, [], ◌∷◌, length, map, get_or, Option, Some, None, refl, ap, sym}
+use Rattle.std.proofs.Common.{◌∙◌, subst, ⊎_elim, arith}
 use Rattle.std.proofs.lemmas.Bool.{cases_eq, eq-eqb, ne_eqb, cond-true}
 use Rattle.std.proofs.lemmas.List.FromFn.{get_or-map-range_with_len, length-map-range_with_len}
 use Rattle.std.proofs.lemmas.List.{ext_get_or, get_or-map, length-map}
@@ -18,14 +19,17 @@ pub record AreSpread (indices places : List ℕ) (count : ℕ) (all : List ℕ) 
   pub others : (k : ℕ) → k < count → (get_or all k 0 ≡ no_place) ⊎ ((i : ℕ) × (i < length indices) × (get_or indices i 0 ≡ k))
 
 -- beside a listed index stands its place,
-pub beside-at : (indices places : List ℕ) (i : ℕ) → length places ≡ length indices → ((i j : ℕ) → i < j → j < length indices → get_or indices i 0 < get_or indices j 0) → i < length indices → place_beside indices places (get_or indices i 0) ≡ get_or places i 0
+pub beside-at : (indices places : List ℕ) (i : ℕ) → length places ≡ length indices
+    → ((i j : ℕ) → i < j → j < length indices → get_or indices i 0 < get_or indices j 0) → i < length indices
+    → place_beside indices places (get_or indices i 0) ≡ get_or places i 0
 beside-at [] places i one_each ascending h = absurd (omega (arith, h))
 beside-at (j ∷ indices) [] i one_each ascending h = absurd (omega (arith, one_each))
 beside-at (j ∷ indices) (place ∷ places) zero one_each ascending h = rw (eq-eqb j j refl) refl
 beside-at (j ∷ indices) (place ∷ places) (suc i) one_each ascending h =
     let above : j < get_or indices i 0 = ascending 0 (suc i) (omega arith) h in
     rw (ne_eqb j (get_or indices i 0) (λ e. absurd (omega (arith, above, e))))
-    (beside-at indices places i (omega (arith, one_each)) (λ a b before within. ascending (suc a) (suc b) (omega (arith, before)) (omega (arith, within))) (omega (arith, h)))
+    (beside-at indices places i (omega (arith, one_each)) (λ a b before within. ascending (suc a) (suc b) (omega (arith, before)) (omega (arith, within)))
+    (omega (arith, h)))
 
 -- and beside any other none.
 pub beside-cases : (indices places : List ℕ) (k : ℕ) → (place_beside indices places k ≡ no_place) ⊎ ((i : ℕ) × (i < length indices) × (get_or indices i 0 ≡ k))
@@ -57,7 +61,8 @@ AreSpread-spread indices places count are = record {
 }
 
 -- Listed indices do not decrease.
-pub not_decreasing : (indices : List ℕ) → ((i j : ℕ) → i < j → j < length indices → get_or indices i 0 < get_or indices j 0) → (i j : ℕ) → i ≤ j → j < length indices → get_or indices i 0 ≤ get_or indices j 0
+pub not_decreasing : (indices : List ℕ) → ((i j : ℕ) → i < j → j < length indices → get_or indices i 0 < get_or indices j 0) → (i j : ℕ) → i ≤ j
+    → j < length indices → get_or indices i 0 ≤ get_or indices j 0
 not_decreasing indices ascending i j before within =
     ⊎_elim
     (λ (same : i ≡ j). omega (arith, ap (λ k. get_or indices k 0) same))
@@ -65,7 +70,8 @@ not_decreasing indices ascending i j before within =
     (cases_eq i j)
 
 -- The listed indices leave out only what has no place.
-pub covers-listed : (indices places : List ℕ) (count : ℕ) → AreBeside indices places count → Covers (length (spread indices places count)) (λ k. get_or (spread indices places count) k 0 ≡ no_place) indices
+pub covers-listed : (indices places : List ℕ) (count : ℕ) → AreBeside indices places count
+    → Covers (length (spread indices places count)) (λ k. get_or (spread indices places count) k 0 ≡ no_place) indices
 covers-listed indices places count are =
     let all = AreSpread-spread indices places count are in
     record {
@@ -75,7 +81,8 @@ covers-listed indices places count are =
     }
 
 -- What has no place is no pair.
-pub covers-pairs : (l : Links) (rooms places indices : List ℕ) → Covers (length places) (λ k. get_or places k 0 ≡ no_place) indices → Covers (length (pairs_at l places rooms)) (λ k. pair_number (pairs_at l places rooms) k ≡ None) indices
+pub covers-pairs : (l : Links) (rooms places indices : List ℕ) → Covers (length places) (λ k. get_or places k 0 ≡ no_place) indices
+    → Covers (length (pairs_at l places rooms)) (λ k. pair_number (pairs_at l places rooms) k ≡ None) indices
 covers-pairs l rooms places indices covers =
     subst (λ n. Covers n (λ k. pair_number (pairs_at l places rooms) k ≡ None) indices) (sym (length-map places (pair_at l rooms)))
     (Covers-weaker (length places) _ _ indices
@@ -83,7 +90,8 @@ covers-pairs l rooms places indices covers =
     covers)
 
 -- Those that are listed are pairs.
-pub ArePairs-listed : (nodes : ℕ) (pairs : List (Option Pair)) (indices : List ℕ) (listed : List Pair) → AreListed pairs (length pairs) indices listed → ArePairs nodes pairs → ArePairs nodes (map Some listed)
+pub ArePairs-listed : (nodes : ℕ) (pairs : List (Option Pair)) (indices : List ℕ) (listed : List Pair) → AreListed pairs (length pairs) indices listed
+    → ArePairs nodes pairs → ArePairs nodes (map Some listed)
 ArePairs-listed nodes pairs indices listed are all =
     let long : length (map Some listed) ≡ length indices = length-map listed Some ∙ are.one_each in
     record {
@@ -97,7 +105,8 @@ ArePairs-listed nodes pairs indices listed are all =
     }
 
 module _ (l : Links) (rooms : List ℕ) (pairs : List (Option Pair)) (indices along all : List ℕ) (listed : List Pair)
-    (are : AreListed pairs (length pairs) indices listed) (one_each : length along ≡ length indices) (put : AreSpread indices along (length pairs) all) (places : ArePlaces l along) where
+    (are : AreListed pairs (length pairs) indices listed) (one_each : length along ≡ length indices) (put : AreSpread indices along (length pairs) all)
+    (places : ArePlaces l along) where
   -- A link of a listed pair is one of that pair,
   of-all : (p i : ℕ) → IsOf l along p i → IsOf l all p (get_or indices i 0)
   of-all p i of =
@@ -119,7 +128,13 @@ module _ (l : Links) (rooms : List ℕ) (pairs : List (Option Pair)) (indices al
       (λ (none : get_or all k 0 ≡ no_place). absurd (of.1 none))
       (λ (has : (i : ℕ) × (i < length indices) × (get_or indices i 0 ≡ k)).
       let at : get_or all k 0 ≡ get_or along has.0 0 = ap (λ j. get_or all j 0) (sym has.2) ∙ put.at has.0 has.1 in
-      let r : IsOfListed p k = record { index = has.0; within = has.1; is = has.2; of = (omega (arith, has.1, one_each), λ none. of.1 (at ∙ none), rw at at of.2) } in r)
+      let r : IsOfListed p k = record {
+        index = has.0;
+        within = has.1;
+        is = has.2;
+        of =
+            (omega (arith, has.1, one_each), λ none. of.1 (at ∙ none), rw at at of.2);
+      } in r)
       (put.others k (omega (arith, of.0, put.long)))
 
   pub ArePlaces-spread : length pairs ≤ 2 ^ 27 + 1 → ArePlaces l all
@@ -145,7 +160,8 @@ module _ (l : Links) (rooms : List ℕ) (pairs : List (Option Pair)) (indices al
   }
 
   -- The pair at the place of a listed pair is that pair.
-  pair-listed : pairs_at l along rooms ≡ map Some listed → (k i : ℕ) → i < length indices → get_or indices i 0 ≡ k → pair_at l rooms (get_or all k 0) ≡ get_or pairs k None
+  pair-listed : pairs_at l along rooms ≡ map Some listed → (k i : ℕ) → i < length indices → get_or indices i 0 ≡ k
+      → pair_at l rooms (get_or all k 0) ≡ get_or pairs k None
   pair-listed made k i within is =
       ap (λ j. pair_at l rooms (get_or all j 0)) (sym is)
       ∙ ap (pair_at l rooms) (put.at i within)
@@ -171,7 +187,8 @@ module _ (l : Links) (rooms : List ℕ) (pairs : List (Option Pair)) (indices al
       (put.others k within))
 
 -- There is a place for each listed pair.
-pub one_place_each : (l : Links) (rooms along indices : List ℕ) (listed : List Pair) → pairs_at l along rooms ≡ map Some listed → length listed ≡ length indices → length along ≡ length indices
+pub one_place_each : (l : Links) (rooms along indices : List ℕ) (listed : List Pair) → pairs_at l along rooms ≡ map Some listed → length listed ≡ length indices
+    → length along ≡ length indices
 one_place_each l rooms along indices listed made long =
     sym (length-map along (pair_at l rooms)) ∙ ap (λ (ps : List (Option Pair)). length ps) made ∙ length-map listed Some ∙ long
 
@@ -181,11 +198,18 @@ pub record IsSpread (l : Links) (rooms : List ℕ) (pairs : List (Option Pair)) 
   pub places_are : ArePlaces l (spread indices along (length pairs))
   pub pairs_are : pairs_at l (spread indices along (length pairs)) rooms ≡ pairs
 
-pub is-spread : (l : Links) (rooms : List ℕ) (pairs : List (Option Pair)) (indices along : List ℕ) (listed : List Pair) → AreListed pairs (length pairs) indices listed → length pairs ≤ 2 ^ 27 + 1 → ArePlaces l along → pairs_at l along rooms ≡ map Some listed
+pub is-spread : (l : Links) (rooms : List ℕ) (pairs : List (Option Pair)) (indices along : List ℕ) (listed : List Pair)
+    → AreListed pairs (length pairs) indices listed → length pairs ≤ 2 ^ 27 + 1 → ArePlaces l along → pairs_at l along rooms ≡ map Some listed
     → IsSpread l rooms pairs indices along
 is-spread l rooms pairs indices along listed are most places made =
     let one_each = one_place_each l rooms along indices listed made are.one_each in
-    let beside : AreBeside indices along (length pairs) = record { one_each = one_each; below = are.below; ascending = are.ascending; at_most = omega (arith, most) } in
+    let beside : AreBeside indices along (length pairs) = record {
+      one_each = one_each;
+      below = are.below;
+      ascending = are.ascending;
+      at_most =
+          omega (arith, most);
+    } in
     let put = AreSpread-spread indices along (length pairs) beside in
     record {
       beside = beside;

@@ -1,5 +1,6 @@
 -- Giving one label to nodes without one, link by link.
-use Rattle.std.proofs.Common.{ℕ, ◌≡◌, ◌≢◌, ◌+◌, ◌≤◌, ◌<◌, ◌⊎◌, ⊎_elim, inl, inr, List, [], ◌∷◌, ◌++◌, length, set, slice_index, refl, sym, ◌∙◌, arith, true, false, ◌==◌, cond, Contains}
+use Rattle.std.proofs.Common.{ℕ, ◌≡◌, ◌≢◌, ◌+◌, ◌≤◌, ◌<◌, ◌⊎◌, ⊎_elim, inl, inr, List, [], ◌∷◌, ◌++◌, length, set, slice_index, refl, sym, ◌∙◌, arith, true}
+use Rattle.std.proofs.Common.{false, ◌==◌, cond, Contains}
 use Rattle.std.proofs.lemmas.Bool.Decides.{eqb_tells}
 use Rattle.std.proofs.lemmas.List.{get_or-set_same, get_or-set_other, length_push}
 use Rattle.std.proofs.lemmas.List.Sums.{sum_by-set}
@@ -7,7 +8,8 @@ use Rattle.std.proofs.lemmas.List.Elements.{Contains-append_left, Contains-push,
 use Rattle.dmf_path.specs.Labels.{no_label, unlabelled_count, IsLedTo, Spreads}
 
 -- one node without a label less
-pub unlabelled_count-set : (labels : List ℕ) (v label : ℕ) → v < length labels → slice_index labels v ≡ no_label → label ≢ no_label → 1 + unlabelled_count (set labels v label) ≡ unlabelled_count labels
+pub unlabelled_count-set : (labels : List ℕ) (v label : ℕ) → v < length labels → slice_index labels v ≡ no_label → label ≢ no_label
+    → 1 + unlabelled_count (set labels v label) ≡ unlabelled_count labels
 unlabelled_count-set labels v label within none some =
     let f : ℕ → ℕ = λ x. cond (x == no_label) 1 0 in
     let sums = sum_by-set f labels v label 0 within in
@@ -19,7 +21,8 @@ unlabelled_count-set labels v label within none some =
     omega (arith, sums, was, gone)
 
 -- what a node's label is once node `v` is given one
-pub cases-set : (labels : List ℕ) (v u label : ℕ) → v < length labels → ((u ≡ v) × (slice_index (set labels v label) u ≡ label)) ⊎ ((u ≢ v) × (slice_index (set labels v label) u ≡ slice_index labels u))
+pub cases-set : (labels : List ℕ) (v u label : ℕ) → v < length labels → ((u ≡ v) × (slice_index (set labels v label) u ≡ label))
+    ⊎ ((u ≢ v) × (slice_index (set labels v label) u ≡ slice_index labels u))
 cases-set labels v u label within =
     ⊎_elim
     (λ (here : ((u == v) ≡ true) × (u ≡ v)). inl (here.1, rw here.1 (get_or-set_same labels v label 0 within)))
@@ -37,7 +40,8 @@ led_to-next heads opens from end v led = record {
 }
 
 -- a link that is not open, or leads to a node that has a label
-pub spreads-skip : (heads opens : List ℕ) (from end label : ℕ) (old new fresh : List ℕ) → Spreads heads opens from end label old new fresh → (slice_index opens end ≡ 1 → slice_index new (slice_index heads end) ≢ no_label) → Spreads heads opens from (end + 1) label old new fresh
+pub spreads-skip : (heads opens : List ℕ) (from end label : ℕ) (old new fresh : List ℕ) → Spreads heads opens from end label old new fresh
+    → (slice_index opens end ≡ 1 → slice_index new (slice_index heads end) ≢ no_label) → Spreads heads opens from (end + 1) label old new fresh
 spreads-skip heads opens from end label old new fresh so_far has = record {
   kept = so_far.kept;
   done = λ p after before opened. ⊎_elim
@@ -51,11 +55,14 @@ spreads-skip heads opens from end label old new fresh so_far has = record {
 }
 
 -- an open link that leads to a node without a label
-pub spreads-next : (heads opens : List ℕ) (from end label : ℕ) (old new fresh : List ℕ) → Spreads heads opens from end label old new fresh → from ≤ end → slice_index opens end ≡ 1 → slice_index new (slice_index heads end) ≡ no_label → slice_index heads end < length new → label ≢ no_label → Spreads heads opens from (end + 1) label old (set new (slice_index heads end) label) (fresh ++ slice_index heads end ∷ [])
+pub spreads-next : (heads opens : List ℕ) (from end label : ℕ) (old new fresh : List ℕ) → Spreads heads opens from end label old new fresh → from ≤ end
+    → slice_index opens end ≡ 1 → slice_index new (slice_index heads end) ≡ no_label → slice_index heads end < length new → label ≢ no_label
+    → Spreads heads opens from (end + 1) label old (set new (slice_index heads end) label) (fresh ++ slice_index heads end ∷ [])
 spreads-next heads opens from end label old new fresh so_far range opened none within some =
     let head = slice_index heads end in
     let next : List ℕ = set new head label in
-    let after : (v : ℕ) → ((v ≡ head) × (slice_index next v ≡ label)) ⊎ ((v ≢ head) × (slice_index next v ≡ slice_index new v)) = λ v. cases-set new head v label within in
+    let after : (v : ℕ) → ((v ≡ head) × (slice_index next v ≡ label)) ⊎ ((v ≢ head) × (slice_index next v ≡ slice_index new v)) =
+    λ v. cases-set new head v label within in
     let still : (v : ℕ) → slice_index new v ≢ no_label → slice_index next v ≡ slice_index new v = λ v has. ⊎_elim
     (λ (here : (v ≡ head) × (slice_index next v ≡ label)). absurd (has (rw here.0 none)))
     (λ (elsewhere : (v ≢ head) × (slice_index next v ≡ slice_index new v)). elsewhere.1)
@@ -63,14 +70,16 @@ spreads-next heads opens from end label old new fresh so_far range opened none w
     record {
       kept = λ v has. let same = so_far.kept v has in still v (λ gone. has (sym same ∙ gone)) ∙ same;
       done = λ p from_first before leads. ⊎_elim
-          (λ (here : ((p == end) ≡ true) × (p ≡ end)). let same : slice_index next head ≡ label = get_or-set_same new head label 0 within in rw here.1 (λ gone. some (sym same ∙ gone)))
+          (λ (here : ((p == end) ≡ true) × (p ≡ end)). let same : slice_index next head ≡ label = get_or-set_same new head label 0 within in
+          rw here.1 (λ gone. some (sym same ∙ gone)))
           (λ (elsewhere : ((p == end) ≡ false) × (p ≢ end)).
           let has = so_far.done p from_first (omega (arith, before, elsewhere.1)) leads in
           λ gone. has (sym (still (slice_index heads p) has) ∙ gone))
           (eqb_tells p end);
       listed = λ v inside was has. ⊎_elim
           (λ (here : (v ≡ head) × (slice_index next v ≡ label)). rw here.0 (Contains-push fresh head))
-          (λ (elsewhere : (v ≢ head) × (slice_index next v ≡ slice_index new v)). Contains-append_left fresh (head ∷ []) v (so_far.listed v inside was (λ gone. has (elsewhere.1 ∙ gone))))
+          (λ (elsewhere : (v ≢ head) × (slice_index next v ≡ slice_index new v)). Contains-append_left fresh (head ∷ []) v
+          (so_far.listed v inside was (λ gone. has (elsewhere.1 ∙ gone))))
           (after v);
       labelled = λ v listed. ⊎_elim
           (λ (was : Contains fresh v). let same = so_far.labelled v was in still v (λ gone. some (sym same ∙ gone)) ∙ same)

@@ -32,6 +32,7 @@ abbrev pub path_on : Links → List ℕ → List ℕ → List ℕ → List Step
 path_on l places rooms ps = map (step_on l places rooms) ps
 
 -- The bottleneck is the same on the links as on the path.
-pub bottleneck_up_to-path_on : (l : Links) (places rooms trail : List ℕ) (limit : ℕ) → bottleneck_up_to limit (path_on l places rooms trail) ≡ bottleneck_on rooms limit trail
+pub bottleneck_up_to-path_on : (l : Links) (places rooms trail : List ℕ) (limit : ℕ)
+    → bottleneck_up_to limit (path_on l places rooms trail) ≡ bottleneck_on rooms limit trail
 bottleneck_up_to-path_on l places rooms [] limit = refl
 bottleneck_up_to-path_on l places rooms (p ∷ ps) limit = ap (min (get_or rooms p 0)) (bottleneck_up_to-path_on l places rooms ps limit)

@@ -12,7 +12,8 @@ use Rattle.dmf_path.proofs.Descending.{Descends, descends-raised, descends-appen
 use Rattle.dmf_path.proofs.Settled.{places-append, room-off}
 
 -- Another current link, of a node from which the trail does not begin and that is not lower, leaves the trail.
-pub IsTrail-set_above : (l : Links) (labels rooms current : List ℕ) (v : ℕ) (ps : List ℕ) (x y : ℕ) → IsTrail l labels rooms current v ps → v ≢ x → get_or labels v 0 ≤ get_or labels x 0 → IsTrail l labels rooms (set current x y) v ps
+pub IsTrail-set_above : (l : Links) (labels rooms current : List ℕ) (v : ℕ) (ps : List ℕ) (x y : ℕ) → IsTrail l labels rooms current v ps → v ≢ x
+    → get_or labels v 0 ≤ get_or labels x 0 → IsTrail l labels rooms (set current x y) v ps
 IsTrail-set_above l labels rooms current v [] x y trail other low = tt
 IsTrail-set_above l labels rooms current v (p ∷ ps) x y trail other low = (
   trail.0,
@@ -22,38 +23,55 @@ IsTrail-set_above l labels rooms current v (p ∷ ps) x y trail other low = (
 )
 
 -- how far the labels fall in each part
-pub walked-label : (l : Links) (labels rooms current : List ℕ) (w : Way) → IsUnderWay l labels rooms current w → w.walked + get_or labels (end_of l w.start (places_of (walked_slots w))) 0 ≡ length w.slots
+pub walked-label : (l : Links) (labels rooms current : List ℕ) (w : Way) → IsUnderWay l labels rooms current w
+    → w.walked + get_or labels (end_of l w.start (places_of (walked_slots w))) 0 ≡ length w.slots
 walked-label l labels rooms current w way =
-    let long : length (places_of (walked_slots w)) ≡ w.walked = length-map (walked_slots w) (λ s. s.place) ∙ length-take-le w.walked w.slots (omega (arith, way.order, way.within)) in
+    let long : length (places_of (walked_slots w)) ≡ w.walked = length-map (walked_slots w) (λ s. s.place) ∙ length-take-le w.walked w.slots
+    (omega (arith, way.order, way.within)) in
     omega (arith, long, way.one_slot_each, label-trail l labels rooms current w.start (places_of (walked_slots w)) way.walking.trail_is)
 
 pub rest-label : (l : Links) (labels rooms current : List ℕ) (w : Way) → IsUnderWay l labels rooms current w → w.rest + get_or labels w.joint 0 ≡ length w.slots
 rest-label l labels rooms current w way =
     let long : length (places_of (rest_slots w)) ≡ length w.slots - w.rest = length-map (rest_slots w) (λ s. s.place) ∙ length-drop w.rest w.slots in
-    omega (arith, long, way.within, way.goal_label, ap (λ u. get_or labels u 0) way.ends, label-trail l labels rooms current w.joint (places_of (rest_slots w)) way.rest_is)
+    omega (
+      arith,
+      long,
+      way.within,
+      way.goal_label,
+      ap (λ u. get_or labels u 0) way.ends,
+      label-trail l labels rooms current w.joint (places_of (rest_slots w)) way.rest_is,
+    )
 
 -- The rest begins no higher than the walk has come.
-pub joint-low : (l : Links) (labels rooms current : List ℕ) (w : Way) → IsUnderWay l labels rooms current w → get_or labels w.joint 0 ≤ get_or labels (end_of l w.start (places_of (walked_slots w))) 0
+pub joint-low : (l : Links) (labels rooms current : List ℕ) (w : Way) → IsUnderWay l labels rooms current w
+    → get_or labels w.joint 0 ≤ get_or labels (end_of l w.start (places_of (walked_slots w))) 0
 joint-low l labels rooms current w way = omega (arith, walked-label l labels rooms current w way, rest-label l labels rooms current w way, way.order)
 
 -- The links of both parts descend.
-pub descends-walked : (l : Links) (labels rooms current : List ℕ) (w : Way) → AreLinks l → IsNode l.nodes w.start → IsUnderWay l labels rooms current w → Descends l labels (get_or labels w.start 0) (get_or labels (end_of l w.start (places_of (walked_slots w))) 0) (places_of (walked_slots w))
-descends-walked l labels rooms current w links start way = descends-trail l labels rooms current w.start (places_of (walked_slots w)) links start way.walking.trail_is
+pub descends-walked : (l : Links) (labels rooms current : List ℕ) (w : Way) → AreLinks l → IsNode l.nodes w.start → IsUnderWay l labels rooms current w
+    → Descends l labels (get_or labels w.start 0) (get_or labels (end_of l w.start (places_of (walked_slots w))) 0) (places_of (walked_slots w))
+descends-walked l labels rooms current w links start way = descends-trail l labels rooms current w.start
+    (places_of (walked_slots w)) links start way.walking.trail_is
 
-pub descends-rest : (l : Links) (labels rooms current : List ℕ) (w : Way) → AreLinks l → IsUnderWay l labels rooms current w → Descends l labels (get_or labels w.joint 0) 0 (places_of (rest_slots w))
+pub descends-rest : (l : Links) (labels rooms current : List ℕ) (w : Way) → AreLinks l → IsUnderWay l labels rooms current w
+    → Descends l labels (get_or labels w.joint 0) 0 (places_of (rest_slots w))
 descends-rest l labels rooms current w links way =
     let e : get_or labels (end_of l w.joint (places_of (rest_slots w))) 0 ≡ 0 = ap (λ u. get_or labels u 0) way.ends ∙ way.goal_label in
     subst (λ bottom. Descends l labels (get_or labels w.joint 0) bottom (places_of (rest_slots w))) e
     (descends-trail l labels rooms current w.joint (places_of (rest_slots w)) links way.joint_is way.rest_is)
 
-pub descends-way : (l : Links) (labels rooms current : List ℕ) (w : Way) → AreLinks l → IsNode l.nodes w.start → IsUnderWay l labels rooms current w → Descends l labels (get_or labels w.start 0) 0 (places_of (walked_slots w) ++ places_of (rest_slots w))
+pub descends-way : (l : Links) (labels rooms current : List ℕ) (w : Way) → AreLinks l → IsNode l.nodes w.start → IsUnderWay l labels rooms current w
+    → Descends l labels (get_or labels w.start 0) 0 (places_of (walked_slots w) ++ places_of (rest_slots w))
 descends-way l labels rooms current w links start way =
-    descends-append l labels (get_or labels w.start 0) (get_or labels (end_of l w.start (places_of (walked_slots w))) 0) 0 (places_of (walked_slots w)) (places_of (rest_slots w))
+    descends-append l labels (get_or labels w.start 0) (get_or labels (end_of l w.start (places_of (walked_slots w))) 0) 0 (places_of (walked_slots w))
+    (places_of (rest_slots w))
     (descends-walked l labels rooms current w links start way)
-    (descends-raised l labels (get_or labels w.joint 0) (get_or labels (end_of l w.start (places_of (walked_slots w))) 0) 0 (places_of (rest_slots w)) (joint-low l labels rooms current w way) (descends-rest l labels rooms current w links way))
+    (descends-raised l labels (get_or labels w.joint 0) (get_or labels (end_of l w.start (places_of (walked_slots w))) 0) 0 (places_of (rest_slots w))
+    (joint-low l labels rooms current w way) (descends-rest l labels rooms current w links way))
 
 -- A link of a node from which the trail does not begin, and that is not lower, is none of its links.
-off-trail : (l : Links) (labels rooms current : List ℕ) (v : ℕ) (ps : List ℕ) (x p : ℕ) → AreLinks l → IsNode l.nodes v → IsTrail l labels rooms current v ps → v ≢ x → get_or labels v 0 ≤ get_or labels x 0 → tail_of l p ≡ x → IsOff p ps
+off-trail : (l : Links) (labels rooms current : List ℕ) (v : ℕ) (ps : List ℕ) (x p : ℕ) → AreLinks l → IsNode l.nodes v → IsTrail l labels rooms current v ps
+    → v ≢ x → get_or labels v 0 ≤ get_or labels x 0 → tail_of l p ≡ x → IsOff p ps
 off-trail l labels rooms current v [] x p links node trail other low tail = tt
 off-trail l labels rooms current v (q ∷ ps) x p links node trail other low tail =
     let head : ℕ = get_or l.heads q 0 in
@@ -70,30 +88,46 @@ pub record IsFree (l : Links) (w : Way) (p : ℕ) : Type 0 where
   pub rest : IsOff p (places_of (rest_slots w))
   pub partner : IsOff (get_or l.partners p 0) (places_of (filled_slots w))
 
-pub is-free : (l : Links) (labels rooms current : List ℕ) (w : Way) (node p : ℕ) → AreLinks l → IsNode l.nodes w.start → IsNode l.nodes node → IsUnderWay l labels rooms current w
-    → end_of l w.start (places_of (walked_slots w)) ≡ node → node ≢ w.joint → LiesAt l node p → get_or labels (get_or l.heads p 0) 0 + 1 ≡ get_or labels node 0 → IsFree l w p
+pub is-free : (l : Links) (labels rooms current : List ℕ) (w : Way) (node p : ℕ) → AreLinks l → IsNode l.nodes w.start → IsNode l.nodes node
+    → IsUnderWay l labels rooms current w
+    → end_of l w.start (places_of (walked_slots w)) ≡ node → node ≢ w.joint → LiesAt l node p → get_or labels (get_or l.heads p 0) 0 + 1 ≡ get_or labels node 0
+    → IsFree l w p
 is-free l labels rooms current w node p links start is_node way arrives other lies falls =
     let within = lies-within l node p links is_node lies in
     let tail : tail_of l p ≡ node = links.at_tail node p is_node lies in
     let low = joint-low l labels rooms current w way in
-    let here : get_or labels (end_of l w.start (places_of (walked_slots w))) 0 ≡ get_or labels (tail_of l p) 0 = ap (λ u. get_or labels u 0) (arrives ∙ sym tail) in
+    let here : get_or labels (end_of l w.start (places_of (walked_slots w))) 0 ≡ get_or labels (tail_of l p) 0 =
+    ap (λ u. get_or labels u 0) (arrives ∙ sym tail) in
     record {
       within = within;
-      walked = off-below l labels (get_or labels w.start 0) (get_or labels (end_of l w.start (places_of (walked_slots w))) 0) p (places_of (walked_slots w)) (descends-walked l labels rooms current w links start way) (omega (arith, here));
-      rest = off-trail l labels rooms current w.joint (places_of (rest_slots w)) node p links way.joint_is way.rest_is (λ e. other (sym e)) (omega (arith, low, ap (λ u. get_or labels u 0) arrives)) tail;
-      partner = rw places-append (off-partner l labels (get_or labels w.start 0) 0 p (places_of (walked_slots w) ++ places_of (rest_slots w)) links within (falls ∙ ap (λ u. get_or labels u 0) (sym tail)) (descends-way l labels rooms current w links start way));
+      walked = off-below l labels (get_or labels w.start 0) (get_or labels (end_of l w.start (places_of (walked_slots w))) 0) p (places_of (walked_slots w))
+          (descends-walked l labels rooms current w links start way) (omega (arith, here));
+      rest = off-trail l labels rooms current w.joint (places_of (rest_slots w)) node p links way.joint_is way.rest_is (λ e. other (sym e))
+          (omega (arith, low, ap (λ u. get_or labels u 0) arrives)) tail;
+      partner = rw places-append (off-partner l labels (get_or labels w.start 0) 0 p (places_of (walked_slots w) ++ places_of (rest_slots w)) links within
+          (falls ∙ ap (λ u. get_or labels u 0) (sym tail)) (descends-way l labels rooms current w links start way));
     }
 
 -- and its room is as it is told.
-pub free-room : (l : Links) (takes_back : Bool) (w : Way) (rooms : List ℕ) (p : ℕ) → length rooms ≡ length l.heads → IsFree l w p → get_or (rooms_with l takes_back w rooms) p 0 ≡ get_or rooms p 0
+pub free-room : (l : Links) (takes_back : Bool) (w : Way) (rooms : List ℕ) (p : ℕ) → length rooms ≡ length l.heads → IsFree l w p
+    → get_or (rooms_with l takes_back w rooms) p 0 ≡ get_or rooms p 0
 free-room l takes_back w rooms p long free =
     room-off l takes_back w.sent (filled_slots w) rooms p (omega (arith, free.within, long))
     (rw places-append (off-append p (places_of (walked_slots w)) (places_of (rest_slots w)) free.walked free.rest)) free.partner
 
 -- Where the walk has come to the goal, it is where the rest begins.
-pub goal-joint : (l : Links) (labels rooms current : List ℕ) (w : Way) (node : ℕ) → IsUnderWay l labels rooms current w → end_of l w.start (places_of (walked_slots w)) ≡ node → node ≢ w.joint → node ≢ w.goal
+pub goal-joint : (l : Links) (labels rooms current : List ℕ) (w : Way) (node : ℕ) → IsUnderWay l labels rooms current w
+    → end_of l w.start (places_of (walked_slots w)) ≡ node → node ≢ w.joint → node ≢ w.goal
 goal-joint l labels rooms current w node way arrives other same =
     let none : get_or labels node 0 ≡ 0 = ap (λ u. get_or labels u 0) same ∙ way.goal_label in
-    let high : w.rest ≡ length w.slots = omega (arith, none, walked-label l labels rooms current w way, ap (λ u. get_or labels u 0) arrives, way.order, way.within) in
-    let empty : places_of (rest_slots w) ≡ [] = nil_from_length (places_of (rest_slots w)) (length-map (rest_slots w) (λ s. s.place) ∙ length-drop w.rest w.slots ∙ omega (arith, high)) in
+    let high : w.rest ≡ length w.slots = omega (
+      arith,
+      none,
+      walked-label l labels rooms current w way,
+      ap (λ u. get_or labels u 0) arrives,
+      way.order,
+      way.within,
+    ) in
+    let empty : places_of (rest_slots w) ≡ [] = nil_from_length (places_of (rest_slots w))
+    (length-map (rest_slots w) (λ s. s.place) ∙ length-drop w.rest w.slots ∙ omega (arith, high)) in
     other (same ∙ sym way.ends ∙ ap (λ ps. end_of l w.joint ps) empty)

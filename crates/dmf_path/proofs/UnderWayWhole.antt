@@ -1,5 +1,6 @@
 -- A path from the start to the goal, its links in all slots: more is sent along it, and it is split.
-use Rattle.std.proofs.Common.{ℕ, ◌≡◌, ◌≢◌, ◌+◌, ◌-◌, ◌^◌, ◌<◌, ◌≤◌, Bool, List, [], ◌∷◌, ◌++◌, length, take, drop, get_or, refl, ap, sym, ◌∙◌, subst, ⊎_elim, arith}
+use Rattle.std.proofs.Common.{ℕ, ◌≡◌, ◌≢◌, ◌+◌, ◌-◌, ◌^◌, ◌<◌, ◌≤◌, Bool, List, [], ◌∷◌, ◌++◌, length, take, drop, get_or, refl, ap, sym, ◌∙◌, subst, ⊎_elim}
+use Rattle.std.proofs.Common.{arith}
 use Rattle.std.proofs.lemmas.Bool.{cases_lt}
 use Rattle.std.proofs.lemmas.List.{take-append-drop, drop_more}
 use Rattle.dmf_path.specs.declared.trail.Slot.{Slot}
@@ -15,11 +16,17 @@ use Rattle.dmf_path.proofs.Leaving.{HaveLeft-split}
 use Rattle.dmf_path.proofs.UnderWay.{walked-label, rest-label}
 
 -- a trail that goes on with another
-pub IsTrail-append : (l : Links) (labels rooms current : List ℕ) (v : ℕ) (ps qs : List ℕ) → IsTrail l labels rooms current v ps → IsTrail l labels rooms current (end_of l v ps) qs → IsTrail l labels rooms current v (ps ++ qs)
+pub IsTrail-append : (l : Links) (labels rooms current : List ℕ) (v : ℕ) (ps qs : List ℕ) → IsTrail l labels rooms current v ps
+    → IsTrail l labels rooms current (end_of l v ps) qs → IsTrail l labels rooms current v (ps ++ qs)
 IsTrail-append l labels rooms current v [] qs first later = later
-IsTrail-append l labels rooms current v (p ∷ ps) qs first later = (first.0, first.1, IsTrail-append l labels rooms current (get_or l.heads p 0) ps qs first.2 later)
+IsTrail-append l labels rooms current v (p ∷ ps) qs first later = (
+  first.0,
+  first.1,
+  IsTrail-append l labels rooms current (get_or l.heads p 0) ps qs first.2 later,
+)
 
-pub IsTrail-behind : (l : Links) (labels rooms current : List ℕ) (v : ℕ) (ps qs : List ℕ) → IsTrail l labels rooms current v (ps ++ qs) → IsTrail l labels rooms current (end_of l v ps) qs
+pub IsTrail-behind : (l : Links) (labels rooms current : List ℕ) (v : ℕ) (ps qs : List ℕ) → IsTrail l labels rooms current v (ps ++ qs)
+    → IsTrail l labels rooms current (end_of l v ps) qs
 IsTrail-behind l labels rooms current v [] qs trail = trail
 IsTrail-behind l labels rooms current v (p ∷ ps) qs trail = IsTrail-behind l labels rooms current (get_or l.heads p 0) ps qs trail.2
 
@@ -34,11 +41,18 @@ pub record IsWhole (l : Links) (labels after current : List ℕ) (w : Way) : Typ
   pub trail : IsTrail l labels after current w.start (places_of w.slots)
   pub ends : end_of l w.start (places_of w.slots) ≡ w.goal
 
-pub is-whole : (l : Links) (labels after current : List ℕ) (w : Way) → IsUnderWay l labels after current w → end_of l w.start (places_of (walked_slots w)) ≡ w.joint → IsWhole l labels after current w
+pub is-whole : (l : Links) (labels after current : List ℕ) (w : Way) → IsUnderWay l labels after current w
+    → end_of l w.start (places_of (walked_slots w)) ≡ w.joint → IsWhole l labels after current w
 is-whole l labels after current w way joins =
-    let meets : w.walked ≡ w.rest = omega (arith, walked-label l labels after current w way, rest-label l labels after current w way, ap (λ u. get_or labels u 0) joins) in
+    let meets : w.walked ≡ w.rest = omega (
+      arith,
+      walked-label l labels after current w way,
+      rest-label l labels after current w way,
+      ap (λ u. get_or labels u 0) joins,
+    ) in
     let filled : filled_slots w ≡ w.slots = ap (λ n. walked_slots w ++ drop n w.slots) (sym meets) ∙ take-append-drop w.walked w.slots in
-    let places : places_of (walked_slots w) ++ places_of (rest_slots w) ≡ places_of w.slots = sym (places-append (walked_slots w) (rest_slots w)) ∙ ap places_of filled in
+    let places : places_of (walked_slots w) ++ places_of (rest_slots w) ≡ places_of w.slots =
+    sym (places-append (walked_slots w) (rest_slots w)) ∙ ap places_of filled in
     record {
       meets = meets;
       filled = filled;
@@ -53,23 +67,29 @@ is-whole l labels after current w way joins =
 split-at : (slots : List Slot) (i : ℕ) → i < length slots → slots ≡ take i slots ++ (slot_at slots i ∷ drop (i + 1) slots)
 split-at slots i within = sym (take-append-drop i slots) ∙ ap (λ (ss : List Slot). take i slots ++ ss) (drop_more slots i _ within)
 
-split-places : (slots : List Slot) (i : ℕ) → i < length slots → places_of slots ≡ places_of (take i slots) ++ ((slot_at slots i).place ∷ places_of (drop (i + 1) slots))
+split-places : (slots : List Slot) (i : ℕ) → i < length slots → places_of slots ≡ places_of (take i slots) ++
+    ((slot_at slots i).place ∷ places_of (drop (i + 1) slots))
 split-places slots i within = ap places_of (split-at slots i within) ∙ places-append (take i slots) (slot_at slots i ∷ drop (i + 1) slots)
 
 abbrev IsSlotHeld : ℕ → List ℕ → List Slot → Slot → Type 0
 IsSlotHeld sent rooms slots s = held_for sent rooms slots s.place ≡ get_or rooms s.place 0 - room_left sent s.full_at
 
 -- The room of its link is what is left to it.
-slot-room : (l : Links) (takes_back : Bool) (labels : List ℕ) (sent top bottom : ℕ) (rooms : List ℕ) (slots : List Slot) (i : ℕ) → AreLinks l → length rooms ≡ length l.heads → Descends l labels top bottom (places_of slots) → HaveLeft sent rooms slots → i < length slots
-    → (get_or (settled l takes_back sent slots rooms) (slot_at slots i).place 0 ≡ room_left sent (slot_at slots i).full_at) × ((slot_at slots i).place < length l.heads) × ((slot_at slots i).full_at < 2 ^ 64)
+slot-room : (l : Links) (takes_back : Bool) (labels : List ℕ) (sent top bottom : ℕ) (rooms : List ℕ) (slots : List Slot) (i : ℕ) → AreLinks l
+    → length rooms ≡ length l.heads → Descends l labels top bottom (places_of slots) → HaveLeft sent rooms slots → i < length slots
+    → (get_or (settled l takes_back sent slots rooms) (slot_at slots i).place 0 ≡ room_left sent (slot_at slots i).full_at)
+    × ((slot_at slots i).place < length l.heads) × ((slot_at slots i).full_at < 2 ^ 64)
 slot-room l takes_back labels sent top bottom rooms slots i links long descends have within =
     let s : Slot = slot_at slots i in
     let front : List Slot = take i slots in
     let behind : List Slot = drop (i + 1) slots in
     let split = split-at slots i within in
-    let b = between l labels top bottom s.place (places_of front) (places_of behind) (subst (Descends l labels top bottom) (split-places slots i within) descends) in
-    let own : IsSlotHeld sent rooms slots s = subst (λ (ss : List Slot). IsSlotHeld sent rooms ss s) (sym split) (held-own sent rooms front behind s b.before) in
-    let partner = held-off sent rooms slots (get_or l.partners s.place 0) (off-partner l labels top bottom s.place (places_of slots) links b.falls.within b.falls.label descends) in
+    let b = between l labels top bottom s.place (places_of front) (places_of behind)
+    (subst (Descends l labels top bottom) (split-places slots i within) descends) in
+    let own : IsSlotHeld sent rooms slots s = subst (λ (ss : List Slot). IsSlotHeld sent rooms ss s) (sym split)
+    (held-own sent rooms front behind s b.before) in
+    let partner = held-off sent rooms slots (get_or l.partners s.place 0)
+    (off-partner l labels top bottom s.place (places_of slots) links b.falls.within b.falls.label descends) in
     let parts = HaveLeft-split sent rooms front (s ∷ behind) (subst (HaveLeft sent rooms) split have) in (
       room-settled l takes_back sent slots rooms s.place (omega (arith, b.falls.within, long))
           ∙ rw (own, partner) (left-alone takes_back (get_or rooms s.place 0) (room_left sent s.full_at) parts.1.1),
@@ -77,16 +97,20 @@ slot-room l takes_back labels sent top bottom rooms slots i links long descends 
       parts.1.0,
     )
 
-pub slot-within : (l : Links) (labels : List ℕ) (top bottom : ℕ) (slots : List Slot) (i : ℕ) → Descends l labels top bottom (places_of slots) → i < length slots → (slot_at slots i).place < length l.heads
+pub slot-within : (l : Links) (labels : List ℕ) (top bottom : ℕ) (slots : List Slot) (i : ℕ) → Descends l labels top bottom (places_of slots) → i < length slots
+    → (slot_at slots i).place < length l.heads
 slot-within l labels top bottom slots i descends within =
-    (between l labels top bottom (slot_at slots i).place (places_of (take i slots)) (places_of (drop (i + 1) slots)) (subst (Descends l labels top bottom) (split-places slots i within) descends)).falls.within
+    (between l labels top bottom (slot_at slots i).place (places_of (take i slots)) (places_of (drop (i + 1) slots))
+    (subst (Descends l labels top bottom) (split-places slots i within) descends)).falls.within
 
 -- A link that is not full has room.
-pub slot-open : (l : Links) (takes_back : Bool) (labels : List ℕ) (sent top bottom : ℕ) (rooms : List ℕ) (slots : List Slot) (i : ℕ) → AreLinks l → length rooms ≡ length l.heads → sent < 2 ^ 64 → Descends l labels top bottom (places_of slots) → HaveLeft sent rooms slots → i < length slots
+pub slot-open : (l : Links) (takes_back : Bool) (labels : List ℕ) (sent top bottom : ℕ) (rooms : List ℕ) (slots : List Slot) (i : ℕ) → AreLinks l
+    → length rooms ≡ length l.heads → sent < 2 ^ 64 → Descends l labels top bottom (places_of slots) → HaveLeft sent rooms slots → i < length slots
     → (slot_at slots i).full_at ≢ sent → 0 < get_or (settled l takes_back sent slots rooms) (slot_at slots i).place 0
 slot-open l takes_back labels sent top bottom rooms slots i links long small descends have within not_full =
     let told = slot-room l takes_back labels sent top bottom rooms slots i links long descends have within in
     ⊎_elim
     (λ (some : 0 < room_left sent (slot_at slots i).full_at). omega (arith, some, told.0))
-    (λ (none : room_left sent (slot_at slots i).full_at ≤ 0). absurd (not_full (room_left-full sent (slot_at slots i).full_at small told.2 (omega (arith, none)))))
+    (λ (none : room_left sent (slot_at slots i).full_at ≤ 0). absurd (not_full
+    (room_left-full sent (slot_at slots i).full_at small told.2 (omega (arith, none)))))
     (cases_lt 0 (room_left sent (slot_at slots i).full_at))

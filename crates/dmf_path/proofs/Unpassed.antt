@@ -1,5 +1,6 @@
 -- Pairs that no path has come near: what is sent does not change them.
-use Rattle.std.proofs.Common.{ℕ, ◌≡◌, ◌≢◌, ◌<◌, ◌≤◌, ◌==◌, Bool, true, false, List, [], ◌∷◌, length, get_or, suc, refl, sym, ◌∙◌, subst, arith, ⊎_elim, eq-eqb, None}
+use Rattle.std.proofs.Common.{ℕ, ◌≡◌, ◌≢◌, ◌<◌, ◌≤◌, ◌==◌, Bool, true, false, List, [], ◌∷◌, length, get_or, suc, refl, sym, ◌∙◌, subst, arith, ⊎_elim, eq-eqb}
+use Rattle.std.proofs.Common.{None}
 use Rattle.std.proofs.lemmas.Bool.{cases_lt}
 use Rattle.std.proofs.lemmas.List.{get_or-map, get_or_past, length-map}
 use Rattle.dmf_path.specs.declared.trail.Slot.{Slot}
@@ -19,19 +20,22 @@ off-each p [] apart = tt
 off-each p (s ∷ slots) apart = (apart 0 (omega arith), off-each p slots (λ i h. apart (suc i) (omega (arith, h))))
 
 -- A link that leads from a node without a mark is in no slot,
-off-marked : (l : Links) (marks : List Bool) (slots : List Slot) (p : ℕ) → AreMarked l marks slots → is_passed marks (tail_of l p) ≡ false → IsOff p (places_of slots)
+off-marked : (l : Links) (marks : List Bool) (slots : List Slot) (p : ℕ) → AreMarked l marks slots → is_passed marks (tail_of l p) ≡ false
+    → IsOff p (places_of slots)
 off-marked l marks slots p marked unmarked = off-each p slots (λ i h same.
     let told : is_passed marks (tail_of l p) ≡ true = subst (λ q. is_passed marks (tail_of l q) ≡ true) same (marked i h).tail in
     absurd (cc))
 
 -- nor is its opposite.
-off-partner-marked : (l : Links) (marks : List Bool) (slots : List Slot) (p : ℕ) → AreMarked l marks slots → is_passed marks (tail_of l p) ≡ false → IsOff (get_or l.partners p 0) (places_of slots)
+off-partner-marked : (l : Links) (marks : List Bool) (slots : List Slot) (p : ℕ) → AreMarked l marks slots → is_passed marks (tail_of l p) ≡ false
+    → IsOff (get_or l.partners p 0) (places_of slots)
 off-partner-marked l marks slots p marked unmarked = off-each (get_or l.partners p 0) slots (λ i h same.
     let told : is_passed marks (tail_of l p) ≡ true = subst (λ q. is_passed marks (get_or l.heads q 0) ≡ true) same (marked i h).head in
     absurd (cc))
 
 -- So their rooms stay.
-room-kept : (l : Links) (takes_back : Bool) (sent more : ℕ) (slots : List Slot) (rooms : List ℕ) (marks : List Bool) (p : ℕ) → AreLinks l → length rooms ≡ length l.heads → AreMarked l marks slots → p < length l.heads → is_passed marks (tail_of l p) ≡ false
+room-kept : (l : Links) (takes_back : Bool) (sent more : ℕ) (slots : List Slot) (rooms : List ℕ) (marks : List Bool) (p : ℕ) → AreLinks l
+    → length rooms ≡ length l.heads → AreMarked l marks slots → p < length l.heads → is_passed marks (tail_of l p) ≡ false
     → (get_or (settled l takes_back more slots rooms) p 0 ≡ get_or (settled l takes_back sent slots rooms) p 0)
     × (get_or (settled l takes_back more slots rooms) (get_or l.partners p 0) 0 ≡ get_or (settled l takes_back sent slots rooms) (get_or l.partners p 0) 0)
 room-kept l takes_back sent more slots rooms marks p links long marked within unmarked =
@@ -40,8 +44,10 @@ room-kept l takes_back sent more slots rooms marks p links long marked within un
     let off = off-marked l marks slots p marked unmarked in
     let partner_off = off-partner-marked l marks slots p marked unmarked in
     let back_off : IsOff (get_or l.partners q 0) (places_of slots) = subst (λ r. IsOff r (places_of slots)) (sym link.partner_back) off in
-    let here : (n : ℕ) → get_or (settled l takes_back n slots rooms) p 0 ≡ get_or rooms p 0 = λ n. room-off l takes_back n slots rooms p (omega (arith, within, long)) off partner_off in
-    let there : (n : ℕ) → get_or (settled l takes_back n slots rooms) q 0 ≡ get_or rooms q 0 = λ n. room-off l takes_back n slots rooms q (omega (arith, link.partner, long)) partner_off back_off in
+    let here : (n : ℕ) → get_or (settled l takes_back n slots rooms) p 0 ≡ get_or rooms p 0 =
+    λ n. room-off l takes_back n slots rooms p (omega (arith, within, long)) off partner_off in
+    let there : (n : ℕ) → get_or (settled l takes_back n slots rooms) q 0 ≡ get_or rooms q 0 =
+    λ n. room-off l takes_back n slots rooms q (omega (arith, link.partner, long)) partner_off back_off in
     (here more ∙ sym (here sent), there more ∙ sym (there sent))
 
 pair-kept : (l : Links) (before after : List ℕ) (marks : List Bool) (place : ℕ) (none : Bool) → (place == no_place) ≡ none
@@ -55,7 +61,8 @@ pair-kept l before after marks place false e same unpassed =
     rw (e, rooms.0, rooms.1) refl
 
 -- What is sent along links leaves the pairs as they are whose tails are not marked, where the ends of those links are.
-pub kept-unpassed : (l : Links) (takes_back : Bool) (places rooms : List ℕ) (sent more : ℕ) (slots : List Slot) (marks : List Bool) → AreLinks l → ArePlaces l places → length rooms ≡ length l.heads → AreMarked l marks slots
+pub kept-unpassed : (l : Links) (takes_back : Bool) (places rooms : List ℕ) (sent more : ℕ) (slots : List Slot) (marks : List Bool) → AreLinks l
+    → ArePlaces l places → length rooms ≡ length l.heads → AreMarked l marks slots
     → KeepsUnpassed marks (pairs_at l places (settled l takes_back sent slots rooms)) (pairs_at l places (settled l takes_back more slots rooms))
 kept-unpassed l takes_back places rooms sent more slots marks links places_are long marked = λ k unpassed.
     let before : List ℕ = settled l takes_back sent slots rooms in
@@ -71,6 +78,7 @@ kept-unpassed l takes_back places rooms sent more slots marks links places_are l
     (subst (IsUnpassed marks) (at before) unpassed)
     ∙ sym (at before))
     (λ (past : length places ≤ k).
-    let none : (rs : List ℕ) → pair_number (pairs_at l places rs) k ≡ None = λ rs. get_or_past (pairs_at l places rs) k None (omega (arith, past, length-map places (pair_at l rs))) in
+    let none : (rs : List ℕ) → pair_number (pairs_at l places rs) k ≡ None =
+    λ rs. get_or_past (pairs_at l places rs) k None (omega (arith, past, length-map places (pair_at l rs))) in
     none after ∙ sym (none before))
     (cases_lt k (length places))

@@ -20,31 +20,36 @@ end_of-push l v [] p = refl
 end_of-push l v (q ∷ ps) p = end_of-push l (slice_index l.heads q) ps p
 
 -- A trail is as long as the label falls.
-pub label-trail : (l : Links) (labels rooms current : List ℕ) (v : ℕ) (ps : List ℕ) → IsTrail l labels rooms current v ps → length ps + slice_index labels (end_of l v ps) ≡ slice_index labels v
+pub label-trail : (l : Links) (labels rooms current : List ℕ) (v : ℕ) (ps : List ℕ) → IsTrail l labels rooms current v ps
+    → length ps + slice_index labels (end_of l v ps) ≡ slice_index labels v
 label-trail l labels rooms current v [] trail = omega arith
 label-trail l labels rooms current v (p ∷ ps) trail = omega (arith, trail.0.falls, label-trail l labels rooms current (slice_index l.heads p) ps trail.2)
 
 -- A trail leads to a node.
-pub end-node : (l : Links) (labels rooms current : List ℕ) (v : ℕ) (ps : List ℕ) → AreLinks l → IsNode l.nodes v → IsTrail l labels rooms current v ps → IsNode l.nodes (end_of l v ps)
+pub end-node : (l : Links) (labels rooms current : List ℕ) (v : ℕ) (ps : List ℕ) → AreLinks l → IsNode l.nodes v → IsTrail l labels rooms current v ps
+    → IsNode l.nodes (end_of l v ps)
 end-node l labels rooms current v [] are node trail = node
 end-node l labels rooms current v (p ∷ ps) are node trail =
     end-node l labels rooms current (slice_index l.heads p) ps are (are.each p (lies-within l v p are node trail.0.lies)).head trail.2
 
 -- A trail goes on along an admissible link, where that is the current one.
-IsTrail-push : (l : Links) (labels rooms current : List ℕ) (v : ℕ) (ps : List ℕ) (p : ℕ) → IsTrail l labels rooms current v ps → IsAdmissible l labels rooms (end_of l v ps) p → slice_index current (end_of l v ps) ≡ p → IsTrail l labels rooms current v (ps ++ p ∷ [])
+IsTrail-push : (l : Links) (labels rooms current : List ℕ) (v : ℕ) (ps : List ℕ) (p : ℕ) → IsTrail l labels rooms current v ps
+    → IsAdmissible l labels rooms (end_of l v ps) p → slice_index current (end_of l v ps) ≡ p → IsTrail l labels rooms current v (ps ++ p ∷ [])
 IsTrail-push l labels rooms current v [] p trail admissible is = (admissible, is, tt)
 IsTrail-push l labels rooms current v (q ∷ ps) p trail admissible is =
     (trail.0, trail.1, IsTrail-push l labels rooms current (slice_index l.heads q) ps p trail.2 admissible is)
 
 -- What a trail was before its last link.
-pub IsTrail-pop : (l : Links) (labels rooms current : List ℕ) (v : ℕ) (ps : List ℕ) (p : ℕ) → IsTrail l labels rooms current v (ps ++ p ∷ []) → IsTrail l labels rooms current v ps × IsAdmissible l labels rooms (end_of l v ps) p × (slice_index current (end_of l v ps) ≡ p)
+pub IsTrail-pop : (l : Links) (labels rooms current : List ℕ) (v : ℕ) (ps : List ℕ) (p : ℕ) → IsTrail l labels rooms current v (ps ++ p ∷ [])
+    → IsTrail l labels rooms current v ps × IsAdmissible l labels rooms (end_of l v ps) p × (slice_index current (end_of l v ps) ≡ p)
 IsTrail-pop l labels rooms current v [] p trail = (tt, trail.0, trail.1)
 IsTrail-pop l labels rooms current v (q ∷ ps) p trail =
     let before = IsTrail-pop l labels rooms current (slice_index l.heads q) ps p trail.2 in
     ((trail.0, trail.1, before.0), before.1, before.2)
 
 -- Another current link, where the trail ends or lower, leaves the trail.
-IsTrail-set : (l : Links) (labels rooms current : List ℕ) (v : ℕ) (ps : List ℕ) (x y : ℕ) → IsTrail l labels rooms current v ps → slice_index labels x ≤ slice_index labels (end_of l v ps) → IsTrail l labels rooms (set current x y) v ps
+IsTrail-set : (l : Links) (labels rooms current : List ℕ) (v : ℕ) (ps : List ℕ) (x y : ℕ) → IsTrail l labels rooms current v ps
+    → slice_index labels x ≤ slice_index labels (end_of l v ps) → IsTrail l labels rooms (set current x y) v ps
 IsTrail-set l labels rooms current v [] x y trail low = tt
 IsTrail-set l labels rooms current v (p ∷ ps) x y trail low =
     let falls = label-trail l labels rooms current (slice_index l.heads p) ps trail.2 in
@@ -52,9 +57,11 @@ IsTrail-set l labels rooms current v (p ∷ ps) x y trail low =
     (trail.0, get_or-set_other current x v y 0 other ∙ trail.1, IsTrail-set l labels rooms current (slice_index l.heads p) ps x y trail.2 low)
 
 -- Another current link of a node that is one of its own, or behind them.
-AreCurrent-set : (l : Links) (current : List ℕ) (x y : ℕ) → AreCurrent l current → IsNode l.nodes x → slice_index l.first x ≤ y → y ≤ slice_index l.first (x + 1) → AreCurrent l (set current x y)
+AreCurrent-set : (l : Links) (current : List ℕ) (x y : ℕ) → AreCurrent l current → IsNode l.nodes x → slice_index l.first x ≤ y
+    → y ≤ slice_index l.first (x + 1) → AreCurrent l (set current x y)
 AreCurrent-set l current x y are node from to =
-    let at : (v : ℕ) → ((v ≡ x) × (slice_index (set current x y) v ≡ y)) ⊎ ((v ≢ x) × (slice_index (set current x y) v ≡ slice_index current v)) = λ v. cases-set current x v y (omega (arith, are.one_each, node.to_last)) in
+    let at : (v : ℕ) → ((v ≡ x) × (slice_index (set current x y) v ≡ y))
+    ⊎ ((v ≢ x) × (slice_index (set current x y) v ≡ slice_index current v)) = λ v. cases-set current x v y (omega (arith, are.one_each, node.to_last)) in
     record {
       one_each = length-set current x y ∙ are.one_each;
       from = λ v node_v. ⊎_elim
@@ -68,29 +75,36 @@ AreCurrent-set l current x y are node from to =
     }
 
 -- The links from the current one on may be passed with which no walk begins.
-ArePassed-set : (l : Links) (labels rooms current : List ℕ) (goal x y : ℕ) → ArePassed l labels rooms goal current → x < length current → ((p : ℕ) (ps : List ℕ) → slice_index current x ≤ p → p < y → ¬ IsWalk l labels rooms goal x (p ∷ ps)) → ArePassed l labels rooms goal (set current x y)
+ArePassed-set : (l : Links) (labels rooms current : List ℕ) (goal x y : ℕ) → ArePassed l labels rooms goal current → x < length current
+    → ((p : ℕ) (ps : List ℕ) → slice_index current x ≤ p → p < y → ¬ IsWalk l labels rooms goal x (p ∷ ps)) → ArePassed l labels rooms goal (set current x y)
 ArePassed-set l labels rooms current goal x y passed within none v p ps node lies before walk =
     ⊎_elim
     (λ (here : (v ≡ x) × (slice_index (set current x y) v ≡ y)).
     let P : ℕ → Type 0 = λ u. IsWalk l labels rooms goal u (p ∷ ps) in
     ⊎_elim
     (λ (old : p < slice_index current v). passed v p ps node lies old walk)
-    (λ (next : slice_index current v ≤ p). none p ps (omega (arith, next, ap (λ u. slice_index current u) here.0)) (omega (arith, before, here.1)) (subst P here.0 walk))
+    (λ (next : slice_index current v ≤ p). none p ps (omega (arith, next, ap (λ u. slice_index current u) here.0)) (omega (arith, before, here.1))
+    (subst P here.0 walk))
     (cases_lt p (slice_index current v)))
     (λ (elsewhere : (v ≢ x) × (slice_index (set current x y) v ≡ slice_index current v)). passed v p ps node lies (omega (arith, before, elsewhere.1)) walk)
     (cases-set current x v y within)
 
 -- No walk leads on from a node whose links are all passed.
-pub dead-end : (l : Links) (labels rooms current : List ℕ) (goal v : ℕ) → ArePassed l labels rooms goal current → IsNode l.nodes v → v ≢ goal → slice_index l.first (v + 1) ≤ slice_index current v → (ps : List ℕ) → ¬ IsWalk l labels rooms goal v ps
+pub dead-end : (l : Links) (labels rooms current : List ℕ) (goal v : ℕ) → ArePassed l labels rooms goal current → IsNode l.nodes v → v ≢ goal
+    → slice_index l.first (v + 1) ≤ slice_index current v → (ps : List ℕ) → ¬ IsWalk l labels rooms goal v ps
 dead-end l labels rooms current goal v passed node other all [] walk = other walk
 dead-end l labels rooms current goal v passed node other all (p ∷ ps) walk =
     passed v p ps node walk.0.lies (omega (arith, walk.0.lies.below, all)) walk
 
 -- The current link of the node to which the trail leads moves on over links that are not admissible.
-pub walking-set : (l : Links) (labels rooms : List ℕ) (start goal : ℕ) (current trail : List ℕ) (node place : ℕ) → HasCome l labels rooms start goal current trail node → slice_index current node ≤ place → place ≤ slice_index l.first (node + 1) → ((p : ℕ) → slice_index current node ≤ p → p < place → 0 < slice_index rooms p → slice_index labels (slice_index l.heads p) + 1 ≢ slice_index labels node) → HasCome l labels rooms start goal (set current node place) trail node
+pub walking-set : (l : Links) (labels rooms : List ℕ) (start goal : ℕ) (current trail : List ℕ) (node place : ℕ)
+    → HasCome l labels rooms start goal current trail node → slice_index current node ≤ place → place ≤ slice_index l.first (node + 1)
+    → ((p : ℕ) → slice_index current node ≤ p → p < place → 0 < slice_index rooms p → slice_index labels (slice_index l.heads p) + 1 ≢ slice_index labels node)
+    → HasCome l labels rooms start goal (set current node place) trail node
 walking-set l labels rooms start goal current trail node place come from to none = record {
   walking = record {
-    current_is = AreCurrent-set l current node place come.walking.current_is come.is_node (omega (arith, from, come.walking.current_is.from node come.is_node)) to;
+    current_is = AreCurrent-set l current node place come.walking.current_is come.is_node
+        (omega (arith, from, come.walking.current_is.from node come.is_node)) to;
     passed = ArePassed-set l labels rooms current goal node place come.walking.passed (omega (arith, come.walking.current_is.one_each, come.is_node.to_last))
         (λ p ps after before walk. none p after before walk.0.room walk.0.falls);
     trail_is = IsTrail-set l labels rooms current start trail node place come.walking.trail_is (omega (arith, ap (λ u. slice_index labels u) come.arrives));
@@ -100,21 +114,27 @@ walking-set l labels rooms start goal current trail node place come from to none
 }
 
 -- The trail goes on along the current link.
-pub come-next : (l : Links) (labels rooms : List ℕ) (start goal : ℕ) (current trail : List ℕ) (node place : ℕ) → AreLinks l → HasCome l labels rooms start goal current trail node → slice_index current node ≡ place → place < slice_index l.first (node + 1) → 0 < slice_index rooms place → slice_index labels (slice_index l.heads place) + 1 ≡ slice_index labels node → HasCome l labels rooms start goal current (trail ++ place ∷ []) (slice_index l.heads place)
+pub come-next : (l : Links) (labels rooms : List ℕ) (start goal : ℕ) (current trail : List ℕ) (node place : ℕ) → AreLinks l
+    → HasCome l labels rooms start goal current trail node → slice_index current node ≡ place → place < slice_index l.first (node + 1)
+    → 0 < slice_index rooms place → slice_index labels (slice_index l.heads place) + 1 ≡ slice_index labels node
+    → HasCome l labels rooms start goal current (trail ++ place ∷ []) (slice_index l.heads place)
 come-next l labels rooms start goal current trail node place are come is below room falls =
     let lies : LiesAt l node place = record { from = omega (arith, is, come.walking.current_is.from node come.is_node); below = below } in
     record {
       walking = record {
         current_is = come.walking.current_is;
         passed = come.walking.passed;
-        trail_is = IsTrail-push l labels rooms current start trail place come.walking.trail_is (rw come.arrives (record { lies = lies; room = room; falls = falls })) (rw come.arrives is);
+        trail_is = IsTrail-push l labels rooms current start trail place come.walking.trail_is
+            (rw come.arrives (record { lies = lies; room = room; falls = falls })) (rw come.arrives is);
       };
       arrives = end_of-push l start trail place;
       is_node = (are.each place (lies-within l node place are come.is_node lies)).head;
     }
 
 -- The trail steps back over its last link, from which no walk leads on.
-pub come-back : (l : Links) (labels rooms : List ℕ) (start goal : ℕ) (current trail : List ℕ) (node back : ℕ) → AreLinks l → IsNode l.nodes start → HasCome l labels rooms start goal current (trail ++ back ∷ []) node → node ≢ goal → slice_index l.first (node + 1) ≤ slice_index current node → HasCome l labels rooms start goal (set current (tail_of l back) (back + 1)) trail (tail_of l back)
+pub come-back : (l : Links) (labels rooms : List ℕ) (start goal : ℕ) (current trail : List ℕ) (node back : ℕ) → AreLinks l → IsNode l.nodes start
+    → HasCome l labels rooms start goal current (trail ++ back ∷ []) node → node ≢ goal → slice_index l.first (node + 1) ≤ slice_index current node
+    → HasCome l labels rooms start goal (set current (tail_of l back) (back + 1)) trail (tail_of l back)
 come-back l labels rooms start goal current trail node back are at_start come other all =
     let before = IsTrail-pop l labels rooms current start trail back come.walking.trail_is in
     let u : ℕ = end_of l start trail in
@@ -125,12 +145,14 @@ come-back l labels rooms start goal current trail node back are at_start come ot
     subst P (sym tail)
     (record {
       walking = record {
-        current_is = AreCurrent-set l current u (back + 1) come.walking.current_is at_u (omega (arith, before.1.lies.from)) (omega (arith, before.1.lies.below));
+        current_is = AreCurrent-set l current u (back + 1) come.walking.current_is at_u (omega (arith, before.1.lies.from))
+            (omega (arith, before.1.lies.below));
         passed = ArePassed-set l labels rooms current goal u (back + 1) come.walking.passed (omega (arith, come.walking.current_is.one_each, at_u.to_last))
             (λ p ps after until walk.
             let is : p ≡ back = omega (arith, after, until, before.2) in
             let Q : ℕ → Type 0 = λ v. IsWalk l labels rooms goal v ps in
-            dead-end l labels rooms current goal node come.walking.passed come.is_node other all ps (subst Q (ap (λ q. slice_index l.heads q) is ∙ head) walk.1));
+            dead-end l labels rooms current goal node come.walking.passed come.is_node other all ps
+            (subst Q (ap (λ q. slice_index l.heads q) is ∙ head) walk.1));
         trail_is = IsTrail-set l labels rooms current start trail u (back + 1) before.0 (omega arith);
       };
       arrives = refl;

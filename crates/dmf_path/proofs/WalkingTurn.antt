@@ -30,12 +30,15 @@ pub record WalkTurn : Type 0 where
   pub same_heads : heads ≡ l.heads
   pub from : slice_index current node ≤ place
   pub to : place ≤ end
-  pub none : (p : ℕ) → slice_index current node ≤ p → p < place → 0 < slice_index rooms p → slice_index labels (slice_index heads p) + 1 ≢ slice_index labels node
+  pub none : (p : ℕ) → slice_index current node ≤ p → p < place → 0 < slice_index rooms p
+      → slice_index labels (slice_index heads p) + 1 ≢ slice_index labels node
 
 -- a turn, of what is known of its first admissible link
-abbrev pub walk-turn : (l : Links) (labels rooms : List ℕ) (start goal : ℕ) (current trail : List ℕ) (node place end : ℕ) (heads : List ℕ) → AreLinks l → IsNode l.nodes start → HasCome l labels rooms start goal current trail node
+abbrev pub walk-turn : (l : Links) (labels rooms : List ℕ) (start goal : ℕ) (current trail : List ℕ) (node place end : ℕ) (heads : List ℕ) → AreLinks l
+    → IsNode l.nodes start → HasCome l labels rooms start goal current trail node
     → end ≡ get_or l.first (node + 1) end → heads ≡ l.heads → slice_index current node ≤ place → place ≤ end
-    → ((p : ℕ) → slice_index current node ≤ p → p < place → 0 < slice_index rooms p → slice_index labels (slice_index heads p) + 1 ≢ slice_index labels node) → WalkTurn
+    → ((p : ℕ) → slice_index current node ≤ p → p < place → 0 < slice_index rooms p → slice_index labels (slice_index heads p) + 1 ≢ slice_index labels node)
+    → WalkTurn
 walk-turn l labels rooms start goal current trail node place end heads are at_start come end_read same_heads from to none = record {
   l = l;
   labels = labels;
@@ -86,7 +89,8 @@ pub none-found : (t : WalkTurn) → t.end ≤ t.place → t.node ≢ t.goal → 
 none-found t none other empty ps walk =
     let is : t.start ≡ t.node = sym (ap (λ trail. end_of t.l t.start trail) empty) ∙ t.come.arrives in
     let P : ℕ → Type 0 = λ v. IsWalk t.l t.labels t.rooms t.goal v ps in
-    dead-end t.l t.labels t.rooms (set t.current t.node t.place) t.goal t.node (come-moved t).walking.passed t.come.is_node other (all-passed t none) ps (subst P is walk)
+    dead-end t.l t.labels t.rooms (set t.current t.node t.place) t.goal t.node (come-moved t).walking.passed t.come.is_node other (all-passed t none) ps
+    (subst P is walk)
 
 -- What is known of the last link of the trail.
 pub record IsLast (t : WalkTurn) (back : ℕ) : Type 0 where
@@ -111,10 +115,12 @@ last-link t rest back popped =
     }
 
 -- The walk steps back.
-pub come-popped : (t : WalkTurn) (rest : List ℕ) (back tail : ℕ) → t.end ≤ t.place → t.node ≢ t.goal → t.trail ≡ rest ++ back ∷ [] → tail ≡ tail_of t.l back → HasCome t.l t.labels t.rooms t.start t.goal (set (set t.current t.node t.place) tail (back + 1)) rest tail
+pub come-popped : (t : WalkTurn) (rest : List ℕ) (back tail : ℕ) → t.end ≤ t.place → t.node ≢ t.goal → t.trail ≡ rest ++ back ∷ [] → tail ≡ tail_of t.l back
+    → HasCome t.l t.labels t.rooms t.start t.goal (set (set t.current t.node t.place) tail (back + 1)) rest tail
 come-popped t rest back tail none other popped is =
     let come = come-moved t in
-    rw is (come-back t.l t.labels t.rooms t.start t.goal (set t.current t.node t.place) rest t.node back t.are t.at_start (rw popped at come) other (all-passed t none))
+    rw is (come-back t.l t.labels t.rooms t.start t.goal (set t.current t.node t.place) rest t.node back t.are t.at_start (rw popped at come) other
+    (all-passed t none))
 
 -- how many links are not yet passed, each counted for all that a walk may do until it comes back to it, and what is left
 -- of this
@@ -122,30 +128,44 @@ abbrev pub work_left : Links → List ℕ → ℕ → List ℕ → ℕ → ℕ
 work_left l labels start current node = sum_by (λ p. length l.heads - p) current * (slice_index labels start + 1) + slice_index labels node
 
 -- A current link that moves on leaves at most as many.
-not_passed-set : (n : ℕ) (current : List ℕ) (v p : ℕ) → v < length current → slice_index current v ≤ p → sum_by (λ q. n - q) (set current v p) ≤ sum_by (λ q. n - q) current
+not_passed-set : (n : ℕ) (current : List ℕ) (v p : ℕ) → v < length current → slice_index current v ≤ p
+    → sum_by (λ q. n - q) (set current v p) ≤ sum_by (λ q. n - q) current
 not_passed-set n current v p within on = omega (arith, sum_by-set (λ q. n - q) current v p 0 within)
 
 -- and less where it stood at a link.
-passed-set : (n : ℕ) (current : List ℕ) (v p : ℕ) → v < length current → slice_index current v < p → slice_index current v < n → sum_by (λ q. n - q) (set current v p) < sum_by (λ q. n - q) current
+passed-set : (n : ℕ) (current : List ℕ) (v p : ℕ) → v < length current → slice_index current v < p → slice_index current v < n
+    → sum_by (λ q. n - q) (set current v p) < sum_by (λ q. n - q) current
 passed-set n current v p within on one = omega (arith, sum_by-set (λ q. n - q) current v p 0 within)
 
-pub work-found : (t : WalkTurn) (head : ℕ) → t.place < t.end → slice_index t.labels (slice_index t.heads t.place) + 1 ≡ slice_index t.labels t.node → head ≡ get_or t.l.heads t.place head → work_left t.l t.labels t.start (set t.current t.node t.place) head < work_left t.l t.labels t.start t.current t.node
+pub work-found : (t : WalkTurn) (head : ℕ) → t.place < t.end → slice_index t.labels (slice_index t.heads t.place) + 1 ≡ slice_index t.labels t.node
+    → head ≡ get_or t.l.heads t.place head → work_left t.l t.labels t.start
+    (set t.current t.node t.place) head < work_left t.l t.labels t.start t.current t.node
 work-found t head found falls read =
     let head_is : head ≡ slice_index t.l.heads t.place = read ∙ get_or_default t.l.heads t.place head 0 (found-within t found) in
     let falls_on : slice_index t.labels (slice_index t.l.heads t.place) + 1 ≡ slice_index t.labels t.node = rw (← t.same_heads) falls in
-    omega (arith, ap (λ v. slice_index t.labels v) head_is, falls_on, mul-le-mul_right (slice_index t.labels t.start + 1) (not_passed-set (length t.l.heads) t.current t.node t.place (node-within t) t.from))
+    omega (
+      arith,
+      ap (λ v. slice_index t.labels v) head_is,
+      falls_on,
+      mul-le-mul_right (slice_index t.labels t.start + 1)
+          (not_passed-set (length t.l.heads) t.current t.node t.place (node-within t) t.from),
+    )
 
 -- The tail of the last link has a current link.
-pub tail-within : (t : WalkTurn) (rest : List ℕ) (back tail : ℕ) → t.trail ≡ rest ++ back ∷ [] → tail ≡ tail_of t.l back → tail < length (set t.current t.node t.place)
+pub tail-within : (t : WalkTurn) (rest : List ℕ) (back tail : ℕ) → t.trail ≡ rest ++ back ∷ [] → tail ≡ tail_of t.l back
+    → tail < length (set t.current t.node t.place)
 tail-within t rest back tail popped is =
     omega (arith, is, (last-link t rest back popped).is_link.tail.to_last, length-set t.current t.node t.place, t.come.walking.current_is.one_each)
 
-pub work-popped : (t : WalkTurn) (rest : List ℕ) (back tail : ℕ) → t.trail ≡ rest ++ back ∷ [] → tail ≡ tail_of t.l back → work_left t.l t.labels t.start (set (set t.current t.node t.place) tail (back + 1)) tail < work_left t.l t.labels t.start t.current t.node
+pub work-popped : (t : WalkTurn) (rest : List ℕ) (back tail : ℕ) → t.trail ≡ rest ++ back ∷ [] → tail ≡ tail_of t.l back
+    → work_left t.l t.labels t.start (set (set t.current t.node t.place) tail (back + 1)) tail < work_left t.l t.labels t.start t.current t.node
 work-popped t rest back tail popped is =
     let last = last-link t rest back popped in
     let stands : slice_index (set t.current t.node t.place) tail ≡ back = ap (λ v. slice_index (set t.current t.node t.place) v) is ∙ last.current_is in
     let within : tail < length (set t.current t.node t.place) = tail-within t rest back tail popped is in
-    let less = passed-set (length t.l.heads) (set t.current t.node t.place) tail (back + 1) within (omega (arith, stands)) (omega (arith, stands, last.within)) in
+    let less = passed-set (length t.l.heads) (set t.current t.node t.place) tail (back + 1) within (omega (arith, stands))
+    (omega (arith, stands, last.within)) in
     let most = not_passed-set (length t.l.heads) t.current t.node t.place (node-within t) t.from in
-    let fewer : sum_by (λ p. length t.l.heads - p) (set (set t.current t.node t.place) tail (back + 1)) + 1 ≤ sum_by (λ p. length t.l.heads - p) t.current = omega (arith, less, most) in
+    let fewer : sum_by (λ p. length t.l.heads - p) (set (set t.current t.node t.place) tail (back + 1)) + 1 ≤ sum_by (λ p. length t.l.heads - p) t.current =
+    omega (arith, less, most) in
     omega (arith, ap (λ v. slice_index t.labels v) is, last.label, mul-le-mul_right (slice_index t.labels t.start + 1) fewer)

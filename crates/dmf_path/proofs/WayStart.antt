@@ -12,7 +12,8 @@ use Rattle.dmf_path.proofs.Walking.{IsTrail-pop, end_of-push, end-node}
 use Rattle.dmf_path.proofs.WayTurn.{IsOnWay, last-places}
 
 -- The last link of the walk is one.
-pub last-link_within : (l : Links) (labels after current : List ℕ) (w : Way) → AreLinks l → IsNode l.nodes w.start → IsUnderWay l labels after current w → 0 < w.walked → (slot_at w.slots (w.walked - 1)).place < length l.heads
+pub last-link_within : (l : Links) (labels after current : List ℕ) (w : Way) → AreLinks l → IsNode l.nodes w.start → IsUnderWay l labels after current w
+    → 0 < w.walked → (slot_at w.slots (w.walked - 1)).place < length l.heads
 last-link_within l labels after current w links start way some =
     let p : ℕ = (slot_at w.slots (w.walked - 1)).place in
     let front : List ℕ = places_of (take (w.walked - 1) w.slots) in

@@ -7,22 +7,27 @@ use Rattle.dmf_path.specs.Walk.{IsWalk, IsTrail, end_of}
 use Rattle.dmf_path.specs.Held.{Way, places_of, walked_slots, IsSlot, slot_at, entered, stepped_back}
 use Rattle.dmf_path.specs.Residual.{Residual, put_on, MakesWay, free, leaves}
 use Rattle.dmf_path.proofs.Walking.{end_of-push, IsTrail-pop, come-next, end-node}
-use Rattle.dmf_path.proofs.WalkingTurn.{WalkTurn, walk-turn, node-within, come-moved, found-within, none-found, come-popped, tail-within, work_left, work-found, work-popped}
+use Rattle.dmf_path.proofs.WalkingTurn.{WalkTurn, walk-turn, node-within, come-moved, found-within, none-found, come-popped, tail-within, work_left, work-found}
+use Rattle.dmf_path.proofs.WalkingTurn.{work-popped}
 use Rattle.dmf_path.proofs.UnderWay.{goal-joint, is-free, free-room}
 use Rattle.dmf_path.proofs.WayTurn.{IsOnWay, on-moved, slots-left, first-leaves, IsMade, way-made, on-entered, last-places, last-leaves, on-back}
 
 -- The room of a link that falls from the node to which the walk has come is as it is told.
-pub told-room : (r : Residual) (labels current : List ℕ) (aim : Residual) (w : Way) (node p : ℕ) → AreLinks r.links → IsNode r.links.nodes w.start → IsOnWay r labels current aim w node → node ≢ w.joint
+pub told-room : (r : Residual) (labels current : List ℕ) (aim : Residual) (w : Way) (node p : ℕ) → AreLinks r.links → IsNode r.links.nodes w.start
+    → IsOnWay r labels current aim w node → node ≢ w.joint
     → LiesAt r.links node p → get_or labels (get_or r.links.heads p 0) 0 + 1 ≡ get_or labels node 0 → get_or aim.rooms p 0 ≡ get_or r.rooms p 0
 told-room r labels current aim w node p links start on other lies falls =
     ap (λ (x : Residual). get_or x.rooms p 0) (sym on.same)
-    ∙ free-room r.links r.takes_back w r.rooms p on.holding.rooms_are.0 (is-free r.links labels aim.rooms current w node p links start on.come.is_node on.way on.come.arrives other lies falls)
+    ∙ free-room r.links r.takes_back w r.rooms p on.holding.rooms_are.0
+    (is-free r.links labels aim.rooms current w node p links start on.come.is_node on.way on.come.arrives other lies falls)
 
 -- The last link of a trail falls.
-last-falls : (l : Links) (labels rooms current : List ℕ) (v : ℕ) (ps : List ℕ) (p : ℕ) → AreLinks l → IsNode l.nodes v → IsTrail l labels rooms current v (ps ++ p ∷ []) → get_or labels (get_or l.heads p 0) 0 + 1 ≡ get_or labels (tail_of l p) 0
+last-falls : (l : Links) (labels rooms current : List ℕ) (v : ℕ) (ps : List ℕ) (p : ℕ) → AreLinks l → IsNode l.nodes v
+    → IsTrail l labels rooms current v (ps ++ p ∷ []) → get_or labels (get_or l.heads p 0) 0 + 1 ≡ get_or labels (tail_of l p) 0
 last-falls l labels rooms current v ps p links node trail =
     let before = IsTrail-pop l labels rooms current v ps p trail in
-    before.1.falls ∙ ap (λ u. get_or labels u 0) (sym (links.at_tail (end_of l v ps) p (end-node l labels rooms current v ps links node before.0) before.1.lies))
+    before.1.falls ∙ ap (λ u. get_or labels u 0) (sym (links.at_tail (end_of l v ps) p
+    (end-node l labels rooms current v ps links node before.0) before.1.lies))
 
 -- The node to which the walk has come, its first admissible link from the current one on, as the rooms tell, and where its
 -- links end.
@@ -48,16 +53,22 @@ where-ends : (t : Turn) → get_or t.r.links.first (t.node + 1) 0 ≡ t.end
 where-ends t = get_or_default t.r.links.first (t.node + 1) 0 t.end (omega (arith, t.on.come.is_node.to_last, t.links.first_long)) ∙ sym t.end_read
 
 -- No link before it is admissible by the rooms that the walk goes by.
-pub none-told : (t : Turn) (p : ℕ) → get_or t.current t.node 0 ≤ p → p < t.place → 0 < get_or t.aim.rooms p 0 → get_or t.labels (get_or t.r.links.heads p 0) 0 + 1 ≢ get_or t.labels t.node 0
+pub none-told : (t : Turn) (p : ℕ) → get_or t.current t.node 0 ≤ p → p < t.place → 0 < get_or t.aim.rooms p 0
+    → get_or t.labels (get_or t.r.links.heads p 0) 0 + 1 ≢ get_or t.labels t.node 0
 none-told t p later before room falls =
-    let lies : LiesAt t.r.links t.node p = record { from = omega (arith, later, t.on.come.walking.current_is.from t.node t.on.come.is_node); below = omega (arith, before, t.to, where-ends t) } in
+    let lies : LiesAt t.r.links t.node p = record {
+      from = omega (arith, later, t.on.come.walking.current_is.from t.node t.on.come.is_node);
+      below =
+          omega (arith, before, t.to, where-ends t);
+    } in
     let told = told-room t.r t.labels t.current t.aim t.w t.node p t.links t.start_is t.on t.other lies falls in
     t.none p later before (omega (arith, room, told)) falls
 
 -- the same turn over these
 abbrev pub walk_of : Turn → WalkTurn
 walk_of t =
-    walk-turn t.r.links t.labels t.aim.rooms t.w.start t.w.goal t.current (places_of (walked_slots t.w)) t.node t.place t.end t.r.links.heads t.links t.start_is t.on.come t.end_read refl t.from t.to (none-told t)
+    walk-turn t.r.links t.labels t.aim.rooms t.w.start t.w.goal t.current
+    (places_of (walked_slots t.w)) t.node t.place t.end t.r.links.heads t.links t.start_is t.on.come t.end_read refl t.from t.to (none-told t)
 
 pub on-turned : (t : Turn) → IsOnWay t.r t.labels (set t.current t.node t.place) t.aim t.w t.node
 on-turned t = on-moved t.r t.labels t.current t.aim t.w t.node t.place t.on t.other (come-moved (walk_of t))
@@ -69,7 +80,11 @@ pub record IsFound (t : Turn) : Type 0 where
   pub falls : get_or t.labels (get_or t.r.links.heads t.place 0) 0 + 1 ≡ get_or t.labels t.node 0
 
 lies-found : (t : Turn) → IsFound t → LiesAt t.r.links t.node t.place
-lies-found t f = record { from = omega (arith, t.from, t.on.come.walking.current_is.from t.node t.on.come.is_node); below = omega (arith, f.found, where-ends t) }
+lies-found t f = record {
+  from = omega (arith, t.from, t.on.come.walking.current_is.from t.node t.on.come.is_node);
+  below =
+      omega (arith, f.found, where-ends t);
+}
 
 pub within-found : (t : Turn) → IsFound t → t.place < length t.r.links.heads
 within-found t f = found-within (walk_of t) f.found
@@ -123,9 +138,11 @@ on-found t next new head f way sums read =
     let head_is : head ≡ get_or next.links.heads t.place 0 = read ∙ get_or_default next.links.heads t.place head 0 within in
     let told : get_or t.aim.rooms t.place 0 ≡ get_or t.r.rooms t.place 0 =
     told-room t.r t.labels t.current t.aim t.w t.node t.place t.links t.start_is t.on t.other (lies-found t f) f.falls in
-    let come = come-next next.links t.labels t.aim.rooms new.start new.goal (set t.current t.node t.place) (places_of (walked_slots new)) t.node t.place links made.on.come
+    let come = come-next next.links t.labels t.aim.rooms new.start new.goal (set t.current t.node t.place)
+    (places_of (walked_slots new)) t.node t.place links made.on.come
     (get_or-set_same t.current t.node t.place 0 (node-within (walk_of t))) lies.below (omega (arith, told, f.room)) falls in
-    let is_free = is-free next.links t.labels t.aim.rooms (set t.current t.node t.place) new t.node t.place links start made.on.come.is_node made.on.way made.on.come.arrives made.other lies falls in
+    let is_free = is-free next.links t.labels t.aim.rooms (set t.current t.node t.place) new t.node t.place links start made.on.come.is_node made.on.way
+    made.on.come.arrives made.other lies falls in
     rw head_is (on-entered next t.labels (set t.current t.node t.place) t.aim new t.node t.place (get_or next.links.heads t.place 0) links made is_free come)
 
 -- the links are those that the walk began with
@@ -145,7 +162,8 @@ no-walk t none empty ps =
     none-found (walk_of t) none (goal-joint t.r.links t.labels t.aim.rooms t.current t.w t.node t.on.way t.on.come.arrives t.other) nil ps
 
 -- the last link of the walk
-popped : (t : Turn) → 0 < t.w.walked → places_of (walked_slots t.w) ≡ places_of (take (t.w.walked - 1) t.w.slots) ++ (slot_at t.w.slots (t.w.walked - 1)).place ∷ []
+popped : (t : Turn) → 0 < t.w.walked → places_of (walked_slots t.w) ≡ places_of (take (t.w.walked - 1) t.w.slots) ++
+    (slot_at t.w.slots (t.w.walked - 1)).place ∷ []
 popped t some = last-places t.w some (omega (arith, t.on.way.order, t.on.way.within))
 
 pub slot-last : (t : Turn) → 0 < t.w.walked → IsSlot t.r.links t.w.sent t.r.rooms (slot_at t.w.slots (t.w.walked - 1))
@@ -154,14 +172,18 @@ slot-last t some = (last-leaves t.r t.labels t.current t.aim t.w t.node t.links 
 pub back-within : (t : Turn) (back : ℕ) → 0 < t.w.walked → back ≡ (slot_at t.w.slots (t.w.walked - 1)).place → back < length t.r.links.heads
 back-within t back some is = omega (arith, is, (slot-last t some).within)
 
-pub back-tail_within : (t : Turn) (tail : ℕ) → 0 < t.w.walked → tail ≡ tail_of t.r.links (slot_at t.w.slots (t.w.walked - 1)).place → tail < length (set t.current t.node t.place)
-back-tail_within t tail some is = tail-within (walk_of t) (places_of (take (t.w.walked - 1) t.w.slots)) (slot_at t.w.slots (t.w.walked - 1)).place tail (popped t some) is
+pub back-tail_within : (t : Turn) (tail : ℕ) → 0 < t.w.walked → tail ≡ tail_of t.r.links (slot_at t.w.slots (t.w.walked - 1)).place
+    → tail < length (set t.current t.node t.place)
+back-tail_within t tail some is = tail-within (walk_of t) (places_of (take (t.w.walked - 1) t.w.slots)) (slot_at t.w.slots (t.w.walked - 1)).place tail
+    (popped t some) is
 
 pub less-back : (t : Turn) (back tail : ℕ) → 0 < t.w.walked → back ≡ (slot_at t.w.slots (t.w.walked - 1)).place
     → tail ≡ tail_of t.r.links (slot_at t.w.slots (t.w.walked - 1)).place
-    → work_left t.aim.links t.labels t.w.start (set (set t.current t.node t.place) tail (back + 1)) tail < work_left t.aim.links t.labels t.w.start t.current t.node
+    → work_left t.aim.links t.labels t.w.start (set (set t.current t.node t.place) tail (back + 1)) tail
+    < work_left t.aim.links t.labels t.w.start t.current t.node
 less-back t back tail some at is =
-    subst (λ (l : Links). work_left l t.labels t.w.start (set (set t.current t.node t.place) tail (back + 1)) tail < work_left l t.labels t.w.start t.current t.node) (same-links t)
+    subst (λ (l : Links). work_left l t.labels t.w.start (set (set t.current t.node t.place) tail (back + 1)) tail
+    < work_left l t.labels t.w.start t.current t.node) (same-links t)
     (rw at (work-popped (walk_of t) (places_of (take (t.w.walked - 1) t.w.slots)) (slot_at t.w.slots (t.w.walked - 1)).place tail (popped t some) is))
 
 -- The walk steps back.
@@ -178,7 +200,8 @@ on-stepped t next new back tail none some put step sums at is =
     let arrives : end_of l t.w.start (front ++ p ∷ []) ≡ t.node = ap (λ ps. end_of l t.w.start ps) (sym (popped t some)) ∙ t.on.come.arrives in
     let head : get_or l.heads p 0 ≡ t.node = sym (end_of-push l t.w.start front p) ∙ arrives in
     let falls : get_or t.labels (get_or l.heads p 0) 0 + 1 ≡ get_or t.labels (tail_of l p) 0 =
-    last-falls l t.labels t.aim.rooms t.current t.w.start front p t.links t.start_is (subst (IsTrail l t.labels t.aim.rooms t.current t.w.start) (popped t some) t.on.come.walking.trail_is) in
+    last-falls l t.labels t.aim.rooms t.current t.w.start front p t.links t.start_is
+    (subst (IsTrail l t.labels t.aim.rooms t.current t.w.start) (popped t some) t.on.come.walking.trail_is) in
     rw (at, put, step)
     (on-back t.r t.labels (set t.current t.node t.place) t.aim t.w t.node (p + 1) tail t.links t.start_is (on-turned t) some
     (omega (arith, falls, ap (λ u. get_or t.labels u 0) head, ap (λ u. get_or t.labels u 0) is)) come

@@ -1,12 +1,14 @@
 -- Augmenting along a path gives what pushing along its steps in turn gives.
-use Rattle.std.proofs.Common.{ℕ, ◌≡◌, ◌≢◌, ◌+◌, ◌-◌, ◌*◌, ◌<◌, ◌==◌, List, [], ◌∷◌, length, get_or, zero, suc, true, false, cond, refl, ap, ◌∙◌, sym, subst, arith, ⊎_elim, get_or-set_other, add-zero, eq-eqb}
+use Rattle.std.proofs.Common.{ℕ, ◌≡◌, ◌≢◌, ◌+◌, ◌-◌, ◌*◌, ◌<◌, ◌==◌, List, [], ◌∷◌, length, get_or, zero, suc, true, false, cond, refl, ap, ◌∙◌, sym, subst}
+use Rattle.std.proofs.Common.{arith, ⊎_elim, get_or-set_other, add-zero, eq-eqb}
 use Rattle.std.proofs.lemmas.Bool.{ne_eqb, cases_eq}
 use Rattle.std.proofs.lemmas.Grind.{get_or-set_at, same_number_lists}
 use Rattle.dmf_state.specs.declared.arc.Arc.{Arc}
 use Rattle.dmf_path.specs.Step.{Step}
 use Rattle.dmf_path.specs.Path.{has_rank}
 use Rattle.dmf_solver.specs.Residual.{augmented_from}
-use Rattle.dmf_solver.proofs.Pushing.{arc_index, pushed_once, pushed, CanPush, along, against, pushed-along, pushed-against, length-pushed_once, length-pushed, Skips, CanPushInTurn}
+use Rattle.dmf_solver.proofs.Pushing.{arc_index, pushed_once, pushed, CanPush, along, against, pushed-along, pushed-against, length-pushed_once, length-pushed}
+use Rattle.dmf_solver.proofs.Pushing.{Skips, CanPushInTurn}
 
 -- there stay as many flows
 length-augmented_from : (j amount : ℕ) (path : List Step) (flows : List ℕ) → length (augmented_from j amount path flows) ≡ length flows
@@ -18,7 +20,8 @@ abbrev pub flow_augmented : ℕ → List Step → ℕ → ℕ → ℕ
 flow_augmented amount path j flow = flow + cond (has_rank path (2 * j)) amount 0 - cond (has_rank path (2 * j + 1)) amount 0
 
 -- each of the augmented flows
-pub get_or-augmented_from : (j amount : ℕ) (path : List Step) (flows : List ℕ) (k : ℕ) → k < length flows → get_or (augmented_from j amount path flows) k 0 ≡ flow_augmented amount path (j + k) (get_or flows k 0)
+pub get_or-augmented_from : (j amount : ℕ) (path : List Step) (flows : List ℕ) (k : ℕ) → k < length flows
+    → get_or (augmented_from j amount path flows) k 0 ≡ flow_augmented amount path (j + k) (get_or flows k 0)
 get_or-augmented_from j amount path [] k h = absurd (omega (arith, h))
 get_or-augmented_from j amount path (x ∷ flows) zero h = ap (λ i. flow_augmented amount path i x) (sym (add-zero j))
 get_or-augmented_from j amount path (x ∷ flows) (suc k) h =
@@ -33,7 +36,8 @@ ranks-skipped k (s ∷ path) skips =
     (rw (ne_eqb s.rank (2 * (1 + k)) skips.0) later.0, rw (ne_eqb s.rank (2 * (1 + k) + 1) skips.1) later.1)
 
 -- one step more in front, at each arc: at that of the step, and at the others
-augmented-first : (amount : ℕ) (arcs : List Arc) (flows : List ℕ) (s : Step) (path : List Step) (k : ℕ) → length flows ≡ length arcs → k < length flows → CanPush amount arcs flows s → Skips (arc_index s) path →
+augmented-first : (amount : ℕ) (arcs : List Arc) (flows : List ℕ) (s : Step) (path : List Step) (k : ℕ) → length flows ≡ length arcs → k < length flows
+    → CanPush amount arcs flows s → Skips (arc_index s) path →
     flow_augmented amount path (1 + k) (get_or (pushed_once amount s flows) k 0) ≡ flow_augmented amount (s ∷ path) (1 + k) (get_or flows k 0)
 augmented-first amount arcs flows s path k same h (along i leads room) skips =
     let index : arc_index s ≡ i = omega (arith, leads.rank_is) in
@@ -71,7 +75,8 @@ augmented-first amount arcs flows s path k same h (against i leads some) skips =
     (cases_eq i k)
 
 -- each of the flows that pushing makes
-get_or-pushed : (amount : ℕ) (arcs : List Arc) (flows : List ℕ) (path : List Step) (k : ℕ) → length flows ≡ length arcs → k < length flows → CanPushInTurn amount arcs flows path → get_or (pushed amount path flows) k 0 ≡ flow_augmented amount path (1 + k) (get_or flows k 0)
+get_or-pushed : (amount : ℕ) (arcs : List Arc) (flows : List ℕ) (path : List Step) (k : ℕ) → length flows ≡ length arcs → k < length flows
+    → CanPushInTurn amount arcs flows path → get_or (pushed amount path flows) k 0 ≡ flow_augmented amount path (1 + k) (get_or flows k 0)
 get_or-pushed amount arcs flows [] k same h can = omega arith
 get_or-pushed amount arcs flows (s ∷ path) k same h can =
     let next : List ℕ = pushed_once amount s flows in
@@ -80,7 +85,8 @@ get_or-pushed amount arcs flows (s ∷ path) k same h can =
     ∙ augmented-first amount arcs flows s path k same h can.0 can.1
 
 -- Pushing along the steps in turn is augmenting.
-pub pushed-augmented : (amount : ℕ) (arcs : List Arc) (flows : List ℕ) (path : List Step) → length flows ≡ length arcs → CanPushInTurn amount arcs flows path → pushed amount path flows ≡ augmented_from 1 amount path flows
+pub pushed-augmented : (amount : ℕ) (arcs : List Arc) (flows : List ℕ) (path : List Step) → length flows ≡ length arcs → CanPushInTurn amount arcs flows path
+    → pushed amount path flows ≡ augmented_from 1 amount path flows
 pushed-augmented amount arcs flows path same can =
     let long = length-pushed amount path flows in
     same_number_lists (pushed amount path flows) (augmented_from 1 amount path flows)

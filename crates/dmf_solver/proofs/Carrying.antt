@@ -1,6 +1,7 @@
 -- What flows on an arc comes back to its tail, along arcs on which something flows, and by the return from the sink to
 -- the source where the value is above 0.
-use Rattle.std.proofs.Common.{ℕ, suc, ◌≡◌, ◌<◌, ◌≤◌, ◌&&◌, List, [], ◌∷◌, get_or, length, Bool, true, false, not, cond, refl, ap, sym, ◌∙◌, arith, ⊎_elim, pos, ◌≤ℤ◌, ◌<ℤ◌}
+use Rattle.std.proofs.Common.{ℕ, suc, ◌≡◌, ◌<◌, ◌≤◌, ◌&&◌, List, [], ◌∷◌, get_or, length, Bool, true, false, not, cond, refl, ap, sym, ◌∙◌, arith, ⊎_elim, pos}
+use Rattle.std.proofs.Common.{◌≤ℤ◌, ◌<ℤ◌}
 use Rattle.std.specs.List.{zip, Contains}
 use Rattle.std.proofs.lemmas.Bool.{cases_lt, cases_Bool, true_from_ne_false, both_ways}
 use Rattle.std.proofs.lemmas.Int.{ints, by_lt_z}
@@ -35,7 +36,8 @@ keeps-leaving (arc ∷ arcs) (flow ∷ flows) has keeps =
     omega (arith, here, rest, sum_by-cons out (arc, flow) (zip arcs flows))
 
 -- What flows on an arc that leads into the set is a part of what enters it.
-pub flow-le_entering : (arcs : List Arc) (flows : List ℕ) (has : ℕ → Bool) (k : ℕ) → k < length arcs → k < length flows → has (get_or arcs k no_arc).tail ≡ false → has (get_or arcs k no_arc).head ≡ true → get_or flows k 0 ≤ entering arcs flows has
+pub flow-le_entering : (arcs : List Arc) (flows : List ℕ) (has : ℕ → Bool) (k : ℕ) → k < length arcs → k < length flows
+    → has (get_or arcs k no_arc).tail ≡ false → has (get_or arcs k no_arc).head ≡ true → get_or flows k 0 ≤ entering arcs flows has
 flow-le_entering arcs flows has k h l tail head =
     let into : Arc × ℕ → ℕ = λ p. cond (not (has p.0.tail) && has p.0.head) p.1 0 in
     let long : k < length (zip arcs flows) = rw length-zip (omega arith) in
@@ -44,7 +46,8 @@ flow-le_entering arcs flows has k h l tail head =
     rw (tail, head) at (rw read at part)
 
 -- Nothing enters a set that no flow leaves, by an arc or by the return, where the value is not below 0.
-pub keeps-entering : (n : Network) (flows : List ℕ) (has : ℕ → Bool) → IsNetwork n → IsFlow n flows → pos 0 ≤ℤ flow_value n flows → KeepsFlow n.arcs flows has → (pos 0 <ℤ flow_value n flows → has n.sink ≡ true → has n.source ≡ true) → entering n.arcs flows has ≡ 0
+pub keeps-entering : (n : Network) (flows : List ℕ) (has : ℕ → Bool) → IsNetwork n → IsFlow n flows → pos 0 ≤ℤ flow_value n flows → KeepsFlow n.arcs flows has
+    → (pos 0 <ℤ flow_value n flows → has n.sink ≡ true → has n.source ≡ true) → entering n.arcs flows has ≡ 0
 keeps-entering n flows has network flow from_zero keeps returns =
     let none = keeps-leaving n.arcs flows has keeps in
     ⊎_elim
@@ -62,7 +65,9 @@ keeps-entering n flows has network flow from_zero keeps returns =
 
 -- A set that no flow leaves, by an arc or by the return, has the tail of an arc on which something flows if it has its
 -- head.
-pub keeps-tail : (n : Network) (flows : List ℕ) (has : ℕ → Bool) (k : ℕ) → IsNetwork n → IsFlow n flows → pos 0 ≤ℤ flow_value n flows → KeepsFlow n.arcs flows has → (pos 0 <ℤ flow_value n flows → has n.sink ≡ true → has n.source ≡ true) → k < length n.arcs → 0 < get_or flows k 0 → has (get_or n.arcs k no_arc).head ≡ true → has (get_or n.arcs k no_arc).tail ≡ true
+pub keeps-tail : (n : Network) (flows : List ℕ) (has : ℕ → Bool) (k : ℕ) → IsNetwork n → IsFlow n flows → pos 0 ≤ℤ flow_value n flows
+    → KeepsFlow n.arcs flows has → (pos 0 <ℤ flow_value n flows → has n.sink ≡ true → has n.source ≡ true) → k < length n.arcs → 0 < get_or flows k 0
+    → has (get_or n.arcs k no_arc).head ≡ true → has (get_or n.arcs k no_arc).tail ≡ true
 keeps-tail n flows has k network flow from_zero keeps returns h some head =
     true_from_ne_false (has (get_or n.arcs k no_arc).tail) (λ tail.
     let same = AllZip-long _ n.arcs flows flow.within in
@@ -73,15 +78,18 @@ keeps-tail n flows has k network flow from_zero keeps returns h some head =
 -- where the value is above 0.
 pub record CarryFlow (n : Network) (flows : List ℕ) (steps : List Step) : Type 0 where
   pub arrive : ArriveAtNodes n.nodes steps
-  pub along : (k : ℕ) → k < length n.arcs → 0 < get_or flows k 0 → (s : Step) × Contains steps s × (s.from ≡ (get_or n.arcs k no_arc).tail) × (s.to ≡ (get_or n.arcs k no_arc).head)
+  pub along : (k : ℕ) → k < length n.arcs → 0 < get_or flows k 0 → (s : Step) × Contains steps s × (s.from ≡ (get_or n.arcs k no_arc).tail)
+      × (s.to ≡ (get_or n.arcs k no_arc).head)
   pub returns : pos 0 <ℤ flow_value n flows → (s : Step) × Contains steps s × (s.from ≡ n.sink) × (s.to ≡ n.source)
 
 -- a set that has where a step leaves and that no step leaves has where it arrives
-closed_step : (steps : List Step) (has : ℕ → Bool) (a b : ℕ) → IsClosed steps has → (s : Step) × Contains steps s × (s.from ≡ a) × (s.to ≡ b) → has a ≡ true → has b ≡ true
+closed_step : (steps : List Step) (has : ℕ → Bool) (a b : ℕ) → IsClosed steps has → (s : Step) × Contains steps s × (s.from ≡ a) × (s.to ≡ b) → has a ≡ true
+    → has b ≡ true
 closed_step steps has a b closed s inside = sym (ap has s.3) ∙ closed s.0 s.1 (ap has s.2 ∙ inside)
 
 -- So it is absurd that no path of such steps leads from the head of an arc on which something flows to its tail.
-pub path_back-not_none : (n : Network) (flows : List ℕ) (steps : List Step) (k : ℕ) → IsNetwork n → IsFlow n flows → pos 0 ≤ℤ flow_value n flows → CarryFlow n flows steps → k < length n.arcs → 0 < get_or flows k 0 → ¬ HasNoPath steps (get_or n.arcs k no_arc).head (get_or n.arcs k no_arc).tail
+pub path_back-not_none : (n : Network) (flows : List ℕ) (steps : List Step) (k : ℕ) → IsNetwork n → IsFlow n flows → pos 0 ≤ℤ flow_value n flows
+    → CarryFlow n flows steps → k < length n.arcs → 0 < get_or flows k 0 → ¬ HasNoPath steps (get_or n.arcs k no_arc).head (get_or n.arcs k no_arc).tail
 path_back-not_none n flows steps k network flow from_zero carry h some =
     path-not_none steps n.nodes (get_or n.arcs k no_arc).head (get_or n.arcs k no_arc).tail carry.arrive (network.arcs k no_arc h).head
     (λ has head closed.

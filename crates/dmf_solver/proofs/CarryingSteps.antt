@@ -1,5 +1,6 @@
 -- Each carrying step of a flow leads along an arc on which something flows, or is the return link.
-use Rattle.std.proofs.Common.{ℕ, ◌≡◌, ◌+◌, ◌-◌, ◌*◌, ◌<◌, ◌≤◌, List, [], ◌∷◌, ◌++◌, length, get_or, zero, suc, Bool, true, false, cond, ltb, sym, subst, ap, refl, arith, ⊎_elim, append_assoc, pos, ◌≤ℤ◌}
+use Rattle.std.proofs.Common.{ℕ, ◌≡◌, ◌+◌, ◌-◌, ◌*◌, ◌<◌, ◌≤◌, List, [], ◌∷◌, ◌++◌, length, get_or, zero, suc, Bool, true, false, cond, ltb, sym, subst, ap}
+use Rattle.std.proofs.Common.{refl, arith, ⊎_elim, append_assoc, pos, ◌≤ℤ◌}
 use Rattle.std.specs.List.{Contains, All, AllPairs}
 use Rattle.std.proofs.lemmas.Bool.{ltb-true, lt-ltb}
 use Rattle.std.proofs.lemmas.Int.{ints}
@@ -38,7 +39,8 @@ pub data IsCarrying (n : Network) (flows : List ℕ) (s : Step) : Type 0 where
   returns : IsReturnLink n flows s → IsCarrying n flows s
 
 -- an arc more in front
-carries-behind : (j : ℕ) (a : Arc) (arcs : List Arc) (x : ℕ) (flows : List ℕ) (s : Step) → CarriesAlong (j + 1) arcs flows s → CarriesAlong j (a ∷ arcs) (x ∷ flows) s
+carries-behind : (j : ℕ) (a : Arc) (arcs : List Arc) (x : ℕ) (flows : List ℕ) (s : Step) → CarriesAlong (j + 1) arcs flows s
+    → CarriesAlong j (a ∷ arcs) (x ∷ flows) s
 carries-behind j a arcs x flows s c = record {
   index = suc c.index;
   leads = record { within = omega (arith, c.leads.within); rank_is = omega (arith, c.leads.rank_is); tail = c.leads.tail; head = c.leads.head };
@@ -55,7 +57,13 @@ carries-first j a arcs x flows s c =
     let room : x ≡ s.room = ap (λ (t : Step). t.room) told.1 in
     record {
       index = 0;
-      leads = record { within = omega arith; rank_is = omega arith; tail = sym (ap (λ (t : Step). t.from) told.1); head = sym (ap (λ (t : Step). t.to) told.1) };
+      leads = record {
+        within = omega arith;
+        rank_is = omega arith;
+        tail = sym (ap (λ (t : Step). t.from) told.1);
+        head =
+            sym (ap (λ (t : Step). t.to) told.1);
+      };
       room_is = sym room;
       has_room = omega arith;
     }
@@ -106,7 +114,8 @@ IsStep-carrying n flows s network (returns c) =
     (subst (IsNode n.nodes) (sym c.from_sink) network.sink, subst (IsNode n.nodes) (sym c.to_source) network.source)
 
 -- the ranks of the steps behind the first arc's are greater than its rank
-ranks-behind : (j : ℕ) (arcs : List Arc) (flows : List ℕ) (after : List Step) (s : Step) → s.rank ≡ 2 * j → All (λ t. 2 * (j + 1) ≤ t.rank) after → All (IsBefore s) (carried_from (j + 1) arcs flows ++ after)
+ranks-behind : (j : ℕ) (arcs : List Arc) (flows : List ℕ) (after : List Step) (s : Step) → s.rank ≡ 2 * j → All (λ t. 2 * (j + 1) ≤ t.rank) after
+    → All (IsBefore s) (carried_from (j + 1) arcs flows ++ after)
 ranks-behind j arcs flows after s first greater k d h =
     let steps = carried_from (j + 1) arcs flows in
     let t : Step = get_or (steps ++ after) k d in
@@ -116,7 +125,8 @@ ranks-behind j arcs flows after s first greater k d h =
     (Contains-append_cases steps after t (Contains-get_or (steps ++ after) k d h))
 
 -- the steps of the arcs, and steps of greater ranks after them, are in the order of their ranks
-ascending-carried : (j : ℕ) (arcs : List Arc) (flows : List ℕ) (after : List Step) → All (λ t. 2 * (j + length arcs) ≤ t.rank) after → AllPairs IsBefore after → AllPairs IsBefore (carried_from j arcs flows ++ after)
+ascending-carried : (j : ℕ) (arcs : List Arc) (flows : List ℕ) (after : List Step) → All (λ t. 2 * (j + length arcs) ≤ t.rank) after → AllPairs IsBefore after
+    → AllPairs IsBefore (carried_from j arcs flows ++ after)
 ascending-carried j [] flows after greater ascending = ascending
 ascending-carried j (a ∷ arcs) [] after greater ascending = ascending
 ascending-carried j (a ∷ arcs) (x ∷ flows) after greater ascending =
@@ -147,12 +157,16 @@ optional-has true s holds = (0, omega arith, refl)
 optional-has false s holds = absurd (cc)
 
 -- The step of an arc on which something flows is one of the list.
-carried-has : (j : ℕ) (arcs : List Arc) (flows : List ℕ) (k : ℕ) → k < length arcs → 0 < get_or flows k 0 → (s : Step) × Contains (carried_from j arcs flows) s × LeadsAlong j arcs k s
+carried-has : (j : ℕ) (arcs : List Arc) (flows : List ℕ) (k : ℕ) → k < length arcs → 0 < get_or flows k 0
+    → (s : Step) × Contains (carried_from j arcs flows) s × LeadsAlong j arcs k s
 carried-has j [] flows k within some = absurd (omega (arith, within))
 carried-has j (a ∷ arcs) [] k within some = absurd (omega (arith, some))
 carried-has j (a ∷ arcs) (x ∷ flows) zero within some =
-    let first : Step = record { from = a.tail; to = a.head; rank = 2 * j; room = x } in
-    (first, Contains-append_left (carried j a x) (carried_from (j + 1) arcs flows) first (optional-has (ltb 0 x) first (lt-ltb 0 x some)), record { within = within; rank_is = omega arith; tail = refl; head = refl })
+    let first : Step = record { from = a.tail; to = a.head; rank = 2 * j; room = x } in (
+      first,
+      Contains-append_left (carried j a x) (carried_from (j + 1) arcs flows) first (optional-has (ltb 0 x) first (lt-ltb 0 x some)),
+      record { within = within; rank_is = omega arith; tail = refl; head = refl },
+    )
 carried-has j (a ∷ arcs) (x ∷ flows) (suc k) within some =
     let later = carried-has (j + 1) arcs flows k (omega (arith, within)) some in (
       later.0,
@@ -166,7 +180,8 @@ carried-has j (a ∷ arcs) (x ∷ flows) (suc k) within some =
     )
 
 -- The step of an arc on which something flows is a carrying step.
-pub carrying-has : (n : Network) (flows : List ℕ) (k : ℕ) → k < length n.arcs → 0 < get_or flows k 0 → (s : Step) × Contains (carrying_steps n flows) s × LeadsAlong 1 n.arcs k s
+pub carrying-has : (n : Network) (flows : List ℕ) (k : ℕ) → k < length n.arcs → 0 < get_or flows k 0
+    → (s : Step) × Contains (carrying_steps n flows) s × LeadsAlong 1 n.arcs k s
 carrying-has n flows k within some =
     let found = carried-has 1 n.arcs flows k within some in
     (found.0, Contains-append_left (carried_from 1 n.arcs flows) (return_link n flows) found.0 found.1, found.2)
@@ -180,20 +195,28 @@ CarryFlow-carrying n flows network = record {
       (found.0, found.1, found.2.tail, found.2.head);
   returns = λ positive.
       let link : Step = record { from = n.sink; to = n.source; rank = 2 * length n.arcs + 2; room = value_or_zero n flows } in
-      let some : 0 < value_or_zero n flows = omega (arith, ints, positive) in
-      (link, Contains-append_right (carried_from 1 n.arcs flows) (return_link n flows) link (optional-has (ltb 0 (value_or_zero n flows)) link (lt-ltb 0 (value_or_zero n flows) some)), refl, refl);
+      let some : 0 < value_or_zero n flows = omega (arith, ints, positive) in (
+        link,
+        Contains-append_right (carried_from 1 n.arcs flows) (return_link n flows) link
+            (optional-has (ltb 0 (value_or_zero n flows)) link (lt-ltb 0 (value_or_zero n flows) some)),
+        refl,
+        refl,
+      );
 }
 
 -- What flows on an arc comes back: a path of carrying steps leads from its head to its tail.
-pub carrying-path : (n : Network) (flows : List ℕ) (j : ℕ) → IsNetwork n → IsFlow n flows → pos 0 ≤ℤ flow_value n flows → has_arc n j ≡ true → 0 < flow_on flows j → SomePath (carrying_steps n flows) (arc_number n j).head (arc_number n j).tail
+pub carrying-path : (n : Network) (flows : List ℕ) (j : ℕ) → IsNetwork n → IsFlow n flows → pos 0 ≤ℤ flow_value n flows → has_arc n j ≡ true
+    → 0 < flow_on flows j → SomePath (carrying_steps n flows) (arc_number n j).head (arc_number n j).tail
 carrying-path n flows j network flow from_zero has some =
     ⊎_elim
-    (λ none. absurd (path_back-not_none n flows (carrying_steps n flows) (j - 1) network flow from_zero (CarryFlow-carrying n flows network) (has_arc-within n j has).1 some none))
+    (λ none. absurd (path_back-not_none n flows (carrying_steps n flows) (j - 1) network flow from_zero (CarryFlow-carrying n flows network)
+    (has_arc-within n j has).1 some none))
     (λ found. found)
     (path-or-none (carrying_steps n flows) (arc_number n j).head (arc_number n j).tail)
 
 -- So there is a least one.
-pub carrying-least : (n : Network) (flows : List ℕ) (j : ℕ) → IsNetwork n → IsFlow n flows → pos 0 ≤ℤ flow_value n flows → has_arc n j ≡ true → 0 < flow_on flows j → SomeLeast (carrying_steps n flows) (arc_number n j).head (arc_number n j).tail
+pub carrying-least : (n : Network) (flows : List ℕ) (j : ℕ) → IsNetwork n → IsFlow n flows → pos 0 ≤ℤ flow_value n flows → has_arc n j ≡ true
+    → 0 < flow_on flows j → SomeLeast (carrying_steps n flows) (arc_number n j).head (arc_number n j).tail
 carrying-least n flows j network flow from_zero has some =
     least-path (carrying_steps n flows) (AreSteps-carrying n flows network).ascending (arc_number n j).head (arc_number n j).tail
     (carrying-path n flows j network flow from_zero has some)

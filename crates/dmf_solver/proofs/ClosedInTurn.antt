@@ -15,14 +15,16 @@ use Rattle.dmf_state.proofs.ClosedArcs.{closed_at}
 
 -- ---- its ends
 
-ends-closed : (arcs : List Arc) (k i : ℕ) → ((get_or (set arcs k (closed_arc (get_or arcs k no_arc))) i no_arc).tail ≡ (get_or arcs i no_arc).tail) × ((get_or (set arcs k (closed_arc (get_or arcs k no_arc))) i no_arc).head ≡ (get_or arcs i no_arc).head)
+ends-closed : (arcs : List Arc) (k i : ℕ) → ((get_or (set arcs k (closed_arc (get_or arcs k no_arc))) i no_arc).tail ≡ (get_or arcs i no_arc).tail)
+    × ((get_or (set arcs k (closed_arc (get_or arcs k no_arc))) i no_arc).head ≡ (get_or arcs i no_arc).head)
 ends-closed [] k i = (refl, refl)
 ends-closed (a ∷ arcs) zero zero = (refl, refl)
 ends-closed (a ∷ arcs) zero (suc i) = (refl, refl)
 ends-closed (a ∷ arcs) (suc k) zero = (refl, refl)
 ends-closed (a ∷ arcs) (suc k) (suc i) = ends-closed arcs k i
 
-carried-closed : (i : ℕ) (arcs : List Arc) (flows : List ℕ) (k : ℕ) → carried_from i (set arcs k (closed_arc (get_or arcs k no_arc))) flows ≡ carried_from i arcs flows
+carried-closed : (i : ℕ) (arcs : List Arc) (flows : List ℕ) (k : ℕ) → carried_from i
+    (set arcs k (closed_arc (get_or arcs k no_arc))) flows ≡ carried_from i arcs flows
 carried-closed i [] flows k = refl
 carried-closed i (a ∷ arcs) [] zero = refl
 carried-closed i (a ∷ arcs) [] (suc k) = refl
@@ -43,7 +45,8 @@ steps-closed n j flows =
 
 -- ---- draining
 
-lowers-closed : (n : Network) (j i limit : ℕ) (flows last : List ℕ) (paths : List (List Step)) → Lowers n i limit flows paths last → Lowers (closed_at n j) i limit flows paths last
+lowers-closed : (n : Network) (j i limit : ℕ) (flows last : List ℕ) (paths : List (List Step)) → Lowers n i limit flows paths last
+    → Lowers (closed_at n j) i limit flows paths last
 lowers-closed n j i limit flows last [] is = is
 lowers-closed n j i limit flows last (path ∷ paths) goes =
     let ends = ends-closed n.arcs (j - 1) (i - 1) in
@@ -61,7 +64,8 @@ in_turn-closed n j [] flows last is = is
 in_turn-closed n j (i ∷ js) flows last drains = (drains.0, drains-closed n j i flows drains.0 drains.1, in_turn-closed n j js drains.0 last drains.2)
 
 -- Draining arcs in turn closes them in turn.
-pub closes-in_turn : (n : Network) (arcs : List Shutting) (flows last : List ℕ) → DrainsInTurn n (numbers arcs) flows last → Closes (numbers arcs) (record { network = n; flows = flows }) (record { network = with_closed arcs n; flows = last })
+pub closes-in_turn : (n : Network) (arcs : List Shutting) (flows last : List ℕ) → DrainsInTurn n (numbers arcs) flows last
+    → Closes (numbers arcs) (record { network = n; flows = flows }) (record { network = with_closed arcs n; flows = last })
 closes-in_turn n [] flows last is = λ i. record { network = n; flows = is i }
 closes-in_turn n (a ∷ arcs) flows last drains = (
   record { network = closed_at n a.arc; flows = drains.0 },

@@ -1,5 +1,6 @@
 -- What flows across the border of a set of nodes. A set is given by its test: whether it has a node.
-use Rattle.std.proofs.Common.{ℕ, zero, suc, ◌≡◌, ◌≢◌, ◌+◌, ◌<◌, ◌==◌, ◌&&◌, List, [], ◌∷◌, Bool, true, false, not, cond, refl, ap, sym, ◌∙◌, sum_by, arith, ⊎_elim, pos, ◌-ℤ◌}
+use Rattle.std.proofs.Common.{ℕ, zero, suc, ◌≡◌, ◌≢◌, ◌+◌, ◌<◌, ◌==◌, ◌&&◌, List, [], ◌∷◌, Bool, true, false, not, cond, refl, ap, sym, ◌∙◌, sum_by, arith}
+use Rattle.std.proofs.Common.{⊎_elim, pos, ◌-ℤ◌}
 use Rattle.std.specs.List.{zip, All}
 use Rattle.std.proofs.lemmas.Bool.{ne_eqb}
 use Rattle.std.proofs.lemmas.Bool.Decides.{eqb_tells}
@@ -90,7 +91,8 @@ sum_in-at has u x (suc last) node = ⊎_elim
     (eqb_tells u (suc last))
 
 -- The sum over the nodes of the set of what flows at each is what flows on the arcs that have this end in the set.
-pub sum_in-flow_at : (end : Arc → ℕ) (nodes : ℕ) (arcs : List Arc) (flows : List ℕ) (has : ℕ → Bool) → All (λ arc. IsNode nodes (end arc)) arcs → sum_in has (flow_at end arcs flows) nodes ≡ flow_in end arcs flows has
+pub sum_in-flow_at : (end : Arc → ℕ) (nodes : ℕ) (arcs : List Arc) (flows : List ℕ) (has : ℕ → Bool) → All (λ arc. IsNode nodes (end arc)) arcs
+    → sum_in has (flow_at end arcs flows) nodes ≡ flow_in end arcs flows has
 sum_in-flow_at end nodes [] flows has ends = sum_in-none has nodes
 sum_in-flow_at end nodes (arc ∷ arcs) [] has ends = sum_in-none has nodes
 sum_in-flow_at end nodes (arc ∷ arcs) (flow ∷ flows) has ends =
@@ -113,7 +115,8 @@ by_ends true false x = omega arith
 by_ends false true x = omega arith
 by_ends false false x = refl
 
-flow_in-both : (arcs : List Arc) (flows : List ℕ) (has : ℕ → Bool) → flow_in (λ arc. arc.tail) arcs flows has + entering arcs flows has ≡ flow_in (λ arc. arc.head) arcs flows has + leaving arcs flows has
+flow_in-both : (arcs : List Arc) (flows : List ℕ) (has : ℕ → Bool) → flow_in (λ arc. arc.tail) arcs flows has + entering arcs flows has ≡ flow_in
+    (λ arc. arc.head) arcs flows has + leaving arcs flows has
 flow_in-both [] flows has = refl
 flow_in-both (arc ∷ arcs) [] has = refl
 flow_in-both (arc ∷ arcs) (flow ∷ flows) has =
@@ -121,18 +124,29 @@ flow_in-both (arc ∷ arcs) (flow ∷ flows) has =
     let heads : Arc × ℕ → ℕ = λ p. cond (has p.0.head) p.1 0 in
     let out : Arc × ℕ → ℕ = λ p. cond (has p.0.tail && not (has p.0.head)) p.1 0 in
     let into : Arc × ℕ → ℕ = λ p. cond (not (has p.0.tail) && has p.0.head) p.1 0 in
-    omega (arith, by_ends (has arc.tail) (has arc.head) flow, flow_in-both arcs flows has, sum_by-cons tails (arc, flow) (zip arcs flows), sum_by-cons heads (arc, flow) (zip arcs flows), sum_by-cons out (arc, flow) (zip arcs flows), sum_by-cons into (arc, flow) (zip arcs flows))
+    omega (
+      arith,
+      by_ends (has arc.tail) (has arc.head) flow,
+      flow_in-both arcs flows has,
+      sum_by-cons tails (arc, flow) (zip arcs flows),
+      sum_by-cons heads (arc, flow) (zip arcs flows),
+      sum_by-cons out (arc, flow) (zip arcs flows),
+      sum_by-cons into (arc, flow) (zip arcs flows),
+    )
 
 -- The crossing lemma: what flows out of the nodes of a set, with what enters the set, is what flows into its nodes,
 -- with what leaves it.
-pub crossing : (nodes : ℕ) (arcs : List Arc) (flows : List ℕ) (has : ℕ → Bool) → All (IsArc nodes) arcs → sum_in has (outflow arcs flows) nodes + entering arcs flows has ≡ sum_in has (inflow arcs flows) nodes + leaving arcs flows has
+pub crossing : (nodes : ℕ) (arcs : List Arc) (flows : List ℕ) (has : ℕ → Bool) → All (IsArc nodes) arcs
+    → sum_in has (outflow arcs flows) nodes + entering arcs flows has ≡ sum_in has (inflow arcs flows) nodes + leaving arcs flows has
 crossing nodes arcs flows has fits =
     let tails = sum_in-flow_at (λ arc. arc.tail) nodes arcs flows has (λ k d h. (fits k d h).tail) in
     let heads = sum_in-flow_at (λ arc. arc.head) nodes arcs flows has (λ k d h. (fits k d h).head) in
     omega (arith, tails, heads, flow_in-both arcs flows has)
 
 -- Two sums over a set, of numbers that are the same except at two nodes.
-sum_in-same_but_two : (has : ℕ → Bool) (f g : ℕ → ℕ) (last s t : ℕ) → IsNode last s → IsNode last t → s ≢ t → ((v : ℕ) → IsNode last v → v ≢ s → v ≢ t → f v ≡ g v) → sum_in has f last + cond (has s) (g s) 0 + cond (has t) (g t) 0 ≡ sum_in has g last + cond (has s) (f s) 0 + cond (has t) (f t) 0
+sum_in-same_but_two : (has : ℕ → Bool) (f g : ℕ → ℕ) (last s t : ℕ) → IsNode last s → IsNode last t → s ≢ t
+    → ((v : ℕ) → IsNode last v → v ≢ s → v ≢ t → f v ≡ g v) → sum_in has f last + cond (has s) (g s) 0 + cond (has t) (g t) 0 ≡ sum_in has g last + cond (has s)
+    (f s) 0 + cond (has t) (f t) 0
 sum_in-same_but_two has f g last s t at_s at_t apart same =
     let only : ℕ → ℕ → ℕ → ℕ = λ u x v. cond (u == v) x 0 in
     let left : ℕ → ℕ = λ v. f v + (only s (g s) v + only t (g t) v) in
@@ -160,20 +174,25 @@ sum_in-same_but_two has f g last s t at_s at_t apart same =
     )
 
 -- The crossing lemma of a network, where flows are conserved at each inner node.
-pub crossing-terminals : (n : Network) (flows : List ℕ) (has : ℕ → Bool) → IsNetwork n → ((v : ℕ) → IsInnerNode n v → IsConservedAt n flows v) → leaving n.arcs flows has + cond (has n.source) (inflow n.arcs flows n.source) 0 + cond (has n.sink) (inflow n.arcs flows n.sink) 0 ≡ entering n.arcs flows has + cond (has n.source) (outflow n.arcs flows n.source) 0 + cond (has n.sink) (outflow n.arcs flows n.sink) 0
+pub crossing-terminals : (n : Network) (flows : List ℕ) (has : ℕ → Bool) → IsNetwork n → ((v : ℕ) → IsInnerNode n v → IsConservedAt n flows v)
+    → leaving n.arcs flows has + cond (has n.source) (inflow n.arcs flows n.source) 0 + cond (has n.sink)
+    (inflow n.arcs flows n.sink) 0 ≡ entering n.arcs flows has + cond (has n.source) (outflow n.arcs flows n.source) 0 + cond (has n.sink)
+    (outflow n.arcs flows n.sink) 0
 crossing-terminals n flows has network conserved =
     let same = sum_in-same_but_two has (outflow n.arcs flows) (inflow n.arcs flows) n.nodes n.source n.sink network.source network.sink network.two_terminals
     (λ v node not_source not_sink. conserved v (record { node = node; not_source = not_source; not_sink = not_sink })) in
     omega (arith, crossing n.nodes n.arcs flows has network.arcs, same)
 
 -- What leaves a cut less what enters it is the value.
-pub value-across : (n : Network) (flows : List ℕ) (has : ℕ → Bool) → IsNetwork n → ((v : ℕ) → IsInnerNode n v → IsConservedAt n flows v) → has n.source ≡ true → has n.sink ≡ false → pos (leaving n.arcs flows has) -ℤ pos (entering n.arcs flows has) ≡ flow_value n flows
+pub value-across : (n : Network) (flows : List ℕ) (has : ℕ → Bool) → IsNetwork n → ((v : ℕ) → IsInnerNode n v → IsConservedAt n flows v) → has n.source ≡ true
+    → has n.sink ≡ false → pos (leaving n.arcs flows has) -ℤ pos (entering n.arcs flows has) ≡ flow_value n flows
 value-across n flows has network conserved source sink =
     let terminals = rw (source, sink) at (crossing-terminals n flows has network conserved) in
     omega (arith, ints, terminals)
 
 -- As much leaves a set with neither source nor sink as enters it.
-pub none-across : (n : Network) (flows : List ℕ) (has : ℕ → Bool) → IsNetwork n → ((v : ℕ) → IsInnerNode n v → IsConservedAt n flows v) → has n.source ≡ false → has n.sink ≡ false → leaving n.arcs flows has ≡ entering n.arcs flows has
+pub none-across : (n : Network) (flows : List ℕ) (has : ℕ → Bool) → IsNetwork n → ((v : ℕ) → IsInnerNode n v → IsConservedAt n flows v) → has n.source ≡ false
+    → has n.sink ≡ false → leaving n.arcs flows has ≡ entering n.arcs flows has
 none-across n flows has network conserved source sink =
     let terminals = rw (source, sink) at (crossing-terminals n flows has network conserved) in
     omega (arith, terminals)
@@ -183,18 +202,21 @@ sum_by-none {X} [] = refl
 sum_by-none {X} (x ∷ xs) = let none : X → ℕ = λ y. 0 in omega (arith, sum_by-cons none x xs, sum_by-none xs)
 
 -- Source and sink together send out what they take in.
-pub terminals-balance : (n : Network) (flows : List ℕ) → IsNetwork n → ((v : ℕ) → IsInnerNode n v → IsConservedAt n flows v) → outflow n.arcs flows n.source + outflow n.arcs flows n.sink ≡ inflow n.arcs flows n.source + inflow n.arcs flows n.sink
+pub terminals-balance : (n : Network) (flows : List ℕ) → IsNetwork n → ((v : ℕ) → IsInnerNode n v → IsConservedAt n flows v)
+    → outflow n.arcs flows n.source + outflow n.arcs flows n.sink ≡ inflow n.arcs flows n.source + inflow n.arcs flows n.sink
 terminals-balance n flows network conserved =
     omega (arith, crossing-terminals n flows (λ v. true) network conserved, sum_by-none (zip n.arcs flows))
 
 -- As much leaves a set with both source and sink as enters it.
-pub none-across_both : (n : Network) (flows : List ℕ) (has : ℕ → Bool) → IsNetwork n → ((v : ℕ) → IsInnerNode n v → IsConservedAt n flows v) → has n.source ≡ true → has n.sink ≡ true → leaving n.arcs flows has ≡ entering n.arcs flows has
+pub none-across_both : (n : Network) (flows : List ℕ) (has : ℕ → Bool) → IsNetwork n → ((v : ℕ) → IsInnerNode n v → IsConservedAt n flows v)
+    → has n.source ≡ true → has n.sink ≡ true → leaving n.arcs flows has ≡ entering n.arcs flows has
 none-across_both n flows has network conserved source sink =
     let terminals = rw (source, sink) at (crossing-terminals n flows has network conserved) in
     omega (arith, terminals, terminals-balance n flows network conserved)
 
 -- What enters a set with the sink and without the source, less what leaves it, is the value.
-pub value-across_back : (n : Network) (flows : List ℕ) (has : ℕ → Bool) → IsNetwork n → ((v : ℕ) → IsInnerNode n v → IsConservedAt n flows v) → has n.source ≡ false → has n.sink ≡ true → pos (entering n.arcs flows has) -ℤ pos (leaving n.arcs flows has) ≡ flow_value n flows
+pub value-across_back : (n : Network) (flows : List ℕ) (has : ℕ → Bool) → IsNetwork n → ((v : ℕ) → IsInnerNode n v → IsConservedAt n flows v)
+    → has n.source ≡ false → has n.sink ≡ true → pos (entering n.arcs flows has) -ℤ pos (leaving n.arcs flows has) ≡ flow_value n flows
 value-across_back n flows has network conserved source sink =
     let terminals = rw (source, sink) at (crossing-terminals n flows has network conserved) in
     omega (arith, ints, terminals, terminals-balance n flows network conserved)

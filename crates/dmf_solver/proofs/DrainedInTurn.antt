@@ -37,7 +37,8 @@ pub record AreLeft (n : Network) (js flows last : List ℕ) : Type 0 where
   pub value_from_zero : pos 0 ≤ℤ flow_value n last
   pub without_flow : AreWithoutFlow last js
 
-pub left-in_turn : (n : Network) (js flows last : List ℕ) → IsNetwork n → IsFlow n flows → pos 0 ≤ℤ flow_value n flows → HasArcs n js → DrainsInTurn n js flows last → AreLeft n js flows last
+pub left-in_turn : (n : Network) (js flows last : List ℕ) → IsNetwork n → IsFlow n flows → pos 0 ≤ℤ flow_value n flows → HasArcs n js
+    → DrainsInTurn n js flows last → AreLeft n js flows last
 left-in_turn n [] flows last network flow from_zero has is = record {
   takes_off = subst (TakesOff n 0 flows) is (TakesOff-none n 0 flows flow);
   value_from_zero = subst (λ xs. pos 0 ≤ℤ flow_value n xs) is from_zero;
@@ -63,7 +64,8 @@ left-in_turn n (j ∷ js) flows last network flow from_zero has drains =
     }
 
 -- It holds of the moves between the flows before and those that are left.
-pub shutting-moves : (s : NetworkState) (js last : List ℕ) (moves : List Move) → IsState s → HasArcs s.network js → DrainsInTurn s.network js s.flows last → moves ≡ differences 1 s.flows last → AreShuttingMoves s js moves
+pub shutting-moves : (s : NetworkState) (js last : List ℕ) (moves : List Move) → IsState s → HasArcs s.network js → DrainsInTurn s.network js s.flows last
+    → moves ≡ differences 1 s.flows last → AreShuttingMoves s js moves
 shutting-moves s js last moves state has drains is =
     let left = left-in_turn s.network js s.flows last state.network state.flow state.value_from_zero has drains in
     let same = AllZip-long _ s.flows last left.takes_off.no_more in
@@ -90,11 +92,14 @@ pub record AreDrainedUpTo (s : NetworkState) (all left unpaired : List ℕ) (sea
   pub carrying : IsCarryingSearch s unpaired search
   pub onward : (last : List ℕ) → DrainsInTurn s.network left (flows_read Along unpaired search.pairs) last → DrainsInTurn s.network all s.flows last
 
-pub drained-next_arc : (s : NetworkState) (all left unpaired next_unpaired : List ℕ) (j : ℕ) (rest : List ℕ) (search next : Searched) → left ≡ j ∷ rest → IsCarryingSearch s next_unpaired next → Drains s.network j 0 (flows_read Along unpaired search.pairs) (flows_read Along next_unpaired next.pairs) → AreDrainedUpTo s all left unpaired search → AreDrainedUpTo s all rest next_unpaired next
+pub drained-next_arc : (s : NetworkState) (all left unpaired next_unpaired : List ℕ) (j : ℕ) (rest : List ℕ) (search next : Searched) → left ≡ j ∷ rest
+    → IsCarryingSearch s next_unpaired next → Drains s.network j 0 (flows_read Along unpaired search.pairs) (flows_read Along next_unpaired next.pairs)
+    → AreDrainedUpTo s all left unpaired search → AreDrainedUpTo s all rest next_unpaired next
 drained-next_arc s all left unpaired next_unpaired j rest search next is carrying drains up_to = record {
   carrying = carrying;
   onward = λ last more. up_to.onward last (rw is (flows_read Along next_unpaired next.pairs, drains, more));
 }
 
-pub drained-every_arc : (s : NetworkState) (all left unpaired : List ℕ) (search : Searched) → left ≡ [] → AreDrainedUpTo s all left unpaired search → DrainsInTurn s.network all s.flows (flows_read Along unpaired search.pairs)
+pub drained-every_arc : (s : NetworkState) (all left unpaired : List ℕ) (search : Searched) → left ≡ [] → AreDrainedUpTo s all left unpaired search
+    → DrainsInTurn s.network all s.flows (flows_read Along unpaired search.pairs)
 drained-every_arc s all left unpaired search none up_to = up_to.onward (flows_read Along unpaired search.pairs) (rw none refl)

@@ -22,7 +22,8 @@ IsLeastPath-none steps a b same = record {
   first = λ other leads long before. none-before other long before;
 }
 
-pub drained-loop : (n : Network) (j limit : ℕ) (flows : List ℕ) → has_arc n j ≡ true → IsFlow n flows → (arc_number n j).tail ≡ (arc_number n j).head → limit < flow_on flows j → Drains n j limit flows (set flows (j - 1) limit)
+pub drained-loop : (n : Network) (j limit : ℕ) (flows : List ℕ) → has_arc n j ≡ true → IsFlow n flows → (arc_number n j).tail ≡ (arc_number n j).head
+    → limit < flow_on flows j → Drains n j limit flows (set flows (j - 1) limit)
 drained-loop n j limit flows has flow loop above =
     let at = has_arc-within n j has in
     let within : j - 1 < length flows = omega (arith, at.1, AllZip-long _ n.arcs flows flow.within) in

@@ -37,9 +37,11 @@ TakesOff-none n amount flows flow = record {
 }
 
 -- Lowering along paths in turn leaves a flow, whose value is not below 0.
-lowers-state : (n : Network) (j limit : ℕ) (flows last : List ℕ) (paths : List (List Step)) → IsNetwork n → IsFlow n flows → pos 0 ≤ℤ flow_value n flows → has_arc n j ≡ true → Lowers n j limit flows paths last → TakesOff n (flow_on flows j - limit) flows last × (pos 0 ≤ℤ flow_value n last)
+lowers-state : (n : Network) (j limit : ℕ) (flows last : List ℕ) (paths : List (List Step)) → IsNetwork n → IsFlow n flows → pos 0 ≤ℤ flow_value n flows
+    → has_arc n j ≡ true → Lowers n j limit flows paths last → TakesOff n (flow_on flows j - limit) flows last × (pos 0 ≤ℤ flow_value n last)
 lowers-state n j limit flows last [] network flow from_zero has is =
-    subst (λ xs. TakesOff n (flow_on flows j - limit) flows xs × (pos 0 ≤ℤ flow_value n xs)) is (TakesOff-none n (flow_on flows j - limit) flows flow, from_zero)
+    subst (λ xs. TakesOff n (flow_on flows j - limit) flows xs × (pos 0 ≤ℤ flow_value n xs)) is
+    (TakesOff-none n (flow_on flows j - limit) flows flow, from_zero)
 lowers-state n j limit flows last (path ∷ paths) network flow from_zero has goes =
     let next : List ℕ = lowered j limit path flows in
     let amount = lowered-amount n j limit flows path goes.0 goes.1 in
@@ -57,11 +59,13 @@ lowers-state n j limit flows last (path ∷ paths) network flow from_zero has go
     )
 
 -- What draining leaves is a flow, and its value is not below 0.
-pub drains-state : (n : Network) (j limit : ℕ) (flows last : List ℕ) → IsNetwork n → IsFlow n flows → pos 0 ≤ℤ flow_value n flows → has_arc n j ≡ true → Drains n j limit flows last → TakesOff n (flow_on flows j - limit) flows last × (pos 0 ≤ℤ flow_value n last)
+pub drains-state : (n : Network) (j limit : ℕ) (flows last : List ℕ) → IsNetwork n → IsFlow n flows → pos 0 ≤ℤ flow_value n flows → has_arc n j ≡ true
+    → Drains n j limit flows last → TakesOff n (flow_on flows j - limit) flows last × (pos 0 ≤ℤ flow_value n last)
 drains-state n j limit flows last network flow from_zero has drains = lowers-state n j limit flows last drains.paths network flow from_zero has drains.lowers
 
 -- Lowering the same flows in turn ends at the same flows.
-one-lowered : (n : Network) (j limit : ℕ) → IsNetwork n → (a b : List ℕ) → flow_on a j ≤ limit → flow_on b j ≤ limit → (flows : List ℕ) (paths more : List (List Step)) → Lowers n j limit flows paths a → Lowers n j limit flows more b → a ≡ b
+one-lowered : (n : Network) (j limit : ℕ) → IsNetwork n → (a b : List ℕ) → flow_on a j ≤ limit → flow_on b j ≤ limit
+    → (flows : List ℕ) (paths more : List (List Step)) → Lowers n j limit flows paths a → Lowers n j limit flows more b → a ≡ b
 one-lowered n j limit network a b a_within b_within flows [] [] is same = sym is ∙ same
 one-lowered n j limit network a b a_within b_within flows [] (path ∷ more) is goes =
     absurd (omega (arith, goes.0, a_within, ap (λ xs. flow_on xs j) is))
@@ -88,7 +92,9 @@ already : (n : Network) (j limit : ℕ) (flows : List ℕ) → flow_on flows j �
 already n j limit flows within = record { last = flows; drains = record { paths = []; lowers = refl; within = within } }
 
 -- one path more in front
-one-more : (n : Network) (j limit : ℕ) (flows : List ℕ) → limit < flow_on flows j → (found : SomeLeast (carrying_steps n flows) (arc_number n j).head (arc_number n j).tail) → SomeDrained n j limit (lowered j limit found.path flows) → SomeDrained n j limit flows
+one-more : (n : Network) (j limit : ℕ) (flows : List ℕ) → limit < flow_on flows j
+    → (found : SomeLeast (carrying_steps n flows) (arc_number n j).head (arc_number n j).tail) → SomeDrained n j limit (lowered j limit found.path flows)
+    → SomeDrained n j limit flows
 one-more n j limit flows above found rest = record {
   last = rest.last;
   drains = record {
@@ -99,11 +105,13 @@ one-more n j limit flows above found rest = record {
 }
 
 -- Draining ends: each path takes something off the arc.
-drained : (n : Network) (j limit : ℕ) → IsNetwork n → has_arc n j ≡ true → (left : ℕ) (flows : List ℕ) → IsFlow n flows → pos 0 ≤ℤ flow_value n flows → flow_on flows j ≤ limit + left → SomeDrained n j limit flows
+drained : (n : Network) (j limit : ℕ) → IsNetwork n → has_arc n j ≡ true → (left : ℕ) (flows : List ℕ) → IsFlow n flows → pos 0 ≤ℤ flow_value n flows
+    → flow_on flows j ≤ limit + left → SomeDrained n j limit flows
 drained n j limit network has zero flows flow from_zero bound = already n j limit flows (omega (arith, bound))
 drained n j limit network has (suc left) flows flow from_zero bound = ⊎_elim
     (λ (above : limit < flow_on flows j).
-    let found : SomeLeast (carrying_steps n flows) (arc_number n j).head (arc_number n j).tail = carrying-least n flows j network flow from_zero has (omega (arith, above)) in
+    let found : SomeLeast (carrying_steps n flows) (arc_number n j).head (arc_number n j).tail =
+    carrying-least n flows j network flow from_zero has (omega (arith, above)) in
     let amount = lowered-amount n j limit flows found.path above found.least in
     let on = lowered-on n j limit flows found.path has flow in
     one-more n j limit flows above found (drained n j limit network has left (lowered j limit found.path flows)
@@ -114,5 +122,6 @@ drained n j limit network has (suc left) flows flow from_zero bound = ⊎_elim
     (cases_lt limit (flow_on flows j))
 
 -- Every arc can be drained to a limit.
-pub some-drained : (n : Network) (j limit : ℕ) (flows : List ℕ) → IsNetwork n → IsFlow n flows → pos 0 ≤ℤ flow_value n flows → has_arc n j ≡ true → SomeDrained n j limit flows
+pub some-drained : (n : Network) (j limit : ℕ) (flows : List ℕ) → IsNetwork n → IsFlow n flows → pos 0 ≤ℤ flow_value n flows → has_arc n j ≡ true
+    → SomeDrained n j limit flows
 some-drained n j limit flows network flow from_zero has = drained n j limit network has (flow_on flows j) flows flow from_zero (omega arith)

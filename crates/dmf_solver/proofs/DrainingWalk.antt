@@ -27,7 +27,9 @@ pub drained-none : (s : NetworkState) (j limit : ℕ) → IsState s → AreDrain
 drained-none s j limit state = record { state = state; onward = λ last drains. drains }
 
 -- one path more
-pub drained-more : (s : NetworkState) (j limit : ℕ) (flows : List ℕ) (path : List Step) → has_arc s.network j ≡ true → limit < flow_on flows j → IsLeastPath (carrying_steps s.network flows) (arc_number s.network j).head (arc_number s.network j).tail path → AreDrainedSoFar s j limit flows → AreDrainedSoFar s j limit (lowered j limit path flows)
+pub drained-more : (s : NetworkState) (j limit : ℕ) (flows : List ℕ) (path : List Step) → has_arc s.network j ≡ true → limit < flow_on flows j
+    → IsLeastPath (carrying_steps s.network flows) (arc_number s.network j).head (arc_number s.network j).tail path → AreDrainedSoFar s j limit flows
+    → AreDrainedSoFar s j limit (lowered j limit path flows)
 drained-more s j limit flows path has above least so_far = record {
   state = record {
     network = so_far.state.network;
@@ -38,16 +40,19 @@ drained-more s j limit flows path has above least so_far = record {
 }
 
 -- Where no more than the limit flows on the arc, it is drained.
-pub drained-all : (s : NetworkState) (j limit : ℕ) (flows : List ℕ) → flow_on flows j ≤ limit → AreDrainedSoFar s j limit flows → Drains s.network j limit s.flows flows
+pub drained-all : (s : NetworkState) (j limit : ℕ) (flows : List ℕ) → flow_on flows j ≤ limit → AreDrainedSoFar s j limit flows
+    → Drains s.network j limit s.flows flows
 drained-all s j limit flows within so_far = so_far.onward flows (record { paths = []; lowers = refl; within = within })
 
 -- the flows that draining leaves are one for each arc
-pub length-drained : (s : NetworkState) (j limit : ℕ) (last : List ℕ) → IsState s → has_arc s.network j ≡ true → Drains s.network j limit s.flows last → length last ≡ length s.flows
+pub length-drained : (s : NetworkState) (j limit : ℕ) (last : List ℕ) → IsState s → has_arc s.network j ≡ true → Drains s.network j limit s.flows last
+    → length last ≡ length s.flows
 length-drained s j limit last state has drains =
     AllZip-long _ s.flows last (drains-state s.network j limit s.flows last state.network state.flow state.value_from_zero has drains).0.no_more
 
 -- It holds of the moves between the flows before and those that draining leaves.
-pub draining-moves : (s : NetworkState) (j limit : ℕ) (last : List ℕ) (moves : List Move) → IsState s → has_arc s.network j ≡ true → Drains s.network j limit s.flows last → moves ≡ differences 1 s.flows last → AreDrainingMoves s j limit moves
+pub draining-moves : (s : NetworkState) (j limit : ℕ) (last : List ℕ) (moves : List Move) → IsState s → has_arc s.network j ≡ true
+    → Drains s.network j limit s.flows last → moves ≡ differences 1 s.flows last → AreDrainingMoves s j limit moves
 draining-moves s j limit last moves state has drains is =
     let told = drains-state s.network j limit s.flows last state.network state.flow state.value_from_zero has drains in
     let same = length-drained s j limit last state has drains in
@@ -71,7 +76,8 @@ draining-none s j limit state has within =
     draining-moves s j limit s.flows [] state has (drained-all s j limit s.flows within (drained-none s j limit state)) (sym (differences-none 1 s.flows))
 
 -- Where the flow of one arc differs, there is one move.
-differences-set : (i k arc y : ℕ) (flows : List ℕ) → arc ≡ i + k → k < length flows → get_or flows k 0 ≢ y → differences i flows (set flows k y) ≡ record { arc = arc; from = get_or flows k 0; to = y } ∷ []
+differences-set : (i k arc y : ℕ) (flows : List ℕ) → arc ≡ i + k → k < length flows → get_or flows k 0 ≢ y
+    → differences i flows (set flows k y) ≡ record { arc = arc; from = get_or flows k 0; to = y } ∷ []
 differences-set i k arc y [] is within differ = absurd (omega (arith, within))
 differences-set i zero arc y (x ∷ flows) is within differ =
     let here : i ≡ arc = omega (arith, is) in
@@ -80,7 +86,9 @@ differences-set i (suc k) arc y (x ∷ flows) is within differ =
     rw (eq-eqb x x refl) (differences-set (i + 1) k arc y flows (omega (arith, is)) (omega (arith, within)) differ)
 
 -- It holds of the move of an arc that comes back to its tail.
-pub draining-loop : (s : NetworkState) (j flow limit : ℕ) (moves : List Move) → IsState s → has_arc s.network j ≡ true → (arc_number s.network j).tail ≡ (arc_number s.network j).head → flow ≡ flow_on s.flows j → limit < flow → moves ≡ record { arc = j; from = flow; to = limit } ∷ [] → AreDrainingMoves s j limit moves
+pub draining-loop : (s : NetworkState) (j flow limit : ℕ) (moves : List Move) → IsState s → has_arc s.network j ≡ true
+    → (arc_number s.network j).tail ≡ (arc_number s.network j).head → flow ≡ flow_on s.flows j → limit < flow
+    → moves ≡ record { arc = j; from = flow; to = limit } ∷ [] → AreDrainingMoves s j limit moves
 draining-loop s j flow limit moves state has loop on above is =
     let at = has_arc-within s.network j has in
     let within : j - 1 < length s.flows = omega (arith, at.1, AllZip-long _ s.network.arcs s.flows state.flow.within) in

@@ -1,5 +1,6 @@
 -- The flows that are read off a search.
-use Rattle.std.proofs.Common.{ℕ, ◌≡◌, ◌≤◌, ◌<◌, List, [], ◌∷◌, length, get_or, zero, suc, refl, ap, sym, ◌∙◌, ⊎_elim, arith, Option, None, Bool, true, false, ◌==◌}
+use Rattle.std.proofs.Common.{ℕ, ◌≡◌, ◌≤◌, ◌<◌, List, [], ◌∷◌, length, get_or, zero, suc, refl, ap, sym, ◌∙◌, ⊎_elim, arith, Option, None, Bool, true, false}
+use Rattle.std.proofs.Common.{◌==◌}
 use Rattle.std.specs.Option.{option_map}
 use Rattle.std.proofs.lemmas.Bool.{cases_lt}
 use Rattle.dmf_path.specs.declared.pair.Pair.{Pair}
@@ -13,20 +14,23 @@ use Rattle.dmf_solver.specs.Pairs.{PairLink, Against, flow_read, flows_read, flo
 use Rattle.dmf_solver.proofs.ListedMoves.{stays-past}
 
 -- There is one for each flow before,
-pub length-flows_read : (link : PairLink) (firsts : List ℕ) (pairs : List (Option Pair)) → length firsts ≤ length pairs → length (flows_read link firsts pairs) ≡ length firsts
+pub length-flows_read : (link : PairLink) (firsts : List ℕ) (pairs : List (Option Pair)) → length firsts ≤ length pairs
+    → length (flows_read link firsts pairs) ≡ length firsts
 length-flows_read link [] pairs long = refl
 length-flows_read link (first ∷ firsts) [] long = absurd (omega (arith, long))
 length-flows_read link (first ∷ firsts) (pair ∷ pairs) long = ap suc (length-flows_read link firsts pairs (omega (arith, long)))
 
 -- and each is read off its pair.
-pub get_or-flows_read : (link : PairLink) (firsts : List ℕ) (pairs : List (Option Pair)) (k : ℕ) → length firsts ≤ length pairs → k < length firsts → get_or (flows_read link firsts pairs) k 0 ≡ flow_read link (get_or firsts k 0) (pair_number pairs k)
+pub get_or-flows_read : (link : PairLink) (firsts : List ℕ) (pairs : List (Option Pair)) (k : ℕ) → length firsts ≤ length pairs → k < length firsts
+    → get_or (flows_read link firsts pairs) k 0 ≡ flow_read link (get_or firsts k 0) (pair_number pairs k)
 get_or-flows_read link [] pairs k long h = absurd (omega (arith, h))
 get_or-flows_read link (first ∷ firsts) [] k long h = absurd (omega (arith, long))
 get_or-flows_read link (first ∷ firsts) (pair ∷ pairs) zero long h = refl
 get_or-flows_read link (first ∷ firsts) (pair ∷ pairs) (suc k) long h = get_or-flows_read link firsts pairs k (omega (arith, long)) (omega (arith, h))
 
 -- Where there is no pair, it is the flow before.
-pub stays-unpaired : (link : PairLink) (firsts : List ℕ) (pairs : List (Option Pair)) (k : ℕ) → length firsts ≤ length pairs → pair_number pairs k ≡ None → Stays firsts (flows_read link firsts pairs) k
+pub stays-unpaired : (link : PairLink) (firsts : List ℕ) (pairs : List (Option Pair)) (k : ℕ) → length firsts ≤ length pairs → pair_number pairs k ≡ None
+    → Stays firsts (flows_read link firsts pairs) k
 stays-unpaired link firsts pairs k long none =
     ⊎_elim
     (λ (within : k < length firsts). sym (get_or-flows_read link firsts pairs k long within ∙ ap (flow_read link (get_or firsts k 0)) none))
@@ -40,7 +44,8 @@ left-here arc first flow true e within = rw e refl
 left-here arc first flow false e within = rw e (omega (arith, within))
 
 pub left-along : (arcs : List Arc) (firsts flows : List ℕ) (k : ℕ) → AreWithinCapacities arcs flows → length firsts ≡ length arcs → k < length firsts
-    → flow_left (get_or arcs k no_arc) (get_or firsts k 0) (along_at (residual_pairs arcs flows) k) ≡ get_or (flows_read Against firsts (residual_pairs arcs flows)) k 0
+    → flow_left (get_or arcs k no_arc) (get_or firsts k 0) (along_at (residual_pairs arcs flows) k) ≡ get_or
+    (flows_read Against firsts (residual_pairs arcs flows)) k 0
 left-along [] firsts flows k within long h = absurd (omega (arith, long, h))
 left-along (arc ∷ arcs) [] flows k within long h = absurd (omega (arith, h))
 left-along (arc ∷ arcs) (first ∷ firsts) [] k within long h = absurd within

@@ -1,5 +1,6 @@
 -- What becomes of the residual pairs where flows and capacities of arcs change.
-use Rattle.std.proofs.Common.{ℕ, ◌≡◌, ◌+◌, ◌-◌, ◌<◌, ◌≤◌, ◌==◌, Bool, true, false, List, [], ◌∷◌, length, get_or, set, drop, zero, suc, refl, ap, sym, ◌∙◌, subst, arith, Option, Some, None, length-set, Vec, Global}
+use Rattle.std.proofs.Common.{ℕ, ◌≡◌, ◌+◌, ◌-◌, ◌<◌, ◌≤◌, ◌==◌, Bool, true, false, List, [], ◌∷◌, length, get_or, set, drop, zero, suc, refl, ap, sym, ◌∙◌}
+use Rattle.std.proofs.Common.{subst, arith, Option, Some, None, length-set, Vec, Global}
 use Rattle.std.specs.Option.{option_map}
 use Rattle.std.proofs.lemmas.Option.{slice_get_within}
 use Rattle.std.proofs.Math.ListN.{drop_of_length-le}
@@ -63,40 +64,52 @@ put-all moves last_flows i flows long a = subst (λ ms. moved ms flows ≡ last_
 
 -- ---- one flow
 
-flow-pair : (arc : Arc) (first flow : ℕ) (loop : Bool) → (arc.tail == arc.head) ≡ loop → residual_pair arc flow ≡ option_map (pair_with (arc.cap - flow) flow) (residual_pair arc first)
+flow-pair : (arc : Arc) (first flow : ℕ) (loop : Bool) → (arc.tail == arc.head) ≡ loop
+    → residual_pair arc flow ≡ option_map (pair_with (arc.cap - flow) flow) (residual_pair arc first)
 flow-pair arc first flow true e = rw e refl
 flow-pair arc first flow false e = rw e refl
 
-flow-pairs : (arcs : List Arc) (flows : List ℕ) (k flow : ℕ) → k < length arcs → residual_pairs arcs (set flows k flow) ≡ with_rooms (residual_pairs arcs flows) k ((get_or arcs k no_arc).cap - flow) flow
+flow-pairs : (arcs : List Arc) (flows : List ℕ) (k flow : ℕ) → k < length arcs
+    → residual_pairs arcs (set flows k flow) ≡ with_rooms (residual_pairs arcs flows) k ((get_or arcs k no_arc).cap - flow) flow
 flow-pairs [] flows k flow h = absurd (omega (arith, h))
 flow-pairs (arc ∷ arcs) [] k flow h = refl
-flow-pairs (arc ∷ arcs) (first ∷ flows) zero flow h = ap (λ (p : Option Pair). p ∷ residual_pairs arcs flows) (flow-pair arc first flow (arc.tail == arc.head) refl)
-flow-pairs (arc ∷ arcs) (first ∷ flows) (suc k) flow h = ap (λ (ps : List (Option Pair)). residual_pair arc first ∷ ps) (flow-pairs arcs flows k flow (omega (arith, h)))
+flow-pairs (arc ∷ arcs) (first ∷ flows) zero flow h = ap (λ (p : Option Pair). p ∷ residual_pairs arcs flows)
+    (flow-pair arc first flow (arc.tail == arc.head) refl)
+flow-pairs (arc ∷ arcs) (first ∷ flows) (suc k) flow h = ap (λ (ps : List (Option Pair)). residual_pair arc first ∷ ps)
+    (flow-pairs arcs flows k flow (omega (arith, h)))
 
 -- Another flow on one arc gives the links of its pair other rooms.
-pub flow-followed : (n : Network) (flows : List ℕ) (k flow : ℕ) → k < length n.arcs → residual_search n (set flows k flow) ≡ with_pairs (residual_search n flows) (with_rooms (residual_pairs n.arcs flows) k ((get_or n.arcs k no_arc).cap - flow) flow)
+pub flow-followed : (n : Network) (flows : List ℕ) (k flow : ℕ) → k < length n.arcs
+    → residual_search n (set flows k flow) ≡ with_pairs (residual_search n flows)
+    (with_rooms (residual_pairs n.arcs flows) k ((get_or n.arcs k no_arc).cap - flow) flow)
 flow-followed n flows k flow h = ap (with_pairs (residual_search n flows)) (flow-pairs n.arcs flows k flow h)
 
 -- ---- one capacity
 
-cap-pair : (old arc : Arc) (flow : ℕ) (loop : Bool) → (old.tail == old.head) ≡ loop → arc.tail ≡ old.tail → arc.head ≡ old.head → residual_pair arc flow ≡ option_map (recapped arc.cap) (residual_pair old flow)
+cap-pair : (old arc : Arc) (flow : ℕ) (loop : Bool) → (old.tail == old.head) ≡ loop → arc.tail ≡ old.tail → arc.head ≡ old.head
+    → residual_pair arc flow ≡ option_map (recapped arc.cap) (residual_pair old flow)
 cap-pair old arc flow true e tail head = rw (tail, head, e) refl
 cap-pair old arc flow false e tail head = rw (tail, head, e) refl
 
-cap-pairs : (arcs : List Arc) (flows : List ℕ) (k : ℕ) (arc : Arc) → k < length arcs → arc.tail ≡ (get_or arcs k no_arc).tail → arc.head ≡ (get_or arcs k no_arc).head → residual_pairs (set arcs k arc) flows ≡ with_capacity (residual_pairs arcs flows) k arc.cap
+cap-pairs : (arcs : List Arc) (flows : List ℕ) (k : ℕ) (arc : Arc) → k < length arcs → arc.tail ≡ (get_or arcs k no_arc).tail
+    → arc.head ≡ (get_or arcs k no_arc).head → residual_pairs (set arcs k arc) flows ≡ with_capacity (residual_pairs arcs flows) k arc.cap
 cap-pairs [] flows k arc h tail head = absurd (omega (arith, h))
 cap-pairs (old ∷ arcs) [] zero arc h tail head = refl
 cap-pairs (old ∷ arcs) [] (suc k) arc h tail head = refl
-cap-pairs (old ∷ arcs) (flow ∷ flows) zero arc h tail head = ap (λ (p : Option Pair). p ∷ residual_pairs arcs flows) (cap-pair old arc flow (old.tail == old.head) refl tail head)
-cap-pairs (old ∷ arcs) (flow ∷ flows) (suc k) arc h tail head = ap (λ (ps : List (Option Pair)). residual_pair old flow ∷ ps) (cap-pairs arcs flows k arc (omega (arith, h)) tail head)
+cap-pairs (old ∷ arcs) (flow ∷ flows) zero arc h tail head = ap (λ (p : Option Pair). p ∷ residual_pairs arcs flows)
+    (cap-pair old arc flow (old.tail == old.head) refl tail head)
+cap-pairs (old ∷ arcs) (flow ∷ flows) (suc k) arc h tail head = ap (λ (ps : List (Option Pair)). residual_pair old flow ∷ ps)
+    (cap-pairs arcs flows k arc (omega (arith, h)) tail head)
 
 -- Another capacity of one arc gives the link along its pair another room.
-pub cap-followed : (n : Network) (flows : List ℕ) (j : ℕ) (arc : Arc) → j - 1 < length n.arcs → arc.tail ≡ (arc_number n j).tail → arc.head ≡ (arc_number n j).head
+pub cap-followed : (n : Network) (flows : List ℕ) (j : ℕ) (arc : Arc) → j - 1 < length n.arcs → arc.tail ≡ (arc_number n j).tail
+    → arc.head ≡ (arc_number n j).head
     → residual_search (with_arc n j arc) flows ≡ with_pairs (residual_search n flows) (with_capacity (residual_pairs n.arcs flows) (j - 1) arc.cap)
 cap-followed n flows j arc h tail head = ap (with_pairs (residual_search n flows)) (cap-pairs n.arcs flows (j - 1) arc h tail head)
 
 -- The same, of a search that is the residual one.
-pub cap-search : (n : Network) (flows : List ℕ) (j : ℕ) (arc : Arc) (old new : Searched) → j - 1 < length n.arcs → arc.tail ≡ (arc_number n j).tail → arc.head ≡ (arc_number n j).head
+pub cap-search : (n : Network) (flows : List ℕ) (j : ℕ) (arc : Arc) (old new : Searched) → j - 1 < length n.arcs → arc.tail ≡ (arc_number n j).tail
+    → arc.head ≡ (arc_number n j).head
     → new ≡ with_pairs old (with_capacity old.pairs (j - 1) arc.cap) → old ≡ residual_search n flows → new ≡ residual_search (with_arc n j arc) flows
 cap-search n flows j arc old new h tail head put is =
     put ∙ ap (λ (o : Searched). with_pairs o (with_capacity o.pairs (j - 1) arc.cap)) is ∙ sym (cap-followed n flows j arc h tail head)
@@ -108,13 +121,15 @@ length-with_capacity pairs k cap = length-set pairs k (option_map (recapped cap)
 -- ---- by the flow that is told
 
 -- Where there is a pair, these rooms are those that the capacity leaves.
-told-some : (pairs : List (Option Pair)) (k cap flow : ℕ) (p : Option Pair) → pair_number pairs k ≡ p → option_map (λ (q : Pair). q.against) p ≡ Some flow → with_rooms pairs k (cap - flow) flow ≡ with_capacity pairs k cap
+told-some : (pairs : List (Option Pair)) (k cap flow : ℕ) (p : Option Pair) → pair_number pairs k ≡ p → option_map (λ (q : Pair). q.against) p ≡ Some flow
+    → with_rooms pairs k (cap - flow) flow ≡ with_capacity pairs k cap
 told-some pairs k cap flow None here is = absurd (cc)
 told-some pairs k cap flow (Some p) here is =
     let same : p.against ≡ flow = cc in
     rw (here, sym same) refl
 
-pub rooms-told : (pairs : List (Option Pair)) (k cap flow : ℕ) → against_at pairs k ≡ Some flow → with_rooms pairs k (cap - flow) flow ≡ with_capacity pairs k cap
+pub rooms-told : (pairs : List (Option Pair)) (k cap flow : ℕ) → against_at pairs k ≡ Some flow
+    → with_rooms pairs k (cap - flow) flow ≡ with_capacity pairs k cap
 rooms-told pairs k cap flow is = told-some pairs k cap flow (pair_number pairs k) refl is
 
 -- ---- moves in turn
@@ -127,11 +142,13 @@ pub record AreFollowed (n : Network) (moves : List Move) (last : List ℕ) (i : 
   pub is : search ≡ residual_search n flows
 
 -- there is a pair for each arc
-pub long-followed : (n : Network) (moves : List Move) (last : List ℕ) (i : ℕ) (search : Searched) → AreFollowed n moves last i search → length search.pairs ≡ length n.arcs
+pub long-followed : (n : Network) (moves : List Move) (last : List ℕ) (i : ℕ) (search : Searched) → AreFollowed n moves last i search
+    → length search.pairs ≡ length n.arcs
 long-followed n moves last i search are = ap (λ (o : Searched). length o.pairs) are.is ∙ length-pairs_each n.arcs are.flows are.one_each ∙ are.one_each
 
 -- the arc of the next one is there
-pub move-within : (n : Network) (moves : List Move) (last : List ℕ) (i : ℕ) (m : Move) (search : Searched) → i < length moves → get_or moves i no_move ≡ m → AreFollowed n moves last i search
+pub move-within : (n : Network) (moves : List Move) (last : List ℕ) (i : ℕ) (m : Move) (search : Searched) → i < length moves → get_or moves i no_move ≡ m
+    → AreFollowed n moves last i search
     → (1 ≤ m.arc) × (m.arc - 1 < length n.arcs) × (m.arc - 1 < length search.pairs)
 move-within n moves last i m search h is are =
     let at = index-put moves last i are.flows h are.put in
@@ -139,7 +156,8 @@ move-within n moves last i m search h is are =
     (omega (arith, at.0, arc), omega (arith, at.1, are.one_each, arc), omega (arith, at.1, arc, are.one_each, long-followed n moves last i search are))
 
 -- it is followed
-pub followed-next : (n : Network) (moves : List Move) (last : List ℕ) (i : ℕ) (m : Move) (old new : Searched) → i < length moves → get_or moves i no_move ≡ m → AreFollowed n moves last i old
+pub followed-next : (n : Network) (moves : List Move) (last : List ℕ) (i : ℕ) (m : Move) (old new : Searched) → i < length moves → get_or moves i no_move ≡ m
+    → AreFollowed n moves last i old
     → new ≡ with_pairs old (with_rooms old.pairs (m.arc - 1) ((get_or n.arcs (m.arc - 1) no_arc).cap - m.to) m.to)
     → AreFollowed n moves last (i + 1) new
 followed-next n moves last i m old new h same are is =
@@ -149,24 +167,34 @@ followed-next n moves last i m old new h same are is =
       flows = set are.flows k m.to;
       put = subst (λ (x : Move). ArePut moves last (i + 1) (set are.flows (x.arc - 1) x.to)) same (put-more moves last i are.flows h are.put);
       one_each = length-set are.flows k m.to ∙ are.one_each;
-      is = is ∙ ap (λ (o : Searched). with_pairs o (with_rooms o.pairs k ((get_or n.arcs k no_arc).cap - m.to) m.to)) are.is ∙ sym (flow-followed n are.flows k m.to within);
+      is = is ∙ ap (λ (o : Searched). with_pairs o (with_rooms o.pairs k ((get_or n.arcs k no_arc).cap - m.to) m.to)) are.is ∙ sym
+          (flow-followed n are.flows k m.to within);
     }
 
 -- and in the end all are.
-pub followed-all : (n : Network) (moves : List Move) (last : List ℕ) (i : ℕ) (search : Searched) → length moves ≤ i → AreFollowed n moves last i search → search ≡ residual_search n last
+pub followed-all : (n : Network) (moves : List Move) (last : List ℕ) (i : ℕ) (search : Searched) → length moves ≤ i → AreFollowed n moves last i search
+    → search ≡ residual_search n last
 followed-all n moves last i search long are = are.is ∙ ap (residual_search n) (put-all moves last i are.flows long are.put)
 
 -- ---- one capacity, made or taken back
 
-pub cap-along : (d : Direction) (s : NetworkState) (flows : List ℕ) (j old new : ℕ) (moves : Vec Move Global) (search after : Searched) → j - 1 < length s.network.arcs
-    → after ≡ with_pairs search (with_capacity search.pairs (j - 1) (cap_along d old new)) → search ≡ residual_search s.network flows → after ≡ residual_search (edited_along d (Cap j old new moves) s).network flows
-cap-along Forward s flows j old new moves search after h put is = cap-search s.network flows j (with_cap new (arc_number s.network j)) search after h refl refl put is
-cap-along Back s flows j old new moves search after h put is = cap-search s.network flows j (open_arc (arc_number s.network j).tail (arc_number s.network j).head old) search after h refl refl put is
+pub cap-along : (d : Direction) (s : NetworkState) (flows : List ℕ) (j old new : ℕ) (moves : Vec Move Global) (search after : Searched)
+    → j - 1 < length s.network.arcs
+    → after ≡ with_pairs search (with_capacity search.pairs (j - 1) (cap_along d old new)) → search ≡ residual_search s.network flows
+    → after ≡ residual_search (edited_along d (Cap j old new moves) s).network flows
+cap-along Forward s flows j old new moves search after h put is = cap-search s.network flows j
+    (with_cap new (arc_number s.network j)) search after h refl refl put is
+cap-along Back s flows j old new moves search after h put is = cap-search s.network flows j
+    (open_arc (arc_number s.network j).tail (arc_number s.network j).head old) search after h refl refl put is
 
-pub close-along : (d : Direction) (s : NetworkState) (flows : List ℕ) (j old : ℕ) (moves : Vec Move Global) (search after : Searched) → j - 1 < length s.network.arcs
-    → after ≡ with_pairs search (with_capacity search.pairs (j - 1) (cap_along d old 0)) → search ≡ residual_search s.network flows → after ≡ residual_search (edited_along d (Close j old moves) s).network flows
-close-along Forward s flows j old moves search after h put is = cap-search s.network flows j (closed_arc (arc_number s.network j)) search after h refl refl put is
-close-along Back s flows j old moves search after h put is = cap-search s.network flows j (open_arc (arc_number s.network j).tail (arc_number s.network j).head old) search after h refl refl put is
+pub close-along : (d : Direction) (s : NetworkState) (flows : List ℕ) (j old : ℕ) (moves : Vec Move Global) (search after : Searched)
+    → j - 1 < length s.network.arcs
+    → after ≡ with_pairs search (with_capacity search.pairs (j - 1) (cap_along d old 0)) → search ≡ residual_search s.network flows
+    → after ≡ residual_search (edited_along d (Close j old moves) s).network flows
+close-along Forward s flows j old moves search after h put is = cap-search s.network flows j
+    (closed_arc (arc_number s.network j)) search after h refl refl put is
+close-along Back s flows j old moves search after h put is = cap-search s.network flows j
+    (open_arc (arc_number s.network j).tail (arc_number s.network j).head old) search after h refl refl put is
 
 -- ---- arcs closed in turn, or opened again
 
@@ -184,7 +212,8 @@ is_closed Back = false
 abbrev shut_arc : Direction → Shutting → Arc → Arc
 shut_arc d a arc = record { tail = arc.tail; head = arc.head; cap = cap_along d a.old 0; closed = is_closed d }
 
-shut-first : (d : Direction) (a : Shutting) (rest : List Shutting) (n : Network) → shut_along d rest (with_arc n a.arc (shut_arc d a (arc_number n a.arc))) ≡ shut_along d (a ∷ rest) n
+shut-first : (d : Direction) (a : Shutting) (rest : List Shutting) (n : Network)
+    → shut_along d rest (with_arc n a.arc (shut_arc d a (arc_number n a.arc))) ≡ shut_along d (a ∷ rest) n
 shut-first Forward a rest n = refl
 shut-first Back a rest n = refl
 
@@ -196,7 +225,8 @@ pub record AreShutUpTo (d : Direction) (n last : Network) (rest : List Shutting)
   pub one_each : length search.pairs ≡ length now.arcs
   pub is : (flows : List ℕ) → old ≡ residual_search n flows → search ≡ residual_search now flows
 
-pub shut-next : (d : Direction) (n last : Network) (a : Shutting) (rest all : List Shutting) (old search new : Searched) → all ≡ a ∷ rest → AreShutUpTo d n last all old search
+pub shut-next : (d : Direction) (n last : Network) (a : Shutting) (rest all : List Shutting) (old search new : Searched) → all ≡ a ∷ rest
+    → AreShutUpTo d n last all old search
     → new ≡ with_pairs search (with_capacity search.pairs (a.arc - 1) (cap_along d a.old 0)) → AreShutUpTo d n last rest old new
 shut-next d n last a rest all old search new split up_to put =
     let up : AreShutUpTo d n last (a ∷ rest) old search = subst (λ left. AreShutUpTo d n last left old search) split up_to in
@@ -242,7 +272,8 @@ has-along Forward edit s none fits = has-fits edit s.network fits.arc
 has-along Back edit s none stands =
     let b : NetworkState = stands.before in
     let long = arcs-long edit b none in
-    HasArcs-long b.network s.network (recapped_arcs edit) (ap (λ (u : NetworkState). length u.network.arcs) (sym stands.gives) ∙ long) (has-fits edit b.network stands.fits.arc)
+    HasArcs-long b.network s.network (recapped_arcs edit) (ap (λ (u : NetworkState). length u.network.arcs) (sym stands.gives) ∙ long)
+    (has-fits edit b.network stands.fits.arc)
 
 -- The moves of an edit that fits, or their opposites where it stands, fit the flows,
 pub moves-along : (d : Direction) (edit : Edit) (s : NetworkState) → FitsAlong d edit s → MovesFit 0 (along d (moves_of edit)) s.flows
@@ -250,7 +281,8 @@ moves-along Forward edit s fits = fits.moves
 moves-along Back edit s stands = fit-back edit s (moves_of edit) stands refl
 
 -- and lead to those of the other state, where the edit adds no arc.
-pub flows-along : (d : Direction) (edit : Edit) (s : NetworkState) → (AddsArc edit → ⊥) → moved (along d (moves_of edit)) s.flows ≡ (edited_along d edit s).flows
+pub flows-along : (d : Direction) (edit : Edit) (s : NetworkState) → (AddsArc edit → ⊥)
+    → moved (along d (moves_of edit)) s.flows ≡ (edited_along d edit s).flows
 flows-along d (Add tail head cap) s none = absurd (none tt)
 flows-along Forward (Cap j old new moves) s none = refl
 flows-along Forward (Close j old moves) s none = refl

@@ -22,13 +22,15 @@ use Rattle.dmf_solver.specs.Laws.{HasGreatestFlow, MaxFlowMinCut}
 -- ---- a flow whose residual network has no path from the source to the sink
 
 -- It is greatest.
-pub greatest-from_no_path : (n : Network) (flows : List ℕ) → IsNetwork n → IsFlow n flows → HasNoPath (residual_steps n.arcs flows) n.source n.sink → IsGreatest n flows
+pub greatest-from_no_path : (n : Network) (flows : List ℕ) → IsNetwork n → IsFlow n flows → HasNoPath (residual_steps n.arcs flows) n.source n.sink
+    → IsGreatest n flows
 greatest-from_no_path n flows network flow none =
     let steps = residual_steps n.arcs flows in
     reached-greatest n flows (is_reached steps n.nodes n.source) network flow none (AreReachedFrom-is_reached steps n.nodes n.source)
 
 -- Its value is the capacity of a cut.
-pub cut-from_no_path : (n : Network) (flows : List ℕ) → IsNetwork n → IsFlow n flows → HasNoPath (residual_steps n.arcs flows) n.source n.sink → HasCutOf n (flow_value n flows)
+pub cut-from_no_path : (n : Network) (flows : List ℕ) → IsNetwork n → IsFlow n flows → HasNoPath (residual_steps n.arcs flows) n.source n.sink
+    → HasCutOf n (flow_value n flows)
 cut-from_no_path n flows network flow none =
     let steps = residual_steps n.arcs flows in
     let has = is_reached steps n.nodes n.source in
@@ -42,7 +44,12 @@ max_flow-min_cut n flows network greatest =
     let has = is_reached steps n.nodes n.source in
     let r = AreReachedFrom-is_reached steps n.nodes n.source in
     let none = no_path-from_greatest n flows network greatest in
-    record { has = has; least = reached-minimum_cut n flows has network greatest.flow none r; capacity = reached-capacity n flows has network greatest.flow none r }
+    record {
+      has = has;
+      least = reached-minimum_cut n flows has network greatest.flow none r;
+      capacity =
+          reached-capacity n flows has network greatest.flow none r;
+    }
 
 -- ---- there is a greatest flow
 
@@ -62,7 +69,12 @@ no_part false = refl
 -- Nothing flows out of a node, or into it.
 flow_at-no_flow : (end : Arc → ℕ) (arcs : List Arc) (v : ℕ) → flow_at end arcs (no_flow arcs) v ≡ 0
 flow_at-no_flow end [] v = refl
-flow_at-no_flow end (arc ∷ arcs) v = omega (arith, sum_by-cons (at_node end v) (arc, 0) (zip arcs (no_flow arcs)), flow_at-no_flow end arcs v, no_part (end arc == v))
+flow_at-no_flow end (arc ∷ arcs) v = omega (
+  arith,
+  sum_by-cons (at_node end v) (arc, 0) (zip arcs (no_flow arcs)),
+  flow_at-no_flow end arcs v,
+  no_part (end arc == v),
+)
 
 -- A network in which nothing flows is a state.
 IsState-no_flow : (n : Network) → IsNetwork n → IsState (record { network = n; flows = no_flow n.arcs })

@@ -29,14 +29,17 @@ no-of true e = cc
 no-of false e = refl
 
 -- No path is found where the flow is greatest, and else one.
-pub found-answers : (s : NetworkState) (limit : ℕ) (found : Option AugmentingPath) (old new : Searched) (answer : Bool) → IsState s → old ≡ residual_search s.network s.flows
-    → MatchOption found (HasNoPath (steps_of old.pairs) old.start old.goal × (new ≡ old)) (λ path. Augments limit path old new) → is_some found ≡ not answer → IsAnswer s answer
+pub found-answers : (s : NetworkState) (limit : ℕ) (found : Option AugmentingPath) (old new : Searched) (answer : Bool) → IsState s
+    → old ≡ residual_search s.network s.flows
+    → MatchOption found (HasNoPath (steps_of old.pairs) old.start old.goal × (new ≡ old)) (λ path. Augments limit path old new) → is_some found ≡ not answer
+    → IsAnswer s answer
 found-answers s limit None old new answer state is told e =
     let yes = yes-of answer e in
     let n = s.network in
     let without = residual-without_loops n.arcs s.flows in
     let left = subst (λ (o : Searched). HasNoPath (steps_of o.pairs) o.start o.goal) is told.0 in
-    let greatest = greatest-from_no_path n s.flows state.network state.flow (no_path-without_loops (residual_steps n.arcs s.flows) (steps_of (residual_pairs n.arcs s.flows)) n.source n.sink without left) in
+    let greatest = greatest-from_no_path n s.flows state.network state.flow
+    (no_path-without_loops (residual_steps n.arcs s.flows) (steps_of (residual_pairs n.arcs s.flows)) n.source n.sink without left) in
     record {
       yes = (λ told. greatest, λ is. yes);
       no = (λ told. absurd (let wrong : ⊥ = cc in wrong), λ larger. absurd (not-surpassed n s.flows greatest larger));

@@ -12,7 +12,8 @@ use Rattle.dmf_solver.proofs.ResidualSteps.{AreSteps-residual}
 use Rattle.dmf_path.proofs.SomeLeast.{SomeLeast, least-or-none, least-path}
 
 -- Where a least path leads from the source to the sink, some flow has a larger value.
-pub surpassed : (n : Network) (flows : List ℕ) (path : List Step) → IsNetwork n → IsFlow n flows → IsLeastPath (residual_steps n.arcs flows) n.source n.sink path → IsSurpassed n flows
+pub surpassed : (n : Network) (flows : List ℕ) (path : List Step) → IsNetwork n → IsFlow n flows
+    → IsLeastPath (residual_steps n.arcs flows) n.source n.sink path → IsSurpassed n flows
 surpassed n flows path network flow least = record {
   larger = augmented path flows;
   flow = augmented-flow n flows path network flow least;
@@ -27,11 +28,14 @@ not-surpassed n flows greatest s = omega (arith, ints, s.exceeds, greatest.none_
 pub no_path-from_greatest : (n : Network) (flows : List ℕ) → IsNetwork n → IsGreatest n flows → HasNoPath (residual_steps n.arcs flows) n.source n.sink
 no_path-from_greatest n flows network greatest = ⊎_elim
     (λ (none : HasNoPath (residual_steps n.arcs flows) n.source n.sink). none)
-    (λ (found : SomeLeast (residual_steps n.arcs flows) n.source n.sink). absurd (not-surpassed n flows greatest (surpassed n flows found.path network greatest.flow found.least)))
+    (λ (found : SomeLeast (residual_steps n.arcs flows) n.source n.sink). absurd
+    (not-surpassed n flows greatest (surpassed n flows found.path network greatest.flow found.least)))
     (least-or-none (residual_steps n.arcs flows) (AreSteps-residual n.nodes n.arcs flows network.arcs).ascending n.source n.sink)
 
 -- Where a path leads from the source to the sink, some flow has a larger value.
-pub surpassed-from_path : (n : Network) (flows : List ℕ) (path : List Step) → IsNetwork n → IsFlow n flows → IsPath (residual_steps n.arcs flows) n.source n.sink path → IsSurpassed n flows
+pub surpassed-from_path : (n : Network) (flows : List ℕ) (path : List Step) → IsNetwork n → IsFlow n flows
+    → IsPath (residual_steps n.arcs flows) n.source n.sink path → IsSurpassed n flows
 surpassed-from_path n flows path network flow leads =
-    let found = least-path (residual_steps n.arcs flows) (AreSteps-residual n.nodes n.arcs flows network.arcs).ascending n.source n.sink (record { path = path; leads = leads }) in
+    let found = least-path (residual_steps n.arcs flows) (AreSteps-residual n.nodes n.arcs flows network.arcs).ascending n.source n.sink
+    (record { path = path; leads = leads }) in
     surpassed n flows found.path network flow found.least

@@ -27,7 +27,8 @@ module _ (before after : List ℕ) (same : length after ≡ length before) where
       ⊎_elim
       (λ (within : k < length before). differences-more k before after within same)
       (λ (past : length before ≤ k).
-      moves-all (k + 1) (omega (arith, past)) ∙ sym (moves-all k past) ∙ sym (append-nil _) ∙ ap (λ ms. moves_before before after k ++ ms) (sym (move_of-same (k + 1) _ _ (stays-past k past))))
+      moves-all (k + 1) (omega (arith, past)) ∙ sym (moves-all k past) ∙ sym (append-nil _) ∙ ap (λ ms. moves_before before after k ++ ms)
+      (sym (move_of-same (k + 1) _ _ (stays-past k past))))
       (cases_lt k (length before))
 
   -- Where flows stay, there is no move.
@@ -35,7 +36,8 @@ module _ (before after : List ℕ) (same : length after ≡ length before) where
   moves-stay zero a stay = ap (moves_before before after) (omega arith)
   moves-stay (suc n) a stay =
       let next : a + suc n ≡ a + n + 1 = omega arith in
-      ap (moves_before before after) next ∙ moves-next (a + n) ∙ ap (λ ms. moves_before before after (a + n) ++ ms) (move_of-same (a + n + 1) _ _ (stay (a + n) (omega arith) (omega arith))) ∙ append-nil _
+      ap (moves_before before after) next ∙ moves-next (a + n) ∙ ap (λ ms. moves_before before after (a + n) ++ ms)
+      (move_of-same (a + n + 1) _ _ (stay (a + n) (omega arith) (omega arith))) ∙ append-nil _
       ∙ moves-stay n a (λ k from to. stay k from (omega (arith, to)))
 
   pub moves-between : (a b : ℕ) → a ≤ b → ((k : ℕ) → a ≤ k → k < b → Stays before after k) → moves_before before after b ≡ moves_before before after a
@@ -51,21 +53,25 @@ module _ (before after : List ℕ) (same : length after ≡ length before) where
         (λ k from to. is-out count (Stays before after) indices covers i k (omega (arith, h)) from (λ _. to) (omega (arith, to, covers.below i h)))
 
     -- The moves with that of the arc at the next index.
-    pub moves-listed : (i : ℕ) (moves more : List Move) → i < length indices → moves ≡ moves_before before after (index_behind indices i) → more ≡ move_of (get_or indices i 0 + 1) (get_or before (get_or indices i 0) 0) (get_or after (get_or indices i 0) 0)
+    pub moves-listed : (i : ℕ) (moves more : List Move) → i < length indices → moves ≡ moves_before before after (index_behind indices i)
+        → more ≡ move_of (get_or indices i 0 + 1) (get_or before (get_or indices i 0) 0) (get_or after (get_or indices i 0) 0)
         → moves ++ more ≡ moves_before before after (index_behind indices (i + 1))
     moves-listed i moves more h are is =
         let k = get_or indices i 0 in
         let next : i + 1 ≡ suc i = omega arith in
-        rw (are, is) (ap (λ ms. ms ++ move_of (k + 1) (get_or before k 0) (get_or after k 0)) (sym (moves-up_to i h)) ∙ sym (moves-next k)) ∙ ap (λ n. moves_before before after (index_behind indices n)) (sym next)
+        rw (are, is) (ap (λ ms. ms ++ move_of (k + 1) (get_or before k 0) (get_or after k 0)) (sym (moves-up_to i h)) ∙ sym (moves-next k)) ∙ ap
+        (λ n. moves_before before after (index_behind indices n)) (sym next)
 
     -- behind the last index
-    pub moves-whole : (i : ℕ) (moves : List Move) → i ≤ length indices → length indices ≤ i → moves ≡ moves_before before after (index_behind indices i) → moves ≡ differences 1 before after
+    pub moves-whole : (i : ℕ) (moves : List Move) → i ≤ length indices → length indices ≤ i → moves ≡ moves_before before after (index_behind indices i)
+        → moves ≡ differences 1 before after
     moves-whole i moves most whole are =
         let first = index_behind indices i in
         are
         ∙ sym (moves-between first (first + length before) (omega arith)
         (λ k from to. ⊎_elim
-        (λ (within : k < length before). is-out count (Stays before after) indices covers i k most from (λ less. absurd (omega (arith, less, whole))) (omega (arith, within, long)))
+        (λ (within : k < length before). is-out count (Stays before after) indices covers i k most from (λ less. absurd (omega (arith, less, whole)))
+        (omega (arith, within, long)))
         (λ (past : length before ≤ k). stays-past k past)
         (cases_lt k (length before))))
         ∙ moves-all (first + length before) (omega arith)

@@ -1,6 +1,7 @@
 -- The pairs of links that stand for carrying steps, once an arc is lowered along a least path: they are the pairs, pushed
 -- along the path and lowered by the same amount at the arc.
-use Rattle.std.proofs.Common.{ℕ, ◌≡◌, ◌+◌, ◌-◌, ◌*◌, ◌<◌, ◌==◌, Bool, true, false, cond, List, [], ◌∷◌, ◌++◌, length, zero, suc, refl, ap, ◌∙◌, arith, add-zero, eq-eqb, Option, Some}
+use Rattle.std.proofs.Common.{ℕ, ◌≡◌, ◌+◌, ◌-◌, ◌*◌, ◌<◌, ◌==◌, Bool, true, false, cond, List, [], ◌∷◌, ◌++◌, length, zero, suc, refl, ap, ◌∙◌, arith, add-zero}
+use Rattle.std.proofs.Common.{eq-eqb, Option, Some}
 use Rattle.std.specs.Option.{option_map}
 use Rattle.std.proofs.lemmas.Bool.{ne_eqb}
 use Rattle.std.proofs.lemmas.Slice.Zip.{AllZip-long}
@@ -21,28 +22,34 @@ use Rattle.dmf_solver.proofs.LoweredValue.{value_or_zero-lowered}
 use Rattle.dmf_solver.proofs.Lowering.{HaveOwnRanks, HaveOwnRanks-least, lowered-no_more}
 
 -- a pair with other rooms
-pair-rooms : (tail head a b c d : ℕ) → a ≡ c → b ≡ d → ◌≡◌ {A = Option Pair} (Some (record { tail = tail; head = head; along = a; against = b })) (Some (record { tail = tail; head = head; along = c; against = d }))
+pair-rooms : (tail head a b c d : ℕ) → a ≡ c → b ≡ d → ◌≡◌ {A = Option Pair} (Some (record { tail = tail; head = head; along = a; against = b }))
+    (Some (record { tail = tail; head = head; along = c; against = d }))
 pair-rooms tail head a b c d first second = λ i. Some (record { tail = tail; head = head; along = first i; against = second i })
 
 -- The pair of an arc whose flow is less where the path has its step is the arc's pair, pushed.
-pair-pushed : (amount j : ℕ) (path : List Step) (arc : Arc) (first flow : ℕ) (idle : Bool) → is_idle arc first ≡ idle → carrying_pair arc first (flow - cond (has_rank path (2 * j)) amount 0) ≡ pushed_pair false j amount path (carrying_pair arc first flow)
+pair-pushed : (amount j : ℕ) (path : List Step) (arc : Arc) (first flow : ℕ) (idle : Bool) → is_idle arc first ≡ idle
+    → carrying_pair arc first (flow - cond (has_rank path (2 * j)) amount 0) ≡ pushed_pair false j amount path (carrying_pair arc first flow)
 pair-pushed amount j path arc first flow true e = rw e refl
 pair-pushed amount j path arc first flow false e = rw e (pair-rooms arc.tail arc.head _ _ _ _ (omega arith) (omega arith))
 
 -- The pair of an arc whose flow is less, while the path has not its step, is the arc's pair, pushed and lowered.
-pair-lowered : (amount j : ℕ) (path : List Step) (arc : Arc) (first flow : ℕ) (idle : Bool) → is_idle arc first ≡ idle → has_rank path (2 * j) ≡ false → carrying_pair arc first (flow - amount) ≡ option_map (lowered_pair amount) (pushed_pair false j amount path (carrying_pair arc first flow))
+pair-lowered : (amount j : ℕ) (path : List Step) (arc : Arc) (first flow : ℕ) (idle : Bool) → is_idle arc first ≡ idle → has_rank path (2 * j) ≡ false
+    → carrying_pair arc first (flow - amount) ≡ option_map (lowered_pair amount) (pushed_pair false j amount path (carrying_pair arc first flow))
 pair-lowered amount j path arc first flow true e none = rw e refl
 pair-lowered amount j path arc first flow false e none = rw (e, none) (pair-rooms arc.tail arc.head _ _ _ _ (omega arith) (omega arith))
 
 -- The pair of the return link carries less where the path has it.
-return-pushed : (amount : ℕ) (path : List Step) (n : Network) (firsts flows now : List ℕ) (idle : Bool) → (value_or_zero n firsts == 0) ≡ idle → value_or_zero n now ≡ value_or_zero n flows - cond (has_rank path (2 * length n.arcs + 2)) amount 0 → return_pair n firsts now ≡ pushed_pair false (1 + length n.arcs) amount path (return_pair n firsts flows)
+return-pushed : (amount : ℕ) (path : List Step) (n : Network) (firsts flows now : List ℕ) (idle : Bool) → (value_or_zero n firsts == 0) ≡ idle
+    → value_or_zero n now ≡ value_or_zero n flows - cond (has_rank path (2 * length n.arcs + 2)) amount 0
+    → return_pair n firsts now ≡ pushed_pair false (1 + length n.arcs) amount path (return_pair n firsts flows)
 return-pushed amount path n firsts flows now true e less = rw e refl
 return-pushed amount path n firsts flows now false e less =
     let rank : 2 * (1 + length n.arcs) ≡ 2 * length n.arcs + 2 = omega arith in
     rw (e, less, rank) (pair-rooms n.sink n.source _ _ _ _ (omega arith) (omega arith))
 
 -- The pairs behind that of arc number `j` are pushed.
-pairs-behind : (amount i j : ℕ) (path : List Step) (arcs : List Arc) (firsts flows : List ℕ) (last now : Option Pair) → j < i → length firsts ≡ length arcs → length flows ≡ length arcs → now ≡ pushed_pair false (i + length arcs) amount path last →
+pairs-behind : (amount i j : ℕ) (path : List Step) (arcs : List Arc) (firsts flows : List ℕ) (last now : Option Pair) → j < i → length firsts ≡ length arcs
+    → length flows ≡ length arcs → now ≡ pushed_pair false (i + length arcs) amount path last →
     carrying_from arcs firsts (lowered_from i j amount path flows) ++ now ∷ [] ≡ pushed_from false i amount path (carrying_from arcs firsts flows ++ last ∷ [])
 pairs-behind amount i j path [] firsts flows last now behind long same is =
     ap (λ p. p ∷ []) (is ∙ ap (λ m. pushed_pair false m amount path last) (add-zero i))
@@ -51,12 +58,15 @@ pairs-behind amount i j path (arc ∷ arcs) (first ∷ firsts) [] last now behin
 pairs-behind amount i j path (arc ∷ arcs) (first ∷ firsts) (flow ∷ flows) last now behind long same is =
     let place : i + length (arc ∷ arcs) ≡ i + 1 + length arcs = omega arith in
     let own = pair-pushed amount i path arc first flow (is_idle arc first) refl in
-    let rest = pairs-behind amount (i + 1) j path arcs firsts flows last now (omega (arith, behind)) (omega (arith, long)) (omega (arith, same)) (is ∙ ap (λ m. pushed_pair false m amount path last) place) in
+    let rest = pairs-behind amount (i + 1) j path arcs firsts flows last now (omega (arith, behind)) (omega (arith, long)) (omega (arith, same))
+    (is ∙ ap (λ m. pushed_pair false m amount path last) place) in
     rw (ne_eqb i j (omega (arith, behind))) (λ t. own t ∷ rest t)
 
 -- The pairs are pushed, and that of arc number `j` lowered.
-pairs-lowered : (amount i j k : ℕ) (path : List Step) (arcs : List Arc) (firsts flows : List ℕ) (last now : Option Pair) → j ≡ i + k → k < length arcs → has_rank path (2 * j) ≡ false → length firsts ≡ length arcs → length flows ≡ length arcs → now ≡ pushed_pair false (i + length arcs) amount path last →
-    carrying_from arcs firsts (lowered_from i j amount path flows) ++ now ∷ [] ≡ lowered_along (pushed_from false i amount path (carrying_from arcs firsts flows ++ last ∷ [])) k amount
+pairs-lowered : (amount i j k : ℕ) (path : List Step) (arcs : List Arc) (firsts flows : List ℕ) (last now : Option Pair) → j ≡ i + k → k < length arcs
+    → has_rank path (2 * j) ≡ false → length firsts ≡ length arcs → length flows ≡ length arcs → now ≡ pushed_pair false (i + length arcs) amount path last →
+    carrying_from arcs firsts (lowered_from i j amount path flows) ++ now ∷ [] ≡ lowered_along
+    (pushed_from false i amount path (carrying_from arcs firsts flows ++ last ∷ [])) k amount
 pairs-lowered amount i j k path [] firsts flows last now at within none long same is = absurd (omega (arith, within))
 pairs-lowered amount i j k path (arc ∷ arcs) [] flows last now at within none long same is = absurd (omega (arith, long))
 pairs-lowered amount i j k path (arc ∷ arcs) (first ∷ firsts) [] last now at within none long same is = absurd (omega (arith, same))
@@ -64,12 +74,14 @@ pairs-lowered amount i j zero path (arc ∷ arcs) (first ∷ firsts) (flow ∷ f
     let here : i ≡ j = omega (arith, at) in
     let place : i + length (arc ∷ arcs) ≡ i + 1 + length arcs = omega arith in
     let own = pair-lowered amount i path arc first flow (is_idle arc first) refl (ap (λ m. has_rank path (2 * m)) here ∙ none) in
-    let rest = pairs-behind amount (i + 1) j path arcs firsts flows last now (omega (arith, here)) (omega (arith, long)) (omega (arith, same)) (is ∙ ap (λ m. pushed_pair false m amount path last) place) in
+    let rest = pairs-behind amount (i + 1) j path arcs firsts flows last now (omega (arith, here)) (omega (arith, long)) (omega (arith, same))
+    (is ∙ ap (λ m. pushed_pair false m amount path last) place) in
     rw (eq-eqb i j here) (λ t. own t ∷ rest t)
 pairs-lowered amount i j (suc k) path (arc ∷ arcs) (first ∷ firsts) (flow ∷ flows) last now at within none long same is =
     let place : i + length (arc ∷ arcs) ≡ i + 1 + length arcs = omega arith in
     let own = pair-pushed amount i path arc first flow (is_idle arc first) refl in
-    let rest = pairs-lowered amount (i + 1) j k path arcs firsts flows last now (omega (arith, at)) (omega (arith, within)) none (omega (arith, long)) (omega (arith, same)) (is ∙ ap (λ m. pushed_pair false m amount path last) place) in
+    let rest = pairs-lowered amount (i + 1) j k path arcs firsts flows last now (omega (arith, at)) (omega (arith, within)) none (omega (arith, long))
+    (omega (arith, same)) (is ∙ ap (λ m. pushed_pair false m amount path last) place) in
     rw (ne_eqb i j (omega (arith, at))) (λ t. own t ∷ rest t)
 
 -- a path whose ranks are its own has not the rank of arc number `j`
@@ -78,18 +90,24 @@ other-rank j [] own = refl
 other-rank j (s ∷ path) own = rw (ne_eqb s.rank (2 * j) own.0) (other-rank j path own.2)
 
 -- The pairs of the lowered flows are the pairs of the flows, pushed along the path and lowered at the arc.
-pub carrying_pairs-lowered : (n : Network) (firsts flows : List ℕ) (j limit : ℕ) (path : List Step) → AreNoMore n firsts flows → limit < flow_on flows j → has_arc n j ≡ true → IsNetwork n → IsFlow n flows → IsLeastPath (carrying_steps n flows) (arc_number n j).head (arc_number n j).tail path →
-    carrying_pairs n firsts (lowered j limit path flows) ≡ lowered_along (pushed_pairs false (bottleneck_up_to (flow_on flows j - limit) path) path (carrying_pairs n firsts flows)) (j - 1) (bottleneck_up_to (flow_on flows j - limit) path)
+pub carrying_pairs-lowered : (n : Network) (firsts flows : List ℕ) (j limit : ℕ) (path : List Step) → AreNoMore n firsts flows → limit < flow_on flows j
+    → has_arc n j ≡ true → IsNetwork n → IsFlow n flows → IsLeastPath (carrying_steps n flows) (arc_number n j).head (arc_number n j).tail path →
+    carrying_pairs n firsts (lowered j limit path flows) ≡ lowered_along
+    (pushed_pairs false (bottleneck_up_to (flow_on flows j - limit) path) path (carrying_pairs n firsts flows)) (j - 1)
+    (bottleneck_up_to (flow_on flows j - limit) path)
 carrying_pairs-lowered n firsts flows j limit path less above has network flow least =
     let at = has_arc-within n j has in
     let own = HaveOwnRanks-least n j flows path has network (omega (arith, above)) least in
-    pairs-lowered (bottleneck_up_to (flow_on flows j - limit) path) 1 j (j - 1) path n.arcs firsts flows (return_pair n firsts flows) (return_pair n firsts (lowered j limit path flows))
+    pairs-lowered (bottleneck_up_to (flow_on flows j - limit) path) 1 j (j - 1) path n.arcs firsts flows (return_pair n firsts flows)
+    (return_pair n firsts (lowered j limit path flows))
     (omega (arith, at.0)) at.1 (other-rank j path own) less.one_each (AllZip-long _ n.arcs flows flow.within)
     (return-pushed (bottleneck_up_to (flow_on flows j - limit) path) path n firsts flows (lowered j limit path flows) (value_or_zero n firsts == 0) refl
     (value_or_zero-lowered n j limit flows path above has network flow least))
 
 -- No flow is more than it was at first then, nor is what the sink receives.
-pub no_more-lowered : (n : Network) (firsts flows : List ℕ) (j limit : ℕ) (path : List Step) → AreNoMore n firsts flows → limit < flow_on flows j → has_arc n j ≡ true → IsNetwork n → IsFlow n flows → IsLeastPath (carrying_steps n flows) (arc_number n j).head (arc_number n j).tail path → AreNoMore n firsts (lowered j limit path flows)
+pub no_more-lowered : (n : Network) (firsts flows : List ℕ) (j limit : ℕ) (path : List Step) → AreNoMore n firsts flows → limit < flow_on flows j
+    → has_arc n j ≡ true → IsNetwork n → IsFlow n flows → IsLeastPath (carrying_steps n flows) (arc_number n j).head (arc_number n j).tail path
+    → AreNoMore n firsts (lowered j limit path flows)
 no_more-lowered n firsts flows j limit path less above has network flow least = record {
   one_each = less.one_each;
   no_more = no_more-in_turn firsts flows (lowered j limit path flows) less.no_more (lowered-no_more j limit path flows);

@@ -11,7 +11,8 @@ use Rattle.dmf_solver.proofs.Augmenting.{at_end-other}
 use Rattle.dmf_solver.proofs.Lowering.{HaveOwnRanks, HaveOwnRanks-least, returned, returned-none, returned-least, balance}
 
 -- The return link carries the amount from the sink to the source where the path has it.
-returned-once : (j amount : ℕ) (n : Network) (path : List Step) (v : ℕ) → HaveOwnRanks j path → returned amount n path v v ≡ cond (has_rank path (2 * length n.arcs + 2)) amount 0
+returned-once : (j amount : ℕ) (n : Network) (path : List Step) (v : ℕ) → HaveOwnRanks j path
+    → returned amount n path v v ≡ cond (has_rank path (2 * length n.arcs + 2)) amount 0
 returned-once j amount n [] v own = refl
 returned-once j amount n (s ∷ path) v own = ⊎_elim
     (λ (here : ((s.rank == 2 * length n.arcs + 2) ≡ true) × (s.rank ≡ 2 * length n.arcs + 2)).
@@ -22,8 +23,10 @@ returned-once j amount n (s ∷ path) v own = ⊎_elim
     (eqb_tells s.rank (2 * length n.arcs + 2))
 
 -- What the sink receives falls by what the return link carries.
-pub value_or_zero-lowered : (n : Network) (j limit : ℕ) (flows : List ℕ) (path : List Step) → limit < flow_on flows j → has_arc n j ≡ true → IsNetwork n → IsFlow n flows → IsLeastPath (carrying_steps n flows) (arc_number n j).head (arc_number n j).tail path →
-    value_or_zero n (lowered j limit path flows) ≡ value_or_zero n flows - cond (has_rank path (2 * length n.arcs + 2)) (bottleneck_up_to (flow_on flows j - limit) path) 0
+pub value_or_zero-lowered : (n : Network) (j limit : ℕ) (flows : List ℕ) (path : List Step) → limit < flow_on flows j → has_arc n j ≡ true → IsNetwork n
+    → IsFlow n flows → IsLeastPath (carrying_steps n flows) (arc_number n j).head (arc_number n j).tail path →
+    value_or_zero n (lowered j limit path flows) ≡ value_or_zero n flows - cond (has_rank path (2 * length n.arcs + 2))
+    (bottleneck_up_to (flow_on flows j - limit) path) 0
 value_or_zero-lowered n j limit flows path above has network flow least =
     let amount : ℕ = bottleneck_up_to (flow_on flows j - limit) path in
     let same = balance n j limit flows path n.source above has network flow least in

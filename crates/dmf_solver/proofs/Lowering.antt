@@ -1,5 +1,6 @@
 -- Lowering an arc along a least path of carrying steps from its head to its tail: what is left is a flow.
-use Rattle.std.proofs.Common.{ℕ, ◌≡◌, ◌≢◌, ◌+◌, ◌-◌, ◌*◌, ◌<◌, ◌≤◌, ◌==◌, ◌||◌, ◌⊎◌, List, [], ◌∷◌, length, get_or, set, zero, suc, Bool, true, false, cond, refl, ap, ◌∙◌, sym, arith, ⊎_elim, inl, inr, length-set, get_or-set_other, add-zero, eq-eqb, pos, ◌-ℤ◌, ◌≤ℤ◌}
+use Rattle.std.proofs.Common.{ℕ, ◌≡◌, ◌≢◌, ◌+◌, ◌-◌, ◌*◌, ◌<◌, ◌≤◌, ◌==◌, ◌||◌, ◌⊎◌, List, [], ◌∷◌, length, get_or, set, zero, suc, Bool, true, false, cond}
+use Rattle.std.proofs.Common.{refl, ap, ◌∙◌, sym, arith, ⊎_elim, inl, inr, length-set, get_or-set_other, add-zero, eq-eqb, pos, ◌-ℤ◌, ◌≤ℤ◌}
 use Rattle.std.specs.List.{Contains, AllZip}
 use Rattle.std.proofs.lemmas.Bool.{ne_eqb, cases_eq, both_ways}
 use Rattle.std.proofs.lemmas.Bool.Decides.{eqb_tells}
@@ -31,7 +32,8 @@ length-lowered_from i j amount path (x ∷ flows) = ap suc (length-lowered_from 
 abbrev flow_lowered : ℕ → ℕ → List Step → ℕ → ℕ → ℕ
 flow_lowered j amount path i flow = flow - cond (i == j || has_rank path (2 * i)) amount 0
 
-get_or-lowered_from : (i j amount : ℕ) (path : List Step) (flows : List ℕ) (k : ℕ) → k < length flows → get_or (lowered_from i j amount path flows) k 0 ≡ flow_lowered j amount path (i + k) (get_or flows k 0)
+get_or-lowered_from : (i j amount : ℕ) (path : List Step) (flows : List ℕ) (k : ℕ) → k < length flows
+    → get_or (lowered_from i j amount path flows) k 0 ≡ flow_lowered j amount path (i + k) (get_or flows k 0)
 get_or-lowered_from i j amount path [] k h = absurd (omega (arith, h))
 get_or-lowered_from i j amount path (x ∷ flows) zero h = ap (λ m. flow_lowered j amount path m x) (sym (add-zero i))
 get_or-lowered_from i j amount path (x ∷ flows) (suc k) h =
@@ -44,18 +46,21 @@ lowered_from-no_more i j amount path [] = tt
 lowered_from-no_more i j amount path (x ∷ flows) = (omega arith, lowered_from-no_more (i + 1) j amount path flows)
 
 -- So the flows stay within the capacities.
-within-lowered_from : (i j amount : ℕ) (path : List Step) (arcs : List Arc) (flows : List ℕ) → AreWithinCapacities arcs flows → AreWithinCapacities arcs (lowered_from i j amount path flows)
+within-lowered_from : (i j amount : ℕ) (path : List Step) (arcs : List Arc) (flows : List ℕ) → AreWithinCapacities arcs flows
+    → AreWithinCapacities arcs (lowered_from i j amount path flows)
 within-lowered_from i j amount path arcs [] within = within
 within-lowered_from i j amount path [] (x ∷ flows) within = absurd within
 within-lowered_from i j amount path (a ∷ arcs) (x ∷ flows) within = (omega (arith, within.0), within-lowered_from (i + 1) j amount path arcs flows within.1)
 
 -- the flow of an arc that is not lowered
-pub unlowered : (j amount : ℕ) (path : List Step) (flows : List ℕ) (k : ℕ) → k < length flows → 1 + k ≢ j → has_rank path (2 * (1 + k)) ≡ false → get_or (lowered_from 1 j amount path flows) k 0 ≡ get_or flows k 0
+pub unlowered : (j amount : ℕ) (path : List Step) (flows : List ℕ) (k : ℕ) → k < length flows → 1 + k ≢ j → has_rank path (2 * (1 + k)) ≡ false
+    → get_or (lowered_from 1 j amount path flows) k 0 ≡ get_or flows k 0
 unlowered j amount path flows k h apart none =
     rw (get_or-lowered_from 1 j amount path flows k h, ne_eqb (1 + k) j apart, none) (omega arith)
 
 -- without a path arc number `j` alone is lowered
-pub lowered-none : (j amount : ℕ) (flows : List ℕ) → 1 ≤ j → j - 1 < length flows → lowered_from 1 j amount [] flows ≡ set flows (j - 1) (get_or flows (j - 1) 0 - amount)
+pub lowered-none : (j amount : ℕ) (flows : List ℕ) → 1 ≤ j → j - 1 < length flows
+    → lowered_from 1 j amount [] flows ≡ set flows (j - 1) (get_or flows (j - 1) 0 - amount)
 lowered-none j amount flows first h =
     let long = length-lowered_from 1 j amount [] flows in
     same_number_lists (lowered_from 1 j amount [] flows) (set flows (j - 1) (get_or flows (j - 1) 0 - amount))
@@ -64,7 +69,11 @@ lowered-none j amount flows first h =
     let within : k < length flows = omega (arith, l, long) in
     ⊎_elim
     (λ (here : k ≡ j - 1).
-    rw (get_or-lowered_from 1 j amount [] flows k within, eq-eqb (1 + k) j (omega (arith, here, first)), get_or-set_at flows (j - 1) k (get_or flows (j - 1) 0 - amount) 0 here h)
+    rw (
+      get_or-lowered_from 1 j amount [] flows k within,
+      eq-eqb (1 + k) j (omega (arith, here, first)),
+      get_or-set_at flows (j - 1) k (get_or flows (j - 1) 0 - amount) 0 here h,
+    )
     (ap (λ m. get_or flows m 0 - amount) here))
     (λ (elsewhere : k ≢ j - 1).
     let apart : 1 + k ≢ j = omega (arith, elsewhere) in
@@ -72,7 +81,8 @@ lowered-none j amount flows first h =
     (cases_eq k (j - 1)))
 
 -- one step more in front lowers its arc
-lowered-along : (j amount : ℕ) (s : Step) (path : List Step) (flows : List ℕ) (k : ℕ) → s.rank ≡ 2 * (1 + k) → s.rank ≢ 2 * j → k < length flows → lowered_from 1 j amount (s ∷ path) flows ≡ set (lowered_from 1 j amount path flows) k (get_or flows k 0 - amount)
+lowered-along : (j amount : ℕ) (s : Step) (path : List Step) (flows : List ℕ) (k : ℕ) → s.rank ≡ 2 * (1 + k) → s.rank ≢ 2 * j → k < length flows
+    → lowered_from 1 j amount (s ∷ path) flows ≡ set (lowered_from 1 j amount path flows) k (get_or flows k 0 - amount)
 lowered-along j amount s path flows k rank apart h =
     let before : List ℕ = lowered_from 1 j amount path flows in
     let long_before = length-lowered_from 1 j amount path flows in
@@ -96,7 +106,8 @@ lowered-along j amount s path flows k rank apart h =
     (cases_eq i k))
 
 -- the return link lowers no arc
-lowered-link : (j amount : ℕ) (s : Step) (path : List Step) (flows : List ℕ) → s.rank ≡ 2 * length flows + 2 → lowered_from 1 j amount (s ∷ path) flows ≡ lowered_from 1 j amount path flows
+lowered-link : (j amount : ℕ) (s : Step) (path : List Step) (flows : List ℕ) → s.rank ≡ 2 * length flows + 2
+    → lowered_from 1 j amount (s ∷ path) flows ≡ lowered_from 1 j amount path flows
 lowered-link j amount s path flows rank =
     let long_before = length-lowered_from 1 j amount path flows in
     let long = length-lowered_from 1 j amount (s ∷ path) flows in
@@ -110,7 +121,8 @@ lowered-link j amount s path flows rank =
 -- ---- what flows out of a node and into it
 
 -- With one flow less by an amount, the sum at a node is less by it where the arc has its end there.
-flow_at-less : (end : Arc → ℕ) (arcs : List Arc) (flows : List ℕ) (k amount v : ℕ) → length flows ≡ length arcs → k < length arcs → amount ≤ get_or flows k 0 → flow_at end arcs (set flows k (get_or flows k 0 - amount)) v + at_end amount (end (get_or arcs k no_arc)) v ≡ flow_at end arcs flows v
+flow_at-less : (end : Arc → ℕ) (arcs : List Arc) (flows : List ℕ) (k amount v : ℕ) → length flows ≡ length arcs → k < length arcs → amount ≤ get_or flows k 0
+    → flow_at end arcs (set flows k (get_or flows k 0 - amount)) v + at_end amount (end (get_or arcs k no_arc)) v ≡ flow_at end arcs flows v
 flow_at-less end arcs flows k amount v same h le =
     let x : ℕ = get_or flows k 0 in
     let here : Bool = end (get_or arcs k no_arc) == v in
@@ -130,15 +142,19 @@ HaveOwnRanks j (s ∷ path) = (s.rank ≢ 2 * j) × (has_rank path s.rank ≡ fa
 
 -- One step more in front: what flows out of a node less what flows into it falls by the amount where the step leaves, and
 -- grows by it where the step arrives, but for what the return link carries.
-balance-step : (n : Network) (j amount : ℕ) (flows : List ℕ) (s : Step) (path : List Step) (v : ℕ) → length flows ≡ length n.arcs → IsCarrying n flows s → amount ≤ s.room → s.rank ≢ 2 * j → has_rank path s.rank ≡ false →
-    outflow n.arcs (lowered_from 1 j amount (s ∷ path) flows) v + inflow n.arcs (lowered_from 1 j amount path flows) v + at_end amount s.from v + cond (s.rank == 2 * length n.arcs + 2) (at_end amount n.source v) 0
-    ≡ outflow n.arcs (lowered_from 1 j amount path flows) v + inflow n.arcs (lowered_from 1 j amount (s ∷ path) flows) v + at_end amount s.to v + cond (s.rank == 2 * length n.arcs + 2) (at_end amount n.sink v) 0
+balance-step : (n : Network) (j amount : ℕ) (flows : List ℕ) (s : Step) (path : List Step) (v : ℕ) → length flows ≡ length n.arcs → IsCarrying n flows s
+    → amount ≤ s.room → s.rank ≢ 2 * j → has_rank path s.rank ≡ false →
+    outflow n.arcs (lowered_from 1 j amount (s ∷ path) flows) v + inflow n.arcs (lowered_from 1 j amount path flows) v + at_end amount s.from v + cond
+    (s.rank == 2 * length n.arcs + 2) (at_end amount n.source v) 0
+    ≡ outflow n.arcs (lowered_from 1 j amount path flows) v + inflow n.arcs (lowered_from 1 j amount (s ∷ path) flows) v + at_end amount s.to v + cond
+    (s.rank == 2 * length n.arcs + 2) (at_end amount n.sink v) 0
 balance-step n j amount flows s path v same (along c) le apart none =
     let k : ℕ = c.index in
     let before : List ℕ = lowered_from 1 j amount path flows in
     let within : k < length flows = omega (arith, c.leads.within, same) in
     let long : length before ≡ length n.arcs = length-lowered_from 1 j amount path flows ∙ same in
-    let kept : get_or before k 0 ≡ get_or flows k 0 = unlowered j amount path flows k within (omega (arith, c.leads.rank_is, apart)) (ap (has_rank path) (sym c.leads.rank_is) ∙ none) in
+    let kept : get_or before k 0 ≡ get_or flows k 0 = unlowered j amount path flows k within (omega (arith, c.leads.rank_is, apart))
+    (ap (has_rank path) (sym c.leads.rank_is) ∙ none) in
     let now : lowered_from 1 j amount (s ∷ path) flows ≡ set before k (get_or before k 0 - amount) =
     lowered-along j amount s path flows k c.leads.rank_is apart within ∙ ap (λ x. set before k (x - amount)) (sym kept) in
     let some : amount ≤ get_or before k 0 = omega (arith, le, c.room_is, kept) in
@@ -152,9 +168,12 @@ balance-step n j amount flows s path v same (returns c) le apart none =
 
 -- What flows out of a node less what flows into it falls by the amount where the path begins, and grows by it where the
 -- path ends, but for what the return link carries; and likewise for arc number `j`.
-balance-lowered : (n : Network) (j amount bound : ℕ) (flows : List ℕ) (path : List Step) (a b v : ℕ) → has_arc n j ≡ true → length flows ≡ length n.arcs → amount ≤ flow_on flows j → amount ≤ bottleneck_up_to bound path → IsPath (carrying_steps n flows) a b path → HaveOwnRanks j path →
-    outflow n.arcs (lowered_from 1 j amount path flows) v + inflow n.arcs flows v + at_end amount (arc_number n j).tail v + at_end amount a v + returned amount n path n.source v
-    ≡ outflow n.arcs flows v + inflow n.arcs (lowered_from 1 j amount path flows) v + at_end amount (arc_number n j).head v + at_end amount b v + returned amount n path n.sink v
+balance-lowered : (n : Network) (j amount bound : ℕ) (flows : List ℕ) (path : List Step) (a b v : ℕ) → has_arc n j ≡ true → length flows ≡ length n.arcs
+    → amount ≤ flow_on flows j → amount ≤ bottleneck_up_to bound path → IsPath (carrying_steps n flows) a b path → HaveOwnRanks j path →
+    outflow n.arcs (lowered_from 1 j amount path flows) v + inflow n.arcs flows v + at_end amount
+    (arc_number n j).tail v + at_end amount a v + returned amount n path n.source v
+    ≡ outflow n.arcs flows v + inflow n.arcs (lowered_from 1 j amount path flows) v + at_end amount
+    (arc_number n j).head v + at_end amount b v + returned amount n path n.sink v
 balance-lowered n j amount bound flows [] a b v has same some le leads own =
     let at = has_arc-within n j has in
     let out = flow_at-less (λ a. a.tail) n.arcs flows (j - 1) amount v same at.1 some in
@@ -194,7 +213,9 @@ link-room n flows s (along c) rank = absurd (omega (arith, rank, c.leads.rank_is
 link-room n flows s (returns c) rank = c.room_is
 
 -- The return link carries the amount once at most, and no more than the sink receives.
-returned-le : (n : Network) (j amount bound : ℕ) (flows : List ℕ) (path : List Step) (a b u v : ℕ) → amount ≤ bottleneck_up_to bound path → IsPath (carrying_steps n flows) a b path → HaveOwnRanks j path → (returned amount n path u v ≤ at_end amount u v) × (returned amount n path u v ≤ value_or_zero n flows)
+returned-le : (n : Network) (j amount bound : ℕ) (flows : List ℕ) (path : List Step) (a b u v : ℕ) → amount ≤ bottleneck_up_to bound path
+    → IsPath (carrying_steps n flows) a b path → HaveOwnRanks j path → (returned amount n path u v ≤ at_end amount u v)
+    × (returned amount n path u v ≤ value_or_zero n flows)
 returned-le n j amount bound flows [] a b u v le leads own = (omega arith, omega arith)
 returned-le n j amount bound flows (s ∷ path) a b u v le leads own = ⊎_elim
     (λ (here : ((s.rank == 2 * length n.arcs + 2) ≡ true) × (s.rank ≡ 2 * length n.arcs + 2)).
@@ -209,7 +230,8 @@ returned-le n j amount bound flows (s ∷ path) a b u v le leads own = ⊎_elim
 -- ---- the ranks of a shortest path
 
 -- A path that avoids an end of a step has not its rank.
-rank-avoided : (steps : List Step) → Ascend steps → (s : Step) (v a b : ℕ) (path : List Step) → Contains steps s → (s.from ≡ v) ⊎ (s.to ≡ v) → IsPath steps a b path → Avoids v path → has_rank path s.rank ≡ false
+rank-avoided : (steps : List Step) → Ascend steps → (s : Step) (v a b : ℕ) (path : List Step) → Contains steps s → (s.from ≡ v) ⊎ (s.to ≡ v)
+    → IsPath steps a b path → Avoids v path → has_rank path s.rank ≡ false
 rank-avoided steps ascend s v a b [] has ends leads avoids = refl
 rank-avoided steps ascend s v a b (t ∷ path) has ends leads avoids =
     let apart : t.rank ≢ s.rank = λ e.
@@ -218,7 +240,8 @@ rank-avoided steps ascend s v a b (t ∷ path) has ends leads avoids =
     rw (ne_eqb t.rank s.rank apart) (rank-avoided steps ascend s v t.to b path has ends leads.2 avoids.2)
 
 -- The ranks on a shortest path differ.
-HaveOwnRanks-shortest : (steps : List Step) → Ascend steps → (j a b : ℕ) (path : List Step) → IsShortestPath steps a b path → has_rank path (2 * j) ≡ false → HaveOwnRanks j path
+HaveOwnRanks-shortest : (steps : List Step) → Ascend steps → (j a b : ℕ) (path : List Step) → IsShortestPath steps a b path → has_rank path (2 * j) ≡ false
+    → HaveOwnRanks j path
 HaveOwnRanks-shortest steps ascend j a b [] shortest none = tt
 HaveOwnRanks-shortest steps ascend j a b (s ∷ path) shortest none =
     let apart = rank-not_first s path (2 * j) none in (
@@ -228,7 +251,8 @@ HaveOwnRanks-shortest steps ascend j a b (s ∷ path) shortest none =
     )
 
 -- A shortest path from where a step arrives to where it leaves is not by the step.
-rank-not_back : (steps : List Step) → Ascend steps → (s : Step) (a b : ℕ) (path : List Step) → Contains steps s → s.from ≡ b → s.to ≡ a → IsShortestPath steps a b path → has_rank path s.rank ≡ false
+rank-not_back : (steps : List Step) → Ascend steps → (s : Step) (a b : ℕ) (path : List Step) → Contains steps s → s.from ≡ b → s.to ≡ a
+    → IsShortestPath steps a b path → has_rank path s.rank ≡ false
 rank-not_back steps ascend s a b [] has from to shortest = refl
 rank-not_back steps ascend s a b (t ∷ path) has from to shortest =
     let apart : t.rank ≢ s.rank = λ e.
@@ -239,7 +263,8 @@ rank-not_back steps ascend s a b (t ∷ path) has from to shortest =
     rw (ne_eqb t.rank s.rank apart) (rank-avoided steps ascend s a t.to b path has (inr to) shortest.leads.2 (avoids-start steps a b t path shortest))
 
 -- The ranks on a least path back along an arc differ from each other, and from the arc's.
-pub HaveOwnRanks-least : (n : Network) (j : ℕ) (flows : List ℕ) (path : List Step) → has_arc n j ≡ true → IsNetwork n → 0 < flow_on flows j → IsLeastPath (carrying_steps n flows) (arc_number n j).head (arc_number n j).tail path → HaveOwnRanks j path
+pub HaveOwnRanks-least : (n : Network) (j : ℕ) (flows : List ℕ) (path : List Step) → has_arc n j ≡ true → IsNetwork n → 0 < flow_on flows j
+    → IsLeastPath (carrying_steps n flows) (arc_number n j).head (arc_number n j).tail path → HaveOwnRanks j path
 HaveOwnRanks-least n j flows path has network some least =
     let steps : List Step = carrying_steps n flows in
     let ascend : Ascend steps = (AreSteps-carrying n flows network).ascending in
@@ -252,7 +277,8 @@ HaveOwnRanks-least n j flows path has network some least =
 
 -- ---- lowering along a least path
 
-room-positive : (n : Network) (flows : List ℕ) (a b bound : ℕ) (path : List Step) → 0 < bound → IsPath (carrying_steps n flows) a b path → 0 < bottleneck_up_to bound path
+room-positive : (n : Network) (flows : List ℕ) (a b bound : ℕ) (path : List Step) → 0 < bound → IsPath (carrying_steps n flows) a b path
+    → 0 < bottleneck_up_to bound path
 room-positive n flows a b bound [] positive leads = positive
 room-positive n flows a b bound (s ∷ path) positive leads =
     let first = carrying-room n flows s (carrying-contained n flows s leads.0) in
@@ -260,7 +286,9 @@ room-positive n flows a b bound (s ∷ path) positive leads =
     omega (arith, first, later)
 
 -- Something is taken off, and no more than is above the limit.
-pub lowered-amount : (n : Network) (j limit : ℕ) (flows : List ℕ) (path : List Step) → limit < flow_on flows j → IsLeastPath (carrying_steps n flows) (arc_number n j).head (arc_number n j).tail path → (0 < bottleneck_up_to (flow_on flows j - limit) path) × (bottleneck_up_to (flow_on flows j - limit) path ≤ flow_on flows j - limit)
+pub lowered-amount : (n : Network) (j limit : ℕ) (flows : List ℕ) (path : List Step) → limit < flow_on flows j
+    → IsLeastPath (carrying_steps n flows) (arc_number n j).head (arc_number n j).tail path
+    → (0 < bottleneck_up_to (flow_on flows j - limit) path) × (bottleneck_up_to (flow_on flows j - limit) path ≤ flow_on flows j - limit)
 lowered-amount n j limit flows path above least = (
   room-positive n flows (arc_number n j).head (arc_number n j).tail (flow_on flows j - limit) path (omega (arith, above)) least.leads,
   bottleneck_up_to-le (flow_on flows j - limit) path,
@@ -271,15 +299,18 @@ pub lowered-no_more : (j limit : ℕ) (path : List Step) (flows : List ℕ) → 
 lowered-no_more j limit path flows = lowered_from-no_more 1 j (bottleneck_up_to (flow_on flows j - limit) path) path flows
 
 -- The arc's flow is less by that amount.
-pub lowered-on : (n : Network) (j limit : ℕ) (flows : List ℕ) (path : List Step) → has_arc n j ≡ true → IsFlow n flows → flow_on (lowered j limit path flows) j ≡ flow_on flows j - bottleneck_up_to (flow_on flows j - limit) path
+pub lowered-on : (n : Network) (j limit : ℕ) (flows : List ℕ) (path : List Step) → has_arc n j ≡ true → IsFlow n flows
+    → flow_on (lowered j limit path flows) j ≡ flow_on flows j - bottleneck_up_to (flow_on flows j - limit) path
 lowered-on n j limit flows path has flow =
     let at = has_arc-within n j has in
     let same = AllZip-long _ n.arcs flows flow.within in
     let place : 1 + (j - 1) ≡ j = omega (arith, at.0) in
-    rw (get_or-lowered_from 1 j (bottleneck_up_to (flow_on flows j - limit) path) path flows (j - 1) (omega (arith, at.1, same)), eq-eqb (1 + (j - 1)) j place) refl
+    rw (get_or-lowered_from 1 j (bottleneck_up_to (flow_on flows j - limit) path) path flows (j - 1) (omega (arith, at.1, same)), eq-eqb (1 + (j - 1)) j place)
+    refl
 
 -- What flows out of a node less what flows into it stays the same, but for what the return link carries.
-pub balance : (n : Network) (j limit : ℕ) (flows : List ℕ) (path : List Step) (v : ℕ) → limit < flow_on flows j → has_arc n j ≡ true → IsNetwork n → IsFlow n flows → IsLeastPath (carrying_steps n flows) (arc_number n j).head (arc_number n j).tail path →
+pub balance : (n : Network) (j limit : ℕ) (flows : List ℕ) (path : List Step) (v : ℕ) → limit < flow_on flows j → has_arc n j ≡ true → IsNetwork n
+    → IsFlow n flows → IsLeastPath (carrying_steps n flows) (arc_number n j).head (arc_number n j).tail path →
     outflow n.arcs (lowered j limit path flows) v + inflow n.arcs flows v + returned (bottleneck_up_to (flow_on flows j - limit) path) n path n.source v
     ≡ outflow n.arcs flows v + inflow n.arcs (lowered j limit path flows) v + returned (bottleneck_up_to (flow_on flows j - limit) path) n path n.sink v
 balance n j limit flows path v above has network flow least =
@@ -287,18 +318,23 @@ balance n j limit flows path v above has network flow least =
     let amount : ℕ = bottleneck_up_to bound path in
     let le = bottleneck_up_to-le bound path in
     let own = HaveOwnRanks-least n j flows path has network (omega (arith, above)) least in
-    let both = balance-lowered n j amount bound flows path (arc_number n j).head (arc_number n j).tail v has (AllZip-long _ n.arcs flows flow.within) (omega (arith, le)) (omega arith) least.leads own in
+    let both = balance-lowered n j amount bound flows path (arc_number n j).head (arc_number n j).tail v has (AllZip-long _ n.arcs flows flow.within)
+    (omega (arith, le)) (omega arith) least.leads own in
     omega (arith, both)
 
 -- what the return link carries, at each node
-pub returned-least : (n : Network) (j limit : ℕ) (flows : List ℕ) (path : List Step) (u v : ℕ) → limit < flow_on flows j → has_arc n j ≡ true → IsNetwork n → IsLeastPath (carrying_steps n flows) (arc_number n j).head (arc_number n j).tail path → (returned (bottleneck_up_to (flow_on flows j - limit) path) n path u v ≤ at_end (bottleneck_up_to (flow_on flows j - limit) path) u v) × (returned (bottleneck_up_to (flow_on flows j - limit) path) n path u v ≤ value_or_zero n flows)
+pub returned-least : (n : Network) (j limit : ℕ) (flows : List ℕ) (path : List Step) (u v : ℕ) → limit < flow_on flows j → has_arc n j ≡ true → IsNetwork n
+    → IsLeastPath (carrying_steps n flows) (arc_number n j).head (arc_number n j).tail path
+    → (returned (bottleneck_up_to (flow_on flows j - limit) path) n path u v ≤ at_end (bottleneck_up_to (flow_on flows j - limit) path) u v)
+    × (returned (bottleneck_up_to (flow_on flows j - limit) path) n path u v ≤ value_or_zero n flows)
 returned-least n j limit flows path u v above has network least =
     let bound : ℕ = flow_on flows j - limit in
     returned-le n j (bottleneck_up_to bound path) bound flows path (arc_number n j).head (arc_number n j).tail u v (omega arith) least.leads
     (HaveOwnRanks-least n j flows path has network (omega (arith, above)) least)
 
 -- What is left is a flow.
-pub lowered-flow : (n : Network) (j limit : ℕ) (flows : List ℕ) (path : List Step) → limit < flow_on flows j → has_arc n j ≡ true → IsNetwork n → IsFlow n flows → IsLeastPath (carrying_steps n flows) (arc_number n j).head (arc_number n j).tail path → IsFlow n (lowered j limit path flows)
+pub lowered-flow : (n : Network) (j limit : ℕ) (flows : List ℕ) (path : List Step) → limit < flow_on flows j → has_arc n j ≡ true → IsNetwork n → IsFlow n flows
+    → IsLeastPath (carrying_steps n flows) (arc_number n j).head (arc_number n j).tail path → IsFlow n (lowered j limit path flows)
 lowered-flow n j limit flows path above has network flow least = record {
   within = within-lowered_from 1 j (bottleneck_up_to (flow_on flows j - limit) path) path n.arcs flows flow.within;
   conserved = λ v inner.
@@ -312,7 +348,10 @@ lowered-flow n j limit flows path above has network flow least = record {
 }
 
 -- The value is less by at most that amount, and not below 0.
-pub lowered-value : (n : Network) (j limit : ℕ) (flows : List ℕ) (path : List Step) → limit < flow_on flows j → has_arc n j ≡ true → IsNetwork n → IsFlow n flows → pos 0 ≤ℤ flow_value n flows → IsLeastPath (carrying_steps n flows) (arc_number n j).head (arc_number n j).tail path → ((flow_value n flows -ℤ pos (bottleneck_up_to (flow_on flows j - limit) path)) ≤ℤ flow_value n (lowered j limit path flows)) × (pos 0 ≤ℤ flow_value n (lowered j limit path flows))
+pub lowered-value : (n : Network) (j limit : ℕ) (flows : List ℕ) (path : List Step) → limit < flow_on flows j → has_arc n j ≡ true → IsNetwork n
+    → IsFlow n flows → pos 0 ≤ℤ flow_value n flows → IsLeastPath (carrying_steps n flows) (arc_number n j).head (arc_number n j).tail path
+    → ((flow_value n flows -ℤ pos (bottleneck_up_to (flow_on flows j - limit) path)) ≤ℤ flow_value n (lowered j limit path flows))
+    × (pos 0 ≤ℤ flow_value n (lowered j limit path flows))
 lowered-value n j limit flows path above has network flow from_zero least =
     let amount : ℕ = bottleneck_up_to (flow_on flows j - limit) path in
     let same = balance n j limit flows path n.source above has network flow least in

@@ -1,5 +1,6 @@
 -- The theorem that the greatest value of a flow is the least capacity of a cut.
-use Rattle.std.proofs.Common.{ℕ, zero, suc, ◌≡◌, ◌+◌, ◌-◌, ◌*◌, ◌<◌, ◌≤◌, ◌&&◌, ◌⊎◌, List, [], ◌∷◌, ◌++◌, get_or, Bool, true, false, not, cond, refl, ap, sym, ◌∙◌, arith, nat_lt, ⊎_elim, inl, inr, pos, ◌≤ℤ◌}
+use Rattle.std.proofs.Common.{ℕ, zero, suc, ◌≡◌, ◌+◌, ◌-◌, ◌*◌, ◌<◌, ◌≤◌, ◌&&◌, ◌⊎◌, List, [], ◌∷◌, ◌++◌, get_or, Bool, true, false, not, cond, refl, ap, sym}
+use Rattle.std.proofs.Common.{◌∙◌, arith, nat_lt, ⊎_elim, inl, inr, pos, ◌≤ℤ◌}
 use Rattle.std.specs.List.{zip, All, AllZip, Contains}
 use Rattle.std.proofs.lemmas.Bool.{lt-ltb, ltb-true, cases_lt, both_ways, true_from_ne_false, false_from_ne_true}
 use Rattle.std.proofs.lemmas.Int.{ints}
@@ -33,10 +34,17 @@ leaving-le_capacity (arc ∷ arcs) [] has within = absurd within
 leaving-le_capacity (arc ∷ arcs) (flow ∷ flows) has within =
     let out : Arc × ℕ → ℕ = λ p. cond (has p.0.tail && not (has p.0.head)) p.1 0 in
     let most : Arc → ℕ = λ a. cond (has a.tail && not (has a.head)) a.cap 0 in
-    omega (arith, part-le (has arc.tail && not (has arc.head)) flow arc.cap within.0, leaving-le_capacity arcs flows has within.1, sum_by-cons out (arc, flow) (zip arcs flows), sum_by-cons most arc arcs)
+    omega (
+      arith,
+      part-le (has arc.tail && not (has arc.head)) flow arc.cap within.0,
+      leaving-le_capacity arcs flows has within.1,
+      sum_by-cons out (arc, flow) (zip arcs flows),
+      sum_by-cons most arc arcs,
+    )
 
 -- No flow has a larger value than any cut has capacity.
-pub value-le_capacity : (n : Network) (flows : List ℕ) (has : ℕ → Bool) → IsNetwork n → IsFlow n flows → IsCut n has → flow_value n flows ≤ℤ pos (cut_capacity n.arcs has)
+pub value-le_capacity : (n : Network) (flows : List ℕ) (has : ℕ → Bool) → IsNetwork n → IsFlow n flows → IsCut n has
+    → flow_value n flows ≤ℤ pos (cut_capacity n.arcs has)
 value-le_capacity n flows has network flow cut =
     let across = value-across n flows has network flow.conserved cut.source cut.sink in
     omega (arith, ints, across, leaving-le_capacity n.arcs flows has flow.within)
@@ -70,7 +78,13 @@ tight-leaving has (arc ∷ arcs) [] tight = absurd tight
 tight-leaving has (arc ∷ arcs) (flow ∷ flows) tight =
     let out : Arc × ℕ → ℕ = λ p. cond (has p.0.tail && not (has p.0.head)) p.1 0 in
     let most : Arc → ℕ = λ a. cond (has a.tail && not (has a.head)) a.cap 0 in
-    omega (arith, full_part (has arc.tail) (has arc.head) flow arc.cap tight.0.full, tight-leaving has arcs flows tight.1, sum_by-cons out (arc, flow) (zip arcs flows), sum_by-cons most arc arcs)
+    omega (
+      arith,
+      full_part (has arc.tail) (has arc.head) flow arc.cap tight.0.full,
+      tight-leaving has arcs flows tight.1,
+      sum_by-cons out (arc, flow) (zip arcs flows),
+      sum_by-cons most arc arcs,
+    )
 
 -- Nothing enters a tight set.
 pub tight-entering : (has : ℕ → Bool) (arcs : List Arc) (flows : List ℕ) → AreTight has arcs flows → entering arcs flows has ≡ 0
@@ -79,10 +93,16 @@ tight-entering has [] (flow ∷ flows) tight = absurd tight
 tight-entering has (arc ∷ arcs) [] tight = absurd tight
 tight-entering has (arc ∷ arcs) (flow ∷ flows) tight =
     let into : Arc × ℕ → ℕ = λ p. cond (not (has p.0.tail) && has p.0.head) p.1 0 in
-    omega (arith, empty_part (has arc.tail) (has arc.head) flow tight.0.empty, tight-entering has arcs flows tight.1, sum_by-cons into (arc, flow) (zip arcs flows))
+    omega (
+      arith,
+      empty_part (has arc.tail) (has arc.head) flow tight.0.empty,
+      tight-entering has arcs flows tight.1,
+      sum_by-cons into (arc, flow) (zip arcs flows),
+    )
 
 -- A set is tight if as much leaves it as its arcs can carry, and nothing enters it.
-pub tight-from_sums : (has : ℕ → Bool) (arcs : List Arc) (flows : List ℕ) → AreWithinCapacities arcs flows → cut_capacity arcs has ≤ leaving arcs flows has → entering arcs flows has ≤ 0 → AreTight has arcs flows
+pub tight-from_sums : (has : ℕ → Bool) (arcs : List Arc) (flows : List ℕ) → AreWithinCapacities arcs flows → cut_capacity arcs has ≤ leaving arcs flows has
+    → entering arcs flows has ≤ 0 → AreTight has arcs flows
 tight-from_sums has [] [] within full empty = tt
 tight-from_sums has [] (flow ∷ flows) within full empty = absurd within
 tight-from_sums has (arc ∷ arcs) [] within full empty = absurd within
@@ -95,7 +115,8 @@ tight-from_sums has (arc ∷ arcs) (flow ∷ flows) within full empty =
     let intos = sum_by-cons into (arc, flow) (zip arcs flows) in
     let here = part-le (has arc.tail && not (has arc.head)) flow arc.cap within.0 in
     let rest = leaving-le_capacity arcs flows has within.1 in
-    let whole : cond (has arc.tail && not (has arc.head)) flow 0 ≡ cond (has arc.tail && not (has arc.head)) arc.cap 0 = omega (arith, outs, mosts, here, rest, full) in
+    let whole : cond (has arc.tail && not (has arc.head)) flow 0 ≡ cond (has arc.tail && not (has arc.head)) arc.cap 0 =
+    omega (arith, outs, mosts, here, rest, full) in
     let none : cond (not (has arc.tail) && has arc.head) flow 0 ≡ 0 = omega (arith, intos, empty) in (
       record { full = λ tail head. rw (tail, head) at whole; empty = λ tail head. rw (tail, head) at none },
       tight-from_sums has arcs flows within.1 (omega (arith, outs, mosts, here, rest, full)) (omega (arith, intos, empty)),
@@ -129,7 +150,8 @@ has_single true x e = (0, omega arith, refl)
 has_single false x e = absurd (both_ways false refl e)
 
 -- A residual step goes along the first arc, or against it, or is one of the others.
-pub first_arc : (j : ℕ) (arc : Arc) (arcs : List Arc) (flow : ℕ) (flows : List ℕ) (s : Step) → Contains (residual_from j (arc ∷ arcs) (flow ∷ flows)) s → IsAlong arc flow s ⊎ (IsAgainst arc flow s ⊎ Contains (residual_from (j + 1) arcs flows) s)
+pub first_arc : (j : ℕ) (arc : Arc) (arcs : List Arc) (flow : ℕ) (flows : List ℕ) (s : Step) → Contains (residual_from j (arc ∷ arcs) (flow ∷ flows)) s
+    → IsAlong arc flow s ⊎ (IsAgainst arc flow s ⊎ Contains (residual_from (j + 1) arcs flows) s)
 first_arc j arc arcs flow flows s c =
     let along : Step = record { from = arc.tail; to = arc.head; rank = 2 * j; room = arc.cap - flow } in
     let against : Step = record { from = arc.head; to = arc.tail; rank = 2 * j + 1; room = flow } in
@@ -146,31 +168,37 @@ first_arc j arc arcs flow flows s c =
     (Contains-append_cases (forward j arc flow ++ backward j arc flow) (residual_from (j + 1) arcs flows) s c)
 
 -- The step along the first arc is residual where more can flow on it.
-pub along_first : (j : ℕ) (arc : Arc) (arcs : List Arc) (flow : ℕ) (flows : List ℕ) → flow < arc.cap → (s : Step) × Contains (residual_from j (arc ∷ arcs) (flow ∷ flows)) s × IsAlong arc flow s
+pub along_first : (j : ℕ) (arc : Arc) (arcs : List Arc) (flow : ℕ) (flows : List ℕ) → flow < arc.cap
+    → (s : Step) × Contains (residual_from j (arc ∷ arcs) (flow ∷ flows)) s × IsAlong arc flow s
 along_first j arc arcs flow flows more =
     let along : Step = record { from = arc.tail; to = arc.head; rank = 2 * j; room = arc.cap - flow } in
     let here : Contains (forward j arc flow) along = has_single (nat_lt flow arc.cap) along (lt-ltb flow arc.cap more) in (
       along,
-      Contains-append_left (forward j arc flow ++ backward j arc flow) (residual_from (j + 1) arcs flows) along (Contains-append_left (forward j arc flow) (backward j arc flow) along here),
+      Contains-append_left (forward j arc flow ++ backward j arc flow) (residual_from (j + 1) arcs flows) along
+          (Contains-append_left (forward j arc flow) (backward j arc flow) along here),
       record { more = more; from = refl; to = refl },
     )
 
 -- The step against the first arc is residual where something flows on it.
-pub against_first : (j : ℕ) (arc : Arc) (arcs : List Arc) (flow : ℕ) (flows : List ℕ) → 0 < flow → (s : Step) × Contains (residual_from j (arc ∷ arcs) (flow ∷ flows)) s × IsAgainst arc flow s
+pub against_first : (j : ℕ) (arc : Arc) (arcs : List Arc) (flow : ℕ) (flows : List ℕ) → 0 < flow
+    → (s : Step) × Contains (residual_from j (arc ∷ arcs) (flow ∷ flows)) s × IsAgainst arc flow s
 against_first j arc arcs flow flows some =
     let against : Step = record { from = arc.head; to = arc.tail; rank = 2 * j + 1; room = flow } in
     let here : Contains (backward j arc flow) against = has_single (nat_lt 0 flow) against (lt-ltb 0 flow some) in (
       against,
-      Contains-append_left (forward j arc flow ++ backward j arc flow) (residual_from (j + 1) arcs flows) against (Contains-append_right (forward j arc flow) (backward j arc flow) against here),
+      Contains-append_left (forward j arc flow ++ backward j arc flow) (residual_from (j + 1) arcs flows) against
+          (Contains-append_right (forward j arc flow) (backward j arc flow) against here),
       record { some = some; from = refl; to = refl },
     )
 
 -- A residual step of any other arc is residual.
-pub of_rest : (j : ℕ) (arc : Arc) (arcs : List Arc) (flow : ℕ) (flows : List ℕ) (s : Step) → Contains (residual_from (j + 1) arcs flows) s → Contains (residual_from j (arc ∷ arcs) (flow ∷ flows)) s
+pub of_rest : (j : ℕ) (arc : Arc) (arcs : List Arc) (flow : ℕ) (flows : List ℕ) (s : Step) → Contains (residual_from (j + 1) arcs flows) s
+    → Contains (residual_from j (arc ∷ arcs) (flow ∷ flows)) s
 of_rest j arc arcs flow flows s c = Contains-append_right (forward j arc flow ++ backward j arc flow) (residual_from (j + 1) arcs flows) s c
 
 -- A set that no residual step leaves is tight.
-pub tight-from_closed : (has : ℕ → Bool) (j : ℕ) (arcs : List Arc) (flows : List ℕ) → AreWithinCapacities arcs flows → IsClosed (residual_from j arcs flows) has → AreTight has arcs flows
+pub tight-from_closed : (has : ℕ → Bool) (j : ℕ) (arcs : List Arc) (flows : List ℕ) → AreWithinCapacities arcs flows → IsClosed (residual_from j arcs flows) has
+    → AreTight has arcs flows
 tight-from_closed has j [] [] within closed = tt
 tight-from_closed has j [] (flow ∷ flows) within closed = absurd within
 tight-from_closed has j (arc ∷ arcs) [] within closed = absurd within
@@ -212,7 +240,8 @@ closed-from_tight has j (arc ∷ arcs) (flow ∷ flows) tight s c inside = ⊎_e
     (first_arc j arc arcs flow flows s c)
 
 -- A residual step arrives at a node.
-pub residual-to_node : (nodes j : ℕ) (arcs : List Arc) (flows : List ℕ) (s : Step) → All (IsArc nodes) arcs → Contains (residual_from j arcs flows) s → IsNode nodes s.to
+pub residual-to_node : (nodes j : ℕ) (arcs : List Arc) (flows : List ℕ) (s : Step) → All (IsArc nodes) arcs → Contains (residual_from j arcs flows) s
+    → IsNode nodes s.to
 residual-to_node nodes j [] flows s fits c = absurd (omega (arith, c.1))
 residual-to_node nodes j (arc ∷ arcs) [] s fits c = absurd (omega (arith, c.1))
 residual-to_node nodes j (arc ∷ arcs) (flow ∷ flows) s fits c = ⊎_elim
@@ -238,7 +267,8 @@ pub reached-closed : (n : Network) (flows : List ℕ) (has : ℕ → Bool) → I
 reached-closed n flows has network r = reached_from-closed (residual_steps n.arcs flows) n.nodes n.source has (residual-arrive n flows network) r
 
 -- They are a cut, where no path leads to the sink.
-pub reached-cut : (n : Network) (flows : List ℕ) (has : ℕ → Bool) → IsNetwork n → AreReached n flows has → HasNoPath (residual_steps n.arcs flows) n.source n.sink → IsCut n has
+pub reached-cut : (n : Network) (flows : List ℕ) (has : ℕ → Bool) → IsNetwork n → AreReached n flows has
+    → HasNoPath (residual_steps n.arcs flows) n.source n.sink → IsCut n has
 reached-cut n flows has network r none = record {
   of_nodes = r.of_nodes;
   source = r.every n.source network.source [] refl;
@@ -248,27 +278,31 @@ reached-cut n flows has network r none = record {
 -- ---- a flow and a cut of one size
 
 -- The capacity of a tight cut is the value of the flow.
-pub tight-capacity : (n : Network) (flows : List ℕ) (has : ℕ → Bool) → IsNetwork n → IsFlow n flows → IsCut n has → AreTight has n.arcs flows → pos (cut_capacity n.arcs has) ≡ flow_value n flows
+pub tight-capacity : (n : Network) (flows : List ℕ) (has : ℕ → Bool) → IsNetwork n → IsFlow n flows → IsCut n has → AreTight has n.arcs flows
+    → pos (cut_capacity n.arcs has) ≡ flow_value n flows
 tight-capacity n flows has network flow cut tight =
     let across = value-across n flows has network flow.conserved cut.source cut.sink in
     omega (arith, ints, across, tight-leaving has n.arcs flows tight, tight-entering has n.arcs flows tight)
 
 -- A cut whose capacity is within the value of the flow is tight.
-pub tight-from_capacity : (n : Network) (flows : List ℕ) (has : ℕ → Bool) → IsNetwork n → IsFlow n flows → IsCut n has → pos (cut_capacity n.arcs has) ≤ℤ flow_value n flows → AreTight has n.arcs flows
+pub tight-from_capacity : (n : Network) (flows : List ℕ) (has : ℕ → Bool) → IsNetwork n → IsFlow n flows → IsCut n has
+    → pos (cut_capacity n.arcs has) ≤ℤ flow_value n flows → AreTight has n.arcs flows
 tight-from_capacity n flows has network flow cut within =
     let across = value-across n flows has network flow.conserved cut.source cut.sink in
     let le = leaving-le_capacity n.arcs flows has flow.within in
     tight-from_sums has n.arcs flows flow.within (omega (arith, ints, across, within, le)) (omega (arith, ints, across, within, le))
 
 -- A flow whose value is the capacity of a cut is greatest.
-pub greatest-from_cut : (n : Network) (flows : List ℕ) (has : ℕ → Bool) → IsNetwork n → IsFlow n flows → IsCut n has → pos (cut_capacity n.arcs has) ≡ flow_value n flows → IsGreatest n flows
+pub greatest-from_cut : (n : Network) (flows : List ℕ) (has : ℕ → Bool) → IsNetwork n → IsFlow n flows → IsCut n has
+    → pos (cut_capacity n.arcs has) ≡ flow_value n flows → IsGreatest n flows
 greatest-from_cut n flows has network flow cut same = record {
   flow = flow;
   none_larger = λ other is_flow. omega (arith, ints, same, value-le_capacity n other has network is_flow cut);
 }
 
 -- A cut whose capacity is the value of a flow is least.
-pub minimum_cut-from_flow : (n : Network) (flows : List ℕ) (has : ℕ → Bool) → IsNetwork n → IsFlow n flows → IsCut n has → pos (cut_capacity n.arcs has) ≡ flow_value n flows → IsMinimumCut n has
+pub minimum_cut-from_flow : (n : Network) (flows : List ℕ) (has : ℕ → Bool) → IsNetwork n → IsFlow n flows → IsCut n has
+    → pos (cut_capacity n.arcs has) ≡ flow_value n flows → IsMinimumCut n has
 minimum_cut-from_flow n flows has network flow cut same = record {
   cut = cut;
   least = λ other is_cut. omega (arith, ints, same, value-le_capacity n flows other network flow is_cut);
@@ -278,16 +312,20 @@ minimum_cut-from_flow n flows has network flow cut same = record {
 
 -- Where no residual path leads from the source to the sink, the nodes that are reached from the source are a cut whose
 -- capacity is the value of the flow.
-pub reached-capacity : (n : Network) (flows : List ℕ) (has : ℕ → Bool) → IsNetwork n → IsFlow n flows → HasNoPath (residual_steps n.arcs flows) n.source n.sink → AreReached n flows has → pos (cut_capacity n.arcs has) ≡ flow_value n flows
+pub reached-capacity : (n : Network) (flows : List ℕ) (has : ℕ → Bool) → IsNetwork n → IsFlow n flows → HasNoPath (residual_steps n.arcs flows) n.source n.sink
+    → AreReached n flows has → pos (cut_capacity n.arcs has) ≡ flow_value n flows
 reached-capacity n flows has network flow none r =
-    tight-capacity n flows has network flow (reached-cut n flows has network r none) (tight-from_closed has 1 n.arcs flows flow.within (reached-closed n flows has network r))
+    tight-capacity n flows has network flow (reached-cut n flows has network r none)
+    (tight-from_closed has 1 n.arcs flows flow.within (reached-closed n flows has network r))
 
 -- So the flow is greatest.
-pub reached-greatest : (n : Network) (flows : List ℕ) (has : ℕ → Bool) → IsNetwork n → IsFlow n flows → HasNoPath (residual_steps n.arcs flows) n.source n.sink → AreReached n flows has → IsGreatest n flows
+pub reached-greatest : (n : Network) (flows : List ℕ) (has : ℕ → Bool) → IsNetwork n → IsFlow n flows → HasNoPath (residual_steps n.arcs flows) n.source n.sink
+    → AreReached n flows has → IsGreatest n flows
 reached-greatest n flows has network flow none r =
     greatest-from_cut n flows has network flow (reached-cut n flows has network r none) (reached-capacity n flows has network flow none r)
 
 -- And the cut is least.
-pub reached-minimum_cut : (n : Network) (flows : List ℕ) (has : ℕ → Bool) → IsNetwork n → IsFlow n flows → HasNoPath (residual_steps n.arcs flows) n.source n.sink → AreReached n flows has → IsMinimumCut n has
+pub reached-minimum_cut : (n : Network) (flows : List ℕ) (has : ℕ → Bool) → IsNetwork n → IsFlow n flows
+    → HasNoPath (residual_steps n.arcs flows) n.source n.sink → AreReached n flows has → IsMinimumCut n has
 reached-minimum_cut n flows has network flow none r =
     minimum_cut-from_flow n flows has network flow (reached-cut n flows has network r none) (reached-capacity n flows has network flow none r)

@@ -17,7 +17,9 @@ use Rattle.dmf_state.proofs.ClosedTogether.{IsNetwork-closed, HasArcs-closed, Ha
 use Rattle.dmf_solver.specs.Laws.{HasOneOutcome}
 
 -- Augmenting from the same flows ends at the same flows.
-one-last : (n : Network) → All (IsArc n.nodes) n.arcs → (last other : List ℕ) → HasNoPath (residual_steps n.arcs last) n.source n.sink → HasNoPath (residual_steps n.arcs other) n.source n.sink → (flows : List ℕ) (paths more : List (List Step)) → Augments n flows paths last → Augments n flows more other → last ≡ other
+one-last : (n : Network) → All (IsArc n.nodes) n.arcs → (last other : List ℕ) → HasNoPath (residual_steps n.arcs last) n.source n.sink
+    → HasNoPath (residual_steps n.arcs other) n.source n.sink → (flows : List ℕ) (paths more : List (List Step)) → Augments n flows paths last
+    → Augments n flows more other → last ≡ other
 one-last n arcs last other last_none other_none flows [] [] is same = sym is ∙ same
 one-last n arcs last other last_none other_none flows [] (path ∷ more) is goes =
     absurd (subst (λ xs. HasNoPath (residual_steps n.arcs xs) n.source n.sink) (sym is) last_none path goes.0.leads)
@@ -41,7 +43,8 @@ one-closed_in_turn : (js : List ℕ) (s t u : NetworkState) → IsNetwork s.netw
 one-closed_in_turn [] s t u network has is same = sym is ∙ same
 one-closed_in_turn (j ∷ js) s t u network has is same =
     let back = sym is.1.0 in
-    one-closed_in_turn js is.0 t u (subst IsNetwork back (IsNetwork-closed s.network j network has.0)) (subst (λ n. HasArcs n js) back (HasArcs-closed s.network j js has.1)) is.2
+    one-closed_in_turn js is.0 t u (subst IsNetwork back (IsNetwork-closed s.network j network has.0))
+    (subst (λ n. HasArcs n js) back (HasArcs-closed s.network j js has.1)) is.2
     (subst (λ w. Closes js w u) (sym (one-closed s is.0 same.0 j network is.1 same.1)) same.2)
 
 pub one-outcome : HasOneOutcome
@@ -55,5 +58,6 @@ one-outcome s t u (Shut v) state is same =
     one-closed_in_turn (open_arcs_at v 1 s.network.arcs) s t u state.network (HasArcs-at v s.network) is same
 one-outcome s t u Solve state is same =
     let network : t.network ≡ u.network = is.0 ∙ sym same.0 in
-    let flows : t.flows ≡ u.flows = one-last s.network state.network.arcs t.flows u.flows is.1.no_path same.1.no_path s.flows is.1.paths same.1.paths is.1.augments same.1.augments in
+    let flows : t.flows ≡ u.flows = one-last s.network state.network.arcs t.flows u.flows is.1.no_path same.1.no_path s.flows is.1.paths same.1.paths
+    is.1.augments same.1.augments in
     λ i. record { network = network i; flows = flows i }

@@ -1,5 +1,6 @@
 -- Pushing an amount along the steps of a path, one after the other.
-use Rattle.std.proofs.Common.{ℕ, ◌≡◌, ◌≢◌, ◌+◌, ◌-◌, ◌*◌, ◌/◌, ◌%◌, ◌≤◌, ◌==◌, List, [], ◌∷◌, length, get_or, set, Bool, true, false, cond, refl, ap, ◌∙◌, sym, subst, arith, length-set, get_or-set_other}
+use Rattle.std.proofs.Common.{ℕ, ◌≡◌, ◌≢◌, ◌+◌, ◌-◌, ◌*◌, ◌/◌, ◌%◌, ◌≤◌, ◌==◌, List, [], ◌∷◌, length, get_or, set, Bool, true, false, cond, refl, ap, ◌∙◌, sym}
+use Rattle.std.proofs.Common.{subst, arith, length-set, get_or-set_other}
 use Rattle.dmf_state.specs.declared.arc.Arc.{Arc}
 use Rattle.dmf_path.specs.Step.{Step}
 use Rattle.dmf_state.specs.Flow.{outflow, inflow, AreWithinCapacities}
@@ -32,14 +33,16 @@ pub data CanPush (amount : ℕ) (arcs : List Arc) (flows : List ℕ) (s : Step) 
   against : (k : ℕ) → LeadsAgainst 1 arcs k s → amount ≤ get_or flows k 0 → CanPush amount arcs flows s
 
 -- At a step along its arc, that arc's flow grows.
-pub pushed-along : (amount : ℕ) (arcs : List Arc) (flows : List ℕ) (s : Step) (k : ℕ) → LeadsAlong 1 arcs k s → pushed_once amount s flows ≡ set flows k (get_or flows k 0 + amount)
+pub pushed-along : (amount : ℕ) (arcs : List Arc) (flows : List ℕ) (s : Step) (k : ℕ) → LeadsAlong 1 arcs k s
+    → pushed_once amount s flows ≡ set flows k (get_or flows k 0 + amount)
 pushed-along amount arcs flows s k leads =
     let index : arc_index s ≡ k = omega (arith, leads.rank_is) in
     let even : s.rank % 2 ≡ 0 = omega (arith, leads.rank_is) in
     rw (index, even) refl
 
 -- At a step against its arc, it falls.
-pub pushed-against : (amount : ℕ) (arcs : List Arc) (flows : List ℕ) (s : Step) (k : ℕ) → LeadsAgainst 1 arcs k s → pushed_once amount s flows ≡ set flows k (get_or flows k 0 - amount)
+pub pushed-against : (amount : ℕ) (arcs : List Arc) (flows : List ℕ) (s : Step) (k : ℕ) → LeadsAgainst 1 arcs k s
+    → pushed_once amount s flows ≡ set flows k (get_or flows k 0 - amount)
 pushed-against amount arcs flows s k leads =
     let index : arc_index s ≡ k = omega (arith, leads.rank_is) in
     let odd : s.rank % 2 ≡ 1 = omega (arith, leads.rank_is) in
@@ -54,7 +57,8 @@ length-pushed amount [] flows = refl
 length-pushed amount (s ∷ path) flows = length-pushed amount path (pushed_once amount s flows) ∙ length-pushed_once amount s flows
 
 -- the flows stay within the capacities
-pub within-pushed_once : (amount : ℕ) (arcs : List Arc) (flows : List ℕ) (s : Step) → AreWithinCapacities arcs flows → CanPush amount arcs flows s → AreWithinCapacities arcs (pushed_once amount s flows)
+pub within-pushed_once : (amount : ℕ) (arcs : List Arc) (flows : List ℕ) (s : Step) → AreWithinCapacities arcs flows → CanPush amount arcs flows s
+    → AreWithinCapacities arcs (pushed_once amount s flows)
 within-pushed_once amount arcs flows s within (along k leads room) =
     rw (pushed-along amount arcs flows s k leads) (within-set arcs flows k _ within room)
 within-pushed_once amount arcs flows s within (against k leads some) =
@@ -72,7 +76,8 @@ more-at false x amount = refl
 -- What flows out of a node less what flows into it grows by the amount where the step leaves, and falls by it where the
 -- step arrives.
 pub balance-pushed_once : (amount : ℕ) (arcs : List Arc) (flows : List ℕ) (s : Step) (v : ℕ) → length flows ≡ length arcs → CanPush amount arcs flows s →
-    outflow arcs (pushed_once amount s flows) v + inflow arcs flows v + at_end amount s.to v ≡ outflow arcs flows v + inflow arcs (pushed_once amount s flows) v + at_end amount s.from v
+    outflow arcs (pushed_once amount s flows) v + inflow arcs flows v + at_end amount s.to v ≡ outflow arcs flows v + inflow arcs
+    (pushed_once amount s flows) v + at_end amount s.from v
 balance-pushed_once amount arcs flows s v same (along k leads room) =
     let x : ℕ = get_or flows k 0 in
     let arc : Arc = get_or arcs k no_arc in
@@ -109,8 +114,10 @@ CanPushInTurn amount arcs flows (s ∷ path) =
 
 -- What flows out of a node less what flows into it grows by the amount where the path begins, and falls by it where the
 -- path ends.
-pub balance-pushed : (amount : ℕ) (arcs : List Arc) (flows : List ℕ) (steps path : List Step) (a b v : ℕ) → length flows ≡ length arcs → IsPath steps a b path → CanPushInTurn amount arcs flows path →
-    outflow arcs (pushed amount path flows) v + inflow arcs flows v + at_end amount b v ≡ outflow arcs flows v + inflow arcs (pushed amount path flows) v + at_end amount a v
+pub balance-pushed : (amount : ℕ) (arcs : List Arc) (flows : List ℕ) (steps path : List Step) (a b v : ℕ) → length flows ≡ length arcs → IsPath steps a b path
+    → CanPushInTurn amount arcs flows path →
+    outflow arcs (pushed amount path flows) v + inflow arcs flows v + at_end amount b v ≡ outflow arcs flows v + inflow arcs
+    (pushed amount path flows) v + at_end amount a v
 balance-pushed amount arcs flows steps [] a b v same leads can = ap (λ u. outflow arcs flows v + inflow arcs flows v + at_end amount u v) (sym leads)
 balance-pushed amount arcs flows steps (s ∷ path) a b v same leads can =
     let next : List ℕ = pushed_once amount s flows in
@@ -120,13 +127,15 @@ balance-pushed amount arcs flows steps (s ∷ path) a b v same leads can =
     omega (arith, first, later, start)
 
 -- the flows stay within the capacities
-pub within-pushed : (amount : ℕ) (arcs : List Arc) (flows : List ℕ) (path : List Step) → AreWithinCapacities arcs flows → CanPushInTurn amount arcs flows path → AreWithinCapacities arcs (pushed amount path flows)
+pub within-pushed : (amount : ℕ) (arcs : List Arc) (flows : List ℕ) (path : List Step) → AreWithinCapacities arcs flows → CanPushInTurn amount arcs flows path
+    → AreWithinCapacities arcs (pushed amount path flows)
 within-pushed amount arcs flows [] within can = within
 within-pushed amount arcs flows (s ∷ path) within can =
     within-pushed amount arcs (pushed_once amount s flows) path (within-pushed_once amount arcs flows s within can.0) can.2
 
 -- a push along a step leaves the arcs of the steps that skip its arc as they were
-CanPush-other : (amount : ℕ) (arcs : List Arc) (flows : List ℕ) (i y : ℕ) (t : Step) → t.rank ≢ 2 * (1 + i) → t.rank ≢ 2 * (1 + i) + 1 → CanPush amount arcs flows t → CanPush amount arcs (set flows i y) t
+CanPush-other : (amount : ℕ) (arcs : List Arc) (flows : List ℕ) (i y : ℕ) (t : Step) → t.rank ≢ 2 * (1 + i) → t.rank ≢ 2 * (1 + i) + 1
+    → CanPush amount arcs flows t → CanPush amount arcs (set flows i y) t
 CanPush-other amount arcs flows i y t not_along not_against (along k leads room) =
     let other : k ≢ i = omega (arith, leads.rank_is) in
     along k leads (rw (get_or-set_other flows i k y 0 other) room)
@@ -135,13 +144,15 @@ CanPush-other amount arcs flows i y t not_along not_against (against k leads som
     against k leads (rw (get_or-set_other flows i k y 0 other) some)
 
 -- the same, for all steps of a path
-CanPushEach-other : (amount : ℕ) (arcs : List Arc) (flows : List ℕ) (i y : ℕ) (path : List Step) → Skips i path → CanPushEach amount arcs flows path → CanPushEach amount arcs (set flows i y) path
+CanPushEach-other : (amount : ℕ) (arcs : List Arc) (flows : List ℕ) (i y : ℕ) (path : List Step) → Skips i path → CanPushEach amount arcs flows path
+    → CanPushEach amount arcs (set flows i y) path
 CanPushEach-other amount arcs flows i y [] skips can = tt
 CanPushEach-other amount arcs flows i y (t ∷ path) skips can =
     (CanPush-other amount arcs flows i y t skips.0 skips.1 can.0, CanPushEach-other amount arcs flows i y path skips.2 can.1)
 
 -- a step that does not touch the start of another has another arc
-skips-other : (amount : ℕ) (arcs : List Arc) (flows : List ℕ) (s t : Step) → CanPush amount arcs flows s → CanPush amount arcs flows t → t.from ≢ s.from → t.to ≢ s.from → (t.rank ≢ 2 * (1 + arc_index s)) × (t.rank ≢ 2 * (1 + arc_index s) + 1)
+skips-other : (amount : ℕ) (arcs : List Arc) (flows : List ℕ) (s t : Step) → CanPush amount arcs flows s → CanPush amount arcs flows t → t.from ≢ s.from
+    → t.to ≢ s.from → (t.rank ≢ 2 * (1 + arc_index s)) × (t.rank ≢ 2 * (1 + arc_index s) + 1)
 skips-other amount arcs flows s t (along k leads room) (along i other more) leaves arrives =
     let apart : i ≢ k = λ e. leaves (subst (λ m. t.from ≡ (get_or arcs m no_arc).tail) e other.tail ∙ sym leads.tail) in
     (omega (arith, leads.rank_is, other.rank_is), omega (arith, leads.rank_is, other.rank_is))
@@ -156,19 +167,22 @@ skips-other amount arcs flows s t (against k leads room) (against i other more) 
     (omega (arith, leads.rank_is, other.rank_is), omega (arith, leads.rank_is, other.rank_is))
 
 -- a path that avoids a step's start skips the step's arc
-skips-avoiding : (amount : ℕ) (arcs : List Arc) (flows : List ℕ) (s : Step) (path : List Step) → CanPush amount arcs flows s → CanPushEach amount arcs flows path → Avoids s.from path → Skips (arc_index s) path
+skips-avoiding : (amount : ℕ) (arcs : List Arc) (flows : List ℕ) (s : Step) (path : List Step) → CanPush amount arcs flows s
+    → CanPushEach amount arcs flows path → Avoids s.from path → Skips (arc_index s) path
 skips-avoiding amount arcs flows s [] can each avoids = tt
 skips-avoiding amount arcs flows s (t ∷ path) can each avoids =
     let apart = skips-other amount arcs flows s t can each.0 avoids.0 avoids.1 in
     (apart.0, apart.1, skips-avoiding amount arcs flows s path can each.1 avoids.2)
 
 -- On a shortest path what can be pushed along each step can be pushed along them in turn.
-pub CanPushInTurn-shortest : (amount : ℕ) (arcs : List Arc) (flows : List ℕ) (steps : List Step) (a b : ℕ) (path : List Step) → IsShortestPath steps a b path → CanPushEach amount arcs flows path → CanPushInTurn amount arcs flows path
+pub CanPushInTurn-shortest : (amount : ℕ) (arcs : List Arc) (flows : List ℕ) (steps : List Step) (a b : ℕ) (path : List Step) → IsShortestPath steps a b path
+    → CanPushEach amount arcs flows path → CanPushInTurn amount arcs flows path
 CanPushInTurn-shortest amount arcs flows steps a b [] shortest each = tt
 CanPushInTurn-shortest amount arcs flows steps a b (s ∷ path) shortest each =
     let avoids = subst (λ v. Avoids v path) (sym shortest.leads.1) (avoids-start steps a b s path shortest) in
     let skips = skips-avoiding amount arcs flows s path each.0 each.1 avoids in (
       each.0,
       skips,
-      CanPushInTurn-shortest amount arcs (pushed_once amount s flows) steps s.to b path (IsShortestPath-tail steps a b s path shortest) (CanPushEach-other amount arcs flows (arc_index s) _ path skips each.1),
+      CanPushInTurn-shortest amount arcs (pushed_once amount s flows) steps s.to b path (IsShortestPath-tail steps a b s path shortest)
+          (CanPushEach-other amount arcs flows (arc_index s) _ path skips each.1),
     )

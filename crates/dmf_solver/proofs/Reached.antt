@@ -18,7 +18,8 @@ path-stays steps has a b [] closed p inside = sym (ap has p) ∙ inside
 path-stays steps has a b (s ∷ path) closed p inside = path-stays steps has s.to b path closed p.2 (closed s p.0 (ap has p.1 ∙ inside))
 
 -- A path and a step from where it arrives are a path.
-pub path-push : (steps : List Step) (a b : ℕ) (path : List Step) (s : Step) → IsPath steps a b path → Contains steps s → s.from ≡ b → IsPath steps a s.to (path ++ s ∷ [])
+pub path-push : (steps : List Step) (a b : ℕ) (path : List Step) (s : Step) → IsPath steps a b path → Contains steps s → s.from ≡ b
+    → IsPath steps a s.to (path ++ s ∷ [])
 path-push steps a b [] s p c from = (c, from ∙ sym p, refl)
 path-push steps a b (t ∷ path) s p c from = (p.0, p.1, path-push steps t.to b path s p.2 c from)
 
@@ -45,11 +46,13 @@ abbrev is_path : (steps : List Step) (a b : ℕ) → HasNoPath steps a b ⊎ Som
 is_path steps a b (inl none) = false
 is_path steps a b (inr found) = true
 
-is_path-some : (steps : List Step) (a b : ℕ) (known : HasNoPath steps a b ⊎ SomePath steps a b) → is_path steps a b known ≡ true → (path : List Step) × IsPath steps a b path
+is_path-some : (steps : List Step) (a b : ℕ) (known : HasNoPath steps a b ⊎ SomePath steps a b) → is_path steps a b known ≡ true
+    → (path : List Step) × IsPath steps a b path
 is_path-some steps a b (inl none) e = absurd (both_ways false refl e)
 is_path-some steps a b (inr found) e = (found.path, found.leads)
 
-is_path-true : (steps : List Step) (a b : ℕ) (known : HasNoPath steps a b ⊎ SomePath steps a b) (path : List Step) → IsPath steps a b path → is_path steps a b known ≡ true
+is_path-true : (steps : List Step) (a b : ℕ) (known : HasNoPath steps a b ⊎ SomePath steps a b) (path : List Step) → IsPath steps a b path
+    → is_path steps a b known ≡ true
 is_path-true steps a b (inl none) path leads = absurd (none path leads)
 is_path-true steps a b (inr found) path leads = refl
 
@@ -70,7 +73,8 @@ AreReachedFrom-is_reached steps nodes a = record {
 }
 
 -- Where each set that has node `a` and that no step leaves has node `b`, it is absurd that no path leads from `a` to `b`.
-pub path-not_none : (steps : List Step) (nodes a b : ℕ) → ArriveAtNodes nodes steps → IsNode nodes a → ((has : ℕ → Bool) → has a ≡ true → IsClosed steps has → has b ≡ true) → ¬ HasNoPath steps a b
+pub path-not_none : (steps : List Step) (nodes a b : ℕ) → ArriveAtNodes nodes steps → IsNode nodes a
+    → ((has : ℕ → Bool) → has a ≡ true → IsClosed steps has → has b ≡ true) → ¬ HasNoPath steps a b
 path-not_none steps nodes a b arrive node kept none =
     let r = AreReachedFrom-is_reached steps nodes a in
     let p = r.reached b (kept (is_reached steps nodes a) (r.every a node [] refl) (reached_from-closed steps nodes a (is_reached steps nodes a) arrive r)) in

@@ -1,5 +1,6 @@
 -- What a search among the residual pairs of a state's flow says of the state.
-use Rattle.std.proofs.Common.{ℕ, ◌≡◌, ◌-◌, ◌^◌, ◌<◌, ◌≤◌, ◌==◌, ◌↔◌, Bool, true, false, List, [], ◌∷◌, length, get_or, zero, suc, refl, ap, subst, arith, Some, eq-eqb}
+use Rattle.std.proofs.Common.{ℕ, ◌≡◌, ◌-◌, ◌^◌, ◌<◌, ◌≤◌, ◌==◌, ◌↔◌, Bool, true, false, List, [], ◌∷◌, length, get_or, zero, suc, refl, ap, subst, arith, Some}
+use Rattle.std.proofs.Common.{eq-eqb}
 use Rattle.std.specs.List.{slice_get}
 use Rattle.std.proofs.lemmas.List.Elements.{All-get_or}
 use Rattle.std.proofs.lemmas.List.Sums.{get_or-le-sum_by}
@@ -26,7 +27,8 @@ length-residual_pairs (arc ∷ arcs) [] within = absurd within
 length-residual_pairs (arc ∷ arcs) (flow ∷ flows) within = ap suc (length-residual_pairs arcs flows within.1)
 
 -- each of the pairs
-pub slice_get-residual_pairs : (arcs : List Arc) (flows : List ℕ) (k : ℕ) → k < length (residual_pairs arcs flows) → slice_get (residual_pairs arcs flows) k ≡ Some (residual_pair (get_or arcs k no_arc) (get_or flows k 0))
+pub slice_get-residual_pairs : (arcs : List Arc) (flows : List ℕ) (k : ℕ) → k < length (residual_pairs arcs flows)
+    → slice_get (residual_pairs arcs flows) k ≡ Some (residual_pair (get_or arcs k no_arc) (get_or flows k 0))
 slice_get-residual_pairs [] flows k h = absurd (omega (arith, h))
 slice_get-residual_pairs (arc ∷ arcs) [] k h = absurd (omega (arith, h))
 slice_get-residual_pairs (arc ∷ arcs) (flow ∷ flows) zero h = refl
@@ -47,12 +49,19 @@ length-pairs_each (arc ∷ arcs) [] same = refl
 length-pairs_each (arc ∷ arcs) (flow ∷ flows) same = ap suc (length-pairs_each arcs flows (omega (arith, same)))
 
 -- The pair of an arc on which no more flows than can is one.
-pair-is : (nodes : ℕ) (arc : Arc) (flow : ℕ) (p : Pair) (loop : Bool) → IsArc nodes arc → flow ≤ arc.cap → arc.cap < 2 ^ 64 → (arc.tail == arc.head) ≡ loop → residual_pair arc flow ≡ Some p → IsPair nodes p
+pair-is : (nodes : ℕ) (arc : Arc) (flow : ℕ) (p : Pair) (loop : Bool) → IsArc nodes arc → flow ≤ arc.cap → arc.cap < 2 ^ 64 → (arc.tail == arc.head) ≡ loop
+    → residual_pair arc flow ≡ Some p → IsPair nodes p
 pair-is nodes arc flow p true is within small e has = let none = rw e at has in absurd (cc)
 pair-is nodes arc flow p false is within small e has =
     let made : Pair = record { tail = arc.tail; head = arc.head; along = arc.cap - flow; against = flow } in
     let same : made ≡ p = let some = rw e at has in cc in
-    subst (IsPair nodes) same (record { tail = is.tail; head = is.head; no_loop = λ (loop : arc.tail ≡ arc.head). absurd (let tells : (arc.tail == arc.head) ≡ true = eq-eqb arc.tail arc.head loop in cc); fits = omega arith })
+    subst (IsPair nodes) same (record {
+      tail = is.tail;
+      head = is.head;
+      no_loop =
+          λ (loop : arc.tail ≡ arc.head). absurd (let tells : (arc.tail == arc.head) ≡ true = eq-eqb arc.tail arc.head loop in cc);
+      fits = omega arith;
+    })
 
 -- The residual pairs of a state's flow are pairs.
 pub ArePairs-residual : (s : NetworkState) → IsState s → ArePairs s.network.nodes (residual_pairs s.network.arcs s.flows)
@@ -74,7 +83,8 @@ ArePairs-residual s is = record {
 }
 
 -- What the search reaches, residual steps reach.
-pub reached-residual : (n : Network) (flows : List ℕ) (search : Searched) (v : ℕ) → search ≡ residual_search n flows → IsReachable (steps_of search.pairs) search.start v ↔ IsReachable (residual_steps n.arcs flows) n.source v
+pub reached-residual : (n : Network) (flows : List ℕ) (search : Searched) (v : ℕ) → search ≡ residual_search n flows
+    → IsReachable (steps_of search.pairs) search.start v ↔ IsReachable (residual_steps n.arcs flows) n.source v
 reached-residual n flows search v same =
     let fewer = residual-without_loops n.arcs flows in
     rw same (

@@ -1,6 +1,7 @@
 -- Each residual step of a flow leads along an arc, where more can flow on it, or against one, where some flow on it can
 -- be taken back.
-use Rattle.std.proofs.Common.{ℕ, ◌≡◌, ◌+◌, ◌*◌, ◌<◌, ◌≤◌, List, [], ◌∷◌, ◌++◌, length, get_or, suc, Bool, true, false, cond, ltb, sym, subst, ap, refl, ◌-◌, arith, ⊎_elim, append_assoc}
+use Rattle.std.proofs.Common.{ℕ, ◌≡◌, ◌+◌, ◌*◌, ◌<◌, ◌≤◌, List, [], ◌∷◌, ◌++◌, length, get_or, suc, Bool, true, false, cond, ltb, sym, subst, ap, refl, ◌-◌}
+use Rattle.std.proofs.Common.{arith, ⊎_elim, append_assoc}
 use Rattle.std.specs.List.{Contains, All, AllPairs}
 use Rattle.std.proofs.lemmas.Bool.{ltb-true}
 use Rattle.std.proofs.lemmas.List.Elements.{All-cons, Contains-get_or, Contains-append_cases}
@@ -33,7 +34,8 @@ pub data IsResidual (j : ℕ) (arcs : List Arc) (flows : List ℕ) (s : Step) : 
   against : (k : ℕ) → LeadsAgainst j arcs k s → s.room ≡ get_or flows k 0 → 0 < s.room → IsResidual j arcs flows s
 
 -- an arc more in front
-residual-behind : (j : ℕ) (a : Arc) (arcs : List Arc) (x : ℕ) (flows : List ℕ) (s : Step) → IsResidual (j + 1) arcs flows s → IsResidual j (a ∷ arcs) (x ∷ flows) s
+residual-behind : (j : ℕ) (a : Arc) (arcs : List Arc) (x : ℕ) (flows : List ℕ) (s : Step) → IsResidual (j + 1) arcs flows s
+    → IsResidual j (a ∷ arcs) (x ∷ flows) s
 residual-behind j a arcs x flows s (along k leads room has) =
     along (suc k) (record { within = omega (arith, leads.within); rank_is = omega (arith, leads.rank_is); tail = leads.tail; head = leads.head }) room has
 residual-behind j a arcs x flows s (against k leads room has) =
@@ -58,7 +60,8 @@ residual-forward j a arcs x flows s c =
     (omega arith)
 
 -- the step of `backward`
-residual-backward : (j : ℕ) (a : Arc) (arcs : List Arc) (x : ℕ) (flows : List ℕ) (s : Step) → Contains (backward j a x) s → IsResidual j (a ∷ arcs) (x ∷ flows) s
+residual-backward : (j : ℕ) (a : Arc) (arcs : List Arc) (x : ℕ) (flows : List ℕ) (s : Step) → Contains (backward j a x) s
+    → IsResidual j (a ∷ arcs) (x ∷ flows) s
 residual-backward j a arcs x flows s c =
     let step : Step = record { from = a.head; to = a.tail; rank = 2 * j + 1; room = x } in
     let told = in-optional (ltb 0 x) step s c in
@@ -98,7 +101,8 @@ rank-from j arcs flows s (along k leads room has) = omega (arith, leads.rank_is)
 rank-from j arcs flows s (against k leads room has) = omega (arith, leads.rank_is)
 
 -- so do all in the list
-ranks-from : (j : ℕ) (arcs : List Arc) (flows : List ℕ) (k : ℕ) (d : Step) → k < length (residual_from j arcs flows) → 2 * j ≤ (get_or (residual_from j arcs flows) k d).rank
+ranks-from : (j : ℕ) (arcs : List Arc) (flows : List ℕ) (k : ℕ) (d : Step) → k < length (residual_from j arcs flows)
+    → 2 * j ≤ (get_or (residual_from j arcs flows) k d).rank
 ranks-from j arcs flows k d h = rank-from j arcs flows _ (residual-contained j arcs flows _ (Contains-get_or (residual_from j arcs flows) k d h))
 
 -- The one step stands before the other in the order of ranks.
@@ -106,7 +110,8 @@ abbrev pub IsBefore : Step → Step → Type 0
 IsBefore s t = s.rank < t.rank
 
 -- a step in front, where the test holds, of a rank below those behind it
-pub ascending-optional : (b : Bool) (s : Step) (steps : List Step) → All (IsBefore s) steps → AllPairs IsBefore steps → AllPairs IsBefore (cond b (s ∷ []) [] ++ steps)
+pub ascending-optional : (b : Bool) (s : Step) (steps : List Step) → All (IsBefore s) steps → AllPairs IsBefore steps
+    → AllPairs IsBefore (cond b (s ∷ []) [] ++ steps)
 ascending-optional true s steps below ascending = AllPairs-cons IsBefore s steps below ascending
 ascending-optional false s steps below ascending = ascending
 

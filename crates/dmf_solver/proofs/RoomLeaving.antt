@@ -28,11 +28,13 @@ abbrev capacity_at : ℕ → Arc → ℕ
 capacity_at v arc = cond (arc.tail == v && not (arc.tail == arc.head)) arc.cap 0
 
 -- at one arc
-room_at-residual : (v : ℕ) (arc : Arc) (flow : ℕ) → flow ≤ arc.cap → room_at v (residual_pair arc flow) + cond (arc.tail == v) flow 0 ≡ cond (arc.head == v) flow 0 + capacity_at v arc
+room_at-residual : (v : ℕ) (arc : Arc) (flow : ℕ) → flow ≤ arc.cap → room_at v (residual_pair arc flow) + cond (arc.tail == v) flow 0 ≡ cond
+    (arc.head == v) flow 0 + capacity_at v arc
 room_at-residual v arc flow within = grind (arith, nat_tests)
 
 -- What more can flow out of a node is the capacities of its arcs less what flows out.
-room_leaving-residual : (v : ℕ) (arcs : List Arc) (flows : List ℕ) → AreWithinCapacities arcs flows → room_leaving (residual_pairs arcs flows) v + outflow arcs flows v ≡ inflow arcs flows v + sum_by (capacity_at v) arcs
+room_leaving-residual : (v : ℕ) (arcs : List Arc) (flows : List ℕ) → AreWithinCapacities arcs flows
+    → room_leaving (residual_pairs arcs flows) v + outflow arcs flows v ≡ inflow arcs flows v + sum_by (capacity_at v) arcs
 room_leaving-residual v [] [] within = refl
 room_leaving-residual v [] (flow ∷ flows) within = absurd within
 room_leaving-residual v (arc ∷ arcs) [] within = absurd within
@@ -50,7 +52,8 @@ room_leaving-residual v (arc ∷ arcs) (flow ∷ flows) within =
     )
 
 -- It falls with each path.
-pub room_leaving-falls : (s : NetworkState) (flows : List ℕ) (path : List Step) → IsState (with_flows s flows) → IsState (with_flows s (augmented path flows)) → IsLeastPath (residual_steps s.network.arcs flows) s.network.source s.network.sink path
+pub room_leaving-falls : (s : NetworkState) (flows : List ℕ) (path : List Step) → IsState (with_flows s flows) → IsState (with_flows s (augmented path flows))
+    → IsLeastPath (residual_steps s.network.arcs flows) s.network.source s.network.sink path
     → room_leaving (residual_pairs s.network.arcs (augmented path flows)) s.network.source < room_leaving (residual_pairs s.network.arcs flows) s.network.source
 room_leaving-falls s flows path state after least =
     let room = room-positive s.network flows path state.network.two_terminals least in

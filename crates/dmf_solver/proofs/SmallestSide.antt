@@ -21,25 +21,30 @@ use Rattle.dmf_state.proofs.Ascending.{same-nodes}
 use Rattle.dmf_solver.specs.Laws.{HasOneSmallestSide}
 
 -- A minimum cut is tight, where the value of the flow is the capacity of some cut, as of the nodes that are reached.
-pub minimum_cut-tight : (n : Network) (flows : List ℕ) (has other : ℕ → Bool) → IsNetwork n → IsFlow n flows → HasNoPath (residual_steps n.arcs flows) n.source n.sink → AreReached n flows has → IsMinimumCut n other → AreTight other n.arcs flows
+pub minimum_cut-tight : (n : Network) (flows : List ℕ) (has other : ℕ → Bool) → IsNetwork n → IsFlow n flows
+    → HasNoPath (residual_steps n.arcs flows) n.source n.sink → AreReached n flows has → IsMinimumCut n other → AreTight other n.arcs flows
 minimum_cut-tight n flows has other network flow none r least =
     let same = reached-capacity n flows has network flow none r in
     let within = least.least has (reached-cut n flows has network r none) in
     tight-from_capacity n flows other network flow least.cut (omega (arith, ints, same, within))
 
 -- Every minimum cut has each node that is reached.
-pub reached-in_every : (n : Network) (flows : List ℕ) (has : ℕ → Bool) (v : ℕ) → IsNetwork n → IsFlow n flows → HasNoPath (residual_steps n.arcs flows) n.source n.sink → AreReached n flows has → has v ≡ true → IsInEveryMinimumCut n v
+pub reached-in_every : (n : Network) (flows : List ℕ) (has : ℕ → Bool) (v : ℕ) → IsNetwork n → IsFlow n flows
+    → HasNoPath (residual_steps n.arcs flows) n.source n.sink → AreReached n flows has → has v ≡ true → IsInEveryMinimumCut n v
 reached-in_every n flows has v network flow none r inside other least =
     let p = r.reached v inside in
     let closed = closed-from_tight other 1 n.arcs flows (minimum_cut-tight n flows has other network flow none r least) in
     path-stays (residual_steps n.arcs flows) other n.source v p.0 closed p.1 least.cut.source
 
 -- A node that every minimum cut has is reached.
-pub reached-from_every : (n : Network) (flows : List ℕ) (has : ℕ → Bool) (v : ℕ) → IsNetwork n → IsFlow n flows → HasNoPath (residual_steps n.arcs flows) n.source n.sink → AreReached n flows has → IsInEveryMinimumCut n v → has v ≡ true
+pub reached-from_every : (n : Network) (flows : List ℕ) (has : ℕ → Bool) (v : ℕ) → IsNetwork n → IsFlow n flows
+    → HasNoPath (residual_steps n.arcs flows) n.source n.sink → AreReached n flows has → IsInEveryMinimumCut n v → has v ≡ true
 reached-from_every n flows has v network flow none r every = every has (reached-minimum_cut n flows has network flow none r)
 
 -- The ascending list of the nodes that are reached is the smallest side, and the value of the flow its capacity.
-pub IsSmallestSide-reached : (n : Network) (flows ids : List ℕ) (capacity : ℕ) → IsNetwork n → IsFlow n flows → HasNoPath (residual_steps n.arcs flows) n.source n.sink → AreReached n flows (has_node ids) → IsStrictlyIncreasing ids → pos capacity ≡ flow_value n flows → IsSmallestSide n (record { ids = ids; capacity = capacity })
+pub IsSmallestSide-reached : (n : Network) (flows ids : List ℕ) (capacity : ℕ) → IsNetwork n → IsFlow n flows
+    → HasNoPath (residual_steps n.arcs flows) n.source n.sink → AreReached n flows (has_node ids) → IsStrictlyIncreasing ids → pos capacity ≡ flow_value n flows
+    → IsSmallestSide n (record { ids = ids; capacity = capacity })
 IsSmallestSide-reached n flows ids capacity network flow none r increasing value = record {
   ascending = increasing;
   in_every = λ v. (
@@ -51,7 +56,8 @@ IsSmallestSide-reached n flows ids capacity network flow none r increasing value
 }
 
 -- The side of the nodes that a search for augmenting paths reaches has those that residual paths reach.
-pub reached-by_search : (n : Network) (flows : List ℕ) (search : Searched) (capacity : ℕ) (side : CutSide) → search ≡ residual_search n flows → IsReachedSide search capacity side → AreReached n flows (has_node side.ids)
+pub reached-by_search : (n : Network) (flows : List ℕ) (search : Searched) (capacity : ℕ) (side : CutSide) → search ≡ residual_search n flows
+    → IsReachedSide search capacity side → AreReached n flows (has_node side.ids)
 reached-by_search n flows search capacity side same is =
     let nodes : search.nodes ≡ n.nodes = ap (λ (o : Searched). o.nodes) same in
     record {
@@ -61,18 +67,23 @@ reached-by_search n flows search capacity side same is =
     }
 
 -- Where it has not the sink, no path leads there.
-pub no_path-by_search : (n : Network) (flows : List ℕ) (has : ℕ → Bool) → IsNetwork n → AreReached n flows has → has n.sink ≡ false → HasNoPath (residual_steps n.arcs flows) n.source n.sink
+pub no_path-by_search : (n : Network) (flows : List ℕ) (has : ℕ → Bool) → IsNetwork n → AreReached n flows has → has n.sink ≡ false
+    → HasNoPath (residual_steps n.arcs flows) n.source n.sink
 no_path-by_search n flows has network r out path leads = both_ways (has n.sink) out (r.every n.sink network.sink path leads)
 
 -- It is the smallest side then.
-pub IsSmallestSide-by_search : (n : Network) (flows : List ℕ) (search : Searched) (capacity : ℕ) (side : CutSide) → IsNetwork n → IsFlow n flows → HasNoPath (residual_steps n.arcs flows) n.source n.sink → search ≡ residual_search n flows → pos capacity ≡ flow_value n flows → IsReachedSide search capacity side → IsSmallestSide n side
+pub IsSmallestSide-by_search : (n : Network) (flows : List ℕ) (search : Searched) (capacity : ℕ) (side : CutSide) → IsNetwork n → IsFlow n flows
+    → HasNoPath (residual_steps n.arcs flows) n.source n.sink → search ≡ residual_search n flows → pos capacity ≡ flow_value n flows
+    → IsReachedSide search capacity side → IsSmallestSide n side
 IsSmallestSide-by_search n flows search capacity side network flow none same value is =
-    IsSmallestSide-reached n flows side.ids side.capacity network flow none (reached-by_search n flows search capacity side same is) is.ascending (ap pos is.capacity_is ∙ value)
+    IsSmallestSide-reached n flows side.ids side.capacity network flow none (reached-by_search n flows search capacity side same is) is.ascending
+    (ap pos is.capacity_is ∙ value)
 
 -- A network has one smallest side.
 pub one-smallest_side : HasOneSmallestSide
 one-smallest_side n side other is also =
-    let same : side.ids ≡ other.ids = same-nodes side.ids other.ids (AllPairs-from_increasing side.ids is.ascending) (AllPairs-from_increasing other.ids also.ascending)
+    let same : side.ids ≡ other.ids = same-nodes side.ids other.ids (AllPairs-from_increasing side.ids is.ascending)
+    (AllPairs-from_increasing other.ids also.ascending)
     (λ v inside. (also.in_every v).1 ((is.in_every v).0 inside))
     (λ v inside. (is.in_every v).1 ((also.in_every v).0 inside)) in
     let capacity : side.capacity ≡ other.capacity = is.capacity_is ∙ ap (λ ids. cut_capacity n.arcs (has_node ids)) same ∙ sym also.capacity_is in

@@ -12,7 +12,8 @@ use Rattle.dmf_solver.specs.Told.{Told, told_of, AreTold}
 use Rattle.dmf_solver.proofs.Augmenting.{augmented-flow, augmented-value}
 
 -- one path more, the last
-pub Augments-push : (n : Network) (flows : List ℕ) (paths : List (List Step)) (last : List ℕ) (path : List Step) → Augments n flows paths last → IsLeastPath (residual_steps n.arcs last) n.source n.sink path → Augments n flows (paths ++ path ∷ []) (augmented path last)
+pub Augments-push : (n : Network) (flows : List ℕ) (paths : List (List Step)) (last : List ℕ) (path : List Step) → Augments n flows paths last
+    → IsLeastPath (residual_steps n.arcs last) n.source n.sink path → Augments n flows (paths ++ path ∷ []) (augmented path last)
 Augments-push n flows [] last path augments least =
     (subst (λ now. IsLeastPath (residual_steps n.arcs now) n.source n.sink path) (sym augments) least, ap (augmented path) augments)
 Augments-push n flows (first ∷ paths) last path augments least =
@@ -25,7 +26,8 @@ pub record IsReached (s : NetworkState) (flows : List ℕ) : Type 0 where
   pub augments : Augments s.network s.flows paths flows
 
 -- augmenting keeps a state
-pub IsState-augmented : (s : NetworkState) (flows : List ℕ) (path : List Step) → IsState (with_flows s flows) → IsLeastPath (residual_steps s.network.arcs flows) s.network.source s.network.sink path → IsState (with_flows s (augmented path flows))
+pub IsState-augmented : (s : NetworkState) (flows : List ℕ) (path : List Step) → IsState (with_flows s flows)
+    → IsLeastPath (residual_steps s.network.arcs flows) s.network.source s.network.sink path → IsState (with_flows s (augmented path flows))
 IsState-augmented s flows path state least =
     let value = augmented-value s.network flows path state.network state.flow least in
     record {
@@ -35,7 +37,8 @@ IsState-augmented s flows path state least =
     }
 
 -- one path more
-abbrev pub reached-more : (s : NetworkState) (flows : List ℕ) (path : List Step) → IsReached s flows → IsLeastPath (residual_steps s.network.arcs flows) s.network.source s.network.sink path → IsReached s (augmented path flows)
+abbrev pub reached-more : (s : NetworkState) (flows : List ℕ) (path : List Step) → IsReached s flows
+    → IsLeastPath (residual_steps s.network.arcs flows) s.network.source s.network.sink path → IsReached s (augmented path flows)
 reached-more s flows path reached least = record {
   state = IsState-augmented s flows path reached.state least;
   paths = reached.paths ++ path ∷ [];

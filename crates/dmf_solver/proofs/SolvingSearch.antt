@@ -1,5 +1,6 @@
 -- Solving by a search among the residual pairs: what the search keeps as it augments, and which flow it tells at the end.
-use Rattle.std.proofs.Common.{ℕ, ◌≡◌, ◌≢◌, ◌+◌, ◌-◌, ◌*◌, ◌^◌, ◌<◌, ◌≤◌, Bool, true, false, ◌==◌, cond, ltb, min, List, [], ◌∷◌, ◌++◌, length, get_or, refl, ap, sym, ◌∙◌, subst, arith, pos, suc, ⊎_elim, Option}
+use Rattle.std.proofs.Common.{ℕ, ◌≡◌, ◌≢◌, ◌+◌, ◌-◌, ◌*◌, ◌^◌, ◌<◌, ◌≤◌, Bool, true, false, ◌==◌, cond, ltb, min, List, [], ◌∷◌, ◌++◌, length, get_or, refl, ap}
+use Rattle.std.proofs.Common.{sym, ◌∙◌, subst, arith, pos, suc, ⊎_elim, Option}
 use Rattle.std.specs.List.{Contains}
 use Rattle.std.proofs.lemmas.Bool.Decides.{nat_tests}
 use Rattle.std.proofs.lemmas.Int.{ints}
@@ -68,7 +69,8 @@ apart-from j (arc ∷ arcs) (flow ∷ flows) s c =
     (Contains-append_cases (pair_steps j (residual_pair arc flow)) (steps_from (j + 1) (residual_pairs arcs flows)) s c)
 
 -- the ends of a residual step of an arc that comes back
-ends-same : (arcs : List Arc) (flows : List ℕ) (k : ℕ) (s : Step) → (get_or arcs k no_arc).tail ≡ (get_or arcs k no_arc).head → 2 * (1 + k) ≤ s.rank → s.rank ≤ 2 * (1 + k) + 1 → IsResidual 1 arcs flows s → s.from ≡ s.to
+ends-same : (arcs : List Arc) (flows : List ℕ) (k : ℕ) (s : Step) → (get_or arcs k no_arc).tail ≡ (get_or arcs k no_arc).head → 2 * (1 + k) ≤ s.rank
+    → s.rank ≤ 2 * (1 + k) + 1 → IsResidual 1 arcs flows s → s.from ≡ s.to
 ends-same arcs flows k s loop from to (along i is room some) =
     let place : i ≡ k = omega (arith, is.rank_is) in
     is.tail ∙ ap (λ n. (get_or arcs n no_arc).tail) place ∙ loop ∙ sym (ap (λ n. (get_or arcs n no_arc).head) place) ∙ sym is.head
@@ -77,7 +79,9 @@ ends-same arcs flows k s loop from to (against i is room some) =
     is.head ∙ ap (λ n. (get_or arcs n no_arc).head) place ∙ sym loop ∙ sym (ap (λ n. (get_or arcs n no_arc).tail) place) ∙ sym is.tail
 
 -- A path of the pairs has no step of an arc that comes back.
-loop-unranked : (arcs : List Arc) (flows : List ℕ) (a b k rank : ℕ) (path : List Step) (has : Bool) → IsPath (steps_of (residual_pairs arcs flows)) a b path → (get_or arcs k no_arc).tail ≡ (get_or arcs k no_arc).head → 2 * (1 + k) ≤ rank → rank ≤ 2 * (1 + k) + 1 → has_rank path rank ≡ has → has_rank path rank ≡ false
+loop-unranked : (arcs : List Arc) (flows : List ℕ) (a b k rank : ℕ) (path : List Step) (has : Bool) → IsPath (steps_of (residual_pairs arcs flows)) a b path
+    → (get_or arcs k no_arc).tail ≡ (get_or arcs k no_arc).head → 2 * (1 + k) ≤ rank → rank ≤ 2 * (1 + k) + 1 → has_rank path rank ≡ has
+    → has_rank path rank ≡ false
 loop-unranked arcs flows a b k rank path false leads loop from to e = e
 loop-unranked arcs flows a b k rank path true leads loop from to e =
     let step = step-of_least (steps_of (residual_pairs arcs flows)) a b rank path leads e in
@@ -91,7 +95,8 @@ AreKept arcs firsts flows =
     (k : ℕ) → k < length arcs → (get_or arcs k no_arc).tail ≡ (get_or arcs k no_arc).head → get_or flows k 0 ≡ get_or firsts k 0
 
 -- Augmenting keeps it there.
-kept-augmented : (arcs : List Arc) (firsts flows : List ℕ) (a b : ℕ) (path : List Step) → AreWithinCapacities arcs flows → IsPath (steps_of (residual_pairs arcs flows)) a b path → AreKept arcs firsts flows → AreKept arcs firsts (augmented path flows)
+kept-augmented : (arcs : List Arc) (firsts flows : List ℕ) (a b : ℕ) (path : List Step) → AreWithinCapacities arcs flows
+    → IsPath (steps_of (residual_pairs arcs flows)) a b path → AreKept arcs firsts flows → AreKept arcs firsts (augmented path flows)
 kept-augmented arcs firsts flows a b path within leads kept k h loop =
     let long = AllZip-long _ arcs flows within in
     let forth = loop-unranked arcs flows a b k (2 * (1 + k)) path (has_rank path (2 * (1 + k))) leads loop (omega arith) (omega arith) refl in
@@ -105,7 +110,8 @@ bottleneck_up_to-min a b [] = refl
 bottleneck_up_to-min a b (s ∷ path) = let rest = bottleneck_up_to-min a b path in omega (arith, rest)
 
 -- A limit of 64 bits is above each room.
-bottleneck_up_to-least : (n : Network) (flows : List ℕ) (limit : ℕ) (path : List Step) → limit + 1 ≡ 2 ^ 64 → IsNetwork n → IsFlow n flows → IsPath (residual_steps n.arcs flows) n.source n.sink path → bottleneck_up_to limit path ≡ bottleneck path
+bottleneck_up_to-least : (n : Network) (flows : List ℕ) (limit : ℕ) (path : List Step) → limit + 1 ≡ 2 ^ 64 → IsNetwork n → IsFlow n flows
+    → IsPath (residual_steps n.arcs flows) n.source n.sink path → bottleneck_up_to limit path ≡ bottleneck path
 bottleneck_up_to-least n flows limit [] all is flow leads = absurd (is.two_terminals leads)
 bottleneck_up_to-least n flows limit (s ∷ path) all is flow leads =
     let small : s.room ≤ limit =
@@ -137,19 +143,22 @@ pub record IsNext (s : NetworkState) (before : List (List Step)) (links : ℕ) (
   pub falls : room_leaving new.pairs s.network.source < room_leaving old.pairs s.network.source
 
 -- one path more
-pub solving-more : (s : NetworkState) (limit value : ℕ) (found : AugmentingPath) (old new : Searched) → limit + 1 ≡ 2 ^ 64 → (is : IsSolving s old value) → Augments limit found old new → IsNext s is.reached.paths found.links old new (value + found.amount)
+pub solving-more : (s : NetworkState) (limit value : ℕ) (found : AugmentingPath) (old new : Searched) → limit + 1 ≡ 2 ^ 64 → (is : IsSolving s old value)
+    → Augments limit found old new → IsNext s is.reached.paths found.links old new (value + found.amount)
 solving-more s limit value found old new all is augments =
     let n = s.network in
     let state = is.reached.state in
     let push = subst (λ o. Augments limit found o new) is.search_is augments in
     let path = push.path in
-    let least = least-without_loops (residual_steps n.arcs is.flows) (steps_of (residual_pairs n.arcs is.flows)) n.source n.sink path (residual-without_loops n.arcs is.flows) push.least in
+    let least = least-without_loops (residual_steps n.arcs is.flows) (steps_of (residual_pairs n.arcs is.flows)) n.source n.sink path
+    (residual-without_loops n.arcs is.flows) push.least in
     let same = push.amount_is ∙ bottleneck_up_to-least n is.flows limit path all state.network state.flow least.leads in
     let pairs =
     ap (λ m. pushed_pairs true m path (residual_pairs n.arcs is.flows)) same
     ∙ sym (residual_pairs-augmented n.arcs is.flows n.source n.sink path state.flow.within least.leads)
     in
-    let next = push.gives ∙ ap (λ (made : List (Option Pair)). record { nodes = n.nodes; pairs = made; start = n.source; goal = n.sink; takes_back = true }) pairs in
+    let next = push.gives ∙ ap (λ (made : List (Option Pair)). record { nodes = n.nodes; pairs = made; start = n.source; goal = n.sink; takes_back = true })
+    pairs in
     let reached = reached-more s is.flows path is.reached least in
     let grown = augmented-value n is.flows path state.network state.flow least in
     let value_is : pos (value + found.amount) ≡ flow_value n (augmented path is.flows) = omega (arith, ints, grown, is.value_is, same) in
@@ -170,12 +179,14 @@ solving-more s limit value found old new all is augments =
     }
 
 -- The flow that is read off an arc: the room against its pair, and where it has none, what flowed at first.
-read-flow : (arc : Arc) (first flow : ℕ) (loop : Bool) → (arc.tail == arc.head) ≡ loop → (arc.tail ≡ arc.head → flow ≡ first) → flow_read Against first (residual_pair arc flow) ≡ flow
+read-flow : (arc : Arc) (first flow : ℕ) (loop : Bool) → (arc.tail == arc.head) ≡ loop → (arc.tail ≡ arc.head → flow ≡ first)
+    → flow_read Against first (residual_pair arc flow) ≡ flow
 read-flow arc first flow true e kept = rw e (sym (kept (exact_unsigned_eq arc.tail arc.head e)))
 read-flow arc first flow false e kept = rw e refl
 
 -- So the flows are read off the pairs.
-read-flows : (arcs : List Arc) (firsts flows : List ℕ) → AreWithinCapacities arcs firsts → AreWithinCapacities arcs flows → AreKept arcs firsts flows → flows_read Against firsts (residual_pairs arcs flows) ≡ flows
+read-flows : (arcs : List Arc) (firsts flows : List ℕ) → AreWithinCapacities arcs firsts → AreWithinCapacities arcs flows → AreKept arcs firsts flows
+    → flows_read Against firsts (residual_pairs arcs flows) ≡ flows
 read-flows [] [] [] below within kept = refl
 read-flows [] [] (flow ∷ flows) below within kept = absurd within
 read-flows [] (first ∷ firsts) flows below within kept = absurd below
@@ -192,15 +203,18 @@ solving-read s value old new state is same =
     sym (ap (reached_flows s) (same ∙ is.search_is) ∙ read-flows s.network.arcs s.flows is.flows state.flow.within is.reached.state.flow.within is.kept)
 
 -- Where no path is left, they are the outcome of solving,
-solving-solves : (s : NetworkState) (value : ℕ) (old : Searched) → (is : IsSolving s old value) → HasNoPath (steps_of old.pairs) old.start old.goal → Solves s.network s.flows is.flows
+solving-solves : (s : NetworkState) (value : ℕ) (old : Searched) → (is : IsSolving s old value) → HasNoPath (steps_of old.pairs) old.start old.goal
+    → Solves s.network s.flows is.flows
 solving-solves s value old is none =
     let n = s.network in
     let left = subst (λ (o : Searched). HasNoPath (steps_of o.pairs) o.start o.goal) is.search_is none in
-    let no_path = no_path-without_loops (residual_steps n.arcs is.flows) (steps_of (residual_pairs n.arcs is.flows)) n.source n.sink (residual-without_loops n.arcs is.flows) left in
+    let no_path = no_path-without_loops (residual_steps n.arcs is.flows) (steps_of (residual_pairs n.arcs is.flows)) n.source n.sink
+    (residual-without_loops n.arcs is.flows) left in
     record { paths = is.reached.paths; augments = is.reached.augments; no_path = no_path }
 
 -- the search has come to it,
-pub solving-done : (s : NetworkState) (solved : Solved) (old : Searched) → IsState s → IsSolving s old solved.value → HasNoPath (steps_of old.pairs) old.start old.goal → solved.search ≡ old
+pub solving-done : (s : NetworkState) (solved : Solved) (old : Searched) → IsState s → IsSolving s old solved.value
+    → HasNoPath (steps_of old.pairs) old.start old.goal → solved.search ≡ old
     → KeepsUnpassed solved.passed.items (residual_pairs s.network.arcs s.flows) solved.search.pairs → IsSolved s solved
 solving-done s solved old state is none same kept =
     let n = s.network in
@@ -214,7 +228,8 @@ solving-done s solved old state is none same kept =
     }
 
 -- and all its paths were told.
-pub solving-told : (s : NetworkState) (value : ℕ) (old new : Searched) (before after : Option (List Told)) → IsState s → (is : IsSolving s old value) → AreTold before after (told_of s.network s.flows is.reached.paths) → HasNoPath (steps_of old.pairs) old.start old.goal → new ≡ old
+pub solving-told : (s : NetworkState) (value : ℕ) (old new : Searched) (before after : Option (List Told)) → IsState s → (is : IsSolving s old value)
+    → AreTold before after (told_of s.network s.flows is.reached.paths) → HasNoPath (steps_of old.pairs) old.start old.goal → new ≡ old
     → TellsSolve s (reached_flows s new) before after
 unfolding solving-solves
 solving-told s value old new before after state is told none same =

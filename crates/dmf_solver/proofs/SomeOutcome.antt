@@ -1,5 +1,6 @@
 -- A change that is not refused has an outcome.
-use Rattle.std.proofs.Common.{ℕ, ◌≡◌, ◌+◌, ◌^◌, ◌&&◌, zero, suc, Bool, true, false, cond, List, [], ◌∷◌, length, Some, None, is_none, option_map, pos, ◌+ℤ◌, ◌≤ℤ◌, ◌<ℤ◌, ltb, inl, inr, refl, sym, subst, arith, ltb-true}
+use Rattle.std.proofs.Common.{ℕ, ◌≡◌, ◌+◌, ◌^◌, ◌&&◌, zero, suc, Bool, true, false, cond, List, [], ◌∷◌, length, Some, None, is_none, option_map, pos, ◌+ℤ◌}
+use Rattle.std.proofs.Common.{◌≤ℤ◌, ◌<ℤ◌, ltb, inl, inr, refl, sym, subst, arith, ltb-true}
 use Rattle.std.proofs.lemmas.Bool.{both_ways}
 use Rattle.std.proofs.lemmas.Int.{ints}
 use Rattle.std.proofs.lemmas.Slice.Zip.{AllZip-long}
@@ -35,12 +36,14 @@ record Solved (n : Network) (flows : List ℕ) : Type 0 where
   value : flow_value n flows ≤ℤ flow_value n last
 
 -- Each path raises the value.
-value-rises : (n : Network) (flows : List ℕ) → IsNetwork n → IsFlow n flows → (found : SomeLeast (residual_steps n.arcs flows) n.source n.sink) → flow_value n flows <ℤ flow_value n (augmented found.path flows)
+value-rises : (n : Network) (flows : List ℕ) → IsNetwork n → IsFlow n flows → (found : SomeLeast (residual_steps n.arcs flows) n.source n.sink)
+    → flow_value n flows <ℤ flow_value n (augmented found.path flows)
 value-rises n flows network flow found =
     omega (arith, ints, room-positive n flows found.path network.two_terminals found.least, augmented-value n flows found.path network flow found.least)
 
 -- One path more in front.
-one-more : (n : Network) (flows : List ℕ) → IsNetwork n → IsFlow n flows → (found : SomeLeast (residual_steps n.arcs flows) n.source n.sink) → Solved n (augmented found.path flows) → Solved n flows
+one-more : (n : Network) (flows : List ℕ) → IsNetwork n → IsFlow n flows → (found : SomeLeast (residual_steps n.arcs flows) n.source n.sink)
+    → Solved n (augmented found.path flows) → Solved n flows
 one-more n flows network flow found rest = record {
   last = rest.last;
   solves = record {
@@ -53,7 +56,8 @@ one-more n flows network flow found rest = record {
 }
 
 -- Augmenting ends: each path raises the value, and the capacities together bound it.
-solved : (n : Network) → IsNetwork n → (left : ℕ) (flows : List ℕ) → IsFlow n flows → pos (capacity_sum n.arcs) <ℤ (flow_value n flows +ℤ pos left) → Solved n flows
+solved : (n : Network) → IsNetwork n → (left : ℕ) (flows : List ℕ) → IsFlow n flows → pos (capacity_sum n.arcs) <ℤ (flow_value n flows +ℤ pos left)
+    → Solved n flows
 solved n network zero flows flow bound = absurd (omega (arith, ints, bound, value-le-capacities n flows flow))
 solved n network (suc left) flows flow bound =
     elim (least-or-none (residual_steps n.arcs flows) (AreSteps-residual n.nodes n.arcs flows network.arcs).ascending n.source n.sink) [
@@ -69,7 +73,8 @@ solved n network (suc left) flows flow bound =
     ]
 
 -- Where there is no fault each test passes.
-each-passes : (tail head few small : Bool) → option_map plan_fault (cond (tail && head) (cond few (cond small None (Some SumTooLarge)) (Some TooManyArcs)) (Some NoSuchNode)) ≡ None → (tail ≡ true) × (head ≡ true) × (few ≡ true) × (small ≡ true)
+each-passes : (tail head few small : Bool) → option_map plan_fault (cond (tail && head) (cond few (cond small None (Some SumTooLarge)) (Some TooManyArcs))
+    (Some NoSuchNode)) ≡ None → (tail ≡ true) × (head ≡ true) × (few ≡ true) × (small ≡ true)
 each-passes false head few small none = absurd (cc)
 each-passes true false few small none = absurd (cc)
 each-passes true true false small none = absurd (cc)
@@ -81,14 +86,17 @@ close-passes false closed none = absurd (cc)
 close-passes true true none = absurd (cc)
 close-passes true false none = (refl, refl)
 
-cap-passes : (has closed small : Bool) → cond (is_none (cond has (cond closed (Some Closed) None) (Some NoSuchArc))) (cond small None (Some plan.SumTooLarge)) (cond has (cond closed (Some Closed) None) (Some NoSuchArc)) ≡ None → (has ≡ true) × (closed ≡ false) × (small ≡ true)
+cap-passes : (has closed small : Bool) → cond (is_none (cond has (cond closed (Some Closed) None) (Some NoSuchArc))) (cond small None (Some plan.SumTooLarge))
+    (cond has (cond closed (Some Closed) None) (Some NoSuchArc)) ≡ None → (has ≡ true) × (closed ≡ false) × (small ≡ true)
 cap-passes false closed small none = absurd (cc)
 cap-passes true true small none = absurd (cc)
 cap-passes true false false none = absurd (cc)
 cap-passes true false true none = (refl, refl, refl)
 
 -- Draining an arc to the capacity of another, which has the same ends, makes a state with that in its place.
-IsState-drained : (s : NetworkState) (j : ℕ) (arc : Arc) (last : List ℕ) → IsState s → has_arc s.network j ≡ true → arc.tail ≡ (arc_number s.network j).tail → arc.head ≡ (arc_number s.network j).head → IsNetwork (with_arc s.network j arc) → Drains s.network j arc.cap s.flows last → IsState (record { network = with_arc s.network j arc; flows = last })
+IsState-drained : (s : NetworkState) (j : ℕ) (arc : Arc) (last : List ℕ) → IsState s → has_arc s.network j ≡ true → arc.tail ≡ (arc_number s.network j).tail
+    → arc.head ≡ (arc_number s.network j).head → IsNetwork (with_arc s.network j arc) → Drains s.network j arc.cap s.flows last
+    → IsState (record { network = with_arc s.network j arc; flows = last })
 IsState-drained s j arc last state has tail head network drains =
     let left = drains-state s.network j arc.cap s.flows last state.network state.flow state.value_from_zero has drains in
     record {
@@ -128,7 +136,8 @@ some-outcome s (Cap j cap) state accepted =
     let arc : Arc = with_cap cap (arc_number n j) in
     let passes = cap-passes (has_arc n j) (arc_number n j).closed (ltb (sum_with n j cap) (2 ^ 64)) accepted in
     let network : IsNetwork (with_arc n j arc) =
-    IsNetwork-with_arc n j arc state.network passes.0 refl refl (λ closed. absurd (both_ways (arc_number n j).closed passes.1 closed)) (ltb-true _ _ passes.2) in
+    IsNetwork-with_arc n j arc state.network passes.0 refl refl (λ closed. absurd (both_ways (arc_number n j).closed passes.1 closed))
+    (ltb-true _ _ passes.2) in
     let found : SomeDrained n j cap s.flows = some-drained n j cap s.flows state.network state.flow state.value_from_zero passes.0 in
     record {
       after = record { network = with_arc n j arc; flows = found.last };
@@ -138,7 +147,8 @@ some-outcome s (Cap j cap) state accepted =
 some-outcome s (Close j) state accepted =
     some-closed s j state (close-passes (has_arc s.network j) (arc_number s.network j).closed accepted).0
 some-outcome s (Add tail head cap) state accepted =
-    let passes = each-passes (is_node s.network.nodes tail) (is_node s.network.nodes head) (ltb (length s.network.arcs) (2 ^ 27)) (ltb (capacity_sum s.network.arcs + cap) (2 ^ 64)) accepted in
+    let passes = each-passes (is_node s.network.nodes tail) (is_node s.network.nodes head) (ltb (length s.network.arcs) (2 ^ 27))
+    (ltb (capacity_sum s.network.arcs + cap) (2 ^ 64)) accepted in
     let arc : IsArc s.network.nodes (open_arc tail head cap) = record {
       tail = IsNode-is_node s.network.nodes tail passes.0;
       head = IsNode-is_node s.network.nodes head passes.1;
@@ -153,7 +163,8 @@ some-outcome s (Shut v) state accepted =
     let found = some-closed_in_turn (open_arcs_at v 1 s.network.arcs) s state (HasArcs-at v s.network) in
     record { after = found.after; state = found.state; becomes = found.closes }
 some-outcome s Solve state accepted =
-    let found : Solved s.network s.flows = solved s.network state.network (suc (capacity_sum s.network.arcs)) s.flows state.flow (omega (arith, ints, state.value_from_zero)) in
+    let found : Solved s.network s.flows = solved s.network state.network (suc (capacity_sum s.network.arcs)) s.flows state.flow
+    (omega (arith, ints, state.value_from_zero)) in
     record {
       after = with_flows s found.last;
       state = record { network = state.network; flow = found.flow; value_from_zero = omega (arith, ints, state.value_from_zero, found.value) };

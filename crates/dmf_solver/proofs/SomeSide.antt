@@ -1,5 +1,6 @@
 -- Every network has a smallest side, and every flow is greatest or surpassed.
-use Rattle.std.proofs.Common.{ℕ, zero, suc, ◌≡◌, ◌+◌, ◌-◌, List, [], ◌∷◌, ◌++◌, length, get_or, Bool, true, false, refl, ap, sym, ◌∙◌, subst, arith, ⊎_elim, inl, inr}
+use Rattle.std.proofs.Common.{ℕ, zero, suc, ◌≡◌, ◌+◌, ◌-◌, List, [], ◌∷◌, ◌++◌, length, get_or, Bool, true, false, refl, ap, sym, ◌∙◌, subst, arith, ⊎_elim}
+use Rattle.std.proofs.Common.{inl, inr}
 use Rattle.std.proofs.lemmas.Bool.{both_ways, cases_eq}
 use Rattle.std.proofs.lemmas.List.{get_or_append_left, get_or_push, length_push}
 use Rattle.dmf_node.specs.Node.{IsNode}
@@ -74,7 +75,8 @@ listed marks (suc count) =
 -- ---- the smallest side
 
 -- Where no path leads to the sink, the list of the nodes that are reached is the smallest side.
-some-side_of : (n : Network) (flows : List ℕ) → IsNetwork n → IsFlow n flows → HasNoPath (residual_steps n.arcs flows) n.source n.sink → (side : CutSide) × IsSmallestSide n side
+some-side_of : (n : Network) (flows : List ℕ) → IsNetwork n → IsFlow n flows → HasNoPath (residual_steps n.arcs flows) n.source n.sink
+    → (side : CutSide) × IsSmallestSide n side
 some-side_of n flows network flow none =
     let steps = residual_steps n.arcs flows in
     let has : ℕ → Bool = is_reached steps n.nodes n.source in
@@ -89,7 +91,8 @@ some-side_of n flows network flow none =
     } in
     let capacity = cut_capacity n.arcs (has_node list.ids) in (
       record { ids = list.ids; capacity = capacity },
-      IsSmallestSide-reached n flows list.ids capacity network flow none reached list.are.ascending (reached-capacity n flows (has_node list.ids) network flow none reached),
+      IsSmallestSide-reached n flows list.ids capacity network flow none reached list.are.ascending
+          (reached-capacity n flows (has_node list.ids) network flow none reached),
     )
 
 -- A network has a smallest side, as that of its greatest flow.

@@ -1,5 +1,6 @@
 -- Draining an arc that comes back to its tail leaves the pairs of the other arcs, and so the search over them.
-use Rattle.std.proofs.Common.{ℕ, ◌≡◌, ◌≢◌, ◌-◌, ◌<◌, ◌≤◌, true, List, [], ◌∷◌, ◌++◌, length, get_or, set, zero, suc, refl, ap, sym, ◌∙◌, subst, arith, ⊎_elim, eq-eqb}
+use Rattle.std.proofs.Common.{ℕ, ◌≡◌, ◌≢◌, ◌-◌, ◌<◌, ◌≤◌, true, List, [], ◌∷◌, ◌++◌, length, get_or, set, zero, suc, refl, ap, sym, ◌∙◌, subst, arith, ⊎_elim}
+use Rattle.std.proofs.Common.{eq-eqb}
 use Rattle.std.proofs.lemmas.Bool.{cases_lt, cases_eq}
 use Rattle.std.proofs.lemmas.List.{get_or-set_same, get_or-set_other, set-get_or}
 use Rattle.std.proofs.lemmas.Slice.Zip.{AllZip-long}
@@ -24,7 +25,8 @@ no_more-dropped (x ∷ xs) zero = (omega arith, no_more-same xs)
 no_more-dropped (x ∷ xs) (suc k) = (omega arith, no_more-dropped xs k)
 
 -- The pairs of the arcs stay.
-pairs-dropped : (arcs : List Arc) (firsts flows : List ℕ) (k : ℕ) → (get_or arcs k no_arc).tail ≡ (get_or arcs k no_arc).head → carrying_from arcs firsts (set flows k 0) ≡ carrying_from arcs firsts flows
+pairs-dropped : (arcs : List Arc) (firsts flows : List ℕ) (k : ℕ) → (get_or arcs k no_arc).tail ≡ (get_or arcs k no_arc).head
+    → carrying_from arcs firsts (set flows k 0) ≡ carrying_from arcs firsts flows
 pairs-dropped [] firsts flows k loop = refl
 pairs-dropped (arc ∷ arcs) [] [] k loop = refl
 pairs-dropped (arc ∷ arcs) [] (x ∷ flows) zero loop = refl
@@ -34,7 +36,8 @@ pairs-dropped (arc ∷ arcs) (first ∷ firsts) (x ∷ flows) zero loop = rw (eq
 pairs-dropped (arc ∷ arcs) (first ∷ firsts) (x ∷ flows) (suc k) loop = ap (λ pairs. carrying_pair arc first x ∷ pairs) (pairs-dropped arcs firsts flows k loop)
 
 -- So does what the sink receives.
-value-dropped : (n : Network) (flows : List ℕ) (k : ℕ) → length flows ≡ length n.arcs → k < length n.arcs → (get_or n.arcs k no_arc).tail ≡ (get_or n.arcs k no_arc).head → value_or_zero n (set flows k 0) ≡ value_or_zero n flows
+value-dropped : (n : Network) (flows : List ℕ) (k : ℕ) → length flows ≡ length n.arcs → k < length n.arcs
+    → (get_or n.arcs k no_arc).tail ≡ (get_or n.arcs k no_arc).head → value_or_zero n (set flows k 0) ≡ value_or_zero n flows
 value-dropped n flows k long within loop =
     let out = flow_at-set (λ a. a.tail) n.arcs flows k 0 n.source long within in
     let into = rw (sym loop) at (flow_at-set (λ a. a.head) n.arcs flows k 0 n.source long within) in
@@ -46,7 +49,8 @@ pub record IsDrainedLoop (s : NetworkState) (j : ℕ) (unpaired : List ℕ) (sea
   pub drains : Drains s.network j 0 (flows_read Along unpaired search.pairs) (flows_read Along (set unpaired (j - 1) 0) search.pairs)
 
 -- Setting the flow of a loop to 0 drains it.
-loop-drains : (s : NetworkState) (j : ℕ) (unpaired flows : List ℕ) (search : Searched) → has_arc s.network j ≡ true → (arc_number s.network j).tail ≡ (arc_number s.network j).head → Carries s unpaired flows search → Drains s.network j 0 flows (set flows (j - 1) 0)
+loop-drains : (s : NetworkState) (j : ℕ) (unpaired flows : List ℕ) (search : Searched) → has_arc s.network j ≡ true
+    → (arc_number s.network j).tail ≡ (arc_number s.network j).head → Carries s unpaired flows search → Drains s.network j 0 flows (set flows (j - 1) 0)
 loop-drains s j unpaired flows search has loop carries = ⊎_elim
     (λ (some : 0 < flow_on flows j). drained-loop s.network j 0 flows has carries.state.flow loop some)
     (λ (none : flow_on flows j ≤ 0).
@@ -55,7 +59,8 @@ loop-drains s j unpaired flows search has loop carries = ⊎_elim
     record { paths = []; lowers = sym same; within = rw same none })
     (cases_lt 0 (flow_on flows j))
 
-pub drained-by_list : (s : NetworkState) (j : ℕ) (unpaired : List ℕ) (search : Searched) → has_arc s.network j ≡ true → (arc_number s.network j).tail ≡ (arc_number s.network j).head → IsCarryingSearch s unpaired search → IsDrainedLoop s j unpaired search
+pub drained-by_list : (s : NetworkState) (j : ℕ) (unpaired : List ℕ) (search : Searched) → has_arc s.network j ≡ true
+    → (arc_number s.network j).tail ≡ (arc_number s.network j).head → IsCarryingSearch s unpaired search → IsDrainedLoop s j unpaired search
 drained-by_list s j unpaired search has loop carries =
     let n : Network = s.network in
     let k : ℕ = j - 1 in

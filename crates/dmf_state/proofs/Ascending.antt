@@ -1,5 +1,6 @@
 -- Ascending lists of nodes.
-use Rattle.std.proofs.Common.{length-append, ℕ, suc, ◌≡◌, ◌+◌, ◌-◌, ◌<◌, ◌≤◌, ◌⊎◌, ◌==◌, ◌↔◌, List, [], ◌∷◌, ◌++◌, length, get_or, Bool, true, false, Result, Ok, Err, refl, ap, sym, ◌∙◌, subst, arith, ⊎_elim, inl, inr, AllPairs}
+use Rattle.std.proofs.Common.{length-append, ℕ, suc, ◌≡◌, ◌+◌, ◌-◌, ◌<◌, ◌≤◌, ◌⊎◌, ◌==◌, ◌↔◌, List, [], ◌∷◌, ◌++◌, length, get_or, Bool, true, false, Result}
+use Rattle.std.proofs.Common.{Ok, Err, refl, ap, sym, ◌∙◌, subst, arith, ⊎_elim, inl, inr, AllPairs}
 use Rattle.std.specs.Bool.{IsTrue}
 use Rattle.std.specs.Result.{is_ok}
 use Rattle.std.specs.Ordering.{nat_cmp}
@@ -68,7 +69,8 @@ same-nodes (u ∷ ids) (w ∷ others) ascend rise within back =
     let there : Within (u ∷ ids) (u ∷ others) = subst (λ x. Within (u ∷ ids) (x ∷ others)) (sym same) within in
     let here : Within (u ∷ others) (u ∷ ids) = subst (λ x. Within (x ∷ others) (u ∷ ids)) (sym same) back in
     let up : Ascend (u ∷ others) = subst (λ x. Ascend (x ∷ others)) (sym same) rise in
-    let rest = same-nodes ids others (ascend-tail u ids ascend) (ascend-tail u others up) (within-tail u ids others ascend there) (within-tail u others ids up here) in
+    let rest = same-nodes ids others (ascend-tail u ids ascend) (ascend-tail u others up) (within-tail u ids others ascend there)
+    (within-tail u others ids up here) in
     λ i. same i ∷ rest i
 
 -- ---- a binary search
@@ -80,7 +82,8 @@ not-descending ids ascend i j le h = ⊎_elim
     (cases_eq i j)
 
 -- A binary search of an ascending list tells whether it has the node.
-pub has_node-searched : (ids : List ℕ) (v : ℕ) (r : Result ℕ ℕ) → IsStrictlyIncreasing ids → IsBinarySearchResult (λ u. nat_cmp u v) ids r → is_ok r ≡ has_node ids v
+pub has_node-searched : (ids : List ℕ) (v : ℕ) (r : Result ℕ ℕ) → IsStrictlyIncreasing ids → IsBinarySearchResult (λ u. nat_cmp u v) ids r
+    → is_ok r ≡ has_node ids v
 has_node-searched ids v (Ok i) increasing is =
     let found = searched ids v (Ok i) is (not-descending ids (AllPairs-from_increasing ids increasing)) in
     sym (has_node-at ids i v found.0 found.1)
@@ -105,7 +108,8 @@ one-more : (count v : ℕ) → IsNode count v → IsNode (count + 1) v
 one-more count v node = record { from_one = node.from_one; to_last = omega (arith, node.to_last) }
 
 -- The next node is not marked.
-pub marked-skip : (marks : List Bool) (count : ℕ) (ids : List ℕ) → get_or marks count false ≡ false → AreMarkedUpTo marks count ids → AreMarkedUpTo marks (count + 1) ids
+pub marked-skip : (marks : List Bool) (count : ℕ) (ids : List ℕ) → get_or marks count false ≡ false → AreMarkedUpTo marks count ids
+    → AreMarkedUpTo marks (count + 1) ids
 marked-skip marks count ids unmarked are = record {
   ascending = are.ascending;
   marked = λ v. (
@@ -142,7 +146,8 @@ has_node-push ids x v has = ⊎_elim inl
     (or_cases (has_node ids v) (has_node (x ∷ []) v) (sym (list_any-append (λ u. u == v) ids (x ∷ [])) ∙ has))
 
 -- The next node is marked.
-pub marked-push : (marks : List Bool) (count : ℕ) (ids : List ℕ) → get_or marks count false ≡ true → AreMarkedUpTo marks count ids → AreMarkedUpTo marks (count + 1) (ids ++ (count + 1) ∷ [])
+pub marked-push : (marks : List Bool) (count : ℕ) (ids : List ℕ) → get_or marks count false ≡ true → AreMarkedUpTo marks count ids
+    → AreMarkedUpTo marks (count + 1) (ids ++ (count + 1) ∷ [])
 marked-push marks count ids mark are = record {
   ascending = increasing-push ids (count + 1) are.ascending (λ v has. omega (arith, ((are.marked v).0 has).0.to_last));
   marked = λ v. (
@@ -153,7 +158,8 @@ marked-push marks count ids mark are = record {
         (record { from_one = omega (arith, last); to_last = omega (arith, last) }, ap (λ k. get_or marks k false) index ∙ mark))
         (has_node-push ids (count + 1) v has),
     λ is. list_any-append (λ u. u == v) ids ((count + 1) ∷ []) ∙ ⊎_elim
-        (λ (last : v ≡ count + 1). or_right (has_node ids v) (has_node ((count + 1) ∷ []) v) (or_left ((count + 1) == v) false (eq-eqb (count + 1) v (sym last))))
+        (λ (last : v ≡ count + 1). or_right (has_node ids v) (has_node ((count + 1) ∷ []) v)
+        (or_left ((count + 1) == v) false (eq-eqb (count + 1) v (sym last))))
         (λ earlier. or_left (has_node ids v) (has_node ((count + 1) ∷ []) v)
         ((are.marked v).1 (record { from_one = is.0.from_one; to_last = omega (arith, is.0.to_last, earlier) }, is.1)))
         (cases_eq v (count + 1)),

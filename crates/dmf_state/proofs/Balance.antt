@@ -16,26 +16,33 @@ pub record AreBothSums (n : Network) (flows leaving entering : List ℕ) : Type 
   pub heads : AreFlowSums (λ arc. arc.head) n.nodes n.arcs flows entering
 
 -- the same, where the parts of the network stand for themselves
-pub AreBothSums-of_parts : (n : Network) (nodes : ℕ) (arcs : List Arc) (flows leaving entering : List ℕ) → nodes ≡ n.nodes → arcs ≡ n.arcs → AreFlowSums (λ arc. arc.tail) nodes arcs flows leaving → AreFlowSums (λ arc. arc.head) nodes arcs flows entering → AreBothSums n flows leaving entering
+pub AreBothSums-of_parts : (n : Network) (nodes : ℕ) (arcs : List Arc) (flows leaving entering : List ℕ) → nodes ≡ n.nodes → arcs ≡ n.arcs
+    → AreFlowSums (λ arc. arc.tail) nodes arcs flows leaving → AreFlowSums (λ arc. arc.head) nodes arcs flows entering → AreBothSums n flows leaving entering
 AreBothSums-of_parts n nodes arcs flows leaving entering of_nodes of_arcs tails heads = record {
-  tails = subst (λ m. AreFlowSums (λ arc. arc.tail) m n.arcs flows leaving) of_nodes (subst (λ xs. AreFlowSums (λ arc. arc.tail) nodes xs flows leaving) of_arcs tails);
-  heads = subst (λ m. AreFlowSums (λ arc. arc.head) m n.arcs flows entering) of_nodes (subst (λ xs. AreFlowSums (λ arc. arc.head) nodes xs flows entering) of_arcs heads);
+  tails = subst (λ m. AreFlowSums (λ arc. arc.tail) m n.arcs flows leaving) of_nodes
+      (subst (λ xs. AreFlowSums (λ arc. arc.tail) nodes xs flows leaving) of_arcs tails);
+  heads = subst (λ m. AreFlowSums (λ arc. arc.head) m n.arcs flows entering) of_nodes
+      (subst (λ xs. AreFlowSums (λ arc. arc.head) nodes xs flows entering) of_arcs heads);
 }
 
-sum_at : (end : Arc → ℕ) (nodes : ℕ) (arcs : List Arc) (flows sums : List ℕ) (v : ℕ) → AreFlowSums end nodes arcs flows sums → IsNode nodes v → slice_index sums (v - 1) ≡ flow_at end arcs flows v
+sum_at : (end : Arc → ℕ) (nodes : ℕ) (arcs : List Arc) (flows sums : List ℕ) (v : ℕ) → AreFlowSums end nodes arcs flows sums → IsNode nodes v
+    → slice_index sums (v - 1) ≡ flow_at end arcs flows v
 sum_at end nodes arcs flows sums v s node =
     let place : v - 1 + 1 ≡ v = omega (arith, node.from_one) in
     s.each (v - 1) (omega (arith, s.one_each, node.from_one, node.to_last)) ∙ ap (flow_at end arcs flows) place
 
-same-to_conserved : (n : Network) (flows leaving entering : List ℕ) (v : ℕ) → AreBothSums n flows leaving entering → IsNode n.nodes v → AreSameAt leaving entering v → IsConservedAt n flows v
+same-to_conserved : (n : Network) (flows leaving entering : List ℕ) (v : ℕ) → AreBothSums n flows leaving entering → IsNode n.nodes v
+    → AreSameAt leaving entering v → IsConservedAt n flows v
 same-to_conserved n flows leaving entering v s node same =
     sym (sum_at _ _ _ _ leaving v s.tails node) ∙ same ∙ sum_at _ _ _ _ entering v s.heads node
 
-conserved-to_same : (n : Network) (flows leaving entering : List ℕ) (v : ℕ) → AreBothSums n flows leaving entering → IsNode n.nodes v → IsConservedAt n flows v → AreSameAt leaving entering v
+conserved-to_same : (n : Network) (flows leaving entering : List ℕ) (v : ℕ) → AreBothSums n flows leaving entering → IsNode n.nodes v → IsConservedAt n flows v
+    → AreSameAt leaving entering v
 conserved-to_same n flows leaving entering v s node conserved =
     sum_at _ _ _ _ leaving v s.tails node ∙ conserved ∙ sym (sum_at _ _ _ _ entering v s.heads node)
 
-pub conserved-from_sums : (n : Network) (flows leaving entering : List ℕ) → AreBothSums n flows leaving entering → ((v : ℕ) → IsInnerUpTo (length leaving) n.source n.sink v → AreSameAt leaving entering v) → (v : ℕ) → IsInnerNode n v → IsConservedAt n flows v
+pub conserved-from_sums : (n : Network) (flows leaving entering : List ℕ) → AreBothSums n flows leaving entering
+    → ((v : ℕ) → IsInnerUpTo (length leaving) n.source n.sink v → AreSameAt leaving entering v) → (v : ℕ) → IsInnerNode n v → IsConservedAt n flows v
 conserved-from_sums n flows leaving entering s same v inner =
     same-to_conserved n flows leaving entering v s inner.node (same v (record {
       from_one = inner.node.from_one;
@@ -44,7 +51,8 @@ conserved-from_sums n flows leaving entering s same v inner =
       not_sink = inner.not_sink;
     }))
 
-unbalanced-from_differ : (n : Network) (flows leaving entering : List ℕ) (v : ℕ) → AreBothSums n flows leaving entering → DifferAt n.source n.sink leaving entering v → IsUnbalanced n flows v
+unbalanced-from_differ : (n : Network) (flows leaving entering : List ℕ) (v : ℕ) → AreBothSums n flows leaving entering
+    → DifferAt n.source n.sink leaving entering v → IsUnbalanced n flows v
 unbalanced-from_differ n flows leaving entering v s d =
     let node : IsNode n.nodes v = record { from_one = d.inner.from_one; to_last = omega (arith, s.tails.one_each, d.inner.to_last) } in
     record {
@@ -52,7 +60,8 @@ unbalanced-from_differ n flows leaving entering v s d =
       differ = λ conserved. d.differ (conserved-to_same n flows leaving entering v s node conserved);
     }
 
-differ-from_unbalanced : (n : Network) (flows leaving entering : List ℕ) (v : ℕ) → AreBothSums n flows leaving entering → IsUnbalanced n flows v → DifferAt n.source n.sink leaving entering v
+differ-from_unbalanced : (n : Network) (flows leaving entering : List ℕ) (v : ℕ) → AreBothSums n flows leaving entering → IsUnbalanced n flows v
+    → DifferAt n.source n.sink leaving entering v
 differ-from_unbalanced n flows leaving entering v s u = record {
   inner = record {
     from_one = u.inner.node.from_one;
@@ -63,29 +72,34 @@ differ-from_unbalanced n flows leaving entering v s u = record {
   differ = λ same. u.differ (same-to_conserved n flows leaving entering v s u.inner.node same);
 }
 
-pub least_unbalanced : (n : Network) (flows leaving entering : List ℕ) (v : ℕ) → AreBothSums n flows leaving entering → IsLeast (DifferAt n.source n.sink leaving entering) v → IsLeast (IsUnbalanced n flows) v
+pub least_unbalanced : (n : Network) (flows leaving entering : List ℕ) (v : ℕ) → AreBothSums n flows leaving entering
+    → IsLeast (DifferAt n.source n.sink leaving entering) v → IsLeast (IsUnbalanced n flows) v
 least_unbalanced n flows leaving entering v s least = record {
   holds = unbalanced-from_differ n flows leaving entering v s least.holds;
   least = λ u lower unbalanced. least.least u lower (differ-from_unbalanced n flows leaving entering u s unbalanced);
 }
 
 -- the sums at the source
-pub at_source-from_sums : (n : Network) (flows leaving entering : List ℕ) (at : NodeFlow) → AreBothSums n flows leaving entering → IsNode n.nodes n.source → at.leaving ≡ slice_index leaving (n.source - 1) → at.entering ≡ slice_index entering (n.source - 1) → IsNodeFlow n.arcs flows n.source at
+pub at_source-from_sums : (n : Network) (flows leaving entering : List ℕ) (at : NodeFlow) → AreBothSums n flows leaving entering → IsNode n.nodes n.source
+    → at.leaving ≡ slice_index leaving (n.source - 1) → at.entering ≡ slice_index entering (n.source - 1) → IsNodeFlow n.arcs flows n.source at
 at_source-from_sums n flows leaving entering at s source out into = record {
   leaving = out ∙ sum_at _ _ _ _ leaving _ s.tails source;
   entering = into ∙ sum_at _ _ _ _ entering _ s.heads source;
 }
 
 -- the value, where the source's inflow is within its outflow
-pub value-from_source : (n : Network) (flows : List ℕ) (at : NodeFlow) → IsNodeFlow n.arcs flows n.source at → at.entering ≤ at.leaving → pos (at.leaving - at.entering) ≡ flow_value n flows
+pub value-from_source : (n : Network) (flows : List ℕ) (at : NodeFlow) → IsNodeFlow n.arcs flows n.source at → at.entering ≤ at.leaving
+    → pos (at.leaving - at.entering) ≡ flow_value n flows
 value-from_source n flows at is le = omega (arith, ints, le, is.leaving, is.entering)
 
 -- and where it is not
-pub negative-from_source : (n : Network) (flows : List ℕ) (at : NodeFlow) → IsNodeFlow n.arcs flows n.source at → at.leaving < at.entering → flow_value n flows <ℤ pos 0
+pub negative-from_source : (n : Network) (flows : List ℕ) (at : NodeFlow) → IsNodeFlow n.arcs flows n.source at → at.leaving < at.entering
+    → flow_value n flows <ℤ pos 0
 negative-from_source n flows at is less = omega (arith, ints, less, is.leaving, is.entering)
 
 -- a flow whose source's inflow is within its outflow makes a state
-pub IsState-from_source : (n : Network) (flows : List ℕ) (at : NodeFlow) → IsNetwork n → IsFlow n flows → IsNodeFlow n.arcs flows n.source at → at.entering ≤ at.leaving → IsState (record { network = n; flows = flows })
+pub IsState-from_source : (n : Network) (flows : List ℕ) (at : NodeFlow) → IsNetwork n → IsFlow n flows → IsNodeFlow n.arcs flows n.source at
+    → at.entering ≤ at.leaving → IsState (record { network = n; flows = flows })
 IsState-from_source n flows at network flow is le = record {
   network = network;
   flow = flow;
@@ -97,7 +111,8 @@ pub entering-le-leaving : (s : NetworkState) (at : NodeFlow) → IsState s → I
 entering-le-leaving s at state is = omega (arith, ints, state.value_from_zero, is.leaving, is.entering)
 
 -- the totals with another flow
-pub KeepsTotals-with_flows : (s : NetworkState) (flows : List ℕ) (sum : ℕ) (before at : NodeFlow) (count : ℕ) → KeepsTotals s sum before count → IsState (with_flows s flows) → IsNodeFlow s.network.arcs flows s.network.source at → KeepsTotals (with_flows s flows) sum at count
+pub KeepsTotals-with_flows : (s : NetworkState) (flows : List ℕ) (sum : ℕ) (before at : NodeFlow) (count : ℕ) → KeepsTotals s sum before count
+    → IsState (with_flows s flows) → IsNodeFlow s.network.arcs flows s.network.source at → KeepsTotals (with_flows s flows) sum at count
 KeepsTotals-with_flows s flows sum before at count keeps state is = record {
   state = state;
   sum_is = keeps.sum_is;

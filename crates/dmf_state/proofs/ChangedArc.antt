@@ -1,5 +1,6 @@
 -- Another arc in the place of one, with the same ends: the sums of a flow stay as they were.
-use Rattle.std.proofs.Common.{ℕ, ◌≡◌, ◌+◌, ◌-◌, ◌^◌, ◌<◌, ◌≤◌, ◌==◌, List, [], ◌∷◌, length, get_or, set, zero, suc, true, cond, refl, ap, sym, subst, arith, length-set}
+use Rattle.std.proofs.Common.{ℕ, ◌≡◌, ◌+◌, ◌-◌, ◌^◌, ◌<◌, ◌≤◌, ◌==◌, List, [], ◌∷◌, length, get_or, set, zero, suc, true, cond, refl, ap, sym, subst, arith}
+use Rattle.std.proofs.Common.{length-set}
 use Rattle.std.specs.List.{zip}
 use Rattle.std.proofs.lemmas.Bool.Decides.{nat_tests}
 use Rattle.std.proofs.lemmas.List.Elements.{All-set}
@@ -18,7 +19,8 @@ has_arc-within n j has =
     (first, omega (arith, first, last))
 
 -- The sum at a node with another arc in the place of one, which has the same end.
-pub flow_at-replaced : (end : Arc → ℕ) (arcs : List Arc) (flows : List ℕ) (k : ℕ) (arc : Arc) (v : ℕ) → end arc ≡ end (get_or arcs k no_arc) → flow_at end (set arcs k arc) flows v ≡ flow_at end arcs flows v
+pub flow_at-replaced : (end : Arc → ℕ) (arcs : List Arc) (flows : List ℕ) (k : ℕ) (arc : Arc) (v : ℕ) → end arc ≡ end (get_or arcs k no_arc)
+    → flow_at end (set arcs k arc) flows v ≡ flow_at end arcs flows v
 flow_at-replaced end [] flows k arc v same = refl
 flow_at-replaced end (a ∷ arcs) [] zero arc v same = refl
 flow_at-replaced end (a ∷ arcs) [] (suc k) arc v same = refl
@@ -32,7 +34,8 @@ flow_at-replaced end (a ∷ arcs) (x ∷ flows) (suc k) arc v same =
     omega (arith, rest, sum_by-cons f (a, x) (zip (set arcs k arc) flows), sum_by-cons f (a, x) (zip arcs flows))
 
 -- The flows are within the capacities with another arc in the place of one, if its flow is within it.
-pub within-replaced : (arcs : List Arc) (flows : List ℕ) (k : ℕ) (arc : Arc) → AreWithinCapacities arcs flows → get_or flows k 0 ≤ arc.cap → AreWithinCapacities (set arcs k arc) flows
+pub within-replaced : (arcs : List Arc) (flows : List ℕ) (k : ℕ) (arc : Arc) → AreWithinCapacities arcs flows → get_or flows k 0 ≤ arc.cap
+    → AreWithinCapacities (set arcs k arc) flows
 within-replaced [] flows k arc within le = within
 within-replaced (a ∷ arcs) [] k arc within le = absurd within
 within-replaced (a ∷ arcs) (x ∷ flows) zero arc within le = (le, within.1)
@@ -40,7 +43,9 @@ within-replaced (a ∷ arcs) (x ∷ flows) (suc k) arc within le = (within.0, wi
 
 -- A network with another arc in the place of arc number `j` is one, if the arc has the same ends and the capacities are
 -- not too large together.
-pub IsNetwork-with_arc : (n : Network) (j : ℕ) (arc : Arc) → IsNetwork n → has_arc n j ≡ true → arc.tail ≡ (arc_number n j).tail → arc.head ≡ (arc_number n j).head → (arc.closed ≡ true → arc.cap ≡ 0) → capacity_sum n.arcs - (arc_number n j).cap + arc.cap < 2 ^ 64 → IsNetwork (with_arc n j arc)
+pub IsNetwork-with_arc : (n : Network) (j : ℕ) (arc : Arc) → IsNetwork n → has_arc n j ≡ true → arc.tail ≡ (arc_number n j).tail
+    → arc.head ≡ (arc_number n j).head → (arc.closed ≡ true → arc.cap ≡ 0) → capacity_sum n.arcs - (arc_number n j).cap + arc.cap < 2 ^ 64
+    → IsNetwork (with_arc n j arc)
 IsNetwork-with_arc n j arc network has tail head closed small =
     let k : ℕ = j - 1 in
     let within = (has_arc-within n j has).1 in
@@ -65,7 +70,8 @@ IsNetwork-with_arc n j arc network has tail head closed small =
 
 -- A flow is one of the network with another arc in the place of arc number `j`, if the arc has the same ends and its flow
 -- is within it.
-pub IsFlow-with_arc : (n : Network) (j : ℕ) (arc : Arc) (flows : List ℕ) → has_arc n j ≡ true → arc.tail ≡ (arc_number n j).tail → arc.head ≡ (arc_number n j).head → flow_on flows j ≤ arc.cap → IsFlow n flows → IsFlow (with_arc n j arc) flows
+pub IsFlow-with_arc : (n : Network) (j : ℕ) (arc : Arc) (flows : List ℕ) → has_arc n j ≡ true → arc.tail ≡ (arc_number n j).tail
+    → arc.head ≡ (arc_number n j).head → flow_on flows j ≤ arc.cap → IsFlow n flows → IsFlow (with_arc n j arc) flows
 IsFlow-with_arc n j arc flows has tail head le flow = record {
   within = within-replaced n.arcs flows (j - 1) arc flow.within le;
   conserved = λ v inner.
@@ -76,7 +82,8 @@ IsFlow-with_arc n j arc flows has tail head le flow = record {
 }
 
 -- Its value is the same.
-pub flow_value-with_arc : (n : Network) (j : ℕ) (arc : Arc) (flows : List ℕ) → arc.tail ≡ (arc_number n j).tail → arc.head ≡ (arc_number n j).head → length flows ≡ length n.arcs → flow_value (with_arc n j arc) flows ≡ flow_value n flows
+pub flow_value-with_arc : (n : Network) (j : ℕ) (arc : Arc) (flows : List ℕ) → arc.tail ≡ (arc_number n j).tail → arc.head ≡ (arc_number n j).head
+    → length flows ≡ length n.arcs → flow_value (with_arc n j arc) flows ≡ flow_value n flows
 flow_value-with_arc n j arc flows tail head long =
     let out = flow_at-replaced (λ a. a.tail) n.arcs flows (j - 1) arc n.source tail in
     let into = flow_at-replaced (λ a. a.head) n.arcs flows (j - 1) arc n.source head in

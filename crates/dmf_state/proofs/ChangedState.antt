@@ -20,7 +20,8 @@ abbrev pub with_arc_at : NetworkState → ℕ → Arc → NetworkState
 with_arc_at s j arc = record { network = with_arc s.network j arc; flows = s.flows }
 
 -- It is a state, if the network is one and the arc's flow is within it.
-pub IsState-with_arc : (s : NetworkState) (j : ℕ) (arc : Arc) → IsState s → has_arc s.network j ≡ true → arc.tail ≡ (arc_number s.network j).tail → arc.head ≡ (arc_number s.network j).head → IsNetwork (with_arc s.network j arc) → flow_on s.flows j ≤ arc.cap → IsState (with_arc_at s j arc)
+pub IsState-with_arc : (s : NetworkState) (j : ℕ) (arc : Arc) → IsState s → has_arc s.network j ≡ true → arc.tail ≡ (arc_number s.network j).tail
+    → arc.head ≡ (arc_number s.network j).head → IsNetwork (with_arc s.network j arc) → flow_on s.flows j ≤ arc.cap → IsState (with_arc_at s j arc)
 IsState-with_arc s j arc state has tail head network within = record {
   network = network;
   flow = IsFlow-with_arc s.network j arc s.flows has tail head within state.flow;
@@ -36,7 +37,10 @@ bool_byte-cond true = refl
 bool_byte-cond false = refl
 
 -- The totals with another arc in the place of arc number `j`, which has the same ends.
-pub KeepsTotals-with_arc : (s : NetworkState) (j : ℕ) (arc : Arc) (sum : ℕ) (source : NodeFlow) (count : ℕ) → KeepsTotals s sum source count → has_arc s.network j ≡ true → arc.tail ≡ (arc_number s.network j).tail → arc.head ≡ (arc_number s.network j).head → IsState (with_arc_at s j arc) → KeepsTotals (with_arc_at s j arc) (sum - (arc_number s.network j).cap + arc.cap) source (count - bool_byte (not (arc_number s.network j).closed) + bool_byte (not arc.closed))
+pub KeepsTotals-with_arc : (s : NetworkState) (j : ℕ) (arc : Arc) (sum : ℕ) (source : NodeFlow) (count : ℕ) → KeepsTotals s sum source count
+    → has_arc s.network j ≡ true → arc.tail ≡ (arc_number s.network j).tail → arc.head ≡ (arc_number s.network j).head → IsState (with_arc_at s j arc)
+    → KeepsTotals (with_arc_at s j arc) (sum - (arc_number s.network j).cap + arc.cap) source
+    (count - bool_byte (not (arc_number s.network j).closed) + bool_byte (not arc.closed))
 KeepsTotals-with_arc s j arc sum source count keeps has tail head state =
     let k : ℕ = j - 1 in
     let within = (has_arc-within s.network j has).1 in
@@ -56,7 +60,8 @@ KeepsTotals-with_arc s j arc sum source count keeps has tail head state =
     }
 
 -- What was a state with other capacities is one with those before, if the arc's flow is within the capacity before.
-pub IsState-with_arc_back : (s : NetworkState) (j : ℕ) (arc : Arc) → IsNetwork s.network → IsState (with_arc_at s j arc) → has_arc s.network j ≡ true → arc.tail ≡ (arc_number s.network j).tail → arc.head ≡ (arc_number s.network j).head → arc.cap ≤ (arc_number s.network j).cap → IsState s
+pub IsState-with_arc_back : (s : NetworkState) (j : ℕ) (arc : Arc) → IsNetwork s.network → IsState (with_arc_at s j arc) → has_arc s.network j ≡ true
+    → arc.tail ≡ (arc_number s.network j).tail → arc.head ≡ (arc_number s.network j).head → arc.cap ≤ (arc_number s.network j).cap → IsState s
 IsState-with_arc_back s j arc network state has tail head falls =
     let k : ℕ = j - 1 in
     let n : Network = with_arc s.network j arc in
@@ -68,10 +73,12 @@ IsState-with_arc_back s j arc network state has tail head falls =
     let back : with_arc n j old ≡ s.network = λ i. record { nodes = s.network.nodes; source = s.network.source; sink = s.network.sink; arcs = arcs i } in
     let flow : flow_on s.flows j ≤ old.cap = omega (arith, falls, within-at n.arcs s.flows k state.flow.within, ap (λ a. a.cap) here) in
     subst (λ u. IsState (record { network = u; flows = s.flows })) back
-    (IsState-with_arc (with_arc_at s j arc) j old state has_it (sym tail ∙ ap (λ a. a.tail) (sym here)) (sym head ∙ ap (λ a. a.head) (sym here)) (subst IsNetwork (sym back) network) flow)
+    (IsState-with_arc (with_arc_at s j arc) j old state has_it (sym tail ∙ ap (λ a. a.tail) (sym here)) (sym head ∙ ap (λ a. a.head) (sym here))
+    (subst IsNetwork (sym back) network) flow)
 
 -- Another capacity for an open arc makes a state, if the flow and the sum of the capacities are within what they may be.
-pub IsState-with_cap : (s : NetworkState) (j cap : ℕ) → IsState s → has_arc s.network j ≡ true → (arc_number s.network j).closed ≡ false → flow_on s.flows j ≤ cap → sum_with s.network j cap < 2 ^ 64 → IsState (with_arc_at s j (with_cap cap (arc_number s.network j)))
+pub IsState-with_cap : (s : NetworkState) (j cap : ℕ) → IsState s → has_arc s.network j ≡ true → (arc_number s.network j).closed ≡ false
+    → flow_on s.flows j ≤ cap → sum_with s.network j cap < 2 ^ 64 → IsState (with_arc_at s j (with_cap cap (arc_number s.network j)))
 IsState-with_cap s j cap state has is_open within small =
     let arc : Arc = with_cap cap (arc_number s.network j) in
     IsState-with_arc s j arc state has refl refl
@@ -79,7 +86,8 @@ IsState-with_cap s j cap state has is_open within small =
     within
 
 -- Closing an arc without flow makes a state.
-pub IsState-closed : (s : NetworkState) (j : ℕ) → IsState s → has_arc s.network j ≡ true → flow_on s.flows j ≤ 0 → IsState (with_arc_at s j (closed_arc (arc_number s.network j)))
+pub IsState-closed : (s : NetworkState) (j : ℕ) → IsState s → has_arc s.network j ≡ true → flow_on s.flows j ≤ 0
+    → IsState (with_arc_at s j (closed_arc (arc_number s.network j)))
 IsState-closed s j state has within =
     let arc : Arc = closed_arc (arc_number s.network j) in
     IsState-with_arc s j arc state has refl refl

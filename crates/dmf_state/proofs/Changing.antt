@@ -1,5 +1,6 @@
 -- How the sums of a flow change when the flow of one arc does.
-use Rattle.std.proofs.Common.{ℕ, ◌≡◌, ◌+◌, ◌<◌, ◌≤◌, ◌==◌, List, [], ◌∷◌, length, get_or, set, zero, suc, Bool, true, false, cond, refl, ap, ◌∙◌, sym, sum_by, arith}
+use Rattle.std.proofs.Common.{ℕ, ◌≡◌, ◌+◌, ◌<◌, ◌≤◌, ◌==◌, List, [], ◌∷◌, length, get_or, set, zero, suc, Bool, true, false, cond, refl, ap, ◌∙◌, sym, sum_by}
+use Rattle.std.proofs.Common.{arith}
 use Rattle.std.specs.List.{zip}
 use Rattle.std.proofs.lemmas.List.Sums.{sum_by-set, sum_by-cons}
 use Rattle.std.proofs.lemmas.Slice.Zip.{length-zip, get_or-zip}
@@ -21,17 +22,21 @@ nothing-more true without part whole e = omega (arith, e)
 nothing-more false without part whole e = omega (arith, e)
 
 -- With one flow changed, the sum at a node gains the new flow and loses the old one where the arc has its end there.
-pub flow_at-set : (end : Arc → ℕ) (arcs : List Arc) (flows : List ℕ) (k y v : ℕ) → length flows ≡ length arcs → k < length arcs → flow_at end arcs (set flows k y) v + cond (end (get_or arcs k no_arc) == v) (get_or flows k 0) 0 ≡ flow_at end arcs flows v + cond (end (get_or arcs k no_arc) == v) y 0
+pub flow_at-set : (end : Arc → ℕ) (arcs : List Arc) (flows : List ℕ) (k y v : ℕ) → length flows ≡ length arcs → k < length arcs
+    → flow_at end arcs (set flows k y) v + cond (end (get_or arcs k no_arc) == v) (get_or flows k 0) 0 ≡ flow_at end arcs flows v + cond
+    (end (get_or arcs k no_arc) == v) y 0
 flow_at-set end arcs flows k y v same h =
     let f : Arc × ℕ → ℕ = λ p. cond (end p.0 == v) p.1 0 in
     let long : k < length (zip arcs flows) = rw length-zip (omega arith) in
-    let old : f (get_or (zip arcs flows) k (no_arc, 0)) ≡ cond (end (get_or arcs k no_arc) == v) (get_or flows k 0) 0 = ap f (get_or-zip arcs flows k (no_arc, 0) h (omega arith)) in
+    let old : f (get_or (zip arcs flows) k (no_arc, 0)) ≡ cond (end (get_or arcs k no_arc) == v) (get_or flows k 0) 0 =
+    ap f (get_or-zip arcs flows k (no_arc, 0) h (omega arith)) in
     ap (λ x. sum_by f (zip arcs (set flows k y)) + x) (sym old)
     ∙ ap (λ ps. sum_by f ps + f (get_or (zip arcs flows) k (no_arc, 0))) (zip-set arcs flows k y)
     ∙ sum_by-set f (zip arcs flows) k (get_or arcs k no_arc, y) (no_arc, 0) long
 
 -- A flow stays within the capacities when one arc's flow becomes another that is.
-pub within-set : (arcs : List Arc) (flows : List ℕ) (k y : ℕ) → AreWithinCapacities arcs flows → y ≤ (get_or arcs k no_arc).cap → AreWithinCapacities arcs (set flows k y)
+pub within-set : (arcs : List Arc) (flows : List ℕ) (k y : ℕ) → AreWithinCapacities arcs flows → y ≤ (get_or arcs k no_arc).cap
+    → AreWithinCapacities arcs (set flows k y)
 within-set [] [] k y w h = tt
 within-set [] (x ∷ flows) k y w h = absurd w
 within-set (a ∷ arcs) [] k y w h = absurd w
@@ -57,5 +62,6 @@ flow_at-le end (a ∷ arcs) (x ∷ flows) v w =
     omega (arith, w.0, part-le (end a == v) x, flow_at-le end arcs flows v w.1, sum_by-cons f (a, x) (zip arcs flows), sum_by-cons g a arcs)
 
 -- A flow is a part of the sum at its arc's end.
-pub flow_at-part : (end : Arc → ℕ) (arcs : List Arc) (flows : List ℕ) (k v : ℕ) → length flows ≡ length arcs → k < length arcs → cond (end (get_or arcs k no_arc) == v) (get_or flows k 0) 0 ≤ flow_at end arcs flows v
+pub flow_at-part : (end : Arc → ℕ) (arcs : List Arc) (flows : List ℕ) (k v : ℕ) → length flows ≡ length arcs → k < length arcs
+    → cond (end (get_or arcs k no_arc) == v) (get_or flows k 0) 0 ≤ flow_at end arcs flows v
 flow_at-part end arcs flows k v same h = nothing-more (end (get_or arcs k no_arc) == v) _ _ _ (flow_at-set end arcs flows k 0 v same h)

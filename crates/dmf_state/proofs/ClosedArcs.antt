@@ -33,7 +33,8 @@ abbrev pub no_shutting : Shutting
 no_shutting = record { arc = 0; old = 0 }
 
 -- Each of them is an open arc.
-pub open-at : (last : ℕ) (arcs : List Shutting) (n : Network) (i : ℕ) → AreOpenWith last arcs n → i < length arcs → IsOpenWith n (get_or arcs i no_shutting).arc (get_or arcs i no_shutting).old
+pub open-at : (last : ℕ) (arcs : List Shutting) (n : Network) (i : ℕ) → AreOpenWith last arcs n → i < length arcs
+    → IsOpenWith n (get_or arcs i no_shutting).arc (get_or arcs i no_shutting).old
 open-at last [] n i are h = absurd (omega (arith, h))
 open-at last (a ∷ arcs) n zero are h = are.1
 open-at last (a ∷ arcs) n (suc i) are h = open-at a.arc arcs n i are.2 (omega (arith, h))
@@ -73,7 +74,8 @@ open-rest last a arcs n are = open-past a.arc a.arc arcs n (omega (arith, are.0)
 -- ---- states
 
 -- With arcs closed on which nothing flows a state is one.
-pub IsState-all_closed : (last : ℕ) (arcs : List Shutting) (n : Network) (flows : List ℕ) → IsState (record { network = n; flows = flows }) → AreOpenWith last arcs n → AreWithoutFlow flows (numbers arcs) → IsState (record { network = with_closed arcs n; flows = flows })
+pub IsState-all_closed : (last : ℕ) (arcs : List Shutting) (n : Network) (flows : List ℕ) → IsState (record { network = n; flows = flows })
+    → AreOpenWith last arcs n → AreWithoutFlow flows (numbers arcs) → IsState (record { network = with_closed arcs n; flows = flows })
 IsState-all_closed last [] n flows state are none = state
 IsState-all_closed last (a ∷ arcs) n flows state are none =
     IsState-all_closed a.arc arcs (closed_at n a.arc) flows

@@ -19,14 +19,18 @@ use Rattle.dmf_state.proofs.ClosedArcs.{closed_at, open-rest, IsState-all_closed
 use Rattle.dmf_state.proofs.ClosedTogether.{IsNetwork-closed, open-before, with_open-replaced, length-closed}
 
 -- The flow of a state with arcs closed is one with them open, and nothing flows on them.
-pub IsState-before_closed : (last : ℕ) (arcs : List Shutting) (n : Network) (flows : List ℕ) → IsNetwork n → AreOpenWith last arcs n → IsState (record { network = with_closed arcs n; flows = flows }) → IsState (record { network = n; flows = flows }) × AreWithoutFlow flows (numbers arcs)
+pub IsState-before_closed : (last : ℕ) (arcs : List Shutting) (n : Network) (flows : List ℕ) → IsNetwork n → AreOpenWith last arcs n
+    → IsState (record { network = with_closed arcs n; flows = flows }) → IsState (record { network = n; flows = flows }) × AreWithoutFlow flows (numbers arcs)
 IsState-before_closed last [] n flows network are state = (state, tt)
 IsState-before_closed last (a ∷ arcs) n flows network are state =
     let has = are.1.is_there in
     let rest = IsState-before_closed a.arc arcs (closed_at n a.arc) flows (IsNetwork-closed n a.arc network has) (open-rest last a arcs n are) state in
-    let here : arc_number (closed_at n a.arc) a.arc ≡ closed_arc (arc_number n a.arc) = get_or-set_same n.arcs (a.arc - 1) _ no_arc (has_arc-within n a.arc has).1 in
-    let none : flow_on flows a.arc ≤ 0 = omega (arith, within-at (closed_at n a.arc).arcs flows (a.arc - 1) rest.0.flow.within, ap (λ (b : Arc). b.cap) here) in
-    (IsState-with_arc_back (record { network = n; flows = flows }) a.arc (closed_arc (arc_number n a.arc)) network rest.0 has refl refl (omega arith), (none, rest.1))
+    let here : arc_number (closed_at n a.arc) a.arc ≡ closed_arc (arc_number n a.arc) =
+    get_or-set_same n.arcs (a.arc - 1) _ no_arc (has_arc-within n a.arc has).1 in
+    let none : flow_on flows a.arc ≤ 0 = omega (arith, within-at (closed_at n a.arc).arcs flows (a.arc - 1) rest.0.flow.within, ap (λ (b : Arc). b.cap) here) in (
+      IsState-with_arc_back (record { network = n; flows = flows }) a.arc (closed_arc (arc_number n a.arc)) network rest.0 has refl refl (omega arith),
+      (none, rest.1),
+    )
 
 -- ---- closing them one by one
 
@@ -42,7 +46,8 @@ pub record ClosesNext (final : Network) (a : Shutting) (left : List Shutting) (t
   pub state : IsState (record { network = closed_at t.network a.arc; flows = t.flows })
   pub up_to : AreClosedUpTo final left (record { network = closed_at t.network a.arc; flows = t.flows }) flows
 
-pub closes-next : (final : Network) (a : Shutting) (rest left : List Shutting) (t : NetworkState) (flows : List ℕ) → IsState t → left ≡ a ∷ rest → AreClosedUpTo final left t flows → ClosesNext final a rest t flows
+pub closes-next : (final : Network) (a : Shutting) (rest left : List Shutting) (t : NetworkState) (flows : List ℕ) → IsState t → left ≡ a ∷ rest
+    → AreClosedUpTo final left t flows → ClosesNext final a rest t flows
 closes-next final a rest left t flows state is up_to =
     let own : AreClosedUpTo final (a ∷ rest) t flows = subst (λ xs. AreClosedUpTo final xs t flows) is up_to in
     let has = own.are.1.is_there in
@@ -82,24 +87,29 @@ pub record OpensNext (final : Network) (a : Shutting) (left : List Shutting) (t 
   pub up_to : AreOpenedUpTo final left (record { network = with_open t.network a.arc a.old; flows = t.flows }) flows
 
 -- The network has the first of them.
-pub opens-has : (final : Network) (a : Shutting) (rest left : List Shutting) (t : NetworkState) (flows : List ℕ) → left ≡ a ∷ rest → AreOpenedUpTo final left t flows → has_arc t.network a.arc ≡ true
+pub opens-has : (final : Network) (a : Shutting) (rest left : List Shutting) (t : NetworkState) (flows : List ℕ) → left ≡ a ∷ rest
+    → AreOpenedUpTo final left t flows → has_arc t.network a.arc ≡ true
 opens-has final a rest left t flows is up_to =
     let own : AreOpenedUpTo final (a ∷ rest) t flows = subst (λ xs. AreOpenedUpTo final xs t flows) is up_to in
     let has : has_arc (with_closed (a ∷ rest) own.before) a.arc ≡ true = rw (length-closed (a ∷ rest) own.before) own.are.1.is_there in
     subst (λ m. has_arc m a.arc ≡ true) own.gives has
 
 -- Opening the first of them leaves the others closed.
-opened-first : (last : ℕ) (a : Shutting) (rest : List Shutting) (n : Network) → AreOpenWith last (a ∷ rest) n → with_open (with_closed (a ∷ rest) n) a.arc a.old ≡ with_closed rest n
+opened-first : (last : ℕ) (a : Shutting) (rest : List Shutting) (n : Network) → AreOpenWith last (a ∷ rest) n
+    → with_open (with_closed (a ∷ rest) n) a.arc a.old ≡ with_closed rest n
 opened-first last a rest n are =
     open-before a.arc rest n (closed_at n a.arc) a.arc a.old (omega (arith, are.0)) (omega arith) are.2
     ∙ ap (with_closed rest) (with_open-replaced n a.arc a.old (closed_arc (arc_number n a.arc)) are.1 refl refl)
 
-pub opens-next : (final : Network) (a : Shutting) (rest left : List Shutting) (t : NetworkState) (flows : List ℕ) → IsState t → left ≡ a ∷ rest → AreOpenedUpTo final left t flows → OpensNext final a rest t flows
+pub opens-next : (final : Network) (a : Shutting) (rest left : List Shutting) (t : NetworkState) (flows : List ℕ) → IsState t → left ≡ a ∷ rest
+    → AreOpenedUpTo final left t flows → OpensNext final a rest t flows
 opens-next final a rest left t flows state is up_to =
     let own : AreOpenedUpTo final (a ∷ rest) t flows = subst (λ xs. AreOpenedUpTo final xs t flows) is up_to in
     let n : Network = own.before in
-    let opened : with_open t.network a.arc a.old ≡ with_closed rest n = ap (λ m. with_open m a.arc a.old) (sym own.gives) ∙ opened-first own.last a rest n own.are in
-    let none = (IsState-before_closed own.last (a ∷ rest) n t.flows own.state.network own.are (subst (λ m. IsState (record { network = m; flows = t.flows })) (sym own.gives) state)).1 in
+    let opened : with_open t.network a.arc a.old ≡ with_closed rest n =
+    ap (λ m. with_open m a.arc a.old) (sym own.gives) ∙ opened-first own.last a rest n own.are in
+    let none = (IsState-before_closed own.last (a ∷ rest) n t.flows own.state.network own.are
+    (subst (λ m. IsState (record { network = m; flows = t.flows })) (sym own.gives) state)).1 in
     let others : AreOpenWith a.arc rest n = own.are.2 in
     record {
       state = subst (λ m. IsState (record { network = m; flows = t.flows })) (sym opened) (IsState-all_closed a.arc rest n t.flows own.state others none.1);

@@ -15,7 +15,8 @@ use Rattle.dmf_state.proofs.OpenArcs.{listed_from, numbers-listed, open-listed}
 
 -- The network with an arc closed is one.
 pub IsNetwork-closed : (n : Network) (j : ℕ) → IsNetwork n → has_arc n j ≡ true → IsNetwork (closed_at n j)
-IsNetwork-closed n j network has = IsNetwork-with_arc n j (closed_arc (arc_number n j)) network has refl refl (λ closed. refl) (omega (arith, network.capacities))
+IsNetwork-closed n j network has = IsNetwork-with_arc n j (closed_arc (arc_number n j)) network has refl refl (λ closed. refl)
+    (omega (arith, network.capacities))
 
 -- A network with as many arcs has arcs of the same numbers.
 pub HasArcs-long : (n m : Network) (js : List ℕ) → length m.arcs ≡ length n.arcs → HasArcs n js → HasArcs m js
@@ -42,14 +43,16 @@ open_arc-same : (a : Arc) (cap : ℕ) → a.closed ≡ false → a.cap ≡ cap �
 open_arc-same a cap is_open is_cap = λ i. record { tail = a.tail; head = a.head; cap = sym is_cap i; closed = sym is_open i }
 
 -- The open arc put back in the place of another with its ends.
-pub with_open-replaced : (n : Network) (j cap : ℕ) (arc : Arc) → IsOpenWith n j cap → arc.tail ≡ (arc_number n j).tail → arc.head ≡ (arc_number n j).head → with_open (with_arc n j arc) j cap ≡ n
+pub with_open-replaced : (n : Network) (j cap : ℕ) (arc : Arc) → IsOpenWith n j cap → arc.tail ≡ (arc_number n j).tail → arc.head ≡ (arc_number n j).head
+    → with_open (with_arc n j arc) j cap ≡ n
 with_open-replaced n j cap arc is tail head =
     let k : ℕ = j - 1 in
     let put : arc_number (with_arc n j arc) j ≡ arc = get_or-set_same n.arcs k arc no_arc (has_arc-within n j is.is_there).1 in
     let back : open_arc arc.tail arc.head cap ≡ arc_number n j =
     ap (λ v. open_arc v arc.head cap) tail ∙ ap (λ v. open_arc (arc_number n j).tail v cap) head ∙ open_arc-same (arc_number n j) cap is.is_open is.has_cap in
     let arcs : (with_open (with_arc n j arc) j cap).arcs ≡ n.arcs =
-    ap (λ a. set (set n.arcs k arc) k (open_arc a.tail a.head cap)) put ∙ ap (λ a. set (set n.arcs k arc) k a) back ∙ set-set n.arcs k arc (arc_number n j) ∙ set-get_or n.arcs k no_arc in
+    ap (λ a. set (set n.arcs k arc) k (open_arc a.tail a.head cap)) put ∙ ap (λ a. set (set n.arcs k arc) k a) back ∙ set-set n.arcs k arc
+    (arc_number n j) ∙ set-get_or n.arcs k no_arc in
     λ i. record { nodes = n.nodes; source = n.source; sink = n.sink; arcs = arcs i }
 
 -- Elements put at two places may be put in either order.
@@ -74,7 +77,8 @@ open-apart n b j cap apart =
     λ i. record { nodes = n.nodes; source = n.source; sink = n.sink; arcs = arcs i }
 
 -- And so with several that are closed past it.
-pub open-before : (last : ℕ) (arcs : List Shutting) (m n : Network) (j cap : ℕ) → 1 ≤ j → j ≤ last → AreOpenWith last arcs m → with_open (with_closed arcs n) j cap ≡ with_closed arcs (with_open n j cap)
+pub open-before : (last : ℕ) (arcs : List Shutting) (m n : Network) (j cap : ℕ) → 1 ≤ j → j ≤ last → AreOpenWith last arcs m
+    → with_open (with_closed arcs n) j cap ≡ with_closed arcs (with_open n j cap)
 open-before last [] m n j cap first le are = refl
 open-before last (b ∷ arcs) m n j cap first le are =
     let past : j < b.arc = omega (arith, le, are.0) in

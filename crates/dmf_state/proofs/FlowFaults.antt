@@ -1,5 +1,6 @@
 -- The fault of a flow, from what is found of it.
-use Rattle.std.proofs.Common.{ℕ, ◌≡◌, ◌+◌, ◌-◌, ◌<◌, ◌≤◌, zero, suc, List, length, get_or, Bool, true, false, nat_lt, Some, None, refl, ap, ◌∙◌, arith, ℤ, pos, negsuc, ◌<ℤ◌, ◌≤ℤ◌, ⊎_elim, eq-eqb}
+use Rattle.std.proofs.Common.{ℕ, ◌≡◌, ◌+◌, ◌-◌, ◌<◌, ◌≤◌, zero, suc, List, length, get_or, Bool, true, false, nat_lt, Some, None, refl, ap, ◌∙◌, arith, ℤ, pos}
+use Rattle.std.proofs.Common.{negsuc, ◌<ℤ◌, ◌≤ℤ◌, ⊎_elim, eq-eqb}
 use Rattle.std.specs.List.{find, range_with_len}
 use Rattle.std.specs.Prelude.{int_lt}
 use Rattle.std.proofs.lemmas.Bool.{cond-true, cond-false, cases_lt, ltb-true, ne_eqb}
@@ -89,7 +90,16 @@ module _ (n : Network) (flows : List ℕ) where
   balanced-at v from to conserved =
       ⊎_elim (λ source. rw source.0 refl)
       (λ other. ⊎_elim (λ sink. rw (other.0, sink.0) refl)
-      (λ inner. rw (other.0, inner.0, eq-eqb _ _ (conserved (record { node = record { from_one = from; to_last = to }; not_source = other.1; not_sink = inner.1 }))) refl)
+      (λ inner. rw (
+        other.0,
+        inner.0,
+        eq-eqb _ _ (conserved (record {
+          node = record { from_one = from; to_last = to };
+          not_source = other.1;
+          not_sink =
+              inner.1;
+        })),
+      ) refl)
       (eqb_tells v n.sink))
       (eqb_tells v n.source)
 
@@ -108,7 +118,8 @@ module _ (n : Network) (flows : List ℕ) where
       find-least (is_unbalanced n flows) 1 n.nodes v from (omega (arith, to))
       (rw (ne_eqb v n.source inner.not_source, ne_eqb v n.sink inner.not_sink, ne_eqb (outflow n.arcs flows v) (inflow n.arcs flows v) least.holds.differ) refl)
       (λ i past before. balanced-at i past (omega (arith, to, before))
-      (λ inner. ⊎_elim (λ same. same.1) (λ differ. absurd (least.least i before (record { inner = inner; differ = differ.1 }))) (eqb_tells (outflow n.arcs flows i) (inflow n.arcs flows i))))
+      (λ inner. ⊎_elim (λ same. same.1) (λ differ. absurd (least.least i before (record { inner = inner; differ = differ.1 })))
+      (eqb_tells (outflow n.arcs flows i) (inflow n.arcs flows i))))
 
   -- ---- the fault
 

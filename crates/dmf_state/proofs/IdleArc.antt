@@ -1,5 +1,6 @@
 -- A new last arc without flow leaves every sum of flows as it was.
-use Rattle.std.proofs.Common.{ℕ, ◌≡◌, ◌+◌, ◌^◌, ◌<◌, ◌≤◌, ◌==◌, List, [], ◌∷◌, ◌++◌, length, Bool, true, false, cond, refl, ap, ◌∙◌, sym, sum_by, arith, add-zero, eq-eqb}
+use Rattle.std.proofs.Common.{ℕ, ◌≡◌, ◌+◌, ◌^◌, ◌<◌, ◌≤◌, ◌==◌, List, [], ◌∷◌, ◌++◌, length, Bool, true, false, cond, refl, ap, ◌∙◌, sym, sum_by, arith}
+use Rattle.std.proofs.Common.{add-zero, eq-eqb}
 use Rattle.std.specs.List.{zip}
 use Rattle.std.proofs.lemmas.List.Sums.{sum_by_push}
 use Rattle.std.proofs.lemmas.Grind.{common_steps}
@@ -27,13 +28,15 @@ nothing true = refl
 nothing false = refl
 
 -- the sum at a node, with the new arc
-pub flow_at-idle : (end : Arc → ℕ) (arcs : List Arc) (flows : List ℕ) (arc : Arc) (v : ℕ) → length flows ≡ length arcs → flow_at end (arcs ++ arc ∷ []) (flows ++ 0 ∷ []) v ≡ flow_at end arcs flows v
+pub flow_at-idle : (end : Arc → ℕ) (arcs : List Arc) (flows : List ℕ) (arc : Arc) (v : ℕ) → length flows ≡ length arcs
+    → flow_at end (arcs ++ arc ∷ []) (flows ++ 0 ∷ []) v ≡ flow_at end arcs flows v
 flow_at-idle end arcs flows arc v e =
     let f : Arc × ℕ → ℕ = λ p. cond (end p.0 == v) p.1 0 in
     ap (sum_by f) (zip-push arcs flows arc 0 e) ∙ sum_by_push f (zip arcs flows) (arc, 0)
     ∙ ap (λ x. sum_by f (zip arcs flows) + x) (nothing (end arc == v)) ∙ add-zero _
 
-pub flow_value-idle : (n : Network) (flows : List ℕ) (arc : Arc) → length flows ≡ length n.arcs → flow_value (with_last_arc n arc) (flows ++ 0 ∷ []) ≡ flow_value n flows
+pub flow_value-idle : (n : Network) (flows : List ℕ) (arc : Arc) → length flows ≡ length n.arcs
+    → flow_value (with_last_arc n arc) (flows ++ 0 ∷ []) ≡ flow_value n flows
 flow_value-idle n flows arc e =
     let leaving = flow_at-idle (λ a. a.tail) n.arcs flows arc n.source e in
     let entering = flow_at-idle (λ a. a.head) n.arcs flows arc n.source e in
@@ -52,7 +55,8 @@ IsFlow-idle n flows arc flow =
     }
 
 -- A network that can take the arc is a state with it.
-pub IsState-idle : (s : NetworkState) (arc : Arc) → IsState s → IsArc s.network.nodes arc → length s.network.arcs < 2 ^ 27 → capacity_sum s.network.arcs + arc.cap < 2 ^ 64 → IsState (with_idle_arc s arc)
+pub IsState-idle : (s : NetworkState) (arc : Arc) → IsState s → IsArc s.network.nodes arc → length s.network.arcs < 2 ^ 27
+    → capacity_sum s.network.arcs + arc.cap < 2 ^ 64 → IsState (with_idle_arc s arc)
 IsState-idle s arc state fits few small =
     let e = AllZip-long _ s.network.arcs s.flows state.flow.within in
     record {
@@ -74,7 +78,8 @@ pub IsNode-is_node : (nodes v : ℕ) → is_node nodes v ≡ true → IsNode nod
 IsNode-is_node nodes v h = record { from_one = grind (arith, nat_tests); to_last = grind (arith, nat_tests) }
 
 -- the totals with a new open arc
-pub KeepsTotals-idle : (s : NetworkState) (arc : Arc) (sum : ℕ) (source : NodeFlow) (count : ℕ) → KeepsTotals s sum source count → arc.closed ≡ false → IsState (with_idle_arc s arc) → KeepsTotals (with_idle_arc s arc) (sum + arc.cap) source (count + 1)
+pub KeepsTotals-idle : (s : NetworkState) (arc : Arc) (sum : ℕ) (source : NodeFlow) (count : ℕ) → KeepsTotals s sum source count → arc.closed ≡ false
+    → IsState (with_idle_arc s arc) → KeepsTotals (with_idle_arc s arc) (sum + arc.cap) source (count + 1)
 KeepsTotals-idle s arc sum source count keeps is_open state =
     let e = AllZip-long _ s.network.arcs s.flows keeps.state.flow.within in
     record {

@@ -1,5 +1,6 @@
 -- The moves of an edit: making them, listing them, and what they say of the flows.
-use Rattle.std.proofs.Common.{ℕ, ◌≡◌, ◌≢◌, ◌+◌, ◌-◌, ◌<◌, ◌≤◌, ◌==◌, List, [], ◌∷◌, ◌++◌, length, get_or, set, take, drop, true, false, cond, if◌then◌else◌, ◌^◌, refl, ap, ◌∙◌, sym, subst, arith, suc, zero, Some, Bool, add-zero, length-append, ⊎_elim, eq-eqb}
+use Rattle.std.proofs.Common.{ℕ, ◌≡◌, ◌≢◌, ◌+◌, ◌-◌, ◌<◌, ◌≤◌, ◌==◌, List, [], ◌∷◌, ◌++◌, length, get_or, set, take, drop, true, false, cond, if◌then◌else◌}
+use Rattle.std.proofs.Common.{◌^◌, refl, ap, ◌∙◌, sym, subst, arith, suc, zero, Some, Bool, add-zero, length-append, ⊎_elim, eq-eqb}
 use Rattle.std.specs.List.{slice_get}
 use Rattle.std.proofs.lemmas.Bool.Decides.{eqb_tells}
 use Rattle.std.proofs.lemmas.List.{get_or-set_same, get_or-set_other, set-set, set-get_or, length-set}
@@ -30,7 +31,8 @@ MovesFit-set last k y (m ∷ moves) flows h fit =
     let within = slice_get_within flows i m.from fit.1 in
     let other : i ≢ k = λ e. omega (arith, fit.0, h, e) in
     let read : slice_get (set flows k y) i ≡ Some m.from =
-    slice_get-get_or (set flows k y) i 0 (rw length-set within) ∙ ap Some (get_or-set_other flows k i y 0 other ∙ get_or_from_slice_get flows i m.from 0 fit.1) in
+    slice_get-get_or (set flows k y) i 0 (rw length-set within) ∙ ap Some
+    (get_or-set_other flows k i y 0 other ∙ get_or_from_slice_get flows i m.from 0 fit.1) in
     (fit.0, read, MovesFit-set m.arc k y moves flows (omega (arith, fit.0, h)) fit.2)
 
 -- what moves past an arc say, they say past each arc before it
@@ -39,7 +41,8 @@ MovesFit-earlier last first [] flows h fit = tt
 MovesFit-earlier last first (m ∷ moves) flows h fit = (omega (arith, fit.0, h), fit.1, fit.2)
 
 -- one move made, the others fit
-pub MovesFit-made : (last : ℕ) (m : Move) (moves : List Move) (flows : List ℕ) → MovesFit last (m ∷ moves) flows → MovesFit m.arc moves (set flows (m.arc - 1) m.to)
+pub MovesFit-made : (last : ℕ) (m : Move) (moves : List Move) (flows : List ℕ) → MovesFit last (m ∷ moves) flows
+    → MovesFit m.arc moves (set flows (m.arc - 1) m.to)
 MovesFit-made last m moves flows fit = MovesFit-set m.arc (m.arc - 1) m.to moves flows (omega (arith, fit.0)) fit.2
 
 -- moves past an arc leave its flow
@@ -51,7 +54,8 @@ moved-other last k (m ∷ moves) flows h fit =
     ∙ get_or-set_other flows (m.arc - 1) k m.to 0 other
 
 -- and the flow of the first arc that is named is the one that it is given
-pub moved-first : (last : ℕ) (m : Move) (moves : List Move) (flows : List ℕ) → MovesFit last (m ∷ moves) flows → get_or (moved (m ∷ moves) flows) (m.arc - 1) 0 ≡ m.to
+pub moved-first : (last : ℕ) (m : Move) (moves : List Move) (flows : List ℕ) → MovesFit last (m ∷ moves) flows
+    → get_or (moved (m ∷ moves) flows) (m.arc - 1) 0 ≡ m.to
 moved-first last m moves flows fit =
     let within = slice_get_within flows (m.arc - 1) m.from fit.1 in
     moved-other m.arc (m.arc - 1) moves (set flows (m.arc - 1) m.to) (omega (arith, fit.0)) (MovesFit-made last m moves flows fit)
@@ -73,7 +77,8 @@ pub record AreMoved (arcs : List Arc) (moves : List Move) (last_flows : List ℕ
   pub at_node : IsNodeFlow arcs flows v sums
 
 -- before the first move
-pub moved-none : (arcs : List Arc) (moves : List Move) (v : ℕ) (flows : List ℕ) (sums : NodeFlow) → MovesFit 0 moves flows → AreWithinCapacities arcs flows → IsNodeFlow arcs flows v sums → AreMoved arcs moves (moved moves flows) v 0 flows sums
+pub moved-none : (arcs : List Arc) (moves : List Move) (v : ℕ) (flows : List ℕ) (sums : NodeFlow) → MovesFit 0 moves flows → AreWithinCapacities arcs flows
+    → IsNodeFlow arcs flows v sums → AreMoved arcs moves (moved moves flows) v 0 flows sums
 moved-none arcs moves v flows sums fit within at_node = record { last = 0; fit = fit; rest = refl; within = within; at_node = at_node }
 
 -- The next move is of an arc of the network, and gives its flow as it is and as it will be.
@@ -85,7 +90,8 @@ pub record IsNextMove (arcs : List Arc) (last_flows flows : List ℕ) (m : Move)
   pub was : get_or flows (m.arc - 1) 0 ≡ m.from
   pub will_be : get_or last_flows (m.arc - 1) 0 ≡ m.to
 
-module _ (arcs : List Arc) (moves : List Move) (last_flows : List ℕ) (v i : ℕ) (flows : List ℕ) (sums : NodeFlow) (m : Move) (h : i < length moves) (is : get_or moves i no_move ≡ m) (a : AreMoved arcs moves last_flows v i flows sums) where
+module _ (arcs : List Arc) (moves : List Move) (last_flows : List ℕ) (v i : ℕ) (flows : List ℕ) (sums : NodeFlow) (m : Move) (h : i < length moves)
+    (is : get_or moves i no_move ≡ m) (a : AreMoved arcs moves last_flows v i flows sums) where
   split : drop i moves ≡ m ∷ drop (i + 1) moves
   split =
       let next : suc i ≡ i + 1 = omega arith in
@@ -119,20 +125,24 @@ module _ (arcs : List Arc) (moves : List Move) (last_flows : List ℕ) (v i : �
       let part = flow_at-part end arcs flows (m.arc - 1) v next-move.same next-move.in_arcs in
       omega (arith, rw here at part, next-move.was)
 
-  pub sum-after : (end : Arc → ℕ) (old : ℕ) → old ≡ flow_at end arcs flows v → (new : ℕ) → new + cond (end (get_or arcs (m.arc - 1) no_arc) == v) m.from 0 ≡ old + cond (end (get_or arcs (m.arc - 1) no_arc) == v) m.to 0 → new ≡ flow_at end arcs (set flows (m.arc - 1) m.to) v
+  pub sum-after : (end : Arc → ℕ) (old : ℕ) → old ≡ flow_at end arcs flows v → (new : ℕ)
+      → new + cond (end (get_or arcs (m.arc - 1) no_arc) == v) m.from 0 ≡ old + cond (end (get_or arcs (m.arc - 1) no_arc) == v) m.to 0
+      → new ≡ flow_at end arcs (set flows (m.arc - 1) m.to) v
   sum-after end old was new e =
       let changed = flow_at-set end arcs flows (m.arc - 1) m.to v next-move.same next-move.in_arcs in
       let changed-from = rw next-move.was at changed in
       omega (arith, was, e, changed-from)
 
-  pub small-after : (end : Arc → ℕ) → AreWithinCapacities arcs last_flows → capacity_sum arcs < 2 ^ 64 → (end (get_or arcs (m.arc - 1) no_arc) == v) ≡ true → flow_at end arcs flows v - m.from + m.to < 2 ^ 64
+  pub small-after : (end : Arc → ℕ) → AreWithinCapacities arcs last_flows → capacity_sum arcs < 2 ^ 64 → (end (get_or arcs (m.arc - 1) no_arc) == v) ≡ true
+      → flow_at end arcs flows v - m.from + m.to < 2 ^ 64
   small-after end within capacities here =
       let set_is = flow_at-set end arcs flows (m.arc - 1) m.to v next-move.same next-move.in_arcs in
       let changed = rw (here, next-move.was) at set_is in
       let le = flow_at-le end arcs (set flows (m.arc - 1) m.to) v (within-set arcs flows (m.arc - 1) m.to a.within (to-le within)) in
       omega (arith, changed, le, capacities, part-of_sum end here)
 
-  pub moved-more : (after : NodeFlow) → AreWithinCapacities arcs last_flows → IsNodeFlow arcs (set flows (m.arc - 1) m.to) v after → AreMoved arcs moves last_flows v (i + 1) (set flows (m.arc - 1) m.to) after
+  pub moved-more : (after : NodeFlow) → AreWithinCapacities arcs last_flows → IsNodeFlow arcs (set flows (m.arc - 1) m.to) v after
+      → AreMoved arcs moves last_flows v (i + 1) (set flows (m.arc - 1) m.to) after
   moved-more after within at_node = record {
     last = m.arc;
     fit = MovesFit-made a.last m (drop (i + 1) moves) flows fit;
@@ -142,7 +152,8 @@ module _ (arcs : List Arc) (moves : List Move) (last_flows : List ℕ) (v i : �
   }
 
 -- after the last move
-pub moved-all : (arcs : List Arc) (moves : List Move) (last_flows : List ℕ) (v i : ℕ) (flows : List ℕ) (sums : NodeFlow) → length moves ≤ i → AreMoved arcs moves last_flows v i flows sums → flows ≡ last_flows
+pub moved-all : (arcs : List Arc) (moves : List Move) (last_flows : List ℕ) (v i : ℕ) (flows : List ℕ) (sums : NodeFlow) → length moves ≤ i
+    → AreMoved arcs moves last_flows v i flows sums → flows ≡ last_flows
 moved-all arcs moves last_flows v i flows sums long a = subst (λ ms. moved ms flows ≡ last_flows) (drop_of_length-le moves long) a.rest
 
 -- the move of one arc, where its flow differs
@@ -158,26 +169,32 @@ move_of-differ j x y d = ⊎_elim
 pub move_of-same : (j x y : ℕ) → x ≡ y → move_of j x y ≡ []
 move_of-same j x y e = rw (eq-eqb x y e) refl
 
-one-more : (b : Bool) (m : Move) (after moves more : List Move) → after ≡ moves ++ more → (if b then after else m ∷ after) ≡ (if b then moves else m ∷ moves) ++ more
+one-more : (b : Bool) (m : Move) (after moves more : List Move) → after ≡ moves ++ more
+    → (if b then after else m ∷ after) ≡ (if b then moves else m ∷ moves) ++ more
 one-more true m after moves more e = e
 one-more false m after moves more e = ap (λ ms. m ∷ ms) e
 
-differences-next : (j i : ℕ) (xs ys : List ℕ) → i < length xs → length ys ≡ length xs → differences j (take (suc i) xs) (take (suc i) ys) ≡ differences j (take i xs) (take i ys) ++ move_of (j + i) (get_or xs i 0) (get_or ys i 0)
+differences-next : (j i : ℕ) (xs ys : List ℕ) → i < length xs → length ys ≡ length xs
+    → differences j (take (suc i) xs) (take (suc i) ys) ≡ differences j (take i xs) (take i ys) ++ move_of (j + i) (get_or xs i 0) (get_or ys i 0)
 differences-next j i [] ys h same = absurd (omega (arith, h))
 differences-next j i (x ∷ xs) [] h same = absurd (omega (arith, same))
 differences-next j zero (x ∷ xs) (y ∷ ys) h same = ap (λ k. move_of k x y) (sym (add-zero j))
 differences-next j (suc i) (x ∷ xs) (y ∷ ys) h same =
     let place : j + 1 + i ≡ j + suc i = omega arith in
     let after = differences-next (j + 1) i xs ys (omega (arith, h)) (omega (arith, same)) in
-    one-more (x == y) (record { arc = j; from = x; to = y }) _ _ _ (subst (λ k. differences (j + 1) (take (suc i) xs) (take (suc i) ys) ≡ differences (j + 1) (take i xs) (take i ys) ++ move_of k (get_or xs i 0) (get_or ys i 0)) place after)
+    one-more (x == y) (record { arc = j; from = x; to = y }) _ _ _ (subst
+    (λ k. differences (j + 1) (take (suc i) xs) (take (suc i) ys) ≡ differences (j + 1) (take i xs) (take i ys) ++ move_of k (get_or xs i 0)
+    (get_or ys i 0)) place after)
 
 -- the moves with that of the next arc
-pub differences-more : (i : ℕ) (xs ys : List ℕ) → i < length xs → length ys ≡ length xs → differences 1 (take (i + 1) xs) (take (i + 1) ys) ≡ differences 1 (take i xs) (take i ys) ++ move_of (i + 1) (get_or xs i 0) (get_or ys i 0)
+pub differences-more : (i : ℕ) (xs ys : List ℕ) → i < length xs → length ys ≡ length xs
+    → differences 1 (take (i + 1) xs) (take (i + 1) ys) ≡ differences 1 (take i xs) (take i ys) ++ move_of (i + 1) (get_or xs i 0) (get_or ys i 0)
 differences-more i xs ys h same =
     let next : suc i ≡ i + 1 = omega arith in
     let place : 1 + i ≡ i + 1 = omega arith in
     subst (λ k. differences 1 (take k xs) (take k ys) ≡ differences 1 (take i xs) (take i ys) ++ move_of (i + 1) (get_or xs i 0) (get_or ys i 0)) next
-    (subst (λ k. differences 1 (take (suc i) xs) (take (suc i) ys) ≡ differences 1 (take i xs) (take i ys) ++ move_of k (get_or xs i 0) (get_or ys i 0)) place (differences-next 1 i xs ys h same))
+    (subst (λ k. differences 1 (take (suc i) xs) (take (suc i) ys) ≡ differences 1 (take i xs) (take i ys) ++ move_of k (get_or xs i 0) (get_or ys i 0)) place
+    (differences-next 1 i xs ys h same))
 
 read-middle : (done : List ℕ) (x : ℕ) (xs : List ℕ) → slice_get (done ++ x ∷ xs) (length done) ≡ Some x
 read-middle [] x xs = refl
@@ -191,7 +208,8 @@ join-middle : (done : List ℕ) (x : ℕ) (xs : List ℕ) → (done ++ x ∷ [])
 join-middle [] x xs = refl
 join-middle (d ∷ done) x xs = ap (λ zs. d ∷ zs) (join-middle done x xs)
 
-fit-cases : (b : Bool) (n x y : ℕ) (moves : List Move) (flows : List ℕ) → slice_get flows (n + 1 - 1) ≡ Some x → MovesFit (n + 1) moves flows → MovesFit n (if b then moves else record { arc = n + 1; from = x; to = y } ∷ moves) flows
+fit-cases : (b : Bool) (n x y : ℕ) (moves : List Move) (flows : List ℕ) → slice_get flows (n + 1 - 1) ≡ Some x → MovesFit (n + 1) moves flows
+    → MovesFit n (if b then moves else record { arc = n + 1; from = x; to = y } ∷ moves) flows
 fit-cases true n x y moves flows read rest = MovesFit-earlier (n + 1) n moves flows (omega arith) rest
 fit-cases false n x y moves flows read rest = (omega arith, read, rest)
 
@@ -203,7 +221,8 @@ differences-fit done (x ∷ xs) (y ∷ ys) same =
     let one_more : length (done ++ x ∷ []) ≡ length done + 1 = length-append done (x ∷ []) in
     let rest : MovesFit (length done + 1) (differences (length done + 1 + 1) xs ys) (done ++ x ∷ xs) =
     subst (λ n. MovesFit n (differences (n + 1) xs ys) (done ++ x ∷ xs)) one_more
-    (subst (λ zs. MovesFit (length (done ++ x ∷ [])) (differences (length (done ++ x ∷ []) + 1) xs ys) zs) (join-middle done x xs) (differences-fit (done ++ x ∷ []) xs ys (omega (arith, same)))) in
+    (subst (λ zs. MovesFit (length (done ++ x ∷ [])) (differences (length (done ++ x ∷ []) + 1) xs ys) zs) (join-middle done x xs)
+    (differences-fit (done ++ x ∷ []) xs ys (omega (arith, same)))) in
     let place : length done + 1 - 1 ≡ length done = omega arith in
     fit-cases (x == y) (length done) x y _ (done ++ x ∷ xs) (rw place (read-middle done x xs)) rest
 
@@ -216,10 +235,12 @@ moved-differences done (x ∷ xs) (y ∷ ys) same =
     let one_more : length (done ++ y ∷ []) ≡ length done + 1 = length-append done (y ∷ []) in
     let rest : moved (differences (length done + 1 + 1) xs ys) (done ++ y ∷ xs) ≡ done ++ y ∷ ys =
     subst (λ n. moved (differences (n + 1) xs ys) (done ++ y ∷ xs) ≡ done ++ y ∷ ys) one_more
-    (ap (moved (differences (length (done ++ y ∷ []) + 1) xs ys)) (sym (join-middle done y xs)) ∙ moved-differences (done ++ y ∷ []) xs ys (omega (arith, same)) ∙ join-middle done y ys) in
+    (ap (moved (differences (length (done ++ y ∷ []) + 1) xs ys)) (sym (join-middle done y xs)) ∙ moved-differences (done ++ y ∷ []) xs ys
+    (omega (arith, same)) ∙ join-middle done y ys) in
     let place : length done + 1 - 1 ≡ length done = omega arith in
     ⊎_elim
-    (λ (e : ((x == y) ≡ true) × (x ≡ y)). rw e.0 (subst (λ z. moved (differences (length done + 1 + 1) xs ys) (done ++ z ∷ xs) ≡ done ++ y ∷ ys) (sym e.1) rest))
+    (λ (e : ((x == y) ≡ true) × (x ≡ y)). rw e.0 (subst (λ z. moved (differences (length done + 1 + 1) xs ys) (done ++ z ∷ xs) ≡ done ++ y ∷ ys)
+    (sym e.1) rest))
     (λ (d : ((x == y) ≡ false) × (x ≢ y)). rw d.0
     (ap (λ k. moved (differences (length done + 1 + 1) xs ys) (set (done ++ x ∷ xs) k y)) place
     ∙ ap (moved (differences (length done + 1 + 1) xs ys)) (set-middle done x y xs) ∙ rest))
@@ -231,7 +252,8 @@ pub record AreMovesBetween (moves : List Move) (before after : List ℕ) : Type 
   pub makes : moved moves before ≡ after
   pub differ : moves ≡ differences 1 before (moved moves before)
 
-pub moves-between : (moves : List Move) (before after : List ℕ) → length after ≡ length before → moves ≡ differences 1 before after → AreMovesBetween moves before after
+pub moves-between : (moves : List Move) (before after : List ℕ) → length after ≡ length before → moves ≡ differences 1 before after
+    → AreMovesBetween moves before after
 moves-between moves before after same is =
     let makes : moved moves before ≡ after = rw is (moved-differences [] before after same) in
     record {

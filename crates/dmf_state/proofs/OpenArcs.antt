@@ -1,5 +1,6 @@
 -- The open arcs at a node, listed in one walk over the arcs.
-use Rattle.std.proofs.Common.{ℕ, ◌≡◌, ◌+◌, ◌-◌, ◌<◌, ◌==◌, ◌&&◌, ◌||◌, not, Bool, true, false, cond, List, [], ◌∷◌, ◌++◌, length, get_or, take, zero, suc, refl, ap, sym, ◌∙◌, subst, arith, append_assoc, add-zero, append-nil}
+use Rattle.std.proofs.Common.{ℕ, ◌≡◌, ◌+◌, ◌-◌, ◌<◌, ◌==◌, ◌&&◌, ◌||◌, not, Bool, true, false, cond, List, [], ◌∷◌, ◌++◌, length, get_or, take, zero, suc, refl}
+use Rattle.std.proofs.Common.{ap, sym, ◌∙◌, subst, arith, append_assoc, add-zero, append-nil}
 use Rattle.std.proofs.lemmas.Bool.{both_ways}
 use Rattle.std.proofs.lemmas.Bool.Decides.{nat_tests}
 use Rattle.dmf_state.specs.declared.arc.Arc.{Arc}
@@ -18,15 +19,18 @@ listed_from v j [] = []
 listed_from v j (arc ∷ arcs) = listed v j arc ++ listed_from v (j + 1) arcs
 
 -- one arc more
-listed-next : (v j i : ℕ) (arcs : List Arc) → i < length arcs → listed_from v j (take (suc i) arcs) ≡ listed_from v j (take i arcs) ++ listed v (j + i) (get_or arcs i no_arc)
+listed-next : (v j i : ℕ) (arcs : List Arc) → i < length arcs → listed_from v j (take (suc i) arcs) ≡ listed_from v j (take i arcs) ++ listed v (j + i)
+    (get_or arcs i no_arc)
 listed-next v j i [] h = absurd (omega (arith, h))
 listed-next v j zero (arc ∷ arcs) h = append-nil (listed v j arc) ∙ ap (λ k. listed v k arc) (sym (add-zero j))
 listed-next v j (suc i) (arc ∷ arcs) h =
     let place : j + 1 + i ≡ j + suc i = omega arith in
-    ap (λ rest. listed v j arc ++ rest) (listed-next v (j + 1) i arcs (omega (arith, h)) ∙ ap (λ k. listed_from v (j + 1) (take i arcs) ++ listed v k (get_or arcs i no_arc)) place)
+    ap (λ rest. listed v j arc ++ rest) (listed-next v (j + 1) i arcs (omega (arith, h)) ∙ ap
+    (λ k. listed_from v (j + 1) (take i arcs) ++ listed v k (get_or arcs i no_arc)) place)
     ∙ sym (append_assoc (listed v j arc) (listed_from v (j + 1) (take i arcs)) (listed v (j + suc i) (get_or arcs i no_arc)))
 
-pub listed-more : (v i : ℕ) (arcs : List Arc) → i < length arcs → listed_from v 1 (take (i + 1) arcs) ≡ listed_from v 1 (take i arcs) ++ listed v (i + 1) (get_or arcs i no_arc)
+pub listed-more : (v i : ℕ) (arcs : List Arc) → i < length arcs → listed_from v 1 (take (i + 1) arcs) ≡ listed_from v 1 (take i arcs) ++ listed v (i + 1)
+    (get_or arcs i no_arc)
 listed-more v i arcs h =
     let next : suc i ≡ i + 1 = omega arith in
     let place : 1 + i ≡ i + 1 = omega arith in
@@ -34,13 +38,15 @@ listed-more v i arcs h =
     (listed-next v 1 i arcs h ∙ ap (λ k. listed_from v 1 (take i arcs) ++ listed v k (get_or arcs i no_arc)) place)
 
 -- Their numbers are those of the open arcs at the node.
-numbers-step : (v j : ℕ) (arc : Arc) (rest : List Shutting) (js : List ℕ) (is_listed : Bool) → is_open_at v arc ≡ is_listed → numbers rest ≡ js → numbers (listed v j arc ++ rest) ≡ cond (is_open_at v arc) (j ∷ js) js
+numbers-step : (v j : ℕ) (arc : Arc) (rest : List Shutting) (js : List ℕ) (is_listed : Bool) → is_open_at v arc ≡ is_listed → numbers rest ≡ js
+    → numbers (listed v j arc ++ rest) ≡ cond (is_open_at v arc) (j ∷ js) js
 numbers-step v j arc rest js true e same = rw e (ap (λ ks. j ∷ ks) same)
 numbers-step v j arc rest js false e same = rw e same
 
 pub numbers-listed : (v j : ℕ) (arcs : List Arc) → numbers (listed_from v j arcs) ≡ open_arcs_at v j arcs
 numbers-listed v j [] = refl
-numbers-listed v j (arc ∷ arcs) = numbers-step v j arc (listed_from v (j + 1) arcs) (open_arcs_at v (j + 1) arcs) (is_open_at v arc) refl (numbers-listed v (j + 1) arcs)
+numbers-listed v j (arc ∷ arcs) = numbers-step v j arc (listed_from v (j + 1) arcs) (open_arcs_at v (j + 1) arcs) (is_open_at v arc) refl
+    (numbers-listed v (j + 1) arcs)
 
 -- The arcs of the list are those of the network from number `j` on.
 abbrev AreFrom : Network → ℕ → List Arc → Type 0
@@ -53,7 +59,8 @@ closed-not false at e = refl
 is-open : (v : ℕ) (arc : Arc) → is_open_at v arc ≡ true → arc.closed ≡ false
 is-open v arc e = closed-not arc.closed (arc.tail == v || arc.head == v) e
 
-open-step : (v last j : ℕ) (n : Network) (arc : Arc) (rest : List Shutting) (is_listed : Bool) → is_open_at v arc ≡ is_listed → last < j → has_arc n j ≡ true → arc_number n j ≡ arc → AreOpenWith j rest n → AreOpenWith last rest n → AreOpenWith last (listed v j arc ++ rest) n
+open-step : (v last j : ℕ) (n : Network) (arc : Arc) (rest : List Shutting) (is_listed : Bool) → is_open_at v arc ≡ is_listed → last < j → has_arc n j ≡ true
+    → arc_number n j ≡ arc → AreOpenWith j rest n → AreOpenWith last rest n → AreOpenWith last (listed v j arc ++ rest) n
 open-step v last j n arc rest true e below has is later earlier =
     rw e (below, record { is_there = has; is_open = ap (λ (a : Arc). a.closed) is ∙ is-open v arc e; has_cap = ap (λ (a : Arc). a.cap) is }, later)
 open-step v last j n arc rest false e below has is later earlier = rw e earlier

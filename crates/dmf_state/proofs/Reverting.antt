@@ -68,7 +68,8 @@ IsState-reverted edit t stands =
     subst IsState (sym (gives-back edit stands.before stands.fits) ∙ ap (reverted edit) stands.gives) stands.state
 
 -- the totals without an idle last arc
-totals-before : (s : NetworkState) (arc : Arc) (sum : ℕ) (source : NodeFlow) (count : ℕ) → IsState s → arc.closed ≡ false → KeepsTotals (with_idle_arc s arc) sum source count → KeepsTotals s (sum - arc.cap) source (count - 1)
+totals-before : (s : NetworkState) (arc : Arc) (sum : ℕ) (source : NodeFlow) (count : ℕ) → IsState s → arc.closed ≡ false
+    → KeepsTotals (with_idle_arc s arc) sum source count → KeepsTotals s (sum - arc.cap) source (count - 1)
 totals-before s arc sum source count state is_open keeps =
     let long = AllZip-long _ s.network.arcs s.flows state.flow.within in
     let sums : capacity_sum (s.network.arcs ++ arc ∷ []) ≡ capacity_sum s.network.arcs + arc.cap = sum_by_push (λ (a : Arc). a.cap) s.network.arcs arc in
@@ -84,12 +85,14 @@ totals-before s arc sum source count state is_open keeps =
     }
 
 -- The last arc of a state that has an idle one, and the totals without it.
-pub KeepsTotals-without_last : (t : NetworkState) (sum : ℕ) (source : NodeFlow) (count : ℕ) → HasIdleLast t → KeepsTotals t sum source count → KeepsTotals (without_last t) (sum - (get_or t.network.arcs (length t.network.arcs - 1) no_arc).cap) source (count - 1)
+pub KeepsTotals-without_last : (t : NetworkState) (sum : ℕ) (source : NodeFlow) (count : ℕ) → HasIdleLast t → KeepsTotals t sum source count
+    → KeepsTotals (without_last t) (sum - (get_or t.network.arcs (length t.network.arcs - 1) no_arc).cap) source (count - 1)
 KeepsTotals-without_last t sum source count has keeps =
     let s = has.before in
     let arc = has.arc in
     let one_more = length_push s.network.arcs arc in
-    let last : get_or (s.network.arcs ++ arc ∷ []) (length (s.network.arcs ++ arc ∷ []) - 1) no_arc ≡ arc = get_or_push s.network.arcs arc no_arc _ (omega (arith, one_more)) in
+    let last : get_or (s.network.arcs ++ arc ∷ []) (length (s.network.arcs ++ arc ∷ []) - 1) no_arc ≡ arc =
+    get_or_push s.network.arcs arc no_arc _ (omega (arith, one_more)) in
     let before = totals-before s arc sum source count has.state has.is_open (subst (λ u. KeepsTotals u sum source count) (sym has.gives) keeps) in
     subst (λ u. KeepsTotals (without_last u) (sum - (get_or u.network.arcs (length u.network.arcs - 1) no_arc).cap) source (count - 1)) has.gives
     (subst (λ a. KeepsTotals (without_last (with_idle_arc s arc)) (sum - a.cap) source (count - 1)) (sym last)

@@ -1,5 +1,6 @@
 -- Summing the flows at each node in one walk over the arcs.
-use Rattle.std.proofs.Common.{ℕ, ◌≡◌, ◌≢◌, ◌+◌, ◌-◌, ◌<◌, ◌≤◌, ◌==◌, List, [], ◌∷◌, length, get_or, set, take, replicate, Bool, true, false, cond, ap, ◌∙◌, sym, sum_by, arith, add-zero, ⊎_elim}
+use Rattle.std.proofs.Common.{ℕ, ◌≡◌, ◌≢◌, ◌+◌, ◌-◌, ◌<◌, ◌≤◌, ◌==◌, List, [], ◌∷◌, length, get_or, set, take, replicate, Bool, true, false, cond, ap, ◌∙◌, sym}
+use Rattle.std.proofs.Common.{sum_by, arith, add-zero, ⊎_elim}
 use Rattle.std.specs.List.{zip}
 use Rattle.std.proofs.lemmas.Bool.Decides.{eqb_tells}
 use Rattle.std.proofs.lemmas.List.{get_or-set_same, get_or-set_other, get_or-replicate, length-replicate, length-set, take_all, get_or_read}
@@ -25,14 +26,18 @@ pub sums-none : (end : Arc → ℕ) (nodes : ℕ) (arcs : List Arc) (flows : Lis
 sums-none end nodes arcs flows = record { one_each = length-replicate nodes 0; each = λ k h. get_or-replicate nodes k 0 0 h }
 
 -- the sum at a node, with the next arc
-pub sum-more : (end : Arc → ℕ) (v : ℕ) (arcs : List Arc) (flows : List ℕ) (i : ℕ) → length flows ≡ length arcs → i < length arcs → sum_by (at_node end v) (take (i + 1) (zip arcs flows)) ≡ sum_by (at_node end v) (take i (zip arcs flows)) + cond (end (get_or arcs i no_arc) == v) (get_or flows i 0) 0
+pub sum-more : (end : Arc → ℕ) (v : ℕ) (arcs : List Arc) (flows : List ℕ) (i : ℕ) → length flows ≡ length arcs → i < length arcs
+    → sum_by (at_node end v) (take (i + 1) (zip arcs flows)) ≡ sum_by (at_node end v) (take i (zip arcs flows)) + cond (end (get_or arcs i no_arc) == v)
+    (get_or flows i 0) 0
 sum-more end v arcs flows i same h =
     let long : i < length (zip arcs flows) = rw length-zip (omega arith) in
     sum_by_more (at_node end v) (zip arcs flows) i (no_arc, 0) long
     ∙ ap (λ p. sum_by (at_node end v) (take i (zip arcs flows)) + at_node end v p) (get_or-zip arcs flows i (no_arc, 0) h (omega arith))
 
 -- one arc more: its flow is added at its end
-pub sums-more : (end : Arc → ℕ) (nodes : ℕ) (arcs : List Arc) (flows : List ℕ) (i : ℕ) (sums : List ℕ) (old : ℕ) → length flows ≡ length arcs → i < length arcs → IsNode nodes (end (get_or arcs i no_arc)) → old ≡ get_or sums (end (get_or arcs i no_arc) - 1) old → AreSumsSoFar end nodes arcs flows i sums → AreSumsSoFar end nodes arcs flows (i + 1) (set sums (end (get_or arcs i no_arc) - 1) (old + get_or flows i 0))
+pub sums-more : (end : Arc → ℕ) (nodes : ℕ) (arcs : List Arc) (flows : List ℕ) (i : ℕ) (sums : List ℕ) (old : ℕ) → length flows ≡ length arcs → i < length arcs
+    → IsNode nodes (end (get_or arcs i no_arc)) → old ≡ get_or sums (end (get_or arcs i no_arc) - 1) old → AreSumsSoFar end nodes arcs flows i sums
+    → AreSumsSoFar end nodes arcs flows (i + 1) (set sums (end (get_or arcs i no_arc) - 1) (old + get_or flows i 0))
 sums-more end nodes arcs flows i sums old same h node read s =
     let at : ℕ = end (get_or arcs i no_arc) in
     record {
@@ -52,7 +57,8 @@ sums-more end nodes arcs flows i sums old same h node read s =
     }
 
 -- all arcs
-pub sums-all : (end : Arc → ℕ) (nodes : ℕ) (arcs : List Arc) (flows sums : List ℕ) (i : ℕ) → length flows ≡ length arcs → length arcs ≤ i → AreSumsSoFar end nodes arcs flows i sums → AreFlowSums end nodes arcs flows sums
+pub sums-all : (end : Arc → ℕ) (nodes : ℕ) (arcs : List Arc) (flows sums : List ℕ) (i : ℕ) → length flows ≡ length arcs → length arcs ≤ i
+    → AreSumsSoFar end nodes arcs flows i sums → AreFlowSums end nodes arcs flows sums
 sums-all end nodes arcs flows sums i same long s = record {
   one_each = s.one_each;
   each = λ k h.
@@ -76,7 +82,9 @@ part-le true x = omega arith
 part-le false x = omega arith
 
 -- no sum passes the capacities together
-pub sums-le : (end : Arc → ℕ) (nodes : ℕ) (arcs : List Arc) (flows : List ℕ) (i : ℕ) (sums : List ℕ) (old : ℕ) → AreWithinCapacities arcs flows → i < length arcs → IsNode nodes (end (get_or arcs i no_arc)) → old ≡ get_or sums (end (get_or arcs i no_arc) - 1) old → AreSumsSoFar end nodes arcs flows i sums → old + get_or flows i 0 ≤ capacity_sum arcs
+pub sums-le : (end : Arc → ℕ) (nodes : ℕ) (arcs : List Arc) (flows : List ℕ) (i : ℕ) (sums : List ℕ) (old : ℕ) → AreWithinCapacities arcs flows
+    → i < length arcs → IsNode nodes (end (get_or arcs i no_arc)) → old ≡ get_or sums (end (get_or arcs i no_arc) - 1) old
+    → AreSumsSoFar end nodes arcs flows i sums → old + get_or flows i 0 ≤ capacity_sum arcs
 sums-le end nodes arcs flows i sums old w h node read s =
     let same = AllZip-long _ arcs flows w in
     let k : ℕ = end (get_or arcs i no_arc) - 1 in

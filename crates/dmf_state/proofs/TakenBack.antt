@@ -16,7 +16,8 @@ length-moved [] flows = refl
 length-moved (m ∷ moves) flows = length-moved moves (set flows (m.arc - 1) m.to) ∙ length-set flows (m.arc - 1) m.to
 
 -- A write before the arcs that the moves name may come before the moves or after them.
-set-moved : (last k y : ℕ) (moves : List Move) (flows : List ℕ) → k < last → MovesFit last moves flows → set (moved moves flows) k y ≡ moved moves (set flows k y)
+set-moved : (last k y : ℕ) (moves : List Move) (flows : List ℕ) → k < last → MovesFit last moves flows
+    → set (moved moves flows) k y ≡ moved moves (set flows k y)
 set-moved last k y [] flows h fit = refl
 set-moved last k y (m ∷ moves) flows h fit =
     let other : m.arc - 1 ≢ k = λ e. omega (arith, fit.0, h, e) in
@@ -51,6 +52,7 @@ pub within-along : (direction : Direction) (moves : List Move) (i : ℕ) → i <
 within-along direction moves i h = omega (arith, length-along direction moves)
 
 -- and each is that of the move in its place.
-pub get_or-along : (direction : Direction) (moves : List Move) (i : ℕ) (m : Move) → i < length moves → m ≡ step_along direction (get_or moves i no_move) → get_or (along direction moves) i no_move ≡ m
+pub get_or-along : (direction : Direction) (moves : List Move) (i : ℕ) (m : Move) → i < length moves → m ≡ step_along direction (get_or moves i no_move)
+    → get_or (along direction moves) i no_move ≡ m
 get_or-along Forward moves i m h is = sym is
 get_or-along Back moves i m h is = get_or-map opposite moves i no_move no_move h ∙ sym is

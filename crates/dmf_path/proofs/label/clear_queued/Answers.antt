@@ -8,8 +8,10 @@ loop-node-init c = left-first c.args.labels.now c.args.queue.now c.requires.queu
 
 pub loop-node-preserved : goal.loop-node-preserved
 loop-node-preserved c =
-    left-next c.loop-node.labels c.args.queue.now c.loop-node.node-index (omega (arith, c.requires.queued.within c.loop-node.node-index c.loop-node-test.true, c.loop-node.auto.labels)) c.loop-node.invariant
+    left-next c.loop-node.labels c.args.queue.now c.loop-node.node-index
+    (omega (arith, c.requires.queued.within c.loop-node.node-index c.loop-node-test.true, c.loop-node.auto.labels)) c.loop-node.invariant
 
 pub returns : goal.returns
 returns c =
-    left-last c.loop-node.labels c.args.queue.now c.loop-node.node-index c.loop-node-test.false c.loop-node.invariant ∙ ap (λ n. replicate n no_label) c.loop-node.auto.labels
+    left-last c.loop-node.labels c.args.queue.now c.loop-node.node-index c.loop-node-test.false c.loop-node.invariant ∙ ap (λ n. replicate n no_label)
+    c.loop-node.auto.labels

@@ -3,7 +3,8 @@ use Rattle.std.proofs.Common.{ℕ, ◌≡◌, ◌==◌, false, arith, eq-eqb, sy
 use Rattle.std.proofs.lemmas.Bool.{eqb-true}
 use Rattle.dmf_path.proofs.Spreading.{spreads-skip, spreads-next}
 use Rattle.dmf_path.proofs.label.spread.Goals as goal
-use Rattle.dmf_path.proofs.label.spread.Goals.{then-is_open+then-labels-head, else-is_open, else-is_open-via-then-is_open+else-labels-head, else-is_open-via-else-is_open}
+use Rattle.dmf_path.proofs.label.spread.Goals.{then-is_open+then-labels-head, else-is_open, else-is_open-via-then-is_open+else-labels-head}
+use Rattle.dmf_path.proofs.label.spread.Goals.{else-is_open-via-else-is_open}
 
 opened-closed : (flag : ℕ) → (flag == 1) ≡ false → flag ≡ 1 → ⊥
 opened-closed flag closed opened = let no = sym closed ∙ eq-eqb flag 1 opened in absurd (cc)
@@ -15,9 +16,11 @@ loop-place-preserved g c =
       | then-is_open+then-labels-head w ↦ record {
         spreads = (
           so_far.0 ++ slice_index c.args.heads.now c.loop-place.place ∷ [],
-          ap (λ v. v.items) w.queue-is ∙ w.push_reserved.ensures.items ∙ ap (λ items. items ++ slice_index c.args.heads.now c.loop-place.place ∷ []) so_far.1 ∙ append_assoc c.args.queue.now.items so_far.0 (slice_index c.args.heads.now c.loop-place.place ∷ []),
+          ap (λ v. v.items) w.queue-is ∙ w.push_reserved.ensures.items ∙ ap (λ items. items ++ slice_index c.args.heads.now c.loop-place.place ∷ []) so_far.1 ∙
+              append_assoc c.args.queue.now.items so_far.0 (slice_index c.args.heads.now c.loop-place.place ∷ []),
           rw w.labels-is
-              (spreads-next c.args.heads.now (g.O.OpenLinks.flags c.args.opens.now) c.args.from c.loop-place.place c.args.label c.args.labels.now c.loop-place.labels so_far.0 so_far.2
+              (spreads-next c.args.heads.now (g.O.OpenLinks.flags c.args.opens.now) c.args.from c.loop-place.place c.args.label c.args.labels.now
+              c.loop-place.labels so_far.0 so_far.2
               (omega arith) (eqb-true _ 1 (sym c.is_open.ensures ∙ w.if-is_open.true)) w.if-labels-head.true
               (omega (arith, c.requires.heads c.loop-place.place c.loop-place-test.true)) c.requires.label),
         );
@@ -28,7 +31,8 @@ loop-place-preserved g c =
           so_far.0,
           ap (λ v. v.items) w.queue-is ∙ so_far.1,
           rw w.labels-is
-              (spreads-skip c.args.heads.now (g.O.OpenLinks.flags c.args.opens.now) c.args.from c.loop-place.place c.args.label c.args.labels.now c.loop-place.labels so_far.0 so_far.2
+              (spreads-skip c.args.heads.now (g.O.OpenLinks.flags c.args.opens.now) c.args.from c.loop-place.place c.args.label c.args.labels.now
+              c.loop-place.labels so_far.0 so_far.2
               (λ opened none. elim w.else-is_open.branch [
                 | else-is_open-via-then-is_open+else-labels-head w' ↦ w'.if-labels-head.false none
                 | else-is_open-via-else-is_open w' ↦ absurd (opened-closed _ (sym c.is_open.ensures ∙ w'.if-is_open.false) opened)

@@ -25,7 +25,8 @@ loop-k-preserved g c =
     (elim c.match-pair.branch [
       | in-Some+in_ok-push+in_ok-push-2 w ↦
           let is : get_or pairs k None ≡ Some w.in-Some.pair = get_or_from_slice_get pairs k _ None w.in-Some.ensures in
-          rw (w.indices-is, w.listed-is, w.in_ok-push.ensures.items, w.in_ok-push-2.ensures.items) (AreListed-more pairs k indices listed w.in-Some.pair is here)
+          rw (w.indices-is, w.listed-is, w.in_ok-push.ensures.items, w.in_ok-push-2.ensures.items)
+          (AreListed-more pairs k indices listed w.in-Some.pair is here)
       | in_default w ↦
           let none : get_or pairs k None ≡ None = get_or_from_slice_get pairs k _ None c.pair.ensures ∙ w.in_default.is in
           rw (w.indices-is, w.listed-is) (AreListed-pass pairs k indices listed none here)
@@ -36,4 +37,5 @@ returns g c =
     let pairs = g.P.Pairs.pairs c.args.pairs.now in
     let candidates : List ℕ = c.deref-k-items.result.now in
     let covers : Covers (length pairs) (λ k. pair_number pairs k ≡ None) candidates = rw c.deref-k-items.ensures.value c.in_ok-candidates.ensures in
-    AreListed-whole pairs candidates c.loop-k.k-index c.loop-k.indices.items c.loop-k.listed.items covers c.loop-k.auto.k-index-end c.loop-k-test.false c.loop-k.invariant
+    AreListed-whole pairs candidates c.loop-k.k-index c.loop-k.indices.items c.loop-k.listed.items covers c.loop-k.auto.k-index-end c.loop-k-test.false
+    c.loop-k.invariant

@@ -32,7 +32,8 @@ returns c =
     let is = searching-settled (residual_of c.args.links.now) v (way_of c.args.trail.now) next mid c.requires.searching e.links e.way in
     let start = subst (λ (x : Residual). IsNode x.links.nodes c.args.start) (sym e.links) c.requires.start in
     let end = subst (λ (x : Residual). IsNode x.links.nodes c.args.goal) (sym e.links) c.requires.goal in
-    let anew = searching-anew next v mid (labelling_of c.make_fresh.new.levels) c.args.start c.args.goal (way_of c.make_fresh.new.trail) is start end c.requires.apart m.labels (ap (λ v. v.items) m.current) m.way in
+    let anew = searching-anew next v mid (labelling_of c.make_fresh.new.levels) c.args.start c.args.goal
+    (way_of c.make_fresh.new.trail) is start end c.requires.apart m.labels (ap (λ v. v.items) m.current) m.way in
     record {
       searching = anew.0;
       ready = (c.settle.new.links.table.nodes, m.ready);

@@ -24,22 +24,29 @@ settle-requires c = record { can = can-settle c.walk.ensures.searching }
 pub relabel-requires-clause-searching : goal.relabel-requires-clause-searching
 relabel-requires-clause-searching c =
     let current = with_items_is c.args.levels.now.current c.walk.new.current (c.walk.auto.current ∙ c.deref_mut.ensures.len) in
-    rw current (searching-settled (residual_of c.walk.new.links) (record { labels = c.args.levels.now.near.labels.items; current = c.walk.new.current }) (way_of c.walk.new.trail) (residual_of c.settle.new.links) (way_of c.settle.new.self) (rw c.deref.ensures.value at c.walk.ensures.searching) c.settle.ensures.links c.settle.ensures.way)
+    rw current (searching-settled (residual_of c.walk.new.links) (record { labels = c.args.levels.now.near.labels.items; current = c.walk.new.current })
+    (way_of c.walk.new.trail) (residual_of c.settle.new.links) (way_of c.settle.new.self)
+    (rw c.deref.ensures.value at c.walk.ensures.searching) c.settle.ensures.links c.settle.ensures.way)
 
 -- After all links have left, it looks for the same,
-plain : (c : After-relabel) → plainly (residual_of c.settle.new.links) (way_of c.settle.new.self) ≡ sought (residual_of c.args.links.now) (way_of c.args.trail.now)
-plain c = plainly-settled (residual_of c.walk.new.links) (way_of c.walk.new.trail) (residual_of c.settle.new.links) (way_of c.settle.new.self) c.settle.ensures.links c.settle.ensures.way ∙ c.walk.ensures.same
+plain : (c : After-relabel) → plainly (residual_of c.settle.new.links) (way_of c.settle.new.self) ≡ sought (residual_of c.args.links.now)
+    (way_of c.args.trail.now)
+plain c = plainly-settled (residual_of c.walk.new.links) (way_of c.walk.new.trail) (residual_of c.settle.new.links)
+    (way_of c.settle.new.self) c.settle.ensures.links c.settle.ensures.way ∙ c.walk.ensures.same
 
 -- and once the nodes are labelled anew.
-free : (c : After-relabel) → sought (residual_of c.settle.new.links) (way_of c.relabel.new.trail) ≡ plainly (residual_of c.settle.new.links) (way_of c.settle.new.self)
-free c = sought-free (residual_of c.settle.new.links) (way_of c.settle.new.self) (way_of c.relabel.new.trail) c.relabel.new.trail.slots.items c.relabel.ensures.way
+free : (c : After-relabel) → sought (residual_of c.settle.new.links) (way_of c.relabel.new.trail) ≡ plainly (residual_of c.settle.new.links)
+    (way_of c.settle.new.self)
+free c = sought-free (residual_of c.settle.new.links) (way_of c.settle.new.self)
+    (way_of c.relabel.new.trail) c.relabel.new.trail.slots.items c.relabel.ensures.way
 
 pub walk-requires-then-relabel : goal.walk-requires-then-relabel
 walk-requires-then-relabel c = rw (c.deref-then-relabel.ensures.value, c.deref_mut-then-relabel.ensures.value) c.relabel.ensures.searching
 
 pub returns-then-relabel-clause-searching : goal.returns-then-relabel-clause-searching
 returns-then-relabel-clause-searching c =
-    let current = with_items_is c.relabel.new.levels.current c.walk-then-relabel.new.current (c.walk-then-relabel.auto.current ∙ c.deref_mut-then-relabel.ensures.len) in
+    let current = with_items_is c.relabel.new.levels.current c.walk-then-relabel.new.current
+    (c.walk-then-relabel.auto.current ∙ c.deref_mut-then-relabel.ensures.len) in
     rw current (rw c.deref-then-relabel.ensures.value at c.walk-then-relabel.ensures.searching)
 
 pub returns-then-relabel-clause-same : goal.returns-then-relabel-clause-same
@@ -51,7 +58,8 @@ pub returns-then-relabel-clause-none : goal.returns-then-relabel-clause-none
 returns-then-relabel-clause-none c =
     let at = (goal.at.returns-then-relabel-clause-none c).After-relabel in
     let found = c.relabel.ensures.labelled c.if-relabel.true in
-    let walk = subst (λ (s : Sought). IsWalk s.residual.links c.relabel.new.levels.near.labels.items s.residual.rooms s.goal s.start found.0) (sym (free at)) found.1 in
+    let walk = subst (λ (s : Sought). IsWalk s.residual.links c.relabel.new.levels.near.labels.items s.residual.rooms s.goal s.start found.0)
+    (sym (free at)) found.1 in
     λ no. absurd ((rw c.deref-then-relabel.ensures.value at (c.walk-then-relabel.ensures.none no)) found.0 walk)
 
 pub returns-else-relabel-clause-same : goal.returns-else-relabel-clause-same

@@ -73,7 +73,8 @@ set_current-requires c =
 read : (c : After-index-start_label) → c.index-start_label.result.now ≡ get_or c.label_anew.new.levels.near.labels.items c.args.trail.now.start 0
 read c =
     c.index-start_label.ensures
-    ∙ sym (get_or_default c.label_anew.new.levels.near.labels.items c.args.trail.now.start 0 _ (omega (arith, c.label_anew.ensures.ready.one_label_each, c.requires.searching.aimed.start_is.to_last)))
+    ∙ sym (get_or_default c.label_anew.new.levels.near.labels.items c.args.trail.now.start 0 _
+    (omega (arith, c.label_anew.ensures.ready.one_label_each, c.requires.searching.aimed.start_is.to_last)))
 
 pub free-requires : goal.free-requires
 free-requires c =
@@ -91,7 +92,8 @@ returns c =
     let labelled = rw c.deref.ensures.value at (c.label_anew.ensures.labelled c.if-not-label_anew.false) in
     let slots = c.free.new.self.slots.items in
     let current = with_items_is levels.current c.set_current.new.current (c.set_current.auto.current ∙ c.deref_mut.ensures.len) in
-    let first = first-queued l levels.near.labels.items levels.near.queue.items c.set_current.new.current is.one_label_each is.queued (rw c.deref-3.ensures.value at c.set_current.ensures.first) in
+    let first = first-queued l levels.near.labels.items levels.near.queue.items c.set_current.new.current is.one_label_each is.queued
+    (rw c.deref-3.ensures.value at c.set_current.ensures.first) in
     let aimed : IsAimed (plainly (residual_of links) w) levels.near.labels.items w.capacity = record {
       links = a.links;
       one_label_each = is.one_label_each;

@@ -7,7 +7,9 @@ use Rattle.dmf_path.proofs.Spread.{beside-at, beside-cases, not_decreasing}
 use Rattle.dmf_path.proofs.places.place_among.Goals as goal
 
 -- beside an index that is found stands its place
-found : (indices places : List ℕ) (i index : ℕ) → length places ≡ length indices → ((i j : ℕ) → i < j → j < length indices → get_or indices i 0 < get_or indices j 0) → i < length indices → get_or indices i 0 ≡ index → get_or places i 0 ≡ place_beside indices places index
+found : (indices places : List ℕ) (i index : ℕ) → length places ≡ length indices
+    → ((i j : ℕ) → i < j → j < length indices → get_or indices i 0 < get_or indices j 0) → i < length indices → get_or indices i 0 ≡ index
+    → get_or places i 0 ≡ place_beside indices places index
 found indices places i index one_each ascending within is = sym (beside-at indices places i one_each ascending within) ∙ ap (place_beside indices places) is
 
 pub returns-then-indices-i : goal.returns-then-indices-i
@@ -17,7 +19,8 @@ returns-then-indices-i c =
 pub returns-in-Ok : goal.returns-in-Ok
 returns-in-Ok c =
     let indices = c.args.indices.now in
-    let is = rw c.in-Ok.is at (searched indices c.args.index c.binary_search.result c.binary_search.ensures.position (not_decreasing indices c.requires.ascending)) in
+    let is = rw c.in-Ok.is at (searched indices c.args.index c.binary_search.result c.binary_search.ensures.position
+    (not_decreasing indices c.requires.ascending)) in
     found indices c.args.places.now c.in-Ok.found c.args.index c.requires.one_each c.requires.ascending is.0 is.1
 
 pub returns-in-Err : goal.returns-in-Err

@@ -11,7 +11,13 @@ loop-place-preserved c =
     let w = way_of c.args.trail.now in
     let rooms = (told r w).rooms in
     let i = c.loop-place.place in
-    let within : i < length rooms = omega (arith, c.loop-place-test.true, c.len-place-end.ensures, c.args.links.now.rooms.ok.0, length-settled r.links r.takes_back w.sent (filled_slots w) r.rooms) in
+    let within : i < length rooms = omega (
+      arith,
+      c.loop-place-test.true,
+      c.len-place-end.ensures,
+      c.args.links.now.rooms.ok.0,
+      length-settled r.links r.takes_back w.sent (filled_slots w) r.rooms,
+    ) in
     c.in_ok-push.ensures.items ∙ ap (λ xs. xs ++ c.settled_room.result ∷ []) c.loop-place.invariant
     ∙ ap (λ x. take i rooms ++ x ∷ []) c.settled_room.ensures ∙ sym (take_more rooms i 0 within)
 
@@ -20,5 +26,11 @@ returns c =
     let r = residual_of c.args.links.now in
     let w = way_of c.args.trail.now in
     let rooms = (told r w).rooms in
-    let all : length rooms ≤ c.loop-place.place = omega (arith, c.loop-place-test.false, c.len-place-end.ensures, c.args.links.now.rooms.ok.0, length-settled r.links r.takes_back w.sent (filled_slots w) r.rooms) in
+    let all : length rooms ≤ c.loop-place.place = omega (
+      arith,
+      c.loop-place-test.false,
+      c.len-place-end.ensures,
+      c.args.links.now.rooms.ok.0,
+      length-settled r.links r.takes_back w.sent (filled_slots w) r.rooms,
+    ) in
     c.loop-place.invariant ∙ take_all c.loop-place.place rooms all

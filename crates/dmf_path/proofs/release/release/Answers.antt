@@ -33,10 +33,12 @@ returns-else-falls-clause-off c =
     let r = residual_of c.args.links.now in
     let w = way_of c.args.trail.now in
     let rises = rw c.deref.ensures.value at c.if-falls.ensures in
-    off-slots r.links c.args.levels.now.near.labels.items (told r w).rooms c.args.levels.now.current.items w c.args.place is.aimed.links is.aimed.start_is is.under_way (eqb-false _ _ (sym rises))
+    off-slots r.links c.args.levels.now.near.labels.items (told r w).rooms c.args.levels.now.current.items w c.args.place is.aimed.links is.aimed.start_is
+    is.under_way (eqb-false _ _ (sym rises))
 
 pub returns-else-falls-clause-room : goal.returns-else-falls-clause-room
 returns-else-falls-clause-room c =
     let is = c.requires.searching in
     let r = residual_of c.args.links.now in
-    room-alone r.links r.takes_back (way_of c.args.trail.now) r.rooms c.args.place c.requires.place is.holding.rooms_are.0 c.if-links.false (returns-else-falls-clause-off c)
+    room-alone r.links r.takes_back (way_of c.args.trail.now) r.rooms c.args.place c.requires.place is.holding.rooms_are.0 c.if-links.false
+    (returns-else-falls-clause-off c)

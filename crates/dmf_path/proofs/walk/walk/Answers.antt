@@ -10,18 +10,24 @@ use Rattle.dmf_path.specs.Searching.{IsUnderWay}
 use Rattle.dmf_path.proofs.LinkPlaces.{end-within}
 use Rattle.dmf_path.proofs.WalkingTurn.{work_left}
 use Rattle.dmf_path.proofs.WayStart.{last-link_within, on-start, searching-on, same-sought}
-use Rattle.dmf_path.proofs.WayWalk.{Turn, IsFound, on-turned, within-found, slot-found, slot-first, made-start, made-goal, made-capacity, made-links, is-made, on-found, less-found, no-walk, slot-last, back-within, back-tail_within, less-back, on-stepped}
+use Rattle.dmf_path.proofs.WayWalk.{Turn, IsFound, on-turned, within-found, slot-found, slot-first, made-start, made-goal, made-capacity, made-links, is-made}
+use Rattle.dmf_path.proofs.WayWalk.{on-found, less-found, no-walk, slot-last, back-within, back-tail_within, less-back, on-stepped}
 use Rattle.dmf_path.proofs.walk.walk.Goals as goal
 use Rattle.dmf_path.proofs.walk.walk.Goals.{After-first_admissible-place}
 
 pub end_node-node-requires : goal.end_node-node-requires
 end_node-node-requires c =
     let is = c.requires in
-    record { last = λ some. last-link_within (residual_of c.args.links.now).links c.args.labels.now (told (residual_of c.args.links.now) (way_of c.args.trail.now)).rooms c.args.current.now (way_of c.args.trail.now) is.aimed.links is.aimed.start_is is.under_way some }
+    record {
+      last = λ some. last-link_within (residual_of c.args.links.now).links c.args.labels.now
+          (told (residual_of c.args.links.now) (way_of c.args.trail.now)).rooms c.args.current.now
+          (way_of c.args.trail.now) is.aimed.links is.aimed.start_is is.under_way some;
+    }
 
 pub loop-node-init : goal.loop-node-init
 loop-node-init c = record {
-  on = on-start (residual_of c.args.links.now) (record { labels = c.args.labels.now; current = c.args.current.now }) (way_of c.args.trail.now) c.end_node-node.result c.requires c.end_node-node.ensures.first c.end_node-node.ensures.last;
+  on = on-start (residual_of c.args.links.now) (record { labels = c.args.labels.now; current = c.args.current.now })
+      (way_of c.args.trail.now) c.end_node-node.result c.requires c.end_node-node.ensures.first c.end_node-node.ensures.last;
   start = refl;
   goal = refl;
   capacity = refl;
@@ -30,7 +36,11 @@ loop-node-init c = record {
 pub first_admissible-place-requires-clause-links : goal.first_admissible-place-requires-clause-links
 first_admissible-place-requires-clause-links c =
     let a = c.loop-node.links in
-    omega (arith, end-within (residual_of a).links c.loop-node.node c.index-end.result.now a.table.are c.loop-node.invariant.on.come.is_node.to_last c.index-end.ensures)
+    omega (
+      arith,
+      end-within (residual_of a).links c.loop-node.node c.index-end.result.now a.table.are c.loop-node.invariant.on.come.is_node.to_last
+          c.index-end.ensures,
+    )
 
 pub first_admissible-place-requires-clause-one_label_each : goal.first_admissible-place-requires-clause-one_label_each
 first_admissible-place-requires-clause-one_label_each c =
@@ -64,56 +74,99 @@ turn c =
 pub make_way-requires-clause-within : goal.make_way-requires-clause-within
 make_way-requires-clause-within c =
     let t = turn (goal.at.make_way-requires-clause-within c).After-first_admissible-place in
-    let f : IsFound t = record { found = c.if-place-end.true; room = c.first_admissible-place.ensures.room c.if-place-end.true; falls = c.first_admissible-place.ensures.falls c.if-place-end.true } in
+    let f : IsFound t = record {
+      found = c.if-place-end.true;
+      room = c.first_admissible-place.ensures.room c.if-place-end.true;
+      falls =
+          c.first_admissible-place.ensures.falls c.if-place-end.true;
+    } in
     slot-found t f
 
 pub make_way-requires-clause-slot : goal.make_way-requires-clause-slot
 make_way-requires-clause-slot c =
     let t = turn (goal.at.make_way-requires-clause-slot c).After-first_admissible-place in
-    let f : IsFound t = record { found = c.if-place-end.true; room = c.first_admissible-place.ensures.room c.if-place-end.true; falls = c.first_admissible-place.ensures.falls c.if-place-end.true } in
+    let f : IsFound t = record {
+      found = c.if-place-end.true;
+      room = c.first_admissible-place.ensures.room c.if-place-end.true;
+      falls =
+          c.first_admissible-place.ensures.falls c.if-place-end.true;
+    } in
     λ meets. slot-first t f meets
 
 pub index-room-requires : goal.index-room-requires
 index-room-requires c =
     let t = turn (goal.at.index-room-requires c).After-first_admissible-place in
-    let f : IsFound t = record { found = c.if-place-end.true; room = c.first_admissible-place.ensures.room c.if-place-end.true; falls = c.first_admissible-place.ensures.falls c.if-place-end.true } in
-    let within = subst (λ (l : Links). c.first_admissible-place.result < length l.heads) (sym (made-links t.r t.w (residual_of c.make_way.new.links) (way_of c.make_way.new.self) c.make_way.ensures)) (within-found t f) in
+    let f : IsFound t = record {
+      found = c.if-place-end.true;
+      room = c.first_admissible-place.ensures.room c.if-place-end.true;
+      falls =
+          c.first_admissible-place.ensures.falls c.if-place-end.true;
+    } in
+    let within = subst (λ (l : Links). c.first_admissible-place.result < length l.heads)
+    (sym (made-links t.r t.w (residual_of c.make_way.new.links) (way_of c.make_way.new.self) c.make_way.ensures)) (within-found t f) in
     omega (arith, within, c.make_way.new.links.rooms_are.0)
 
 pub enter-requires : goal.enter-requires
 enter-requires c =
     let t = turn (goal.at.enter-requires c).After-first_admissible-place in
-    let f : IsFound t = record { found = c.if-place-end.true; room = c.first_admissible-place.ensures.room c.if-place-end.true; falls = c.first_admissible-place.ensures.falls c.if-place-end.true } in
+    let f : IsFound t = record {
+      found = c.if-place-end.true;
+      room = c.first_admissible-place.ensures.room c.if-place-end.true;
+      falls =
+          c.first_admissible-place.ensures.falls c.if-place-end.true;
+    } in
     record { free = (is-made t (residual_of c.make_way.new.links) (way_of c.make_way.new.self) f c.make_way.ensures c.make_way.new.links.rooms_are).next }
 
 pub index-node-requires : goal.index-node-requires
 index-node-requires c =
     let t = turn (goal.at.index-node-requires c).After-first_admissible-place in
-    let f : IsFound t = record { found = c.if-place-end.true; room = c.first_admissible-place.ensures.room c.if-place-end.true; falls = c.first_admissible-place.ensures.falls c.if-place-end.true } in
-    let within = subst (λ (l : Links). c.first_admissible-place.result < length l.heads) (sym (made-links t.r t.w (residual_of c.make_way.new.links) (way_of c.make_way.new.self) c.make_way.ensures)) (within-found t f) in
+    let f : IsFound t = record {
+      found = c.if-place-end.true;
+      room = c.first_admissible-place.ensures.room c.if-place-end.true;
+      falls =
+          c.first_admissible-place.ensures.falls c.if-place-end.true;
+    } in
+    let within = subst (λ (l : Links). c.first_admissible-place.result < length l.heads)
+    (sym (made-links t.r t.w (residual_of c.make_way.new.links) (way_of c.make_way.new.self) c.make_way.ensures)) (within-found t f) in
     omega (arith, within, c.make_way.new.links.table.heads.ok.0)
 
 pub loop-node-smaller-then-place-end : goal.loop-node-smaller-then-place-end
 loop-node-smaller-then-place-end c =
     let t = turn (goal.at.loop-node-smaller-then-place-end c).After-first_admissible-place in
-    let f : IsFound t = record { found = c.if-place-end.true; room = c.first_admissible-place.ensures.room c.if-place-end.true; falls = c.first_admissible-place.ensures.falls c.if-place-end.true } in
-    subst (λ s. work_left t.aim.links t.labels s (set t.current t.node t.place) c.index-node.result.now < work_left t.aim.links t.labels s t.current t.node) c.loop-node.invariant.start
+    let f : IsFound t = record {
+      found = c.if-place-end.true;
+      room = c.first_admissible-place.ensures.room c.if-place-end.true;
+      falls =
+          c.first_admissible-place.ensures.falls c.if-place-end.true;
+    } in
+    subst (λ s. work_left t.aim.links t.labels s (set t.current t.node t.place) c.index-node.result.now < work_left t.aim.links t.labels s t.current t.node)
+    c.loop-node.invariant.start
     (less-found t (residual_of c.make_way.new.links) (way_of c.make_way.new.self) c.index-node.result.now f c.make_way.ensures c.index-node.ensures)
 
 pub loop-node-preserved-then-place-end : goal.loop-node-preserved-then-place-end
 loop-node-preserved-then-place-end c =
     let t = turn (goal.at.loop-node-preserved-then-place-end c).After-first_admissible-place in
-    let f : IsFound t = record { found = c.if-place-end.true; room = c.first_admissible-place.ensures.room c.if-place-end.true; falls = c.first_admissible-place.ensures.falls c.if-place-end.true } in
+    let f : IsFound t = record {
+      found = c.if-place-end.true;
+      room = c.first_admissible-place.ensures.room c.if-place-end.true;
+      falls =
+          c.first_admissible-place.ensures.falls c.if-place-end.true;
+    } in
     let made = c.make_way.ensures in
     let new = c.make_way.new.links in
-    let within = subst (λ (l : Links). c.first_admissible-place.result < length l.heads) (sym (made-links t.r t.w (residual_of c.make_way.new.links) (way_of c.make_way.new.self) c.make_way.ensures)) (within-found t f) in
-    let room : c.index-room.result.now ≡ get_or new.rooms.items t.place 0 = c.index-room.ensures ∙ get_or_default new.rooms.items t.place _ 0 (omega (arith, within, new.rooms_are.0)) in
+    let within = subst (λ (l : Links). c.first_admissible-place.result < length l.heads)
+    (sym (made-links t.r t.w (residual_of c.make_way.new.links) (way_of c.make_way.new.self) c.make_way.ensures)) (within-found t f) in
+    let room : c.index-room.result.now ≡ get_or new.rooms.items t.place 0 =
+    c.index-room.ensures ∙ get_or_default new.rooms.items t.place _ 0 (omega (arith, within, new.rooms_are.0)) in
     let on = on-found t (residual_of c.make_way.new.links) (way_of c.make_way.new.self) c.index-node.result.now f made new.rooms_are c.index-node.ensures in
     record {
       on = rw (c.enter.ensures, room) on;
-      start = ap (λ (w : Way). w.start) c.enter.ensures ∙ made-start t.r t.w (residual_of c.make_way.new.links) (way_of c.make_way.new.self) made ∙ c.loop-node.invariant.start;
-      goal = ap (λ (w : Way). w.goal) c.enter.ensures ∙ made-goal t.r t.w (residual_of c.make_way.new.links) (way_of c.make_way.new.self) made ∙ c.loop-node.invariant.goal;
-      capacity = ap (λ (w : Way). w.capacity) c.enter.ensures ∙ made-capacity t.r t.w (residual_of c.make_way.new.links) (way_of c.make_way.new.self) made ∙ c.loop-node.invariant.capacity;
+      start = ap (λ (w : Way). w.start) c.enter.ensures ∙ made-start t.r t.w (residual_of c.make_way.new.links)
+          (way_of c.make_way.new.self) made ∙ c.loop-node.invariant.start;
+      goal = ap (λ (w : Way). w.goal) c.enter.ensures ∙ made-goal t.r t.w (residual_of c.make_way.new.links)
+          (way_of c.make_way.new.self) made ∙ c.loop-node.invariant.goal;
+      capacity = ap (λ (w : Way). w.capacity) c.enter.ensures ∙ made-capacity t.r t.w (residual_of c.make_way.new.links)
+          (way_of c.make_way.new.self) made ∙ c.loop-node.invariant.capacity;
     }
 
 pub returns-then-trail-eq0-clause-searching : goal.returns-then-trail-eq0-clause-searching
@@ -121,20 +174,25 @@ returns-then-trail-eq0-clause-searching c =
     let t = turn (goal.at.returns-then-trail-eq0-clause-searching c).After-first_admissible-place in
     let on = on-turned t in
     let i = c.loop-node.invariant in
-    searching-on (residual_of c.args.links.now) (record { labels = c.args.labels.now; current = c.args.current.now }) (way_of c.args.trail.now) t.r (set t.current t.node t.place) t.w c.requires (same-sought (residual_of c.args.links.now) (way_of c.args.trail.now) t.r t.w on.same i.start i.goal) i.capacity on.holding (subst (λ (x : Residual). IsUnderWay t.r.links t.labels x.rooms (set t.current t.node t.place) t.w) (sym on.same) on.way)
+    searching-on (residual_of c.args.links.now) (record { labels = c.args.labels.now; current = c.args.current.now }) (way_of c.args.trail.now) t.r
+    (set t.current t.node t.place) t.w c.requires (same-sought (residual_of c.args.links.now) (way_of c.args.trail.now) t.r t.w on.same i.start i.goal)
+    i.capacity on.holding (subst (λ (x : Residual). IsUnderWay t.r.links t.labels x.rooms (set t.current t.node t.place) t.w) (sym on.same) on.way)
 
 pub returns-then-trail-eq0-clause-same : goal.returns-then-trail-eq0-clause-same
 returns-then-trail-eq0-clause-same c =
     let t = turn (goal.at.returns-then-trail-eq0-clause-same c).After-first_admissible-place in
-    same-sought (residual_of c.args.links.now) (way_of c.args.trail.now) t.r t.w c.loop-node.invariant.on.same c.loop-node.invariant.start c.loop-node.invariant.goal
+    same-sought (residual_of c.args.links.now) (way_of c.args.trail.now) t.r t.w c.loop-node.invariant.on.same c.loop-node.invariant.start
+    c.loop-node.invariant.goal
 
 pub returns-then-trail-eq0-clause-none : goal.returns-then-trail-eq0-clause-none
 returns-then-trail-eq0-clause-none c =
     let t = turn (goal.at.returns-then-trail-eq0-clause-none c).After-first_admissible-place in
     λ is_false ps.
     let i = c.loop-node.invariant in
-    let none = subst (λ (l : Links). ¬ IsWalk l t.labels t.aim.rooms t.w.goal t.w.start ps) (ap (λ (x : Residual). x.links) i.on.same) (no-walk t c.if-place-end.false c.if-trail-eq0.true ps) in
-    subst (λ s. ¬ IsWalk t.aim.links t.labels t.aim.rooms c.args.trail.now.goal s ps) i.start (subst (λ g. ¬ IsWalk t.aim.links t.labels t.aim.rooms g t.w.start ps) i.goal none)
+    let none = subst (λ (l : Links). ¬ IsWalk l t.labels t.aim.rooms t.w.goal t.w.start ps) (ap (λ (x : Residual). x.links) i.on.same)
+    (no-walk t c.if-place-end.false c.if-trail-eq0.true ps) in
+    subst (λ s. ¬ IsWalk t.aim.links t.labels t.aim.rooms c.args.trail.now.goal s ps) i.start
+    (subst (λ g. ¬ IsWalk t.aim.links t.labels t.aim.rooms g t.w.start ps) i.goal none)
 
 pub step_back-back-requires-clause-slot : goal.step_back-back-requires-clause-slot
 step_back-back-requires-clause-slot c =
@@ -146,7 +204,8 @@ pub tail-node-requires : goal.tail-node-requires
 tail-node-requires c =
     let t = turn (goal.at.tail-node-requires c).After-first_admissible-place in
     let some : 0 < c.loop-node.trail.walked = omega (arith, c.if-trail-eq0.false) in
-    subst (λ (x : Residual). c.step_back-back.result < length x.links.heads) (sym c.step_back-back.ensures.links) (back-within t c.step_back-back.result some c.step_back-back.ensures.place)
+    subst (λ (x : Residual). c.step_back-back.result < length x.links.heads) (sym c.step_back-back.ensures.links)
+    (back-within t c.step_back-back.result some c.step_back-back.ensures.place)
 
 pub overflow_add-current : goal.overflow_add-current
 overflow_add-current c =
@@ -159,7 +218,8 @@ bounds-current-node-else-place-end c =
     let t = turn (goal.at.bounds-current-node-else-place-end c).After-first_admissible-place in
     let some : 0 < c.loop-node.trail.walked = omega (arith, c.if-trail-eq0.false) in
     let tail : c.tail-node.result ≡ tail_of t.r.links (slot_at t.w.slots (t.w.walked - 1)).place =
-    c.tail-node.ensures ∙ ap (λ (x : Residual). tail_of x.links c.step_back-back.result) c.step_back-back.ensures.links ∙ ap (tail_of t.r.links) c.step_back-back.ensures.place in
+    c.tail-node.ensures ∙ ap (λ (x : Residual). tail_of x.links c.step_back-back.result) c.step_back-back.ensures.links ∙ ap (tail_of t.r.links)
+    c.step_back-back.ensures.place in
     back-tail_within t c.tail-node.result some tail
 
 pub loop-node-smaller : goal.loop-node-smaller
@@ -167,8 +227,10 @@ loop-node-smaller c =
     let t = turn (goal.at.loop-node-smaller c).After-first_admissible-place in
     let some : 0 < c.loop-node.trail.walked = omega (arith, c.if-trail-eq0.false) in
     let tail : c.tail-node.result ≡ tail_of t.r.links (slot_at t.w.slots (t.w.walked - 1)).place =
-    c.tail-node.ensures ∙ ap (λ (x : Residual). tail_of x.links c.step_back-back.result) c.step_back-back.ensures.links ∙ ap (tail_of t.r.links) c.step_back-back.ensures.place in
-    subst (λ s. work_left t.aim.links t.labels s (set (set t.current t.node t.place) c.tail-node.result (c.step_back-back.result + 1)) c.tail-node.result < work_left t.aim.links t.labels s t.current t.node) c.loop-node.invariant.start
+    c.tail-node.ensures ∙ ap (λ (x : Residual). tail_of x.links c.step_back-back.result) c.step_back-back.ensures.links ∙ ap (tail_of t.r.links)
+    c.step_back-back.ensures.place in
+    subst (λ s. work_left t.aim.links t.labels s (set (set t.current t.node t.place) c.tail-node.result (c.step_back-back.result + 1)) c.tail-node.result
+    < work_left t.aim.links t.labels s t.current t.node) c.loop-node.invariant.start
     (less-back t c.step_back-back.result c.tail-node.result some c.step_back-back.ensures.place tail)
 
 pub loop-node-preserved : goal.loop-node-preserved
@@ -176,11 +238,13 @@ loop-node-preserved c =
     let t = turn (goal.at.loop-node-preserved c).After-first_admissible-place in
     let some : 0 < c.loop-node.trail.walked = omega (arith, c.if-trail-eq0.false) in
     let tail : c.tail-node.result ≡ tail_of t.r.links (slot_at t.w.slots (t.w.walked - 1)).place =
-    c.tail-node.ensures ∙ ap (λ (x : Residual). tail_of x.links c.step_back-back.result) c.step_back-back.ensures.links ∙ ap (tail_of t.r.links) c.step_back-back.ensures.place in
+    c.tail-node.ensures ∙ ap (λ (x : Residual). tail_of x.links c.step_back-back.result) c.step_back-back.ensures.links ∙ ap (tail_of t.r.links)
+    c.step_back-back.ensures.place in
     let back = c.step_back-back.ensures in
     let i = c.loop-node.invariant in
     record {
-      on = on-stepped t (residual_of c.step_back-back.new.links) (way_of c.step_back-back.new.self) c.step_back-back.result c.tail-node.result c.if-place-end.false some back.links back.way c.step_back-back.new.links.rooms_are back.place tail;
+      on = on-stepped t (residual_of c.step_back-back.new.links) (way_of c.step_back-back.new.self) c.step_back-back.result c.tail-node.result
+          c.if-place-end.false some back.links back.way c.step_back-back.new.links.rooms_are back.place tail;
       start = ap (λ (w : Way). w.start) back.way ∙ i.start;
       goal = ap (λ (w : Way). w.goal) back.way ∙ i.goal;
       capacity = ap (λ (w : Way). w.capacity) back.way ∙ i.capacity;
@@ -189,11 +253,16 @@ loop-node-preserved c =
 pub returns-clause-searching : goal.returns-clause-searching
 returns-clause-searching c =
     let i = c.loop-node.invariant in
-    searching-on (residual_of c.args.links.now) (record { labels = c.args.labels.now; current = c.args.current.now }) (way_of c.args.trail.now) (residual_of c.loop-node.links) c.loop-node.current (way_of c.loop-node.trail) c.requires (same-sought (residual_of c.args.links.now) (way_of c.args.trail.now) (residual_of c.loop-node.links) (way_of c.loop-node.trail) i.on.same i.start i.goal) i.capacity i.on.holding
-    (subst (λ (x : Residual). IsUnderWay (residual_of c.loop-node.links).links c.args.labels.now x.rooms c.loop-node.current (way_of c.loop-node.trail)) (sym i.on.same) i.on.way)
+    searching-on (residual_of c.args.links.now) (record { labels = c.args.labels.now; current = c.args.current.now }) (way_of c.args.trail.now)
+    (residual_of c.loop-node.links) c.loop-node.current (way_of c.loop-node.trail) c.requires
+    (same-sought (residual_of c.args.links.now) (way_of c.args.trail.now) (residual_of c.loop-node.links)
+    (way_of c.loop-node.trail) i.on.same i.start i.goal) i.capacity i.on.holding
+    (subst (λ (x : Residual). IsUnderWay (residual_of c.loop-node.links).links c.args.labels.now x.rooms c.loop-node.current (way_of c.loop-node.trail))
+    (sym i.on.same) i.on.way)
 
 pub returns-clause-same : goal.returns-clause-same
-returns-clause-same c = same-sought (residual_of c.args.links.now) (way_of c.args.trail.now) (residual_of c.loop-node.links) (way_of c.loop-node.trail) c.loop-node.invariant.on.same c.loop-node.invariant.start c.loop-node.invariant.goal
+returns-clause-same c = same-sought (residual_of c.args.links.now) (way_of c.args.trail.now) (residual_of c.loop-node.links)
+    (way_of c.loop-node.trail) c.loop-node.invariant.on.same c.loop-node.invariant.start c.loop-node.invariant.goal
 
 pub returns-clause-found : goal.returns-clause-found
 returns-clause-found c = λ yes. c.loop-node.invariant.on.come.arrives ∙ c.loop-node-test.false

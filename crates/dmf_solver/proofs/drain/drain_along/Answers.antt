@@ -21,7 +21,9 @@ loop-left-init c = λ unpaired carries.
     let s = c.args.state.now in
     let differ = c.requires.no_loop in
     let along = carries-along s unpaired _ c.args.search.now c.args.j c.requires.is_there (λ e. differ (sym e)) carries in
-    rw (c.aim.ensures, c.arc-arc.ensures.value) (draining-begun s unpaired (flows_read Along unpaired c.args.search.now.pairs) c.args.j c.args.limit _ c.args.search.now (c.saturating_sub-left.ensures ∙ ap (λ x. x - c.args.limit) (c.unwrap_or.ensures ∙ ap (λ o. unwrap_or o 0) c.along.ensures ∙ along)) carries)
+    rw (c.aim.ensures, c.arc-arc.ensures.value) (draining-begun s unpaired
+    (flows_read Along unpaired c.args.search.now.pairs) c.args.j c.args.limit _ c.args.search.now
+    (c.saturating_sub-left.ensures ∙ ap (λ x. x - c.args.limit) (c.unwrap_or.ensures ∙ ap (λ o. unwrap_or o 0) c.along.ensures ∙ along)) carries)
 
 pub returns-then-left-eq0 : goal.returns-then-left-eq0
 returns-then-left-eq0 c = λ unpaired carries.
@@ -34,15 +36,19 @@ returns-then-left-eq0 c = λ unpaired carries.
     (carries, drained-all (with_flows s flows) c.args.j c.args.limit flows within (drained-none (with_flows s flows) c.args.j c.args.limit carries.state))
 
 -- what one path more does
-once : (c : goal.After-lower) (unpaired : List ℕ) → IsCarryingSearch c.args.state.now unpaired c.args.search.now → DrainsOnce c.args.state.now unpaired (flows_read Along unpaired c.args.search.now.pairs) c.args.j c.args.limit c.loop-left.left c.in-Some.found.amount c.augment.new.self
+once : (c : goal.After-lower) (unpaired : List ℕ) → IsCarryingSearch c.args.state.now unpaired c.args.search.now
+    → DrainsOnce c.args.state.now unpaired (flows_read Along unpaired c.args.search.now.pairs) c.args.j c.args.limit c.loop-left.left c.in-Some.found.amount
+    c.augment.new.self
 once c unpaired carries =
     let differ = c.requires.no_loop in
-    draining-once c.args.state.now unpaired _ c.args.j c.args.limit _ c.in-Some.found _ _ c.requires.is_there (λ e. differ (sym e)) c.loop-left-test.true (c.loop-left.invariant unpaired carries) c.in-Some.ensures.found
+    draining-once c.args.state.now unpaired _ c.args.j c.args.limit _ c.in-Some.found _ _ c.requires.is_there (λ e. differ (sym e)) c.loop-left-test.true
+    (c.loop-left.invariant unpaired carries) c.in-Some.ensures.found
 
 pub lower-requires : goal.lower-requires
 lower-requires c =
     let differ = c.requires.no_loop in
-    (draining-once c.args.state.now c.requires.carrying.0 _ c.args.j c.args.limit _ c.in-Some.found _ _ c.requires.is_there (λ e. differ (sym e)) c.loop-left-test.true (c.loop-left.invariant c.requires.carrying.0 c.requires.carrying.1) c.in-Some.ensures.found).room
+    (draining-once c.args.state.now c.requires.carrying.0 _ c.args.j c.args.limit _ c.in-Some.found _ _ c.requires.is_there
+    (λ e. differ (sym e)) c.loop-left-test.true (c.loop-left.invariant c.requires.carrying.0 c.requires.carrying.1) c.in-Some.ensures.found).room
 
 pub overflow_sub-left : goal.overflow_sub-left
 overflow_sub-left c = (once c c.requires.carrying.0 c.requires.carrying.1).within
@@ -57,7 +63,9 @@ loop-left-preserved c = λ unpaired carries. rw c.lower.ensures (once c unpaired
 
 -- what flows on the arc comes back
 pub unreachable-requires : goal.unreachable-requires
-unreachable-requires c = draining-has_path c.args.state.now c.requires.carrying.0 _ c.args.j c.args.limit _ _ c.requires.is_there c.loop-left-test.true (c.loop-left.invariant c.requires.carrying.0 c.requires.carrying.1) c.in-None.ensures.found.0
+unreachable-requires c = draining-has_path c.args.state.now c.requires.carrying.0 _ c.args.j c.args.limit _ _ c.requires.is_there c.loop-left-test.true
+    (c.loop-left.invariant c.requires.carrying.0 c.requires.carrying.1) c.in-None.ensures.found.0
 
 pub returns : goal.returns
-returns c = λ unpaired carries. rw c.settle.ensures (draining-done c.args.state.now unpaired _ c.args.j c.args.limit _ _ c.loop-left-test.false (c.loop-left.invariant unpaired carries))
+returns c = λ unpaired carries. rw c.settle.ensures (draining-done c.args.state.now unpaired _ c.args.j c.args.limit _ _ c.loop-left-test.false
+    (c.loop-left.invariant unpaired carries))

@@ -10,7 +10,8 @@ loop-i-preserved c =
     let v = c.args.v in
     let arcs = c.args.state.now.network.arcs in
     let within : c.loop-i.i < length arcs = rw c.arcs-arc-items.ensures.value at c.loop-i-test.true in
-    let here : get_or c.arcs-arc-items.result.now c.loop-i.i no_arc ≡ get_or arcs c.loop-i.i no_arc = ap (λ xs. get_or xs c.loop-i.i no_arc) c.arcs-arc-items.ensures.value in
+    let here : get_or c.arcs-arc-items.result.now c.loop-i.i no_arc ≡ get_or arcs c.loop-i.i no_arc =
+    ap (λ xs. get_or xs c.loop-i.i no_arc) c.arcs-arc-items.ensures.value in
     let more = listed-more v c.loop-i.i arcs within in
     let nothing = append-nil (listed_from v 1 (take c.loop-i.i arcs)) in
     grind (arith, common_steps, more, nothing, here)

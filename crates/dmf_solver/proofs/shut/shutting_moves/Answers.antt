@@ -58,7 +58,8 @@ loop-shutting-preserved c =
     (c.drain_in_turn-are_loops_drained.auto.unpaired ∙ c.deref_mut.ensures.len) in
     record {
       drained = rw written
-          (drained-next_arc c.args.state.now (numbers arcs) (numbers (drop i arcs)) c.loop-shutting.unpaired.items c.drain_in_turn-are_loops_drained.new.unpaired
+          (drained-next_arc c.args.state.now (numbers arcs) (numbers (drop i arcs)) c.loop-shutting.unpaired.items
+          c.drain_in_turn-are_loops_drained.new.unpaired
           (get_or arcs i no_shutting).arc (numbers (drop (i + 1) arcs)) c.loop-shutting.search c.drain_in_turn-are_loops_drained.new.search
           (numbers-next arcs i c.loop-shutting-test.true) c.drain_in_turn-are_loops_drained.ensures.carrying
           (rw c.deref_mut.ensures.value at c.drain_in_turn-are_loops_drained.ensures.drains) c.loop-shutting.invariant.drained);
@@ -83,7 +84,8 @@ list_moves-requires-clause-others_stay c =
           (record { count = length s.flows; most = omega arith; covers = covers-below (length s.flows) _ })
       | else-are_loops_drained w ↦
           rw w.indices-is
-          (differences-covered s c.loop-shutting.unpaired.items (indices_of w.indices-indices.result) c.loop-shutting.search is.drained.carrying (is.list_stays w.if-are_loops_drained.false) w.indices-indices.ensures)
+          (differences-covered s c.loop-shutting.unpaired.items (indices_of w.indices-indices.result) c.loop-shutting.search is.drained.carrying
+          (is.list_stays w.if-are_loops_drained.false) w.indices-indices.ensures)
     ])
 
 pub returns : goal.returns

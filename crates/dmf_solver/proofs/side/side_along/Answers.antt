@@ -23,7 +23,8 @@ returns c =
     let reached = reached-by_search n flows c.args.search.now c.value.result c.in_ok-side.side c.requires c.in_ok-side.ensures in
     let none = no_path-by_search n flows (has_node c.in_ok-side.side.ids) state.network reached outside in
     record {
-      side = IsSmallestSide-by_search n flows c.args.search.now c.value.result c.in_ok-side.side state.network state.flow none c.requires c.value.ensures.value c.in_ok-side.ensures;
+      side = IsSmallestSide-by_search n flows c.args.search.now c.value.result c.in_ok-side.side state.network state.flow none c.requires c.value.ensures.value
+          c.in_ok-side.ensures;
       value = ap pos c.in_ok-side.ensures.capacity_is ∙ c.value.ensures.value;
       greatest = greatest-from_no_path n flows state.network state.flow none;
       fault = tt;

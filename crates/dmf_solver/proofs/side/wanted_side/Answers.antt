@@ -9,7 +9,8 @@ returns-then-want_side-clause-side c =
     let solved = c.args.solved.now in
     let is = c.requires in
     rw c.if-want_side.true
-    (IsSmallestSide-by_search s.network (reached_flows s solved.search) solved.search solved.value c.in_ok-side.side is.state.network is.state.flow is.solves.no_path is.search_is is.value_is c.in_ok-side.ensures)
+    (IsSmallestSide-by_search s.network (reached_flows s solved.search) solved.search solved.value c.in_ok-side.side is.state.network is.state.flow
+    is.solves.no_path is.search_is is.value_is c.in_ok-side.ensures)
 
 pub returns-then-want_side-clause-value : goal.returns-then-want_side-clause-value
 returns-then-want_side-clause-value c = ap pos c.in_ok-side.ensures.capacity_is ∙ c.requires.value_is

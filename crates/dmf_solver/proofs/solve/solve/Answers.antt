@@ -10,16 +10,19 @@ use Rattle.dmf_solver.proofs.solve.solve.Goals as goal
 
 pub overflow_add-value : goal.overflow_add-value
 overflow_add-value g c = record {
-  fits = (solving-more c.args.state.now _ c.loop-found.value c.in-Some.found c.loop-found.search c.augment.new.self refl c.loop-found.invariant.solving c.in-Some.ensures.found).small;
+  fits = (solving-more c.args.state.now _ c.loop-found.value c.in-Some.found c.loop-found.search c.augment.new.self refl c.loop-found.invariant.solving
+      c.in-Some.ensures.found).small;
 }
 
 pub loop-found-smaller : goal.loop-found-smaller
 loop-found-smaller g c =
-    (solving-more c.args.state.now _ c.loop-found.value c.in-Some.found c.loop-found.search c.augment.new.self refl c.loop-found.invariant.solving c.in-Some.ensures.found).falls
+    (solving-more c.args.state.now _ c.loop-found.value c.in-Some.found c.loop-found.search c.augment.new.self refl c.loop-found.invariant.solving
+    c.in-Some.ensures.found).falls
 
 pub loop-found-smaller-then-left-eq0 : goal.loop-found-smaller-then-left-eq0
 loop-found-smaller-then-left-eq0 g c =
-    (solving-more c.args.state.now _ c.loop-found.value c.in-Some.found c.loop-found.search c.augment.new.self refl c.loop-found.invariant.solving c.in-Some.ensures.found).falls
+    (solving-more c.args.state.now _ c.loop-found.value c.in-Some.found c.loop-found.search c.augment.new.self refl c.loop-found.invariant.solving
+    c.in-Some.ensures.found).falls
 
 pub loop-found-init : goal.loop-found-init
 loop-found-init g c = record {

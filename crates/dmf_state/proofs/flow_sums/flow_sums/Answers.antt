@@ -24,7 +24,8 @@ overflow_add-index_mut c =
 pub overflow_add-index_mut-in-loop-i : goal.overflow_add-index_mut-in-loop-i
 overflow_add-index_mut-in-loop-i c =
     let arc = c.requires.arcs c.loop-i.i no_arc c.loop-i-test.true in
-    let le = sums-le (λ (a : Arc). a.head) _ _ _ _ _ _ c.requires.within c.loop-i-test.true arc.head c.index_mut-in-loop-i.ensures.value c.loop-i.invariant.entering in
+    let le = sums-le (λ (a : Arc). a.head) _ _ _ _ _ _ c.requires.within c.loop-i-test.true arc.head c.index_mut-in-loop-i.ensures.value
+    c.loop-i.invariant.entering in
     omega (arith, le, c.requires.capacities)
 
 pub loop-i-preserved : goal.loop-i-preserved

@@ -17,14 +17,16 @@ invariant_of-self-then-self c =
     let a = c.self.inside in
     let accepted = subst (FitsPresent c.args.edit) (sym c.self.view_is) c.requires.fits in
     rw (c.push_back_reserved.ensures.items, c.truncate.ensures.items, c.reserve.ensures.items, c.in_ok-apply.ensures.ok)
-    (put-within_bound a.present a.edits.items a.place a.bound c.self.invariant.are c.args.edit accepted c.reverting_gives_back.ensures c.if-self.true c.self.invariant.limit)
+    (put-within_bound a.present a.edits.items a.place a.bound c.self.invariant.are c.args.edit accepted c.reverting_gives_back.ensures c.if-self.true
+    c.self.invariant.limit)
 
 pub invariant_of-self-else-self : goal.invariant_of-self-else-self
 invariant_of-self-else-self c =
     let a = c.self.inside in
     let accepted = subst (FitsPresent c.args.edit) (sym c.self.view_is) c.requires.fits in
     rw (c.forget_oldest.ensures, c.push_back_reserved.ensures.items, c.truncate.ensures.items, c.reserve.ensures.items, c.in_ok-apply.ensures.ok)
-    (put-forgets-within_bound a.present a.edits.items a.place a.bound c.self.invariant.are c.args.edit accepted c.reverting_gives_back.ensures c.self.invariant.at_most c.self.invariant.limit)
+    (put-forgets-within_bound a.present a.edits.items a.place a.bound c.self.invariant.are c.args.edit accepted c.reverting_gives_back.ensures
+    c.self.invariant.at_most c.self.invariant.limit)
 
 pub returns-then-self-clause-ok : goal.returns-then-self-clause-ok
 returns-then-self-clause-ok c =
@@ -37,5 +39,12 @@ pub returns-else-self-clause-ok : goal.returns-else-self-clause-ok
 returns-else-self-clause-ok c =
     let a = c.self.inside in
     let accepted = subst (FitsPresent c.args.edit) (sym c.self.view_is) c.requires.fits in
-    rw (← c.self.view_is, c.forget_oldest.ensures, c.push_back_reserved.ensures.items, c.truncate.ensures.items, c.reserve.ensures.items, c.in_ok-apply.ensures.ok)
+    rw (
+      ← c.self.view_is,
+      c.forget_oldest.ensures,
+      c.push_back_reserved.ensures.items,
+      c.truncate.ensures.items,
+      c.reserve.ensures.items,
+      c.in_ok-apply.ensures.ok,
+    )
     (put-forgets a.present a.edits.items a.place a.bound c.self.invariant.are c.args.edit accepted c.reverting_gives_back.ensures c.if-self.false)

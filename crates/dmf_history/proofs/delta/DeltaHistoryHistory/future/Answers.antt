@@ -9,4 +9,5 @@ returns-clause-count c =
     omega (arith, future, c.len.ensures, c.self.inside.edits.ok.0)
 
 pub returns-clause-timeline : goal.returns-clause-timeline
-returns-clause-timeline c = subst IsTimeline c.self.view_is (is-timeline _ _ _ c.self.inside.bound c.self.invariant.are c.self.invariant.at_most c.self.invariant.limit)
+returns-clause-timeline c = subst IsTimeline c.self.view_is (is-timeline _ _ _ c.self.inside.bound c.self.invariant.are c.self.invariant.at_most
+    c.self.invariant.limit)

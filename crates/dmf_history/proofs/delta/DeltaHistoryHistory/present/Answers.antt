@@ -7,4 +7,5 @@ pub returns-clause-state : goal.returns-clause-state
 returns-clause-state c = subst (λ t. IsPresent t c.self.inside.present) c.self.view_is (is-present _ _ _ c.self.inside.bound c.self.invariant.are)
 
 pub returns-clause-timeline : goal.returns-clause-timeline
-returns-clause-timeline c = subst IsTimeline c.self.view_is (is-timeline _ _ _ c.self.inside.bound c.self.invariant.are c.self.invariant.at_most c.self.invariant.limit)
+returns-clause-timeline c = subst IsTimeline c.self.view_is (is-timeline _ _ _ c.self.inside.bound c.self.invariant.are c.self.invariant.at_most
+    c.self.invariant.limit)

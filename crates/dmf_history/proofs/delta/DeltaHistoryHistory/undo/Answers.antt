@@ -7,14 +7,16 @@ pub revert-requires : goal.revert-requires
 revert-requires c =
     let a = c.self.inside in
     let last : a.place ≡ a.place - 1 + 1 = omega (arith, c.if-self-eq0.false) in
-    let is = slice_get_read a.edits.items _ (a.place - 1) c.index.result.now a.edits.ok.0 (omega (arith, last, c.self.invariant.are.within, a.edits.ok.0)) c.index.ensures in
+    let is = slice_get_read a.edits.items _ (a.place - 1) c.index.result.now a.edits.ok.0
+    (omega (arith, last, c.self.invariant.are.within, a.edits.ok.0)) c.index.ensures in
     stands a.present a.edits.items a.place a.bound c.self.invariant.are (a.place - 1) c.index.result.now last is
 
 pub invariant_of-self : goal.invariant_of-self
 invariant_of-self c =
     let a = c.self.inside in
     let last : a.place ≡ a.place - 1 + 1 = omega (arith, c.if-self-eq0.false) in
-    let is = slice_get_read a.edits.items _ (a.place - 1) c.index.result.now a.edits.ok.0 (omega (arith, last, c.self.invariant.are.within, a.edits.ok.0)) c.index.ensures in
+    let is = slice_get_read a.edits.items _ (a.place - 1) c.index.result.now a.edits.ok.0
+    (omega (arith, last, c.self.invariant.are.within, a.edits.ok.0)) c.index.ensures in
     let are = undone a.present a.edits.items a.place a.bound c.self.invariant.are (a.place - 1) c.index.result.now last is c.reverting_gives_back.ensures in
     rw c.revert.ensures (record { are = are; at_most = c.self.invariant.at_most; limit = c.self.invariant.limit })
 
@@ -22,6 +24,7 @@ pub returns-clause-ok : goal.returns-clause-ok
 returns-clause-ok c =
     let a = c.self.inside in
     let last : a.place ≡ a.place - 1 + 1 = omega (arith, c.if-self-eq0.false) in
-    let is = slice_get_read a.edits.items _ (a.place - 1) c.index.result.now a.edits.ok.0 (omega (arith, last, c.self.invariant.are.within, a.edits.ok.0)) c.index.ensures in
+    let is = slice_get_read a.edits.items _ (a.place - 1) c.index.result.now a.edits.ok.0
+    (omega (arith, last, c.self.invariant.are.within, a.edits.ok.0)) c.index.ensures in
     rw (← c.self.view_is, c.revert.ensures)
     (undone-back a.present a.edits.items a.place a.bound c.self.invariant.are (a.place - 1) c.index.result.now last is)

@@ -7,7 +7,8 @@ pub returns-clause-state : goal.returns-clause-state
 returns-clause-state c =
     let a = c.self.inside in
     let s = c.index.result.now in
-    subst (λ t. IsPresent t s) c.self.view_is (slice_get_read a.states.items _ a.place s a.states.ok.0 (omega (arith, c.self.invariant.place, a.states.ok.0)) c.index.ensures)
+    subst (λ t. IsPresent t s) c.self.view_is (slice_get_read a.states.items _ a.place s a.states.ok.0
+    (omega (arith, c.self.invariant.place, a.states.ok.0)) c.index.ensures)
 
 pub returns-clause-timeline : goal.returns-clause-timeline
 returns-clause-timeline c = subst IsTimeline c.self.view_is c.self.invariant

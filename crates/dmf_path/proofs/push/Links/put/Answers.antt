@@ -13,7 +13,8 @@ renew_flag-requires c =
     let within = c.requires.within in
     let link = a.table.are.each c.args.place within in
     let opposite : c.args.opposite < length a.table.heads.items = omega (arith, c.requires.opposite, link.partner) in
-    let read : c.index-before.result.now ≡ get_or rooms c.args.place 0 = c.index-before.ensures ∙ get_or_default rooms c.args.place _ 0 (omega (arith, a.rooms_are.0, within)) in
+    let read : c.index-before.result.now ≡ get_or rooms c.args.place 0 =
+    c.index-before.ensures ∙ get_or_default rooms c.args.place _ 0 (omega (arith, a.rooms_are.0, within)) in
     record {
       within = rw c.deref_mut.ensures.value (omega (arith, a.flags_are.0, opposite));
       told = rw (c.deref_mut.ensures.value, read)

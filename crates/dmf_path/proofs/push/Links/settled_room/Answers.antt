@@ -10,32 +10,43 @@ pub returns-then-is_empty : goal.returns-then-is_empty
 returns-then-is_empty c =
     let a = c.args.self.now in
     c.index-room.ensures ∙ get_or_default a.rooms.items c.args.place _ 0 (omega (arith, c.requires.place, a.rooms_are.0))
-    ∙ ap (λ rs. get_or rs c.args.place 0) (sym (rooms_with-empty (links_of a.table) a.takes_back (way_of c.args.trail.now) a.rooms.items (c.is_empty.ensures c.if-is_empty.true)))
+    ∙ ap (λ rs. get_or rs c.args.place 0) (sym (rooms_with-empty (links_of a.table) a.takes_back (way_of c.args.trail.now) a.rooms.items
+    (c.is_empty.ensures c.if-is_empty.true)))
 
 pub overflow_sub-left : goal.overflow_sub-left
 overflow_sub-left c =
     let a = c.args.self.now in
-    let room : c.index-room.result.now ≡ get_or a.rooms.items c.args.place 0 = c.index-room.ensures ∙ get_or_default a.rooms.items c.args.place _ 0 (omega (arith, c.requires.place, a.rooms_are.0)) in
-    omega (arith, room, rw c.deref.ensures.value at c.held_for.ensures, held-le c.args.trail.now.sent a.rooms.items (filled_slots (way_of c.args.trail.now)) c.args.place)
+    let room : c.index-room.result.now ≡ get_or a.rooms.items c.args.place 0 =
+    c.index-room.ensures ∙ get_or_default a.rooms.items c.args.place _ 0 (omega (arith, c.requires.place, a.rooms_are.0)) in
+    omega (
+      arith,
+      room,
+      rw c.deref.ensures.value at c.held_for.ensures,
+      held-le c.args.trail.now.sent a.rooms.items (filled_slots (way_of c.args.trail.now)) c.args.place,
+    )
 
 pub returns-then-not-self : goal.returns-then-not-self
 returns-then-not-self c =
     let a = c.args.self.now in
-    let room : c.index-room.result.now ≡ get_or a.rooms.items c.args.place 0 = c.index-room.ensures ∙ get_or_default a.rooms.items c.args.place _ 0 (omega (arith, c.requires.place, a.rooms_are.0)) in
+    let room : c.index-room.result.now ≡ get_or a.rooms.items c.args.place 0 =
+    c.index-room.ensures ∙ get_or_default a.rooms.items c.args.place _ 0 (omega (arith, c.requires.place, a.rooms_are.0)) in
     rw (room, c.held_for.ensures, c.deref.ensures.value)
-    (sym (room-along (links_of a.table) a.takes_back c.args.trail.now.sent (filled_slots (way_of c.args.trail.now)) a.rooms.items c.args.place (omega (arith, c.requires.place, a.rooms_are.0)) c.if-not-self.true))
+    (sym (room-along (links_of a.table) a.takes_back c.args.trail.now.sent (filled_slots (way_of c.args.trail.now)) a.rooms.items c.args.place
+    (omega (arith, c.requires.place, a.rooms_are.0)) c.if-not-self.true))
 
 pub overflow_add-result : goal.overflow_add-result
 overflow_add-result c =
     let a = c.args.self.now in
     let slots = filled_slots (way_of c.args.trail.now) in
-    let room : c.index-room.result.now ≡ get_or a.rooms.items c.args.place 0 = c.index-room.ensures ∙ get_or_default a.rooms.items c.args.place _ 0 (omega (arith, c.requires.place, a.rooms_are.0)) in
+    let room : c.index-room.result.now ≡ get_or a.rooms.items c.args.place 0 =
+    c.index-room.ensures ∙ get_or_default a.rooms.items c.args.place _ 0 (omega (arith, c.requires.place, a.rooms_are.0)) in
     omega (
       arith,
       room,
       rw c.deref.ensures.value at c.held_for.ensures,
       rw (c.deref-2.ensures.value, c.opposite.ensures.is) at c.held_for-2.ensures,
-      room-back (links_of a.table) a.takes_back c.args.trail.now.sent slots a.rooms.items c.args.place (omega (arith, c.requires.place, a.rooms_are.0)) c.if-not-self.false,
+      room-back (links_of a.table) a.takes_back c.args.trail.now.sent slots a.rooms.items c.args.place
+          (omega (arith, c.requires.place, a.rooms_are.0)) c.if-not-self.false,
       room-fits (links_of a.table) a.takes_back c.args.trail.now.sent slots a.rooms.items c.args.place a.table.are a.rooms_are c.requires.place,
     )
 
@@ -43,6 +54,8 @@ pub returns : goal.returns
 returns c =
     let a = c.args.self.now in
     let slots = filled_slots (way_of c.args.trail.now) in
-    let room : c.index-room.result.now ≡ get_or a.rooms.items c.args.place 0 = c.index-room.ensures ∙ get_or_default a.rooms.items c.args.place _ 0 (omega (arith, c.requires.place, a.rooms_are.0)) in
+    let room : c.index-room.result.now ≡ get_or a.rooms.items c.args.place 0 =
+    c.index-room.ensures ∙ get_or_default a.rooms.items c.args.place _ 0 (omega (arith, c.requires.place, a.rooms_are.0)) in
     rw (room, c.held_for.ensures, c.held_for-2.ensures, c.deref.ensures.value, c.deref-2.ensures.value, c.opposite.ensures.is)
-    (sym (room-back (links_of a.table) a.takes_back c.args.trail.now.sent slots a.rooms.items c.args.place (omega (arith, c.requires.place, a.rooms_are.0)) c.if-not-self.false))
+    (sym (room-back (links_of a.table) a.takes_back c.args.trail.now.sent slots a.rooms.items c.args.place
+    (omega (arith, c.requires.place, a.rooms_are.0)) c.if-not-self.false))

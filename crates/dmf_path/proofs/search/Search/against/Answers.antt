@@ -39,4 +39,5 @@ returns c =
     let index = index-within s.residual.links of.places s.residual.rooms c.args.k (rw (← c.self.view_is) at c.requires) in
     rw (← c.self.view_is)
     (ap Some (c.settled_room.ensures ∙ ap (λ p. get_or s.residual.rooms p 0) c.opposite-opposite.ensures.is)
-    ∙ sym (ap (option_map (λ (p : Pair). p.against)) (its-pair s.residual.links of.places s.residual.rooms c.args.k c.in_ok-place.place index c.in_ok-place.ensures)))
+    ∙ sym (ap (option_map (λ (p : Pair). p.against)) (its-pair s.residual.links of.places s.residual.rooms c.args.k c.in_ok-place.place index
+    c.in_ok-place.ensures)))

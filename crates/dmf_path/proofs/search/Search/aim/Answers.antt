@@ -18,8 +18,12 @@ begin_anew-requires c = record {
 pub invariant_of-self : goal.invariant_of-self
 invariant_of-self c =
     let of = c.self.inside in
-    let e = c.begin_anew.ensures in
-    (e.ready, search-next (residual_of of.links) of.places (labelling_of of.levels) (way_of of.trail) (residual_of c.begin_anew.new.links) (labelling_of c.begin_anew.new.levels) (way_of c.begin_anew.new.trail) of.is_fresh true c.self.invariant.1 (ap (λ (s : Sought). s.residual.links) e.same) e.searching (fresh e.fresh))
+    let e = c.begin_anew.ensures in (
+      e.ready,
+      search-next (residual_of of.links) of.places (labelling_of of.levels) (way_of of.trail) (residual_of c.begin_anew.new.links)
+          (labelling_of c.begin_anew.new.levels) (way_of c.begin_anew.new.trail) of.is_fresh true c.self.invariant.1
+          (ap (λ (s : Sought). s.residual.links) e.same) e.searching (fresh e.fresh),
+    )
 
 pub returns : goal.returns
 returns c = rw (← c.self.view_is) (ap (λ (s : Sought). searched s c.self.inside.places) c.begin_anew.ensures.same)

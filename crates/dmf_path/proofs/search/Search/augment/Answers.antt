@@ -23,8 +23,12 @@ find-requires c = record { searching = c.self.invariant.1.searching; ready = c.s
 pub invariant_of-self : goal.invariant_of-self
 invariant_of-self c =
     let of = c.self.inside in
-    let e = c.find.ensures in
-    (e.ready, search-next (residual_of of.links) of.places (labelling_of of.levels) (way_of of.trail) (residual_of c.find.new.links) (labelling_of c.find.new.levels) (way_of c.find.new.trail) of.is_fresh false c.self.invariant.1 (ap (λ (s : Sought). s.residual.links) e.same) e.searching (begun refl))
+    let e = c.find.ensures in (
+      e.ready,
+      search-next (residual_of of.links) of.places (labelling_of of.levels) (way_of of.trail) (residual_of c.find.new.links)
+          (labelling_of c.find.new.levels) (way_of c.find.new.trail) of.is_fresh false c.self.invariant.1
+          (ap (λ (s : Sought). s.residual.links) e.same) e.searching (begun refl),
+    )
 
 pub returns-then-not-find-clause-found : goal.returns-then-not-find-clause-found
 returns-then-not-find-clause-found c =
@@ -32,7 +36,8 @@ returns-then-not-find-clause-found c =
     let of = c.self.inside in
     let s = sought (residual_of of.links) (way_of of.trail) in
     rw (← c.self.view_is) (
-      no_path-separated s.residual.links of.places s.residual.rooms s.start s.goal i.searching.aimed.links i.places_are i.searching.aimed.start_is (c.find.ensures.none c.if-not-find.true),
+      no_path-separated s.residual.links of.places s.residual.rooms s.start s.goal i.searching.aimed.links i.places_are i.searching.aimed.start_is
+          (c.find.ensures.none c.if-not-find.true),
       ap (λ (s : Sought). searched s c.self.inside.places) c.find.ensures.same,
     )
 
@@ -43,16 +48,21 @@ returns-then-not-find-clause-passed c = record {
 }
 
 -- So much can be sent along the path that was found.
-can : (c : After-bottleneck-amount) → CanAugment (residual_of c.find.new.links) c.self.inside.places (labelling_of c.find.new.levels) (way_of c.find.new.trail) c.args.limit c.bottleneck-amount.result
+can : (c : After-bottleneck-amount) → CanAugment (residual_of c.find.new.links) c.self.inside.places (labelling_of c.find.new.levels)
+    (way_of c.find.new.trail) c.args.limit c.bottleneck-amount.result
 can c =
     let e = c.find.ensures in
     let are = subst (λ (s : Sought). ArePlaces s.residual.links c.self.inside.places) (sym e.same) c.self.invariant.1.places_are in
-    can-augment (residual_of c.find.new.links) c.self.inside.places (labelling_of c.find.new.levels) (way_of c.find.new.trail) c.args.limit c.bottleneck-amount.result are e.searching (e.found c.if-not-find.false) c.bottleneck-amount.ensures
+    can-augment (residual_of c.find.new.links) c.self.inside.places (labelling_of c.find.new.levels)
+    (way_of c.find.new.trail) c.args.limit c.bottleneck-amount.result are e.searching (e.found c.if-not-find.false) c.bottleneck-amount.ensures
 
 pub mark_ends-requires : goal.mark_ends-requires
 mark_ends-requires c =
     let at = (goal.at.mark_ends-requires c).After-bottleneck-amount in
-    record { places = λ i inside. slot-within (residual_of c.find.new.links).links c.find.new.levels.near.labels.items _ _ (way_of c.find.new.trail).slots i (can at).descends inside }
+    record {
+      places = λ i inside. slot-within (residual_of c.find.new.links).links c.find.new.levels.near.labels.items _ _ (way_of c.find.new.trail).slots i
+          (can at).descends inside;
+    }
 
 pub split-requires-clause-can : goal.split-requires-clause-can
 split-requires-clause-can c =
@@ -61,25 +71,33 @@ split-requires-clause-can c =
     let w = way_of c.find.new.trail in
     let is = c.find.ensures.searching in
     λ first behind less within.
-    (middle-leaves r.links r.takes_back c.find.new.levels.near.labels.items (sent_on w c.bottleneck-amount.result).sent _ r.rooms w.slots first behind is.aimed.links is.holding.rooms_are.0 (can at).descends
+    (middle-leaves r.links r.takes_back c.find.new.levels.near.labels.items
+    (sent_on w c.bottleneck-amount.result).sent _ r.rooms w.slots first behind is.aimed.links is.holding.rooms_are.0 (can at).descends
     (HaveLeft-sent w.sent c.bottleneck-amount.result r.rooms w.slots is.holding.small (can at).can (can at).have) less).1.can
 
 pub split-requires-clause-places : goal.split-requires-clause-places
 split-requires-clause-places c =
-    λ i inside. slot-within (residual_of c.find.new.links).links c.find.new.levels.near.labels.items _ _ (way_of c.find.new.trail).slots i (can (goal.at.split-requires-clause-places c).After-bottleneck-amount).descends inside
+    λ i inside. slot-within (residual_of c.find.new.links).links c.find.new.levels.near.labels.items _ _ (way_of c.find.new.trail).slots i
+    (can (goal.at.split-requires-clause-places c).After-bottleneck-amount).descends inside
 
 -- The path is split, and what was sent along it is held.
-split : (c : After-split) → IsOn (residual_of c.find.new.links) c.self.inside.places (labelling_of c.find.new.levels) (way_of c.find.new.trail) c.bottleneck-amount.result (residual_of c.split.new.links) (way_of c.split.new.self)
+split : (c : After-split) → IsOn (residual_of c.find.new.links) c.self.inside.places (labelling_of c.find.new.levels)
+    (way_of c.find.new.trail) c.bottleneck-amount.result (residual_of c.split.new.links) (way_of c.split.new.self)
 split c =
     let e = c.find.ensures in
-    split-on (residual_of c.find.new.links) c.self.inside.places (labelling_of c.find.new.levels) (way_of c.find.new.trail) c.args.limit c.bottleneck-amount.result (residual_of c.split.new.links) (way_of c.split.new.self) e.searching (e.found c.if-not-find.false) (can (goal.at.After-split c).After-bottleneck-amount) c.split.ensures c.split.new.links.rooms_are
+    split-on (residual_of c.find.new.links) c.self.inside.places (labelling_of c.find.new.levels)
+    (way_of c.find.new.trail) c.args.limit c.bottleneck-amount.result (residual_of c.split.new.links) (way_of c.split.new.self) e.searching
+    (e.found c.if-not-find.false) (can (goal.at.After-split c).After-bottleneck-amount) c.split.ensures c.split.new.links.rooms_are
 
 pub invariant_of-self-2 : goal.invariant_of-self-2
 invariant_of-self-2 c =
     let on = split (goal.at.invariant_of-self-2 c).After-split in
     let links = ap (λ (s : Sought). s.residual.links) on.same ∙ ap (λ (s : Sought). s.residual.links) c.find.ensures.same in
-    let of = c.self.inside in
-    (c.find.ensures.ready, search-next (residual_of of.links) of.places (labelling_of of.levels) (way_of of.trail) (residual_of c.split.new.links) (labelling_of c.find.new.levels) (way_of c.split.new.self) of.is_fresh false c.self.invariant.1 links on.searching (begun refl))
+    let of = c.self.inside in (
+      c.find.ensures.ready,
+      search-next (residual_of of.links) of.places (labelling_of of.levels) (way_of of.trail) (residual_of c.split.new.links)
+          (labelling_of c.find.new.levels) (way_of c.split.new.self) of.is_fresh false c.self.invariant.1 links on.searching (begun refl),
+    )
 
 pub returns-clause-found : goal.returns-clause-found
 returns-clause-found c =
@@ -88,8 +106,10 @@ returns-clause-found c =
     let found : AugmentingPath = record { amount = c.bottleneck-amount.result; links = length c.find.new.trail.slots.items } in
     let links : c.len-links.result ≡ length c.find.new.trail.slots.items = omega (arith, c.len-links.ensures, c.find.new.trail.slots.ok.0) in
     rw (← c.self.view_is, links)
-    (subst (λ (s : Sought). Augments c.args.limit found (searched s c.self.inside.places) (searched (sought (residual_of c.split.new.links) (way_of c.split.new.self)) c.self.inside.places)) c.find.ensures.same
-    (subst (λ (s : Sought). Augments c.args.limit found (searched (sought (residual_of c.find.new.links) (way_of c.find.new.trail)) c.self.inside.places) (searched s c.self.inside.places)) (sym on.same) (can at).augments))
+    (subst (λ (s : Sought). Augments c.args.limit found (searched s c.self.inside.places)
+    (searched (sought (residual_of c.split.new.links) (way_of c.split.new.self)) c.self.inside.places)) c.find.ensures.same
+    (subst (λ (s : Sought). Augments c.args.limit found (searched (sought (residual_of c.find.new.links) (way_of c.find.new.trail)) c.self.inside.places)
+    (searched s c.self.inside.places)) (sym on.same) (can at).augments))
 
 pub returns-clause-passed : goal.returns-clause-passed
 returns-clause-passed c =
@@ -102,10 +122,12 @@ returns-clause-passed c =
     let is = c.find.ensures.searching in
     let marked : AreMarked r.links marks w.slots = c.mark_ends.ensures.marked in
     let are = subst (λ (s : Sought). ArePlaces s.residual.links places) (sym c.find.ensures.same) c.self.invariant.1.places_are in
-    let kept = kept-unpassed r.links r.takes_back places r.rooms w.sent (sent_on w c.bottleneck-amount.result).sent w.slots marks is.aimed.links are is.holding.rooms_are.0 marked in
+    let kept = kept-unpassed r.links r.takes_back places r.rooms w.sent
+    (sent_on w c.bottleneck-amount.result).sent w.slots marks is.aimed.links are is.holding.rooms_are.0 marked in
     let filled = ap (λ ss. pairs_at r.links places (settled r.links r.takes_back w.sent ss r.rooms)) (sym (can at).whole.filled) in
     let before = filled ∙ ap (λ (s : Sought). pairs_at s.residual.links places s.residual.rooms) c.find.ensures.same in
     let after = ap (λ (s : Sought). pairs_at s.residual.links places s.residual.rooms) (sym on.same) in
     let old = subst (λ ps. KeepsUnpassed marks ps (pairs_at r.links places (sent_along r (sent_on w c.bottleneck-amount.result)).rooms)) before kept in
-    let new = subst (λ ps. KeepsUnpassed marks (pairs_at (residual_of c.self.inside.links).links places (sought (residual_of c.self.inside.links) (way_of c.self.inside.trail)).residual.rooms) ps) after old in
+    let new = subst (λ ps. KeepsUnpassed marks (pairs_at (residual_of c.self.inside.links).links places
+    (sought (residual_of c.self.inside.links) (way_of c.self.inside.trail)).residual.rooms) ps) after old in
     rw (← c.self.view_is) (record { more = c.mark_ends.ensures.more; kept = new })

@@ -16,21 +16,24 @@ pub place_of-requires : goal.place_of-requires
 place_of-requires c =
     let of = c.self.inside in
     let s = sought (residual_of of.links) (way_of of.trail) in
-    (HasPlace-along s.residual.links of.places s.residual.rooms c.args.k c.args.amount c.self.invariant.1.places_are (rw (← c.self.view_is) at c.requires)).index
+    (HasPlace-along s.residual.links of.places s.residual.rooms c.args.k c.args.amount c.self.invariant.1.places_are
+    (rw (← c.self.view_is) at c.requires)).index
 
 pub unwrap-place-requires : goal.unwrap-place-requires
 unwrap-place-requires c =
     let of = c.self.inside in
     let s = sought (residual_of of.links) (way_of of.trail) in
     has-place _ of.places c.args.k c.place_of.ensures
-    (HasPlace-along s.residual.links of.places s.residual.rooms c.args.k c.args.amount c.self.invariant.1.places_are (rw (← c.self.view_is) at c.requires)).there
+    (HasPlace-along s.residual.links of.places s.residual.rooms c.args.k c.args.amount c.self.invariant.1.places_are
+    (rw (← c.self.view_is) at c.requires)).there
 
 -- The place of the pair's link along is read,
 place : (c : After-unwrap-place) → c.unwrap-place.result ≡ get_or c.self.inside.places c.args.k 0
 place c = (rw c.unwrap-place.ensures at c.place_of.ensures).is
 
 -- and is one.
-has : (c : After-unwrap-place) → HasPlace (residual_of c.self.inside.links).links c.self.inside.places (sought (residual_of c.self.inside.links) (way_of c.self.inside.trail)).residual.rooms c.args.k c.args.amount
+has : (c : After-unwrap-place) → HasPlace (residual_of c.self.inside.links).links c.self.inside.places
+    (sought (residual_of c.self.inside.links) (way_of c.self.inside.trail)).residual.rooms c.args.k c.args.amount
 has c =
     let of = c.self.inside in
     let s = sought (residual_of of.links) (way_of of.trail) in
@@ -45,7 +48,8 @@ pub release-requires-clause-searching : goal.release-requires-clause-searching
 release-requires-clause-searching c = c.self.invariant.1.searching
 
 -- So it is once it is released.
-still : (c : After-release) → HasPlace (residual_of c.release.new.links).links c.self.inside.places (sought (residual_of c.release.new.links) (way_of c.release.new.trail)).residual.rooms c.args.k c.args.amount
+still : (c : After-release) → HasPlace (residual_of c.release.new.links).links c.self.inside.places
+    (sought (residual_of c.release.new.links) (way_of c.release.new.trail)).residual.rooms c.args.k c.args.amount
 still c =
     subst (λ (s : Sought). HasPlace s.residual.links c.self.inside.places s.residual.rooms c.args.k c.args.amount) (sym c.release.ensures.same)
     (has (goal.at.After-release c).After-unwrap-place)
@@ -62,12 +66,15 @@ lower-requires-clause-room c =
     omega (arith, (still at).enough, c.release.ensures.room, ap (λ p. get_or told p 0) (place (goal.at.After-release at).After-unwrap-place))
 
 -- what the search keeps then, and what callers see of it
-lowered : (c : After-lower) → IsLowered (residual_of c.release.new.links) c.self.inside.places (labelling_of c.self.inside.levels) (way_of c.release.new.trail) c.args.k c.args.amount (residual_of c.lower.new.self)
+lowered : (c : After-lower) → IsLowered (residual_of c.release.new.links) c.self.inside.places (labelling_of c.self.inside.levels)
+    (way_of c.release.new.trail) c.args.k c.args.amount (residual_of c.lower.new.self)
 lowered c =
     let at = (goal.at.After-lower c).After-release in
     let e = c.release.ensures in
     let are = subst (λ (s : Sought). ArePlaces s.residual.links c.self.inside.places) (sym e.same) c.self.invariant.1.places_are in
-    is-lowered (residual_of c.release.new.links) c.self.inside.places (labelling_of c.self.inside.levels) (way_of c.release.new.trail) c.args.k c.unwrap-place.result c.args.amount (residual_of c.lower.new.self) e.searching are (still at) (place (goal.at.After-release at).After-unwrap-place) e.off e.room c.lower.ensures c.lower.new.self.rooms_are
+    is-lowered (residual_of c.release.new.links) c.self.inside.places (labelling_of c.self.inside.levels)
+    (way_of c.release.new.trail) c.args.k c.unwrap-place.result c.args.amount (residual_of c.lower.new.self) e.searching are (still at)
+    (place (goal.at.After-release at).After-unwrap-place) e.off e.room c.lower.ensures c.lower.new.self.rooms_are
 
 pub invariant_of-self : goal.invariant_of-self
 invariant_of-self c =
@@ -76,12 +83,18 @@ invariant_of-self c =
     let low = lowered (goal.at.invariant_of-self c).After-lower in
     let same : (residual_of c.lower.new.self).links ≡ (residual_of c.release.new.links).links = ap (λ (x : Residual). x.links) c.lower.ensures in
     let links = same ∙ ap (λ (s : Sought). s.residual.links) c.release.ensures.same in
-    let marked = same-mark (residual_of of.links) (labelling_of of.levels) (way_of of.trail) (residual_of c.release.new.links) (way_of c.release.new.trail) of.is_fresh i.marked c.release.ensures.same in
-    (c.self.invariant.0, search-next (residual_of of.links) of.places (labelling_of of.levels) (way_of of.trail) (residual_of c.lower.new.self) (labelling_of of.levels) (way_of c.release.new.trail) of.is_fresh of.is_fresh i links low.searching (subst (λ (l : Links). IsMarked l (labelling_of c.self.inside.levels).labels c.release.new.trail.start c.self.inside.is_fresh) (sym same) marked))
+    let marked = same-mark (residual_of of.links) (labelling_of of.levels) (way_of of.trail) (residual_of c.release.new.links)
+    (way_of c.release.new.trail) of.is_fresh i.marked c.release.ensures.same in (
+      c.self.invariant.0,
+      search-next (residual_of of.links) of.places (labelling_of of.levels) (way_of of.trail) (residual_of c.lower.new.self)
+          (labelling_of of.levels) (way_of c.release.new.trail) of.is_fresh of.is_fresh i links low.searching
+          (subst (λ (l : Links). IsMarked l (labelling_of c.self.inside.levels).labels c.release.new.trail.start c.self.inside.is_fresh) (sym same) marked),
+    )
 
 pub returns : goal.returns
 returns c =
     let low = lowered (goal.at.returns c).After-lower in
     rw (← c.self.view_is)
     (subst (λ (s : Sought). searched (sought (residual_of c.lower.new.self) (way_of c.release.new.trail)) c.self.inside.places
-    ≡ with_pairs (searched s c.self.inside.places) (lowered_along (pairs_at s.residual.links c.self.inside.places s.residual.rooms) c.args.k c.args.amount)) c.release.ensures.same low.gives)
+    ≡ with_pairs (searched s c.self.inside.places) (lowered_along (pairs_at s.residual.links c.self.inside.places s.residual.rooms) c.args.k c.args.amount))
+    c.release.ensures.same low.gives)

@@ -29,13 +29,24 @@ invariant_of-result g c =
     let slots = c.in_ok-slots.slots in
     let m = c.make_fresh.ensures in
     let r : Residual = record { links = l; takes_back = c.args.takes_back; rooms = t.rooms.items } in
-    let w : Way = record { slots = slots.items; capacity = vec_capacity slots; walked = 0; rest = 0; joint = c.args.goal; sent = 0; start = c.args.start; goal = c.args.goal } in
+    let w : Way = record {
+      slots = slots.items;
+      capacity = vec_capacity slots;
+      walked = 0;
+      rest = 0;
+      joint = c.args.goal;
+      sent = 0;
+      start = c.args.start;
+      goal =
+          c.args.goal;
+    } in
     let b : AreBuilt c.args.nodes (g.P.Pairs.pairs c.args.pairs.now) l t.places t.rooms.items = c.in_ok-table.ensures in
     let first = current-first l c.in_ok-current.current.items b.links (c.in_ok-current.ensures.items ∙ ap (take (l.nodes + 1)) c.deref-2.ensures.value) in
     let current : AreCurrent l c.make_fresh.new.levels.current.items = subst (AreCurrent l) (sym (ap (λ v. v.items) m.current)) first in (
       (t.table.nodes, m.ready),
       search-new r t.places (labelling_of c.make_fresh.new.levels) w (way_of c.make_fresh.new.trail) b.links b.places_are b.rooms_are m.labels current
-          (rw b.nodes_are c.requires.start) (rw b.nodes_are c.requires.goal) c.requires.apart (omega (arith, c.in_ok-slots.ensures.capacity)) (omega arith) m.way,
+          (rw b.nodes_are c.requires.start) (rw b.nodes_are c.requires.goal) c.requires.apart (omega (arith, c.in_ok-slots.ensures.capacity))
+          (omega arith) m.way,
     )
 
 pub returns : goal.returns
@@ -44,7 +55,17 @@ returns g c =
     let l = links_of t.table in
     let slots = c.in_ok-slots.slots in
     let r : Residual = record { links = l; takes_back = c.args.takes_back; rooms = t.rooms.items } in
-    let w : Way = record { slots = slots.items; capacity = vec_capacity slots; walked = 0; rest = 0; joint = c.args.goal; sent = 0; start = c.args.start; goal = c.args.goal } in
+    let w : Way = record {
+      slots = slots.items;
+      capacity = vec_capacity slots;
+      walked = 0;
+      rest = 0;
+      joint = c.args.goal;
+      sent = 0;
+      start = c.args.start;
+      goal =
+          c.args.goal;
+    } in
     let b : AreBuilt c.args.nodes (g.P.Pairs.pairs c.args.pairs.now) l t.places t.rooms.items = c.in_ok-table.ensures in
     ap (λ (s : Sought). searched s t.places) (sought-free r w (way_of c.make_fresh.new.trail) [] c.make_fresh.ensures.way)
     ∙ λ i. record {

@@ -32,20 +32,25 @@ anew c =
     elim c.if-not-self.branch [
       | then-not-self v ↦
           let e = v.begin_anew.ensures in
-          let is = search-next (residual_of of.links) of.places (labelling_of of.levels) (way_of of.trail) (residual_of v.begin_anew.new.links) (labelling_of v.begin_anew.new.levels) (way_of v.begin_anew.new.trail) of.is_fresh true i (ap (λ (s : Sought). s.residual.links) e.same) e.searching (fresh e.fresh) in
-          let none = told-fresh (residual_of v.begin_anew.new.links) (labelling_of v.begin_anew.new.levels) (way_of v.begin_anew.new.trail) (residual_of v.begin_anew.new.links) e.searching e.fresh in
+          let is = search-next (residual_of of.links) of.places (labelling_of of.levels) (way_of of.trail) (residual_of v.begin_anew.new.links)
+          (labelling_of v.begin_anew.new.levels) (way_of v.begin_anew.new.trail) of.is_fresh true i
+          (ap (λ (s : Sought). s.residual.links) e.same) e.searching (fresh e.fresh) in
+          let none = told-fresh (residual_of v.begin_anew.new.links) (labelling_of v.begin_anew.new.levels) (way_of v.begin_anew.new.trail)
+          (residual_of v.begin_anew.new.links) e.searching e.fresh in
           rw v.self-inside-is (record {
             ready = e.ready;
             is = is;
             marked = refl;
             same = rw (← c.self.view_is)
-                (ap (λ (x : Residual). searched (record { residual = x; start = v.begin_anew.new.trail.start; goal = v.begin_anew.new.trail.goal }) of.places) (sym none)
+                (ap (λ (x : Residual). searched (record { residual = x; start = v.begin_anew.new.trail.start; goal = v.begin_anew.new.trail.goal }) of.places)
+                (sym none)
                 ∙ ap (λ (s : Sought). searched s of.places) e.same);
           })
       | else-not-self v ↦
           let is_fresh : of.is_fresh ≡ true = v.if-not-self.false in
           let is = subst (IsSearch (residual_of of.links) of.places (labelling_of of.levels) (way_of of.trail)) is_fresh i in
-          let none = told-fresh (residual_of of.links) (labelling_of of.levels) (way_of of.trail) (residual_of of.links) is.searching (fresh-mark (residual_of of.links).links (labelling_of of.levels).labels of.trail.start is.marked) in
+          let none = told-fresh (residual_of of.links) (labelling_of of.levels) (way_of of.trail) (residual_of of.links) is.searching
+          (fresh-mark (residual_of of.links).links (labelling_of of.levels).labels of.trail.start is.marked) in
           rw v.self-inside-is (record {
             ready = c.self.invariant.0;
             is = is;
@@ -71,7 +76,8 @@ returns-in_default c =
     let a = anew at in
     let x = c.if-not-self.self-inside in
     let r = residual_of x.links in
-    let none = told-fresh r (labelling_of x.levels) (way_of x.trail) r a.is.searching (fresh-mark r.links (labelling_of x.levels).labels x.trail.start a.is.marked) in
+    let none = told-fresh r (labelling_of x.levels) (way_of x.trail) r a.is.searching
+    (fresh-mark r.links (labelling_of x.levels).labels x.trail.start a.is.marked) in
     let unset = pairs-unset r.links x.places r.rooms c.args.k c.args.along c.args.against (index at) c.in_default.ensures in
     ap (λ (y : Residual). searched (record { residual = y; start = x.trail.start; goal = x.trail.goal }) x.places) none
     ∙ ap (with_pairs (searched (record { residual = r; start = x.trail.start; goal = x.trail.goal }) x.places)) (sym unset)
@@ -96,7 +102,8 @@ invariant_of-self-2 c =
     rw a.marked (
       a.ready,
       search-next r x.places v w next v w true true a.is links (searching-set r v w next a.is.searching mark links c.set_pair.new.self.rooms_are)
-          (subst (λ (l : Links). IsMarked l (labelling_of c.if-not-self.self-inside.levels).labels c.if-not-self.self-inside.trail.start true) (sym links) a.is.marked),
+          (subst (λ (l : Links). IsMarked l (labelling_of c.if-not-self.self-inside.levels).labels c.if-not-self.self-inside.trail.start true)
+          (sym links) a.is.marked),
     )
 
 pub returns : goal.returns
@@ -106,8 +113,10 @@ returns c =
     let x = c.if-not-self.self-inside in
     let r = residual_of x.links in
     let of = c.in-Some.ensures in
-    let none = told-fresh r (labelling_of x.levels) (way_of x.trail) (residual_of c.set_pair.new.self) a.is.searching (fresh-mark r.links (labelling_of x.levels).labels x.trail.start a.is.marked) in
-    let set = pairs-set r.links x.places r.rooms c.args.k c.args.along c.args.against x.links.table.are a.is.places_are x.links.rooms_are.0 (index at) (λ none. of.there (of.is ∙ none)) in
+    let none = told-fresh r (labelling_of x.levels) (way_of x.trail) (residual_of c.set_pair.new.self) a.is.searching
+    (fresh-mark r.links (labelling_of x.levels).labels x.trail.start a.is.marked) in
+    let set = pairs-set r.links x.places r.rooms c.args.k c.args.along c.args.against x.links.table.are a.is.places_are x.links.rooms_are.0 (index at)
+    (λ none. of.there (of.is ∙ none)) in
     ap (λ (y : Residual). searched (record { residual = y; start = x.trail.start; goal = x.trail.goal }) x.places) (none ∙ (rw of.is at c.set_pair.ensures))
     ∙ ap (with_pairs (searched (record { residual = r; start = x.trail.start; goal = x.trail.goal }) x.places)) set
     ∙ ap (λ (s : Searched). with_pairs s (with_rooms s.pairs c.args.k c.args.along c.args.against)) a.same

@@ -14,7 +14,8 @@ pub invariant_of-self : goal.invariant_of-self
 invariant_of-self c =
     let of = c.self.inside in (
       c.self.invariant.0,
-      search-settled (residual_of of.links) of.places (labelling_of of.levels) (way_of of.trail) (residual_of c.settle.new.links) (way_of c.settle.new.self) of.is_fresh
+      search-settled (residual_of of.links) of.places (labelling_of of.levels) (way_of of.trail) (residual_of c.settle.new.links)
+          (way_of c.settle.new.self) of.is_fresh
           c.self.invariant.1 c.settle.ensures.links c.settle.ensures.way,
     )
 
@@ -22,4 +23,5 @@ pub returns : goal.returns
 returns c =
     let of = c.self.inside in
     rw (← c.self.view_is) (ap (λ (s : Sought). searched s of.places)
-    (sought-settled (residual_of of.links) (way_of of.trail) (residual_of c.settle.new.links) (way_of c.settle.new.self) c.settle.ensures.links c.settle.ensures.way))
+    (sought-settled (residual_of of.links) (way_of of.trail) (residual_of c.settle.new.links)
+    (way_of c.settle.new.self) c.settle.ensures.links c.settle.ensures.way))

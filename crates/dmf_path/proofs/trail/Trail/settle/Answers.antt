@@ -12,7 +12,10 @@ pub put_each_on-requires-2 : goal.put_each_on-requires-2
 put_each_on-requires-2 c =
     let t = c.args.self.now in
     let put = rw c.deref.ensures.value at c.put_each_on.ensures in
-    record { can = rw (c.deref-2.ensures.value, take_rest) (subst (λ (x : Residual). CanPut x.links x.takes_back t.sent (drop t.rest t.slots.items) x.rooms) (sym put) c.requires.can.rest) }
+    record {
+      can = rw (c.deref-2.ensures.value, take_rest) (subst (λ (x : Residual). CanPut x.links x.takes_back t.sent (drop t.rest t.slots.items) x.rooms)
+          (sym put) c.requires.can.rest);
+    }
 
 pub returns : goal.returns
 returns c =

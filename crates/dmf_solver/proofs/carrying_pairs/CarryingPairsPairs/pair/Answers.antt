@@ -15,7 +15,8 @@ returns-then-k-arcs c =
 
 pub bounds-arcs-k : goal.bounds-arcs-k
 bounds-arcs-k c =
-    let index = arc-index c.args.self.now.state.now c.args.k c.arcs-arcs.ensures.state c.requires (λ e. c.if-k-arcs.false (e ∙ sym (ap length c.arcs-arcs.ensures.value))) in
+    let index = arc-index c.args.self.now.state.now c.args.k c.arcs-arcs.ensures.state c.requires
+    (λ e. c.if-k-arcs.false (e ∙ sym (ap length c.arcs-arcs.ensures.value))) in
     rw c.arcs-arcs.ensures.value index.0
 
 pub offset_bounds-arcs-k : goal.offset_bounds-arcs-k
@@ -27,7 +28,8 @@ offset_bounds-arcs-k c =
 
 pub bounds-flows-k : goal.bounds-flows-k
 bounds-flows-k c =
-    let index = arc-index c.args.self.now.state.now c.args.k c.arcs-arcs.ensures.state c.requires (λ e. c.if-k-arcs.false (e ∙ sym (ap length c.arcs-arcs.ensures.value))) in
+    let index = arc-index c.args.self.now.state.now c.args.k c.arcs-arcs.ensures.state c.requires
+    (λ e. c.if-k-arcs.false (e ∙ sym (ap length c.arcs-arcs.ensures.value))) in
     rw c.flows.ensures.value index.1
 
 pub offset_bounds-flows-k : goal.offset_bounds-flows-k

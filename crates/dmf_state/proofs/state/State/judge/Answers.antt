@@ -10,7 +10,8 @@ use Rattle.dmf_state.specs.FlowFault.{flow_fault}
 use Rattle.dmf_state.specs.FlowSums.{IsLeast, IsOverCapacity, IsNodeFlow}
 use Rattle.dmf_state.specs.NetworkState.{IsState, with_flows}
 use Rattle.dmf_state.proofs.FlowFaults.{fault-over, fault-unbalanced, fault-negative, fault-none}
-use Rattle.dmf_state.proofs.Balance.{AreBothSums-of_parts, conserved-from_sums, least_unbalanced, at_source-from_sums, negative-from_source, IsState-from_source}
+use Rattle.dmf_state.proofs.Balance.{AreBothSums-of_parts, conserved-from_sums, least_unbalanced, at_source-from_sums, negative-from_source}
+use Rattle.dmf_state.proofs.Balance.{IsState-from_source}
 use Rattle.dmf_state.proofs.state.State.judge.Goals as goal
 
 -- what is said of a refusal
@@ -26,14 +27,16 @@ pub returns-in-Some-first_unbalanced-clause-refused :
     goal.returns-in-Some-first_unbalanced-clause-refused
 returns-in-Some-first_unbalanced-clause-refused c =
     let within = subst (λ arcs. AreWithinCapacities arcs c.args.flows.now) c.deref.ensures.value c.in_default.ensures in
-    let sums = AreBothSums-of_parts (the_view c.self.inside).network _ _ c.args.flows.now _ _ refl c.deref-2.ensures.value c.in_ok-sums.ensures.leaving c.in_ok-sums.ensures.entering in
+    let sums = AreBothSums-of_parts (the_view c.self.inside).network _ _ c.args.flows.now _ _ refl c.deref-2.ensures.value c.in_ok-sums.ensures.leaving
+    c.in_ok-sums.ensures.entering in
     let least = least_unbalanced _ _ _ _ _ sums c.in-Some-first_unbalanced.ensures in
     subst (λ s. Told (NotConserved c.in-Some-first_unbalanced.node) s.network c.args.flows.now) c.self.view_is (inr (sym (fault-unbalanced _ _ _ within least)))
 
 pub returns-then-at_source-clause-refused : goal.returns-then-at_source-clause-refused
 returns-then-at_source-clause-refused c =
     let within = subst (λ arcs. AreWithinCapacities arcs c.args.flows.now) c.deref.ensures.value c.in_default.ensures in
-    let sums = AreBothSums-of_parts (the_view c.self.inside).network _ _ c.args.flows.now _ _ refl c.deref-2.ensures.value c.in_ok-sums.ensures.leaving c.in_ok-sums.ensures.entering in
+    let sums = AreBothSums-of_parts (the_view c.self.inside).network _ _ c.args.flows.now _ _ refl c.deref-2.ensures.value c.in_ok-sums.ensures.leaving
+    c.in_ok-sums.ensures.entering in
     let flow : IsFlow (the_view c.self.inside).network c.args.flows.now =
     record { within = within; conserved = conserved-from_sums _ _ _ _ sums c.in_default-first_unbalanced.ensures } in
     let source = at_source-from_sums _ _ _ _ _ sums c.self.invariant.state.network.source c.at-at_source.ensures.leaving c.at-at_source.ensures.entering in
@@ -43,7 +46,8 @@ returns-then-at_source-clause-refused c =
 pub returns-clause-state : goal.returns-clause-state
 returns-clause-state c =
     let within = subst (λ arcs. AreWithinCapacities arcs c.args.flows.now) c.deref.ensures.value c.in_default.ensures in
-    let sums = AreBothSums-of_parts (the_view c.self.inside).network _ _ c.args.flows.now _ _ refl c.deref-2.ensures.value c.in_ok-sums.ensures.leaving c.in_ok-sums.ensures.entering in
+    let sums = AreBothSums-of_parts (the_view c.self.inside).network _ _ c.args.flows.now _ _ refl c.deref-2.ensures.value c.in_ok-sums.ensures.leaving
+    c.in_ok-sums.ensures.entering in
     let flow : IsFlow (the_view c.self.inside).network c.args.flows.now =
     record { within = within; conserved = conserved-from_sums _ _ _ _ sums c.in_default-first_unbalanced.ensures } in
     let source = at_source-from_sums _ _ _ _ _ sums c.self.invariant.state.network.source c.at-at_source.ensures.leaving c.at-at_source.ensures.entering in
@@ -52,7 +56,8 @@ returns-clause-state c =
 
 pub returns-clause-source : goal.returns-clause-source
 returns-clause-source c =
-    let sums = AreBothSums-of_parts (the_view c.self.inside).network _ _ c.args.flows.now _ _ refl c.deref-2.ensures.value c.in_ok-sums.ensures.leaving c.in_ok-sums.ensures.entering in
+    let sums = AreBothSums-of_parts (the_view c.self.inside).network _ _ c.args.flows.now _ _ refl c.deref-2.ensures.value c.in_ok-sums.ensures.leaving
+    c.in_ok-sums.ensures.entering in
     subst (λ s. IsNodeFlow s.network.arcs c.args.flows.now s.network.source c.at-at_source.result) c.self.view_is
     (at_source-from_sums _ _ _ _ _ sums c.self.invariant.state.network.source c.at-at_source.ensures.leaving c.at-at_source.ensures.entering)
 

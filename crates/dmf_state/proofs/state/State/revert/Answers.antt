@@ -7,7 +7,8 @@ use Rattle.dmf_state.proofs.state.State.revert.Goals as goal
 
 pub open_all-requires : goal.open_all-requires
 open_all-requires c =
-    rw c.deref-in-Shut.ensures.value (AreClosed-stands c.in-Shut.arcs c.in-Shut.moves c.args.self.now (subst (λ e. Stands e c.args.self.now) c.in-Shut.is c.requires))
+    rw c.deref-in-Shut.ensures.value (AreClosed-stands c.in-Shut.arcs c.in-Shut.moves c.args.self.now
+    (subst (λ e. Stands e c.args.self.now) c.in-Shut.is c.requires))
 
 pub move_flows-requires-clause-fit : goal.move_flows-requires-clause-fit
 move_flows-requires-clause-fit c =
@@ -15,7 +16,8 @@ move_flows-requires-clause-fit c =
 
 pub move_flows-requires-clause-state : goal.move_flows-requires-clause-state
 move_flows-requires-clause-state c = λ _.
-    rw (c.deref-in-Shut-2.ensures.value, c.open_all.ensures, c.deref-in-Shut.ensures.value) (IsState-reverted _ _ (subst (λ e. Stands e c.args.self.now) c.in-Shut.is c.requires))
+    rw (c.deref-in-Shut-2.ensures.value, c.open_all.ensures, c.deref-in-Shut.ensures.value)
+    (IsState-reverted _ _ (subst (λ e. Stands e c.args.self.now) c.in-Shut.is c.requires))
 
 pub move_flows-requires-in-Solve-clause-fit : goal.move_flows-requires-in-Solve-clause-fit
 move_flows-requires-in-Solve-clause-fit c = fit-back _ _ _ c.requires (ap moves_of c.in-Solve.is ∙ sym c.deref-in-Solve.ensures.value)
