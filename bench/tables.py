@@ -77,5 +77,5 @@ def text(results, names, repeat, limit, patience):
 
 def put(file, text, begin, end):
     """Puts a text between two marks in a file."""
-    before, rest = file.read_text().split(begin)
-    file.write_text(f"{before}{begin}\n\n{text}\n\n{end}{rest.split(end)[1]}")
+    before, _, rest = file.read_text().partition(begin)
+    file.write_text(f"{before}{begin}\n\n{text}\n\n{end}{rest.partition(end)[2]}")
