@@ -1,15 +1,14 @@
 -- The capacities of the arcs out of a set of nodes, summed arc by arc; and that no flow has a larger value than the lesser of two.
-use Rattle.std.proofs.Common.{ℕ, ◌≡◌, ◌≢◌, ◌+◌, ◌^◌, ◌<◌, ◌≤◌, ◌==◌, ◌&&◌, List, [], ◌∷◌, length, get_or, take, Bool, true, false, not, cond, sum_by, refl, ap, sym, ◌∙◌, arith, min, pos, ◌≤ℤ◌, ⊎_elim, eq-eqb}
-use Rattle.std.specs.List.{All}
+use Rattle.std.proofs.Common.{ℕ, ◌≡◌, ◌+◌, ◌^◌, ◌<◌, ◌≤◌, ◌==◌, ◌&&◌, List, length, get_or, take, Bool, true, false, not, cond, sum_by, refl, ap}
+use Rattle.std.proofs.Common.{sym, ◌∙◌, arith, min, ⊎_elim, eq-eqb}
 use Rattle.std.proofs.Math.Nat.{min-eq_left, min-eq_right}
 use Rattle.std.proofs.lemmas.Bool.{ne_eqb, cases_lt}
 use Rattle.std.proofs.lemmas.Int.{ints}
 use Rattle.std.proofs.lemmas.List.{take_all}
-use Rattle.std.proofs.lemmas.List.Sums.{sum_by_more, sum_by_more_le_part, sum_by-cons}
+use Rattle.std.proofs.lemmas.List.Sums.{sum_by_more, sum_by_more_le_part}
 use Rattle.dmf_state.specs.declared.arc.Arc.{Arc}
 use Rattle.dmf_state.specs.Arc.{no_arc, capacity_sum}
 use Rattle.dmf_state.specs.Network.{Network, IsNetwork}
-use Rattle.dmf_state.specs.Flow.{IsFlow, flow_value}
 use Rattle.dmf_state.specs.Cut.{cut_capacity}
 use Rattle.dmf_state.proofs.Summing.{part-le}
 use Rattle.dmf_solver.proofs.Crossing.{value-across}

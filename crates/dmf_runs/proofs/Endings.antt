@@ -1,5 +1,6 @@
 -- How a run of command lines ends.
-use Rattle.std.proofs.Common.{◌^◌, ℕ, ◌≡◌, ◌+◌, ◌-◌, ◌<◌, ◌≤◌, List, [], ◌∷◌, ◌++◌, length, take, Bool, true, false, ◌||◌, Option, Some, None, Result, Ok, Err, ◌⊎◌, inl, inr, refl, sym, ap, ◌∙◌, subst, arith, append_assoc, append-nil}
+use Rattle.std.proofs.Common.{◌^◌, ℕ, ◌≡◌, ◌+◌, ◌-◌, ◌<◌, ◌≤◌, List, [], ◌∷◌, ◌++◌, length, take, Bool, true, false, ◌||◌, Option, Some, None, Result, Ok, Err}
+use Rattle.std.proofs.Common.{◌⊎◌, inl, inr, refl, sym, ap, ◌∙◌, subst, arith, append_assoc, append-nil}
 use Rattle.std.specs.List.{All}
 use Rattle.std.specs.Io.KnownBytes.{Consumes, Appends, IsAtEnd, append_known}
 use Rattle.std.proofs.KnownBytes.{Appends-trans}
@@ -75,7 +76,8 @@ Carried-told wanted u meaning number holds next answer refused v is told = recor
 }
 
 -- A line with a reply, of which a front was written, and then a put or the flush failed.
-pub record Broken (wanted : SolveReply) (u : Timeline) (meaning : Result (Option Command) Refusal) (number : ℕ) (holds next : Writer) (v : Timeline) : Type 0 where
+pub record Broken (wanted : SolveReply) (u : Timeline) (meaning : Result (Option Command) Refusal) (number : ℕ) (holds next : Writer)
+    (v : Timeline) : Type 0 where
   pub text : List ℕ
   pub refused : Bool
   pub runs : LineRuns wanted.brief (Answers wanted.cut) number u meaning text refused v
@@ -229,9 +231,13 @@ module _ (wanted : SolveReply) (t : Timeline) (before now then : InputState) (he
       let all = Takes-trans before now then bytes rest p.takes takes in
       let long : length bytes + length rest ≡ 2 ^ 30 = omega (arith, all.counts, p.fresh.none_taken, past.at_limit, length-append bytes rest) in
       let rest_within : 2 ^ 30 - length bytes ≡ length rest = omega (arith, long) in
-      let within : take (2 ^ 30 - length bytes) (rest ++ then.pending.bytes) ≡ rest = ap (λ n. take n (rest ++ then.pending.bytes)) rest_within ∙ take_at rest then.pending.bytes (length rest) refl in
+      let within : take (2 ^ 30 - length bytes) (rest ++ then.pending.bytes) ≡ rest =
+      ap (λ n. take n (rest ++ then.pending.bytes)) rest_within ∙ take_at rest then.pending.bytes (length rest) refl in
       RunsCommands-past_limit rest few takes (omega (arith, past.at_limit)) past.mark
-      (inr (omega (arith, long, past.pending, length-append (bytes ++ rest) then.pending.bytes, length-append bytes rest), subst HasNoLineFeed (sym within) no_line_feed))
+      (inr (
+        omega (arith, long, past.pending, length-append (bytes ++ rest) then.pending.bytes, length-append bytes rest),
+        subst HasNoLineFeed (sym within) no_line_feed,
+      ))
 
   -- asking for a line was refused
   pub RunsCommands-refused : (told : EngineFault) (kept : Kept) → number ≤ 1000000 + 1 → GivesLine now then kept (Err told)
@@ -276,7 +282,12 @@ module _ (wanted : SolveReply) (t : Timeline) (before now then : InputState) (he
             all = all-with-last wanted t p.lines line p.written c.text is_refused refused u v p.each gave.no_line_feed last.0 p.runs
                 (last-runs line c.text refused (means line gave.keeps) c.runs);
             told = told;
-            within = record { at_end = ended.at_end; bytes = omega (arith, all.counts, p.fresh.none_taken, ended.within); lines = omega (arith, count-le p.lines line, p.counted) };
+            within = record {
+              at_end = ended.at_end;
+              bytes = omega (arith, all.counts, p.fresh.none_taken, ended.within);
+              lines =
+                  omega (arith, count-le p.lines line, p.counted);
+            };
             none_failed = record { reader = ended.mark ∙ p.reader; writer = c.writer ∙ p.writer };
           };
         }
@@ -314,7 +325,8 @@ module _ (wanted : SolveReply) (t : Timeline) (before now then : InputState) (he
         → RunsCommandsWith wanted t (streams before held) (streams then next) (Err fault.Write)
     RunsCommands-write true gave means b =
         let line = gave.line in
-        let carried : Carried wanted u meaning number holds (record { contents = append_known holds.contents b.text; has_failed = holds.has_failed }) b.refused v =
+        let carried : Carried wanted u meaning number holds (record { contents = append_known holds.contents b.text; has_failed = holds.has_failed }) b.refused
+        v =
         record { text = b.text; runs = b.runs; appends = Appends-known holds.contents b.text; writer = refl } in
         let more = Progress-more wanted t before now then held holds _ number u is_refused meaning kept b.refused v p gave means carried in
         front-written (with_line_feeds (p.lines ++ line ∷ [])) b more.takes gave.mark
@@ -324,5 +336,6 @@ module _ (wanted : SolveReply) (t : Timeline) (before now then : InputState) (he
         let line = gave.line in
         let last = gave.last refl in
         front-written (bytes ++ line) b (Takes-trans before now then bytes line p.takes gave.takes) gave.mark
-        (all-with-last wanted t p.lines line p.written b.text is_refused b.refused u v p.each gave.no_line_feed last.0 p.runs (last-runs line b.text b.refused (means line gave.keeps) b.runs))
+        (all-with-last wanted t p.lines line p.written b.text is_refused b.refused u v p.each gave.no_line_feed last.0 p.runs
+        (last-runs line b.text b.refused (means line gave.keeps) b.runs))
         (rest-replies p.lines line last.0 (subst HasReply (means line gave.keeps) b.replies)) (inr (last.1.none_pending, last.1.at_end))

@@ -1,5 +1,6 @@
 -- With the largest bound no state is forgotten while a command text is run.
-use Rattle.std.proofs.Common.{ℕ, ◌≡◌, ◌+◌, ◌<◌, ◌≤◌, List, length, take, Bool, true, false, Option, Some, None, Result, ◌⊎◌, inl, inr, ⊎_elim, refl, sym, ◌∙◌, subst, arith, nat_le}
+use Rattle.std.proofs.Common.{ℕ, ◌≡◌, ◌+◌, ◌<◌, ◌≤◌, List, length, take, Bool, true, false, Option, Some, None, Result, ◌⊎◌, inl, inr, ⊎_elim, refl, sym, ◌∙◌}
+use Rattle.std.proofs.Common.{subst, arith, nat_le}
 use Rattle.std.specs.Bool.{MatchBool}
 use Rattle.std.specs.Option.{MatchOption}
 use Rattle.std.proofs.lemmas.List.{length_push, length-take-le, length-drop}
@@ -54,7 +55,8 @@ undo-grows t u steps result true within m = subst (λ v. Grows t v) (sym m.moves
 undo-grows t u steps result false within m = same t u within m.unchanged
 
 test-cases : (m n : ℕ) → ((nat_le m n ≡ true) × (m ≤ n)) ⊎ (nat_le m n ≡ false)
-test-cases m n = elim (nat_le m n) as (λ b. (nat_le m n ≡ b → (b ≡ true → m ≤ n) → ((b ≡ true) × (m ≤ n)) ⊎ (b ≡ false))) [ true ↦ λ e f. inl (refl, f refl) | false ↦ λ e f. inr refl ] refl (leb-true m n)
+test-cases m n = elim (nat_le m n) as (λ b. (nat_le m n ≡ b → (b ≡ true → m ≤ n) → ((b ≡ true) × (m ≤ n)) ⊎ (b ≡ false)))
+    [ true ↦ λ e f. inl (refl, f refl) | false ↦ λ e f. inr refl ] refl (leb-true m n)
 
 redo-grows : (t u : Timeline) (steps : ℕ) (result : Result Reply Refusal) → t.place < length t.states
     → MatchBool (nat_le steps (future_of t)) (IsMoved (forward t steps) result u) (IsRefused t NothingToRedo result u) → Grows t u
@@ -72,7 +74,8 @@ steps-grow : (want_cut : Bool) (t u : Timeline) (command : Command) (result : Re
 steps-grow want_cut t u (Cap arc cap) result within s =
     change-grows t u s.0 (change.Cap arc cap) (λ new. Value (value_of new)) result (change_fault s.0 (change.Cap arc cap)) within s.2
 steps-grow want_cut t u (Add tail head cap) result within s =
-    change-grows t u s.0 (change.Add tail head cap) (λ new. Added (length new.network.arcs) (value_of new)) result (change_fault s.0 (change.Add tail head cap)) within s.2
+    change-grows t u s.0 (change.Add tail head cap) (λ new. Added (length new.network.arcs) (value_of new)) result
+    (change_fault s.0 (change.Add tail head cap)) within s.2
 steps-grow want_cut t u (Close arc) result within s =
     change-grows t u s.0 (change.Close arc) (λ new. Value (value_of new)) result (change_fault s.0 (change.Close arc)) within s.2
 steps-grow want_cut t u (Shut node) result within s =
@@ -99,7 +102,8 @@ forgets-nothing number t stands few s = within_bound-all (extended t s) (omega (
 answer-stands : (want_cut : Bool) (number : ℕ) (t u : Timeline) (command : Command) (result : Result Reply Refusal) → Stands number t
     → Answers want_cut t command result u → Stands (number + 1) u
 answer-stands want_cut number t u command result stands answers =
-    let grows : Grows t u = ⊎_elim (λ (e : u ≡ t). same t u stands.place e) (λ (s : Steps want_cut t command result u). steps-grow want_cut t u command result stands.place s)
+    let grows : Grows t u = ⊎_elim (λ (e : u ≡ t). same t u stands.place e)
+    (λ (s : Steps want_cut t command result u). steps-grow want_cut t u command result stands.place s)
     (answers-cases want_cut t command result u answers) in
     record { place = grows.place; at_most = omega (arith, grows.at_most, stands.at_most); bound = grows.bound ∙ stands.bound }
 

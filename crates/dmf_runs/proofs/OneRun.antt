@@ -29,7 +29,11 @@ same-both : (text other whole text' other' whole' : List ℕ) (refused also any 
     → SameText other other' also also'
     → whole ≡ text ++ other → any ≡ (refused || also) → whole' ≡ text' ++ other' → any' ≡ (refused' || also') → SameText whole whole' any any'
 same-both text other whole text' other' whole' refused also any refused' also' any' first more is are is' are' =
-    record { same_text = is ∙ ap (λ x. x ++ other) first.same_text ∙ ap (λ x. text' ++ x) more.same_text ∙ sym is'; same_refused = are ∙ ap (λ b. b || also) first.same_refused ∙ ap (λ b. refused' || b) more.same_refused ∙ sym are' }
+    record {
+      same_text = is ∙ ap (λ x. x ++ other) first.same_text ∙ ap (λ x. text' ++ x) more.same_text ∙ sym is';
+      same_refused =
+          are ∙ ap (λ b. b || also) first.same_refused ∙ ap (λ b. refused' || b) more.same_refused ∙ sym are';
+    }
 
 -- ---- one line
 
@@ -45,7 +49,8 @@ one-shown brief number command (Err refusal) u text other refused also a b = rec
 
 one-line : HasOneAnswer → (want_cut brief : Bool) (number : ℕ) (t : Timeline) (meaning : Result (Option Command) Refusal) (text other : List ℕ)
     (refused also : Bool) (u v : Timeline) → HasStates t
-    → LineRuns brief (Steps want_cut) number t meaning text refused u → LineRuns brief (Steps want_cut) number t meaning other also v → SameRun text other refused also u v
+    → LineRuns brief (Steps want_cut) number t meaning text refused u → LineRuns brief (Steps want_cut) number t meaning other also v
+    → SameRun text other refused also u v
 one-line one want_cut brief number t (Ok None) text other refused also u v has a b =
     record { written = record { same_text = a.0 ∙ sym b.0; same_refused = a.1 ∙ sym b.1 }; after = a.2 ∙ sym b.2 }
 one-line one want_cut brief number t (Ok (Some command)) text other refused also u v has a b =
@@ -69,7 +74,8 @@ one-lines some one want_cut brief number t (line ∷ lines) text other refused a
     let goes_on = subst (λ w. Runs brief (Steps want_cut) (number + 1) w lines b.more b.later v) (sym first.after) b.goes_on in
     let more = one-lines some one want_cut brief (number + 1) a.between lines a.more b.more a.later b.later u v kept a.goes_on goes_on in
     record {
-      written = same-both a.first a.more text b.first b.more other a.here a.later refused b.here b.later also first.written more.written a.text_is a.refused_is b.text_is b.refused_is;
+      written = same-both a.first a.more text b.first b.more other a.here a.later refused b.here b.later also first.written more.written a.text_is a.refused_is
+          b.text_is b.refused_is;
       after = more.after;
     }
 
@@ -92,7 +98,8 @@ one-text some one want_cut brief t given text other refused also has a b =
     let of_rest = subst (λ rest. RestRuns brief (Steps want_cut) (length a.lines + 1) b.between rest b.last b.later) (sym splits.1) of_lines in
     let from = subst (λ w. RestRuns brief (Steps want_cut) (length a.lines + 1) w a.rest b.last b.later) (sym first.after) of_rest in
     let last = one-rest one want_cut brief (length a.lines + 1) a.between a.rest a.last b.last a.later b.later kept a.rest_runs from in
-    same-both a.first a.last text b.first b.last other a.here a.later refused b.here b.later also first.written last a.text_is a.refused_is b.text_is b.refused_is
+    same-both a.first a.last text b.first b.last other a.here a.later refused b.here b.later also first.written last a.text_is a.refused_is b.text_is
+    b.refused_is
 
 -- Each command text has one run from the start of each state.
 pub has-one-run : HasAnswer → HasOneAnswer → HasOneRun

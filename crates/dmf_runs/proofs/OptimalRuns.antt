@@ -23,7 +23,8 @@ Answers-keeps some one want_cut t u command result has answers = ⊎_elim
 -- Wherever a run has come to there are states.
 pub solves-are-optimal : HasAnswer → HasOneAnswer → SolvedIsOptimal → SolvesAreOptimal
 solves-are-optimal some one solved want_cut brief bound s lines text refused t u reply state runs answers =
-    solved want_cut t u reply (Runs-keeps brief (Answers want_cut) (Answers-keeps some one want_cut) 1 (start bound s) lines text refused t (HasStates-start bound s state) runs) answers
+    solved want_cut t u reply (Runs-keeps brief (Answers want_cut) (Answers-keeps some one want_cut) 1 (start bound s) lines text refused t
+    (HasStates-start bound s state) runs) answers
 
 optimal-after : SolvedIsOptimal → (want_cut : Bool) (t u : Timeline) (command : Command) (result : Result Reply Refusal) → HasStates t
     → Answers want_cut t command result u → command ≡ Solve → OnOk result (HasOptimalPresent u)

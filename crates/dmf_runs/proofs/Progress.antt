@@ -30,7 +30,8 @@ pub record IsFresh (input : InputState) : Type 0 where
   pub none_taken : input.pending.count ≡ 0
 
 -- So many lines were carried out from the timeline `t`, and `u` is the timeline now.
-pub record Progress (wanted : SolveReply) (t : Timeline) (before now : InputState) (held holds : Writer) (number : ℕ) (u : Timeline) (is_refused : Bool) : Type 0 where
+pub record Progress (wanted : SolveReply) (t : Timeline) (before now : InputState) (held holds : Writer) (number : ℕ) (u : Timeline)
+    (is_refused : Bool) : Type 0 where
   pub fresh : IsFresh before
   pub lines : List (List ℕ)
   pub each : All HasNoLineFeed lines
@@ -61,7 +62,8 @@ pub with_line_feeds-push : (lines : List (List ℕ)) (line : List ℕ) → with_
 with_line_feeds-push lines line = flat_map-append (λ l. l ++ 10 ∷ []) lines (line ∷ []) ∙ ap (λ x. with_line_feeds lines ++ x) (append-nil (line ++ 10 ∷ []))
 
 -- A line that was carried out.
-pub record Carried (wanted : SolveReply) (u : Timeline) (meaning : Result (Option Command) Refusal) (number : ℕ) (holds next : Writer) (refused : Bool) (v : Timeline) : Type 0 where
+pub record Carried (wanted : SolveReply) (u : Timeline) (meaning : Result (Option Command) Refusal) (number : ℕ) (holds next : Writer) (refused : Bool)
+    (v : Timeline) : Type 0 where
   pub text : List ℕ
   pub runs : LineRuns wanted.brief (Answers wanted.cut) number u meaning text refused v
   pub appends : Appends holds.contents next.contents text
@@ -70,7 +72,8 @@ pub record Carried (wanted : SolveReply) (u : Timeline) (meaning : Result (Optio
 abbrev pub Progress-more : (wanted : SolveReply) (t : Timeline) (before now then : InputState) (held holds next : Writer) (number : ℕ) (u : Timeline)
     (is_refused : Bool)
     (meaning : Result (Option Command) Refusal) (kept : Kept) (refused : Bool) (v : Timeline)
-    → Progress wanted t before now held holds number u is_refused → TakesLine now then kept true → Means kept true meaning → Carried wanted u meaning number holds next refused v
+    → Progress wanted t before now held holds number u is_refused → TakesLine now then kept true → Means kept true meaning
+    → Carried wanted u meaning number holds next refused v
     → Progress wanted t before then held next (number + 1) v (is_refused || refused)
 Progress-more wanted t before now then held holds next number u is_refused meaning kept refused v p gave means c =
     let line = gave.line in

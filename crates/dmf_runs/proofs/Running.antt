@@ -1,5 +1,6 @@
 -- Each command text has a run, and what is so of each answer is so of each run.
-use Rattle.std.proofs.Common.{ℕ, ◌≢◌, ◌≡◌, ◌+◌, ◌<◌, ◌≤◌, List, [], ◌∷◌, ◌++◌, length, Bool, true, false, ◌||◌, Option, Some, None, Result, Ok, Err, refl, sym, subst, arith, ⊎_elim}
+use Rattle.std.proofs.Common.{ℕ, ◌≢◌, ◌≡◌, ◌+◌, ◌<◌, ◌≤◌, List, [], ◌∷◌, ◌++◌, length, Bool, true, false, ◌||◌, Option, Some, None, Result, Ok, Err, refl, sym}
+use Rattle.std.proofs.Common.{subst, arith, ⊎_elim}
 use Rattle.std.proofs.lemmas.List.Elements.{All-cons, All-nil}
 use Rattle.std.proofs.lemmas.Option.{slice_get_cases}
 use Rattle.dmf_state.specs.NetworkState.{NetworkState, IsState}
@@ -144,7 +145,8 @@ at-most-lines last lines (byte ∷ rest) few = omega (arith, few)
 -- Holds is so of each timeline to which a line is given, by the line's number.
 module _ (brief : Bool) (Holds : ℕ → Timeline → Type 0) (Gives : Answering)
     (idle : (number : ℕ) (t : Timeline) → Holds number t → Holds (number + 1) t)
-    (keeps : (number : ℕ) (t u : Timeline) (command : Command) (result : Result Reply Refusal) → Holds number t → Gives t command result u → Holds (number + 1) u) where
+    (keeps : (number : ℕ) (t u : Timeline) (command : Command) (result : Result Reply Refusal) → Holds number t → Gives t command result u
+    → Holds (number + 1) u) where
   line-keeps : (number : ℕ) (t : Timeline) (meaning : Result (Option Command) Refusal) (text : List ℕ) (refused : Bool) (u : Timeline) → Holds number t
       → LineRuns brief Gives number t meaning text refused u → Holds (number + 1) u
   line-keeps number t (Ok None) text refused u holds l = subst (Holds (number + 1)) (sym l.2) (idle number t holds)
@@ -163,7 +165,8 @@ module _ (brief : Bool) (Holds : ℕ → Timeline → Type 0) (Gives : Answering
 
   -- What Holds and an answer imply is so of each answer, up to the line that is the last.
   module _ (Tells : Answering) (last : ℕ)
-      (implies : (number : ℕ) (t u : Timeline) (command : Command) (result : Result Reply Refusal) → number ≤ last → Holds number t → Gives t command result u → Tells t command result u) where
+      (implies : (number : ℕ) (t u : Timeline) (command : Command) (result : Result Reply Refusal) → number ≤ last → Holds number t → Gives t command result u
+      → Tells t command result u) where
     line-implied : (number : ℕ) (t : Timeline) (meaning : Result (Option Command) Refusal) (text : List ℕ) (refused : Bool) (u : Timeline) → number ≤ last
         → Holds number t
         → LineRuns brief Gives number t meaning text refused u → LineRuns brief Tells number t meaning text refused u
@@ -211,7 +214,8 @@ module _ (brief : Bool) (Holds : ℕ → Timeline → Type 0) (Gives : Answering
           last = all.last;
           later = all.later;
           runs = lines-implied 1 t all.lines all.first all.here all.between (omega (arith, at-most-lines last all.lines all.rest few)) holds all.runs;
-          rest_runs = rest-implied all.between all.lines all.rest all.last all.later few (lines-keep 1 t all.lines all.first all.here all.between holds all.runs) all.rest_runs;
+          rest_runs = rest-implied all.between all.lines all.rest all.last all.later few
+              (lines-keep 1 t all.lines all.first all.here all.between holds all.runs) all.rest_runs;
           text_is = all.text_is;
           refused_is = all.refused_is;
         }
@@ -232,7 +236,8 @@ module _ (brief : Bool) (Gives : Answering) (keeps : Keeps Gives) where
   -- What is so of each answer on a timeline that has states is so of each answer of a run.
   pub RunsAll-tells : (Tells : Answering)
       → ((t u : Timeline) (command : Command) (result : Result Reply Refusal) → HasStates t → Gives t command result u → Tells t command result u)
-      → (t : Timeline) (given text : List ℕ) (refused : Bool) → HasStates t → RunsAll brief Gives t given text refused → RunsAll brief Tells t given text refused
+      → (t : Timeline) (given text : List ℕ) (refused : Bool) → HasStates t → RunsAll brief Gives t given text refused
+      → RunsAll brief Tells t given text refused
   RunsAll-tells Tells implies t given text refused has all =
       RunsAll-implied brief (λ _ t. HasStates t) Gives (λ number t has. has) (λ number. keeps) Tells (line_count all.lines all.rest)
       (λ number t u command result few. implies t u command result) t given text refused has all (omega arith)
@@ -262,4 +267,5 @@ step-is-answer some one want_cut t u command result has steps =
 -- A run in which no command is refused memory is one in which a command may be refused it.
 pub steps-are-answers : HasAnswer → HasOneAnswer → StepsAreAnswers
 steps-are-answers some one want_cut brief bound s given text refused state all =
-    RunsAll-tells brief (Steps want_cut) (Steps-keeps some one want_cut) (Answers want_cut) (step-is-answer some one want_cut) (start bound s) given text refused (HasStates-start bound s state) all
+    RunsAll-tells brief (Steps want_cut) (Steps-keeps some one want_cut) (Answers want_cut) (step-is-answer some one want_cut)
+    (start bound s) given text refused (HasStates-start bound s state) all

@@ -73,7 +73,8 @@ one-first (b ∷ line) (c ∷ other) behind after none also e =
 -- the bytes of the lines, with the line feed of the first
 with_line_feeds-first : (line : List ℕ) (lines : List (List ℕ)) (rest : List ℕ)
     → with_line_feeds (line ∷ lines) ++ rest ≡ line ++ 10 ∷ (with_line_feeds lines ++ rest)
-with_line_feeds-first line lines rest = append_assoc (line ++ 10 ∷ []) (with_line_feeds lines) rest ∙ append_assoc line (10 ∷ []) (with_line_feeds lines ++ rest)
+with_line_feeds-first line lines rest = append_assoc (line ++ 10 ∷ []) (with_line_feeds lines) rest ∙ append_assoc line (10 ∷ [])
+    (with_line_feeds lines ++ rest)
 
 one-lines : (lines others : List (List ℕ)) (rest last : List ℕ) → All HasNoLineFeed lines → All HasNoLineFeed others → HasNoLineFeed rest → HasNoLineFeed last
     → with_line_feeds lines ++ rest ≡ with_line_feeds others ++ last → (lines ≡ others) × (rest ≡ last)
@@ -83,7 +84,8 @@ one-lines [] (other ∷ others) rest last each also none bare e =
 one-lines (line ∷ lines) [] rest last each also none bare e =
     absurd (no-line_feed line (with_line_feeds lines ++ rest) (subst HasNoLineFeed (sym e ∙ with_line_feeds-first line lines rest) bare))
 one-lines (line ∷ lines) (other ∷ others) rest last each also none bare e =
-    let first = one-first line other (with_line_feeds lines ++ rest) (with_line_feeds others ++ last) (All-head HasNoLineFeed line lines each) (All-head HasNoLineFeed other others also)
+    let first = one-first line other (with_line_feeds lines ++ rest) (with_line_feeds others ++ last) (All-head HasNoLineFeed line lines each)
+    (All-head HasNoLineFeed other others also)
     (sym (with_line_feeds-first line lines rest) ∙ e ∙ with_line_feeds-first other others last) in
     let more = one-lines lines others rest last (All-tail HasNoLineFeed line lines each) (All-tail HasNoLineFeed other others also) none bare first.1 in
     (ap (λ x. x ∷ lines) first.0 ∙ ap (λ x. other ∷ x) more.0, more.1)

@@ -40,7 +40,8 @@ FindsFault judge old new text (Some found) = GaveWhole old new text × (judge te
 
 -- What reading a text gives that a judge turns into a state, of which this much was given; no answer but these is given.
 -- `found_in` is the fault of the text that an answer tells.
-abbrev pub Reads : {Fault : Type 0} → (List ℕ → Result NetworkState Fault) → (EngineFault → Option Fault) → Reader → Reader → List ℕ → Result NetworkState EngineFault → Type 0
+abbrev pub Reads : {Fault : Type 0} → (List ℕ → Result NetworkState Fault) → (EngineFault → Option Fault) → Reader → Reader → List ℕ
+    → Result NetworkState EngineFault → Type 0
 Reads judge found_in old new text (Ok s) = GaveWhole old new text × (judge text ≡ Ok s)
 Reads judge found_in old new text (Err fault.Read) = new.has_failed ≡ true
 Reads judge found_in old new text (Err fault.TooMuchInput) = GaveTooMuch old new text

@@ -1,5 +1,6 @@
 -- Each command has an answer.
-use Rattle.std.proofs.Common.{ℕ, ◌≡◌, ◌≢◌, ◌+◌, ◌<◌, ◌≤◌, List, length, take, Bool, true, false, cond, Option, Some, None, is_none, option_map, Result, Ok, Err, nat_le, refl, ap, ◌∙◌, arith, ⊎_elim}
+use Rattle.std.proofs.Common.{ℕ, ◌≡◌, ◌≢◌, ◌+◌, ◌<◌, ◌≤◌, List, length, take, Bool, true, false, cond, Option, Some, None, is_none, option_map, Result, Ok, Err}
+use Rattle.std.proofs.Common.{nat_le, refl, ap, ◌∙◌, arith, ⊎_elim}
 use Rattle.std.proofs.lemmas.Bool.{leb-true}
 use Rattle.std.proofs.lemmas.List.{length_push, length-take-le, length-drop}
 use Rattle.std.proofs.lemmas.List.Elements.{All-take, All-push, All-drop}
@@ -109,7 +110,8 @@ changed-by : HasOutcome → (t : Timeline) (s : NetworkState) (asked : Change) (
     → (fault : Option PlanFault) → change_fault s asked ≡ fault → Changed t s asked reply
 changed-by outcome t s asked reply has state None none =
     let made = outcome s asked state none in
-    let is : IsChanged t s asked reply (Ok (reply made.after)) (appended t made.after) = record { new = made.after; becomes = made.becomes; told = refl; appends = refl } in
+    let is : IsChanged t s asked reply (Ok (reply made.after)) (appended t made.after) =
+    record { new = made.after; becomes = made.becomes; told = refl; appends = refl } in
     record {
       result = Ok (reply made.after);
       after = appended t made.after;
@@ -203,19 +205,30 @@ cut-answered laws want_cut t has =
 
 -- An answer to a change.
 changed-answered : NetworkLaws → (want_cut : Bool) (t : Timeline) (command : Command) (asked : Change) (reply : NetworkState → Reply) → HasStates t
-    → ((result : Result Reply Refusal) (u : Timeline) → (s : NetworkState) × IsPresent t s × Changes t s asked reply result u → Steps want_cut t command result u) → Answered want_cut t command
+    → ((result : Result Reply Refusal) (u : Timeline) → (s : NetworkState) × IsPresent t s × Changes t s asked reply result u
+    → Steps want_cut t command result u) → Answered want_cut t command
 changed-answered laws want_cut t command asked reply has steps =
     let s = some-present t has in
     let made = changed laws.outcome t s.state asked reply has s.is in
-    record { result = made.result; after = made.after; steps = steps made.result made.after (s.state, s.present, made.changes); memory = made.memory; has_states = made.has_states }
+    record {
+      result = made.result;
+      after = made.after;
+      steps = steps made.result made.after (s.state, s.present, made.changes);
+      memory =
+          made.memory;
+      has_states = made.has_states;
+    }
 
 -- Each command has an answer.
 pub has-answer : NetworkLaws → HasAnswer
-has-answer laws want_cut t (Cap j cap) has = changed-answered laws want_cut t (Cap j cap) (change.Cap j cap) (λ new. Value (value_of new)) has (λ result u is. is)
+has-answer laws want_cut t (Cap j cap) has = changed-answered laws want_cut t (Cap j cap) (change.Cap j cap) (λ new. Value (value_of new)) has
+    (λ result u is. is)
 has-answer laws want_cut t (Add tail head cap) has =
-    changed-answered laws want_cut t (Add tail head cap) (change.Add tail head cap) (λ new. Added (length new.network.arcs) (value_of new)) has (λ result u is. is)
+    changed-answered laws want_cut t (Add tail head cap) (change.Add tail head cap) (λ new. Added (length new.network.arcs) (value_of new)) has
+    (λ result u is. is)
 has-answer laws want_cut t (Close j) has = changed-answered laws want_cut t (Close j) (change.Close j) (λ new. Value (value_of new)) has (λ result u is. is)
-has-answer laws want_cut t (Shut node) has = changed-answered laws want_cut t (Shut node) (change.Shut node) (λ new. Value (value_of new)) has (λ result u is. is)
+has-answer laws want_cut t (Shut node) has = changed-answered laws want_cut t (Shut node) (change.Shut node) (λ new. Value (value_of new)) has
+    (λ result u is. is)
 has-answer laws want_cut t Solve has = solve-answered laws want_cut t has
 has-answer laws want_cut t (Undo count) has = undo-by want_cut t count has (nat_le count t.place) refl
 has-answer laws want_cut t (Redo count) has = redo-by want_cut t count has (nat_le count (future_of t)) refl

@@ -42,13 +42,15 @@ one-changed law t u v s asked reply result other state a b =
 
 one-by_fault : HasOneOutcome → (t u v : Timeline) (s : NetworkState) (asked : Change) (reply : NetworkState → Reply) (result other : Result Reply Refusal)
     (fault : Option PlanFault) → IsState s
-    → MatchOption fault (IsChanged t s asked reply result u) (λ f. IsRefused t (refusal_of f) result u) → MatchOption fault (IsChanged t s asked reply other v) (λ f. IsRefused t (refusal_of f) other v) → (result ≡ other) × (u ≡ v)
+    → MatchOption fault (IsChanged t s asked reply result u) (λ f. IsRefused t (refusal_of f) result u)
+    → MatchOption fault (IsChanged t s asked reply other v) (λ f. IsRefused t (refusal_of f) other v) → (result ≡ other) × (u ≡ v)
 one-by_fault law t u v s asked reply result other None state a b = one-changed law t u v s asked reply result other state a b
 one-by_fault law t u v s asked reply result other (Some f) state a b = one-refused t u v (refusal_of f) result other a b
 
 -- of a change that is asked of the present state
 one-change : HasOneOutcome → (t u v : Timeline) (asked : Change) (reply : NetworkState → Reply) (result other : Result Reply Refusal) → HasStates t
-    → (s : NetworkState) × IsPresent t s × Changes t s asked reply result u → (s : NetworkState) × IsPresent t s × Changes t s asked reply other v → (result ≡ other) × (u ≡ v)
+    → (s : NetworkState) × IsPresent t s × Changes t s asked reply result u → (s : NetworkState) × IsPresent t s × Changes t s asked reply other v
+    → (result ≡ other) × (u ≡ v)
 one-change law t u v asked reply result other has a b =
     one-by_fault law t u v a.0 asked reply result other (change_fault a.0 asked) (is-state t a.0 has a.1) a.2
     (subst (λ s. Changes t s asked reply other v) (one-present t b.0 a.0 b.1 a.1) b.2)
@@ -68,7 +70,8 @@ one-solved : NetworkOneLaws → (want_cut : Bool) (t u v : Timeline) (s : Networ
     → IsSolved want_cut t s result u → IsSolved want_cut t s other v → (result ≡ other) × (u ≡ v)
 one-solved laws want_cut t u v s result other state a b =
     let same : a.new ≡ b.new = laws.outcome s a.new b.new change.Solve state a.becomes b.becomes in
-    let side : a.side ≡ b.side = one-wanted laws.side want_cut b.new.network a.side b.side (subst (λ new. IsSideWanted want_cut new.network a.side) same a.side_is) b.side_is in
+    let side : a.side ≡ b.side = one-wanted laws.side want_cut b.new.network a.side b.side
+    (subst (λ new. IsSideWanted want_cut new.network a.side) same a.side_is) b.side_is in
     (a.told ∙ ap (λ x. Ok (Solution x)) side ∙ sym b.told, a.appends ∙ ap (λ new. appended t new) same ∙ sym b.appends)
 
 -- ---- steps back and forward
@@ -78,7 +81,8 @@ one-moved t u v result other a b =
     (a.told ∙ ap (λ s. Ok (Value (value_of s))) (one-present t a.state b.state a.present b.present) ∙ sym b.told, a.moves ∙ sym b.moves)
 
 one-move : (t moved u v : Timeline) (refusal : Refusal) (result other : Result Reply Refusal) (may : Bool)
-    → MatchBool may (IsMoved moved result u) (IsRefused t refusal result u) → MatchBool may (IsMoved moved other v) (IsRefused t refusal other v) → (result ≡ other) × (u ≡ v)
+    → MatchBool may (IsMoved moved result u) (IsRefused t refusal result u) → MatchBool may (IsMoved moved other v) (IsRefused t refusal other v)
+    → (result ≡ other) × (u ≡ v)
 one-move t moved u v refusal result other true a b = one-moved moved u v result other a b
 one-move t moved u v refusal result other false a b = one-refused t u v refusal result other a b
 
@@ -126,7 +130,8 @@ has-one-answer laws want_cut t u v (Close j) result other has a b =
 has-one-answer laws want_cut t u v (Shut node) result other has a b =
     one-change laws.outcome t u v (change.Shut node) (λ new. Value (value_of new)) result other has a b
 has-one-answer laws want_cut t u v Solve result other has a b =
-    one-solved laws want_cut t u v a.0 result other (is-state t a.0 has a.1) a.2 (subst (λ s. IsSolved want_cut t s other v) (one-present t b.0 a.0 b.1 a.1) b.2)
+    one-solved laws want_cut t u v a.0 result other (is-state t a.0 has a.1) a.2
+    (subst (λ s. IsSolved want_cut t s other v) (one-present t b.0 a.0 b.1 a.1) b.2)
 has-one-answer laws want_cut t u v (Undo count) result other has a b =
     one-move t (back t count) u v NothingToUndo result other (nat_le count t.place) a b
 has-one-answer laws want_cut t u v (Redo count) result other has a b =

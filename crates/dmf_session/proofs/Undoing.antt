@@ -30,7 +30,8 @@ change-appends : (want_cut : Bool) (t u : Timeline) (command : Command) (reply :
 change-appends want_cut t u (Cap arc cap) reply is a =
     changed-by t u a.0 (change.Cap arc cap) (λ new. Value (value_of new)) reply (change_fault a.0 (change.Cap arc cap)) a.2
 change-appends want_cut t u (Add tail head cap) reply is a =
-    changed-by t u a.0 (change.Add tail head cap) (λ new. Added (length new.network.arcs) (value_of new)) reply (change_fault a.0 (change.Add tail head cap)) a.2
+    changed-by t u a.0 (change.Add tail head cap) (λ new. Added (length new.network.arcs) (value_of new)) reply
+    (change_fault a.0 (change.Add tail head cap)) a.2
 change-appends want_cut t u (Close arc) reply is a =
     changed-by t u a.0 (change.Close arc) (λ new. Value (value_of new)) reply (change_fault a.0 (change.Close arc)) a.2
 change-appends want_cut t u (Shut node) reply is a =
@@ -59,7 +60,8 @@ nothing-before t new first none =
     ap (λ u. u.place) (within_bound-past (extended t new) (omega (arith, none))) ∙ omega (arith, first)
 
 undone : (t v : Timeline) (s new : NetworkState) (result : Result Reply Refusal) → IsTimeline t → IsPresent t s
-    → MatchBool (nat_le 1 (appended t new).place) (IsMoved (back (appended t new) 1) result v) (IsRefused (appended t new) NothingToUndo result v) → UndoesChange t.bound s result v
+    → MatchBool (nat_le 1 (appended t new).place) (IsMoved (back (appended t new) 1) result v) (IsRefused (appended t new) NothingToUndo result v)
+    → UndoesChange t.bound s result v
 undone t v s new result is present m =
     let u : Timeline = appended t new in
     record {

@@ -2,7 +2,8 @@
 -- Public: a public contract says no more than this.
 use Rattle.std.specs.Prelude.{ℕ, List, codes}
 use Rattle.dmf_session.specs.declared.command.Refusal.{Refusal}
-use Rattle.dmf_session.specs.declared.command.Refusal.TheVariants.{UnknownCommand, FieldCount, NotANumber, TooLarge, NoSuchArc, Closed, NoSuchNode, TooManyArcs, SumTooLarge, NothingToUndo, NothingToRedo, NotGreatest, NoMemory, LineTooLong}
+use Rattle.dmf_session.specs.declared.command.Refusal.TheVariants.{UnknownCommand, FieldCount, NotANumber, TooLarge, NoSuchArc, Closed, NoSuchNode, TooManyArcs}
+use Rattle.dmf_session.specs.declared.command.Refusal.TheVariants.{SumTooLarge, NothingToUndo, NothingToRedo, NotGreatest, NoMemory, LineTooLong}
 
 abbrev pub refusal_text : Refusal → List ℕ
 refusal_text UnknownCommand = codes "unknown command"

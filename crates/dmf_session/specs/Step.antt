@@ -17,7 +17,8 @@ use Rattle.dmf_session.specs.declared.command.Command.TheVariants.{Cap, Add, Clo
 use Rattle.dmf_session.specs.declared.command.Reply.{Reply}
 use Rattle.dmf_session.specs.declared.command.Reply.TheVariants.{Value, Added, Solution, Problem, Flow, Cut}
 use Rattle.dmf_session.specs.declared.command.Refusal.{Refusal}
-use Rattle.dmf_session.specs.declared.command.Refusal.TheVariants.{NoSuchArc, Closed, NoSuchNode, TooManyArcs, SumTooLarge, NothingToUndo, NothingToRedo, NotGreatest, NoMemory}
+use Rattle.dmf_session.specs.declared.command.Refusal.TheVariants.{NoSuchArc, Closed, NoSuchNode, TooManyArcs, SumTooLarge, NothingToUndo, NothingToRedo}
+use Rattle.dmf_session.specs.declared.command.Refusal.TheVariants.{NotGreatest, NoMemory}
 use Rattle.dmf_history.specs.Timeline.{Timeline, IsPresent, future_of, appended, back, forward, AddsArcs}
 
 -- the value of a state's flow, which is not below 0
@@ -44,7 +45,8 @@ pub record IsRefused (t : Timeline) (refusal : Refusal) (result : Result Reply R
   pub unchanged : u ≡ t
 
 -- An accepted change: what it becomes is appended, and the reply tells of that state.
-pub record IsChanged (t : Timeline) (s : NetworkState) (change : Change) (reply : NetworkState → Reply) (result : Result Reply Refusal) (u : Timeline) : Type 0 where
+pub record IsChanged (t : Timeline) (s : NetworkState) (change : Change) (reply : NetworkState → Reply) (result : Result Reply Refusal)
+    (u : Timeline) : Type 0 where
   pub new : NetworkState
   pub becomes : Becomes s change new
   pub told : result ≡ Ok (reply new)

@@ -1,5 +1,7 @@
 -- What a problem text without a fault stands for is a state.
-use Rattle.std.proofs.Common.{◌≡◌, ◌≢◌, ℕ, ◌+◌, ◌^◌, ◌<◌, ◌≤◌, ◌==◌, ◌&&◌, ◌||◌, List, [], ◌∷◌, ◌++◌, length, map, replicate, Bool, true, false, not, Option, Some, None, is_some, is_none, unwrap_or, Result, Ok, Err, codes, arith, refl, sym, ap, ◌∙◌, subst, ⊎_elim, append-nil, length-append, sum_by, zero-add, if◌then◌else◌, nat_lt, nat_le}
+use Rattle.std.proofs.Common.{◌≡◌, ◌≢◌, ℕ, ◌+◌, ◌^◌, ◌<◌, ◌≤◌, ◌==◌, ◌&&◌, ◌||◌, List, [], ◌∷◌, ◌++◌, length, map, replicate, Bool, true, false, not, Option}
+use Rattle.std.proofs.Common.{Some, None, is_some, is_none, unwrap_or, Result, Ok, Err, codes, arith, refl, sym, ap, ◌∙◌, subst, ⊎_elim, append-nil}
+use Rattle.std.proofs.Common.{length-append, sum_by, zero-add, if◌then◌else◌, nat_lt, nat_le}
 use Rattle.std.proofs.lemmas.Bool.{cases_Bool, and_parts, leb-true, ltb-true, not-true, eqb-false}
 use Rattle.std.proofs.lemmas.List.Elements.{All-push, All-nil}
 use Rattle.std.proofs.lemmas.List.Sums.{sum_by_push, sum_by-cons}
@@ -16,11 +18,14 @@ use Rattle.dmf_state.specs.Arc.{IsArc, open_arc, capacity_sum}
 use Rattle.dmf_state.specs.Flow.{flow_at, AreWithinCapacities}
 use Rattle.dmf_state.specs.NetworkState.{NetworkState, IsState}
 use Rattle.dmf_text.specs.declared.digits.NumberFault.{NumberFault}
-use Rattle.dmf_text.specs.declared.fault.ProblemFaultKind.TheVariants.{ProblemLineExpected, SecondProblemLine, NotMax, FieldCount, NodeOutOfRange, NotSourceOrSink, SecondTerminal, SameTerminals, ArcBeforeTerminals, TooManyArcs, TooFewArcs, TerminalMissing, SumTooLarge}
+use Rattle.dmf_text.specs.declared.fault.ProblemFaultKind.TheVariants.{ProblemLineExpected, SecondProblemLine, NotMax, FieldCount, NodeOutOfRange}
+use Rattle.dmf_text.specs.declared.fault.ProblemFaultKind.TheVariants.{NotSourceOrSink, SecondTerminal, SameTerminals, ArcBeforeTerminals, TooManyArcs}
+use Rattle.dmf_text.specs.declared.fault.ProblemFaultKind.TheVariants.{TooFewArcs, TerminalMissing, SumTooLarge}
 use Rattle.dmf_text.specs.Fields.{fields}
 use Rattle.dmf_text.specs.Number.{number_of}
 use Rattle.dmf_text.specs.Judging.{Line, field, number_at, map_fault, outcome_after}
-use Rattle.dmf_text.specs.Problem.{Facts, Counts, facts_of, node_count, arc_count, number_fault, number_in, counts_named, judged_problem, node_named, own, other, differs, judged_node, judged_arc, judged, ended, state_of, problem_fault, problem_after, problem_of}
+use Rattle.dmf_text.specs.Problem.{Facts, Counts, facts_of, node_count, arc_count, number_fault, number_in, counts_named, judged_problem, node_named, own}
+use Rattle.dmf_text.specs.Problem.{other, differs, judged_node, judged_arc, judged, ended, state_of, problem_fault, problem_after, problem_of}
 use Rattle.dmf_text.specs.Reading.{with_line}
 use Rattle.dmf_text.proofs.PassedJudgements.{passed, held, passed-value, at-line, at-line-then}
 use Rattle.dmf_text.proofs.ProblemLemmas.{facts_of-push}
@@ -84,10 +89,13 @@ other-line : (facts : Facts) (kind : List ℕ) (behind : List (List ℕ)) → by
     → bytes_eq kind (codes "p") ≡ false
     → with_line facts (kind ∷ behind) ≡ facts
 other-line facts kind behind not-a not-n not-p = λ i. record {
-  counts = (ap (λ b. option_or facts.counts (if b then Some (let c : Counts = record { nodes = number_at 1 behind; arcs = number_at 2 behind } in c) else None)) not-p ∙ or-none facts.counts) i;
-  source = (ap (λ b. option_or facts.source (if b && bytes_eq (field 1 behind) (codes "s") then Some (number_at 0 behind) else None)) not-n ∙ or-none facts.source) i;
+  counts = (ap (λ b. option_or facts.counts (if b then Some (let c : Counts = record { nodes = number_at 1 behind; arcs = number_at 2 behind } in c) else None))
+      not-p ∙ or-none facts.counts) i;
+  source = (ap (λ b. option_or facts.source (if b && bytes_eq (field 1 behind) (codes "s") then Some (number_at 0 behind) else None)) not-n ∙ or-none
+      facts.source) i;
   sink = (ap (λ b. option_or facts.sink (if b && bytes_eq (field 1 behind) (codes "t") then Some (number_at 0 behind) else None)) not-n ∙ or-none facts.sink) i;
-  arcs = (ap (λ b. facts.arcs ++ option_to_list (if b then Some (open_arc (number_at 0 behind) (number_at 1 behind) (number_at 2 behind)) else None)) not-a ∙ append-nil facts.arcs) i;
+  arcs = (ap (λ b. facts.arcs ++ option_to_list (if b then Some (open_arc (number_at 0 behind) (number_at 1 behind) (number_at 2 behind)) else None)) not-a ∙
+      append-nil facts.arcs) i;
 }
 
 -- ---- one good line more
@@ -116,7 +124,8 @@ module _ (facts : Facts) (v : ℕ) (sound : Sound facts) (node : IsNode (node_co
     counts = sound.counts;
     source = λ w is. (let same : v ≡ w = cc in subst (IsNode (node_count facts)) same node);
     sink = sound.sink;
-    two = λ x y is also e. (let same : v ≡ x = cc in let d : not (v == y) ≡ true = sym (ap (differs v) also) ∙ other-is in eqb-false v y (not-true _ d) (same ∙ e));
+    two = λ x y is also e. (let same : v ≡ x = cc in let d : not (v == y) ≡ true = sym (ap (differs v) also) ∙ other-is in
+        eqb-false v y (not-true _ d) (same ∙ e));
     arcs = sound.arcs;
     few = sound.few;
     fits = sound.fits;
@@ -127,7 +136,8 @@ module _ (facts : Facts) (v : ℕ) (sound : Sound facts) (node : IsNode (node_co
     counts = sound.counts;
     source = sound.source;
     sink = λ w is. (let same : v ≡ w = cc in subst (IsNode (node_count facts)) same node);
-    two = λ x y is also e. (let same : v ≡ y = cc in let d : not (v == x) ≡ true = sym (ap (differs v) is) ∙ other-is in eqb-false v x (not-true _ d) (same ∙ sym e));
+    two = λ x y is also e. (let same : v ≡ y = cc in let d : not (v == x) ≡ true = sym (ap (differs v) is) ∙ other-is in
+        eqb-false v x (not-true _ d) (same ∙ sym e));
     arcs = sound.arcs;
     few = sound.few;
     fits = sound.fits;
@@ -163,7 +173,8 @@ module _ (facts : Facts) (behind : List (List ℕ)) (sound : Sound facts) where
       let nodes-is = spelled behind 1 nodes.value nodes.is in
       let arcs-is = spelled behind 2 arcs.value arcs.is in
       let counts : Counts = record { nodes = nodes.value; arcs = arcs.value } in
-      let now : with_line facts (codes "p" ∷ behind) ≡ record { counts = Some counts; source = facts.source; sink = facts.sink; arcs = facts.arcs } = λ i. record {
+      let now : with_line facts (codes "p" ∷ behind) ≡ record { counts = Some counts; source = facts.source; sink = facts.sink; arcs = facts.arcs } =
+      λ i. record {
         counts = (ap (λ o. option_or o (Some (let c : Counts = record { nodes = number_at 1 behind; arcs = number_at 2 behind } in c))) none
             ∙ ap (λ n. Some (let c : Counts = record { nodes = n; arcs = number_at 2 behind } in c)) nodes-is
             ∙ ap (λ n. Some (let c : Counts = record { nodes = nodes.value; arcs = n } in c)) arcs-is) i;
@@ -188,7 +199,13 @@ module _ (facts : Facts) (behind : List (List ℕ)) (sound : Sound facts) where
       let tail-in = passed (is_node (node_count facts) tail.value) NodeOutOfRange _ tt cap.rest in
       let head-in = passed (is_node (node_count facts) head.value) NodeOutOfRange _ tt tail-in.1 in
       let small = held (nat_lt (capacity_sum facts.arcs + cap.value) (2 ^ 64)) SumTooLarge head-in.1 in
-      let now : with_line facts (codes "a" ∷ behind) ≡ record { counts = facts.counts; source = facts.source; sink = facts.sink; arcs = facts.arcs ++ open_arc tail.value head.value cap.value ∷ [] } = λ i. record {
+      let now : with_line facts (codes "a" ∷ behind) ≡ record {
+        counts = facts.counts;
+        source = facts.source;
+        sink = facts.sink;
+        arcs =
+            facts.arcs ++ open_arc tail.value head.value cap.value ∷ [];
+      } = λ i. record {
         counts = or-none facts.counts i;
         source = or-none facts.source i;
         sink = or-none facts.sink i;
@@ -207,7 +224,8 @@ module _ (facts : Facts) (behind : List (List ℕ)) (sound : Sound facts) where
     sound-s : field 1 behind ≡ codes "s" → Sound (with_line facts (codes "n" ∷ behind))
     sound-s letter =
         let none = none-is facts.source (sym (ap (λ l. is_none (own l facts)) letter) ∙ once) in
-        let now : with_line facts (codes "n" ∷ behind) ≡ record { counts = facts.counts; source = Some node; sink = facts.sink; arcs = facts.arcs } = λ i. record {
+        let now : with_line facts (codes "n" ∷ behind) ≡ record { counts = facts.counts; source = Some node; sink = facts.sink; arcs = facts.arcs } =
+        λ i. record {
           counts = or-none facts.counts i;
           source = (ap (λ o. option_or o (if bytes_eq (field 1 behind) (codes "s") then Some (number_at 0 behind) else None)) none
               ∙ ap (λ l. if bytes_eq l (codes "s") then Some (number_at 0 behind) else None) letter ∙ ap (λ n. Some n) node-is) i;
@@ -219,7 +237,8 @@ module _ (facts : Facts) (behind : List (List ℕ)) (sound : Sound facts) where
     sound-t : field 1 behind ≡ codes "t" → Sound (with_line facts (codes "n" ∷ behind))
     sound-t letter =
         let none = none-is facts.sink (sym (ap (λ l. is_none (own l facts)) letter) ∙ once) in
-        let now : with_line facts (codes "n" ∷ behind) ≡ record { counts = facts.counts; source = facts.source; sink = Some node; arcs = facts.arcs } = λ i. record {
+        let now : with_line facts (codes "n" ∷ behind) ≡ record { counts = facts.counts; source = facts.source; sink = Some node; arcs = facts.arcs } =
+        λ i. record {
           counts = or-none facts.counts i;
           source = (ap (λ l. option_or facts.source (if bytes_eq l (codes "s") then Some (number_at 0 behind) else None)) letter ∙ or-none facts.source) i;
           sink = (ap (λ o. option_or o (if bytes_eq (field 1 behind) (codes "t") then Some (number_at 0 behind) else None)) none

@@ -1,5 +1,6 @@
 -- The fields of a line, one after the other.
-use Rattle.std.proofs.Common.{◌≡◌, ℕ, suc, ◌<◌, ◌≤◌, List, [], ◌∷◌, length, take, drop, get_or, Bool, true, false, not, filter, nat_lt, arith, refl, sym, ap, ◌∙◌, ⊎_elim, take_all, length-take-le, length-take, length-drop, get_or-drop, add-zero}
+use Rattle.std.proofs.Common.{◌≡◌, ℕ, suc, ◌<◌, ◌≤◌, List, [], ◌∷◌, length, take, drop, get_or, Bool, true, false, not, filter, nat_lt, arith, refl, sym, ap}
+use Rattle.std.proofs.Common.{◌∙◌, ⊎_elim, take_all, length-take-le, length-take, length-drop, get_or-drop, add-zero}
 use Rattle.std.proofs.Math.Numerals.{one-add, add-one}
 use Rattle.std.proofs.Math.Seq.{drop-cons}
 use Rattle.std.proofs.lemmas.Bool.{cond-true, cond-false, cases_Bool, cases_lt, lt-ltb, not-false, not-true, both_ways}
@@ -63,7 +64,8 @@ fields-first bytes some =
     ⊎_elim
     (λ inside. fields-ended bytes some inside)
     (λ whole. fields-whole bytes (omega arith) whole
-    ∙ sym (ap (λ field. field ∷ fields (drop n bytes)) (take_all n bytes whole) ∙ ap (λ more. bytes ∷ more) (ap fields (drop_all n bytes whole) ∙ fields-nil [] refl)))
+    ∙ sym (ap (λ field. field ∷ fields (drop n bytes)) (take_all n bytes whole) ∙ ap (λ more. bytes ∷ more)
+    (ap fields (drop_all n bytes whole) ∙ fields-nil [] refl)))
     (cases_lt n (length bytes))
 
 -- past the blanks there is a field, or nothing

@@ -104,7 +104,8 @@ module _ {Facts Kind Fault A : Type 0} {facts_of : List Line → Facts} {judged 
           record {
             before = walk.before ++ fields line ∷ [];
             rest = first.others;
-            left_is = first.after_is ∙ ap (λ n. enumerate_from n first.others) (let n : length walk.before + 1 + 1 ≡ length (walk.before ++ fields line ∷ []) + 1 = omega arith in n);
+            left_is = first.after_is ∙ ap (λ n. enumerate_from n first.others)
+                (let n : length walk.before + 1 + 1 ≡ length (walk.before ++ fields line ∷ []) + 1 = omega arith in n);
             facts_are = taken walk.before walk.facts_are;
             same = walk.same ∙ ap (λ ls. outcome_after facts_of judged ended fault walk.before (map fields ls)) first.lines_are
                 ∙ outcome-good facts_of judged ended fault walk.before (fields line) (map fields first.others) good_here;
@@ -126,5 +127,6 @@ module _ {Facts Kind Fault A : Type 0} {facts_of : List Line → Facts} {judged 
     pub walk-end : left ≡ [] → (end : Result A Kind) → end ≡ ended facts
         → outcome_after facts_of judged ended fault [] (map fields (lines text)) ≡ at_line fault (last + 1) end
     walk-end none end is =
-        walk.same ∙ ap (λ ls. outcome_after facts_of judged ended fault walk.before (map fields ls)) (none-numbered (length walk.before + 1) walk.rest (sym walk.left_is ∙ none))
+        walk.same ∙ ap (λ ls. outcome_after facts_of judged ended fault walk.before (map fields ls))
+        (none-numbered (length walk.before + 1) walk.rest (sym walk.left_is ∙ none))
         ∙ outcome-end facts_of judged ended fault walk.before end (is ∙ ap ended walk.facts_are) ∙ ap (λ n. at_line fault (n + 1) end) (sym walk.last_is)

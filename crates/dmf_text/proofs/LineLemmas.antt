@@ -1,6 +1,8 @@
 -- The lines of a text, as bstr cuts them and as std does.
-use Rattle.std.proofs.Common.{◌≡◌, ℕ, zero, suc, ◌+◌, ◌-◌, ◌<◌, ◌≤◌, ◌==◌, ◌≢◌, List, [], ◌∷◌, length, take, drop, slice_index, map, Bool, false, cond, not, arith, refl, sym, ap, ◌∙◌, ⊎_elim, take_all, length-take-le, length-drop, get_or-take, ◌&&◌}
-use Rattle.std.proofs.lemmas.Bool.{cond-true, cond-false, cond_both, cases_lt, lt-ltb, not-false, not-true, eqb-true, eqb-false, eq-eqb, ne_eqb, and_from, and_right}
+use Rattle.std.proofs.Common.{◌≡◌, ℕ, zero, suc, ◌+◌, ◌-◌, ◌<◌, ◌≤◌, ◌==◌, ◌≢◌, List, [], ◌∷◌, length, take, drop, slice_index, map, Bool, false, cond, not}
+use Rattle.std.proofs.Common.{arith, refl, sym, ap, ◌∙◌, ⊎_elim, take_all, length-take-le, length-drop, get_or-take, ◌&&◌}
+use Rattle.std.proofs.lemmas.Bool.{cond-true, cond-false, cond_both, cases_lt, lt-ltb, not-false, not-true, eqb-true, eqb-false, eq-eqb, ne_eqb, and_from}
+use Rattle.std.proofs.lemmas.Bool.{and_right}
 use Rattle.std.proofs.lemmas.List.{drop_all, take-take}
 use Rattle.std.proofs.lemmas.List.Sums.{prefix_len_passes, prefix_len_stops}
 use Rattle.std.proofs.lemmas.List.Splits.{slice_split_first, slice_split_none}
@@ -86,7 +88,8 @@ lines-agree (suc fuel) (b ∷ bs) le =
     first ∙ ap (λ m. without_terminator (take m text) ∷ map without_terminator (lines_of (drop m text))) (line_len-none text none)
     ∙ ap (λ line. without_terminator line ∷ map without_terminator (lines_of (drop n text))) (take_all n text (omega arith))
     ∙ ap (λ line. line ∷ map without_terminator (lines_of (drop n text))) (without-none text (none (n - 1) (omega arith)))
-    ∙ ap (λ more. text ∷ map without_terminator more) (lines-empty (drop n text) (ap length (drop_all n text (omega arith)))) ∙ sym (lines-whole text (omega arith) whole))
+    ∙ ap (λ more. text ∷ map without_terminator more) (lines-empty (drop n text) (ap length (drop_all n text (omega arith)))) ∙ sym
+    (lines-whole text (omega arith) whole))
     (cases_lt w (length text))
 
 pub lines-bstr : (text : List ℕ) → map without_terminator (lines_of text) ≡ lines text

@@ -1,5 +1,6 @@
 -- Numbers that grow digit by digit, and where they pass 2^64.
-use Rattle.std.proofs.Common.{◌≡◌, ℕ, ◌+◌, ◌*◌, ◌^◌, ◌<◌, ◌≤◌, Option, Some, None, List, [], ◌∷◌, length, take, take_all, get_or, ◌-◌, true, false, Err, ok_or, arith, sym, ap, ◌∙◌, ⊎_elim, refl, Ok}
+use Rattle.std.proofs.Common.{◌≡◌, ℕ, ◌+◌, ◌*◌, ◌^◌, ◌<◌, ◌≤◌, Option, Some, None, List, [], ◌∷◌, length, take, take_all, get_or, ◌-◌, true, false, Err, ok_or}
+use Rattle.std.proofs.Common.{arith, sym, ap, ◌∙◌, ⊎_elim, refl, Ok}
 use Rattle.std.proofs.lemmas.Bool.{cond-true, cond-false, lt-ltb, le-ltb, cases_lt, and_right, and_from, and_parts, leb-true}
 use Rattle.std.proofs.lemmas.List.Folds.{list_all_at, list_all_more}
 use Rattle.std.proofs.lemmas.Int.Digits.{digits_value_more}
@@ -74,7 +75,8 @@ pub number_of-all : (field : List ℕ) (i : ℕ) (value : Option ℕ) → 0 < le
     → value ≡ within (digits_value 10 (take i field)) → ok_or value TooLarge ≡ number_of field
 number_of-all field i value some end all is =
     let whole = take_all i field end in
-    ap (λ v. ok_or v TooLarge) (is ∙ ap (λ ds. within (digits_value 10 ds)) whole) ∙ sym (number_of-digits field some (sym (ap (λ ds. list_all is_ascii_digit ds) whole) ∙ all))
+    ap (λ v. ok_or v TooLarge) (is ∙ ap (λ ds. within (digits_value 10 ds)) whole) ∙ sym
+    (number_of-digits field some (sym (ap (λ ds. list_all is_ascii_digit ds) whole) ∙ all))
 
 pub number_of-short : (field : List ℕ) (i value : ℕ) → 0 < length field → length field ≤ i → list_all is_ascii_digit (take i field) ≡ true
     → value ≡ digits_value 10 (take i field) → value < 2 ^ 64 → Ok value ≡ number_of field

@@ -1,5 +1,6 @@
 -- Lemmas on the pairs of arcs, and on what is kept of them.
-use Rattle.std.proofs.Common.{◌≡◌, ℕ, zero, suc, ◌+◌, ◌-◌, ◌<◌, ◌≤◌, ◌^◌, ◌⊎◌, min, List, [], ◌∷◌, ◌++◌, length, take, drop, get_or, map, replicate, true, false, ◌||◌, if◌then◌else◌, Option, Some, None, is_some, Ok, Err, refl, sym, ap, ◌∙◌, subst, ⊎_elim, arith, drop-cons}
+use Rattle.std.proofs.Common.{◌≡◌, ℕ, zero, suc, ◌+◌, ◌-◌, ◌<◌, ◌≤◌, ◌^◌, ◌⊎◌, min, List, [], ◌∷◌, ◌++◌, length, take, drop, get_or, map, replicate, true}
+use Rattle.std.proofs.Common.{false, ◌||◌, if◌then◌else◌, Option, Some, None, is_some, Ok, Err, refl, sym, ap, ◌∙◌, subst, ⊎_elim, arith, drop-cons}
 use Rattle.std.proofs.lemmas.Bool.{cases_Bool, cond-true, cond-false, le-leb, lt-leb, or_left, or_right, true≢false}
 use Rattle.std.proofs.lemmas.List.{take_more, length-replicate}
 use Rattle.std.proofs.lemmas.List.Elements.{All-weaker}
@@ -98,7 +99,8 @@ some-of (Some known) some = (known, refl)
 pub keeps-none : (arcs : List Arc) (pairs : Pairs) → IsPermutation (map ends arcs) pairs.ends.items
     → pairs.known.items ≡ replicate (length pairs.ends.items) (record { cap = 0; flow = 0 }) → KeepsCounted arcs [] (λ _. 0) pairs
 keeps-none arcs pairs same none =
-    let at : (pair : Pair) → known_of pairs pair ≡ slice_get (replicate (length pairs.ends.items) (record { cap = 0; flow = 0 })) (first_place pairs.ends.items pair)
+    let at : (pair : Pair) → known_of pairs pair ≡ slice_get (replicate (length pairs.ends.items) (record { cap = 0; flow = 0 }))
+    (first_place pairs.ends.items pair)
     = λ pair. ap (λ l. slice_get l (first_place pairs.ends.items pair)) none in
     record {
       there = λ pair. some-first (λ p. same_pair p pair) pairs.ends.items pairs.known.items (ap length none ∙ length-replicate (length pairs.ends.items) _)

@@ -1,5 +1,6 @@
 -- What a written problem stands for.
-use Rattle.std.proofs.Common.{◌≡◌, ◌≢◌, ℕ, ◌+◌, ◌^◌, ◌<◌, ◌≤◌, List, [], ◌∷◌, ◌++◌, length, map, true, false, not, Some, None, Ok, codes, decimal, arith, refl, sym, ap, ◌∙◌, append_assoc, append-nil, length-append, zero-add}
+use Rattle.std.proofs.Common.{◌≡◌, ◌≢◌, ℕ, ◌+◌, ◌^◌, ◌<◌, ◌≤◌, List, [], ◌∷◌, ◌++◌, length, map, true, false, not, Some, None, Ok, codes, decimal, arith, refl}
+use Rattle.std.proofs.Common.{sym, ap, ◌∙◌, append_assoc, append-nil, length-append, zero-add}
 use Rattle.std.proofs.lemmas.Bool.{cond_both, and_from, not-true, lt-ltb, le-leb, ne_eqb}
 use Rattle.std.proofs.lemmas.List.Elements.{recursion_from_All}
 use Rattle.std.proofs.lemmas.List.Sums.{length-filter, count_by-le-length, sum_by-append, sum_by-cons}
@@ -11,7 +12,8 @@ use Rattle.dmf_state.specs.Arc.{IsArc, capacity_sum, open_count}
 use Rattle.dmf_state.specs.Network.{Network, IsNetwork}
 use Rattle.dmf_text.specs.Number.{number_of}
 use Rattle.dmf_text.specs.Judging.{Line}
-use Rattle.dmf_text.specs.Problem.{Facts, Counts, facts_of, counts_named, judged_problem, node_named, judged_node, judged_arc, judged, ended, state_of, problem_fault, problem_after, problem_of}
+use Rattle.dmf_text.specs.Problem.{Facts, Counts, facts_of, counts_named, judged_problem, node_named, judged_node, judged_arc, judged, ended, state_of}
+use Rattle.dmf_text.specs.Problem.{problem_fault, problem_after, problem_of}
 use Rattle.dmf_text.specs.Reading.{with_line}
 use Rattle.dmf_text.specs.Written.{open_arcs, arc_fields, problem_lines, problem_text, open_network, idle_state}
 use Rattle.dmf_text.proofs.JudgingLemmas.{outcome-good, outcome-end}
@@ -61,7 +63,8 @@ sink-good : (counts : Counts) (source : ℕ) (f : List ℕ) (v : ℕ) → node_n
 unfolding judged_node
 sink-good counts source f v named other = rw (named, ne_eqb v source other) refl
 
-module _ (counts : Counts) (source sink : ℕ) (done : List Arc) (arc : Arc) (is : IsArc counts.nodes arc) (small : arc.tail < 2 ^ 64) (small-head : arc.head < 2 ^ 64) (small-cap : arc.cap < 2 ^ 64) where
+module _ (counts : Counts) (source sink : ℕ) (done : List Arc) (arc : Arc) (is : IsArc counts.nodes arc) (small : arc.tail < 2 ^ 64)
+    (small-head : arc.head < 2 ^ 64) (small-cap : arc.cap < 2 ^ 64) where
   arc-good : length done < counts.arcs → capacity_sum done + arc.cap < 2 ^ 64
       → judged_arc (after-arcs counts source sink done) (decimal arc.tail ∷ decimal arc.head ∷ decimal arc.cap ∷ []) ≡ Ok tt
   unfolding judged_arc
@@ -116,7 +119,8 @@ module _ (counts : Counts) (source sink : ℕ) (few-nodes : counts.nodes ≤ 2 ^
       let fits-here : capacity_sum done + arc.cap < 2 ^ 64 = omega (arith, sums, split) in
       let next = before ++ arc_fields arc ∷ [] in
       let facts-next : facts_of next ≡ after-arcs counts source sink (done ++ arc ∷ []) =
-      facts_of-push before (arc_fields arc) ∙ ap (λ s. with_line s (arc_fields arc)) facts ∙ with-arc counts source sink done arc is small small-head small-cap are.0.opened in
+      facts_of-push before (arc_fields arc) ∙ ap (λ s. with_line s (arc_fields arc)) facts ∙ with-arc counts source sink done arc is small small-head small-cap
+      are.0.opened in
       let joined : (done ++ arc ∷ []) ++ todo ≡ done ++ arc ∷ todo = append_assoc done (arc ∷ []) todo in
       let long = length-append done (arc ∷ []) in
       outcome-good facts_of judged ended problem_fault before (arc_fields arc) (map arc_fields todo)
@@ -143,7 +147,13 @@ arcs-are nodes (arc ∷ arcs) few fits are =
     let sums = sum_by-cons (λ a. a.cap) arc arcs in (
       (
         record { some = omega arith; all = refl },
-        (decimal-field arc.tail (omega (arith, tail.to_last)), (decimal-field arc.head (omega (arith, head.to_last)), (decimal-field arc.cap (omega (arith, sums)), tt))),
+        (
+          decimal-field arc.tail (omega (arith, tail.to_last)),
+          (
+            decimal-field arc.head (omega (arith, head.to_last)),
+            (decimal-field arc.cap (omega (arith, sums)), tt),
+          ),
+        ),
       ),
       arcs-are nodes arcs few (omega (arith, sums)) are.1,
     )
@@ -174,7 +184,16 @@ module _ (n : Network) (is : IsNetwork n) where
   lines-are : AllByRecursion AreFields (problem_lines n)
   lines-are =
       let letter : (b : ℕ) → list_all plain (b ∷ []) ≡ true → IsField (b ∷ []) = λ b all. record { some = omega arith; all = all } in (
-        (letter 112 refl, (record { some = omega arith; all = refl }, (decimal-field n.nodes nodes-small, (decimal-field (open_count n.arcs) (omega (arith, open-few)), tt)))),
+        (
+          letter 112 refl,
+          (
+            record { some = omega arith; all = refl },
+            (
+              decimal-field n.nodes nodes-small,
+              (decimal-field (open_count n.arcs) (omega (arith, open-few)), tt),
+            ),
+          ),
+        ),
         (
           (letter 110 refl, (decimal-field n.source (small-node n.source is.source), (letter 115 refl, tt))),
           (
@@ -207,7 +226,8 @@ module _ (n : Network) (is : IsNetwork n) where
       let sink-is = number_of-decimal n.sink (small-node n.sink is.sink) in
       let good-p : judged (facts_of []) p ≡ Ok tt =
       problem-good (codes "max" ∷ decimal n.nodes ∷ decimal (open_count n.arcs) ∷ []) (counts_of n)
-      (counts-good (decimal n.nodes) (decimal (open_count n.arcs)) n.nodes (open_count n.arcs) nodes-is arcs-is is.at_least_two_nodes is.at_most_nodes open-few) in
+      (counts-good (decimal n.nodes) (decimal (open_count n.arcs)) n.nodes (open_count n.arcs) nodes-is arcs-is is.at_least_two_nodes is.at_most_nodes open-few)
+      in
       let good-s : judged (facts_of (p ∷ [])) s ≡ Ok tt =
       ap (λ facts. judged facts s) facts-problem
       ∙ source-good (counts_of n) (decimal n.source) n.source (source-named n.nodes (decimal n.source) n.source source-is is.source) in
@@ -215,7 +235,8 @@ module _ (n : Network) (is : IsNetwork n) where
       facts_of-push (p ∷ []) s ∙ ap (λ facts. with_line facts s) facts-problem ∙ facts-source in
       let good-t : judged (facts_of (p ∷ s ∷ [])) t ≡ Ok tt =
       ap (λ facts. judged facts t) facts-s
-      ∙ sink-good (counts_of n) n.source (decimal n.sink) n.sink (sink-named n.nodes (decimal n.sink) n.sink sink-is is.sink) (λ same. is.two_terminals (sym same)) in
+      ∙ sink-good (counts_of n) n.source (decimal n.sink) n.sink (sink-named n.nodes (decimal n.sink) n.sink sink-is is.sink)
+      (λ same. is.two_terminals (sym same)) in
       let facts-t : facts_of (p ∷ s ∷ t ∷ []) ≡ after-arcs (counts_of n) n.source n.sink [] =
       facts_of-push (p ∷ s ∷ []) t ∙ ap (λ facts. with_line facts t) facts-s ∙ facts-sink in
       ap (problem_after []) (lines-written (problem_lines n) lines-are)

@@ -1,5 +1,6 @@
 -- What a solution text says, line after line, and its end.
-use Rattle.std.proofs.Common.{◌≡◌, ◌≢◌, ◌⊎◌, ◌≤◌, ◌^◌, ℕ, List, [], ◌∷◌, ◌++◌, Bool, true, false, Option, Some, None, Result, Ok, Err, MatchResult, refl, sym, ap, ◌∙◌, subst, inl, inr, ⊎_elim, arith, codes, pos}
+use Rattle.std.proofs.Common.{◌≡◌, ◌≢◌, ◌⊎◌, ◌≤◌, ◌^◌, ℕ, List, [], ◌∷◌, ◌++◌, Bool, true, false, Option, Some, None, Result, Ok, Err, MatchResult, refl, sym}
+use Rattle.std.proofs.Common.{ap, ◌∙◌, subst, inl, inr, ⊎_elim, arith, codes, pos}
 use Rattle.std.proofs.lemmas.Bool.{cases_Bool}
 use Rattle.std.proofs.lemmas.Bool.Decides.{Decides-int_eq}
 use Rattle.std.proofs.lemmas.Int.{ints}
@@ -56,7 +57,8 @@ module _ (arcs : List Arc) (facts : Facts) (reading now : SolutionReading) (f g 
       → TakesLine arcs facts (codes "f" ∷ f ∷ g ∷ h ∷ []) (judged_flow arcs facts (f ∷ g ∷ h ∷ [])) now result
   line-taken (Ok done) added =
       let pairs = keeps-added arcs facts.flows reading.pairs now.pairs (tail, head) flow kept.pairs added in
-      let keeps : Keeps arcs (record { value = facts.value; flows = facts.flows ++ ((tail, head), flow) ∷ [] }) now = record { ends = kept.ends; value = value ∙ kept.value; pairs = pairs } in
+      let keeps : Keeps arcs (record { value = facts.value; flows = facts.flows ++ ((tail, head), flow) ∷ [] }) now =
+      record { ends = kept.ends; value = value ∙ kept.value; pairs = pairs } in
       (line-judged ∙ fits-good arcs facts reading.pairs now.pairs (tail, head) flow kept.pairs added, subst (λ s. Keeps arcs s now) (sym line-says) keeps)
   line-taken (Err kind) cannot = line-judged ∙ fits-bad arcs facts reading.pairs (tail, head) flow kind kept.pairs cannot
 
@@ -75,7 +77,8 @@ module _ (s : NetworkState) (facts : Facts) (value : ℕ) (told : facts.value �
   unfolding ended
   ended-differs flow differs =
       let other : int_eq (flow_value s.network flows) (pos value) ≡ false =
-      ⊎_elim (λ same. absurd (differs ((Decides-int_eq (flow_value s.network flows) (pos value)).0 same))) (λ no. no) (cases_Bool (int_eq (flow_value s.network flows) (pos value))) in
+      ⊎_elim (λ same. absurd (differs ((Decides-int_eq (flow_value s.network flows) (pos value)).0 same))) (λ no. no)
+      (cases_Bool (int_eq (flow_value s.network flows) (pos value))) in
       rw (told, none-unbalanced s.network flows flow, other) refl
 
   -- no fault
@@ -96,7 +99,8 @@ module _ (s : NetworkState) (facts : Facts) (value : ℕ) (told : facts.value �
       let is : why ≡ fault.Negative = cc in
       let below = below-told (flow_value s.network flows) less in
       let other : int_eq (flow_value s.network flows) (pos value) ≡ false =
-      ⊎_elim (λ same. let equal = (Decides-int_eq (flow_value s.network flows) (pos value)).0 same in absurd (omega (arith, ints, below, equal))) (λ no. no) (cases_Bool (int_eq (flow_value s.network flows) (pos value))) in
+      ⊎_elim (λ same. let equal = (Decides-int_eq (flow_value s.network flows) (pos value)).0 same in absurd (omega (arith, ints, below, equal))) (λ no. no)
+      (cases_Bool (int_eq (flow_value s.network flows) (pos value))) in
       rw (is, told, found, other) refl
   refused-by why None false found less fault_is = absurd (cc)
 

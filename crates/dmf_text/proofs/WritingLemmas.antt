@@ -18,8 +18,13 @@ front-of a b s t put_front = (put_front.0, put_front.1 ++ t, ap (λ l. l ++ t) p
 
 -- after all of another text
 pub front-after : (a b c : Writer) (s t : List ℕ) → Appends a.contents b.contents s → PutsFront b c t → PutsFront a c (s ++ t)
-front-after a b c s t held put_front =
-    (s ++ put_front.0, put_front.1, ap (λ more. s ++ more) put_front.2 ∙ sym (append_assoc s put_front.0 put_front.1), Appends-trans _ _ _ s put_front.0 held put_front.3, put_front.4)
+front-after a b c s t held put_front = (
+  s ++ put_front.0,
+  put_front.1,
+  ap (λ more. s ++ more) put_front.2 ∙ sym (append_assoc s put_front.0 put_front.1),
+  Appends-trans _ _ _ s put_front.0 held put_front.3,
+  put_front.4,
+)
 
 -- all of a text, and then another
 pub writes-more : {V E : Type 0} (a b c : Writer) (outcome : Result V E) (s t : List ℕ) → Appends a.contents b.contents s → b.has_failed ≡ a.has_failed

@@ -1,6 +1,8 @@
 -- What written lines are when they are read again.
-use Rattle.std.proofs.Common.{◌≡◌, ◌≢◌, ℕ, ◌-◌, ◌^◌, ◌<◌, ◌==◌, ◌&&◌, List, [], ◌∷◌, ◌++◌, length, get_or, slice_index, map, filter, nat_lt, Bool, true, false, not, Ok, ok_or, decimal, arith, refl, ap, ◌∙◌, ⊎_elim, append_assoc}
-use Rattle.std.proofs.lemmas.Bool.{cond-true, cond-false, cases_Bool, both_ways, and_parts, and_from, or_from, not-true, not_from_false, lt-ltb, le-leb, eqb-false, ne_eqb}
+use Rattle.std.proofs.Common.{◌≡◌, ◌≢◌, ℕ, ◌-◌, ◌^◌, ◌<◌, ◌==◌, ◌&&◌, List, [], ◌∷◌, ◌++◌, length, get_or, slice_index, map, filter, nat_lt, Bool, true, false}
+use Rattle.std.proofs.Common.{not, Ok, ok_or, decimal, arith, refl, ap, ◌∙◌, ⊎_elim, append_assoc}
+use Rattle.std.proofs.lemmas.Bool.{cond-true, cond-false, cases_Bool, both_ways, and_parts, and_from, or_from, not-true, not_from_false, lt-ltb, le-leb}
+use Rattle.std.proofs.lemmas.Bool.{eqb-false, ne_eqb}
 use Rattle.std.proofs.lemmas.List.Folds.{list_all_at, list_all-append}
 use Rattle.std.proofs.lemmas.List.Splits.{slice_split_none, slice_split_at}
 use Rattle.std.proofs.lemmas.Fmt.{decimal_is_IsNumeral, decimal_nonempty}

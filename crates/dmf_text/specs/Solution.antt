@@ -1,7 +1,8 @@
 -- Solution texts, in the format of the First DIMACS Implementation Challenge (Problem Definitions and Specifications,
 -- 1990, maximum flow): which line is at fault, and what a text stands for, given the network that it speaks of.
 -- Public: a public contract says no more than this.
-use Rattle.std.specs.Prelude.{ℕ, List, [], ◌∷◌, ◌++◌, ◌+◌, ◌-◌, ◌==◌, ◌&&◌, Bool, Option, Some, None, is_none, Result, Ok, Err, ok_or, if◌then◌else◌, length, map, codes, min, nat_eq, nat_le, pos, sum_by}
+use Rattle.std.specs.Prelude.{ℕ, List, [], ◌∷◌, ◌++◌, ◌+◌, ◌-◌, ◌==◌, ◌&&◌, Bool, Option, Some, None, is_none, Result, Ok, Err, ok_or, if◌then◌else◌, length}
+use Rattle.std.specs.Prelude.{map, codes, min, nat_eq, nat_le, pos, sum_by}
 use Rattle.std.specs.List.{filter_map, list_any, starts_with}
 use Rattle.std.specs.Ordering.{int_eq}
 use Rattle.std.specs.Str.{bytes_eq}
@@ -14,7 +15,8 @@ use Rattle.dmf_text.specs.declared.digits.NumberFault.{NumberFault}
 use Rattle.dmf_text.specs.declared.digits.NumberFault.TheVariants as digits
 use Rattle.dmf_text.specs.declared.fault.SolutionFault.{SolutionFault}
 use Rattle.dmf_text.specs.declared.fault.SolutionFaultKind.{SolutionFaultKind}
-use Rattle.dmf_text.specs.declared.fault.SolutionFaultKind.TheVariants.{UnknownLine, FieldCount, NotANumber, TooLarge, NoSuchPair, OverCapacity, SecondValue, ValueMissing, NotConserved, ValueDiffers, NoMemory}
+use Rattle.dmf_text.specs.declared.fault.SolutionFaultKind.TheVariants.{UnknownLine, FieldCount, NotANumber, TooLarge, NoSuchPair, OverCapacity, SecondValue}
+use Rattle.dmf_text.specs.declared.fault.SolutionFaultKind.TheVariants.{ValueMissing, NotConserved, ValueDiffers, NoMemory}
 use Rattle.dmf_text.specs.Fields.{fields}
 use Rattle.dmf_text.specs.Number.{number_of}
 use Rattle.dmf_text.specs.Judging.{Line, field, number_at, first_fact, ◌>>=◌, ◌>>◌, expect, map_fault, outcome_after}

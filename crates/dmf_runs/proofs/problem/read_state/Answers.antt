@@ -35,12 +35,24 @@ returns-in_err-text g c =
     let reader = g.P.Source.left in
     let read = c.in_err-text.ensures in
     rw (failed.1, failed.2)
-    (record { text = read.text; consumes = read.consumes; is_so = unread (reader c.args.source.now) (reader c.read_all.new.source) read.text c.in_err-text.field-0.0 read.is_so })
+    (record {
+      text = read.text;
+      consumes = read.consumes;
+      is_so = unread (reader c.args.source.now)
+          (reader c.read_all.new.source) read.text c.in_err-text.field-0.0 read.is_so;
+    })
 
 pub returns-in-Ok : goal.returns-in-Ok
 returns-in-Ok g c =
     let read = c.in_ok-text.ensures in
-    record { text = read.text; consumes = read.consumes; is_so = (read.is_so.0, ap problem_of (sym (c.deref.ensures.value ∙ read.is_so.1)) ∙ judged-state c.in-Ok.state c.deref.result.now c.in-Ok.ensures) }
+    record {
+      text = read.text;
+      consumes = read.consumes;
+      is_so = (
+        read.is_so.0,
+        ap problem_of (sym (c.deref.ensures.value ∙ read.is_so.1)) ∙ judged-state c.in-Ok.state c.deref.result.now c.in-Ok.ensures,
+      );
+    }
 
 pub returns-in-NoMemory : goal.returns-in-NoMemory
 returns-in-NoMemory g c =
@@ -50,4 +62,11 @@ returns-in-NoMemory g c =
 pub returns : goal.returns
 returns g c =
     let read = c.in_ok-text.ensures in
-    record { text = read.text; consumes = read.consumes; is_so = (read.is_so.0, ap problem_of (sym (c.deref.ensures.value ∙ read.is_so.1)) ∙ judged-fault c.in-Err.fault c.deref.result.now c.in_default.not-NoMemory c.in-Err.ensures) }
+    record {
+      text = read.text;
+      consumes = read.consumes;
+      is_so = (
+        read.is_so.0,
+        ap problem_of (sym (c.deref.ensures.value ∙ read.is_so.1)) ∙ judged-fault c.in-Err.fault c.deref.result.now c.in_default.not-NoMemory c.in-Err.ensures,
+      );
+    }

@@ -14,13 +14,24 @@ returns-in_err-put_reply-in-Ok g c =
     let failed = err_from_is_err_and c.from_residual.result c.from_residual.ensures.1 in
     let reply = c.in-Ok.reply in
     let state = c.present.result.now in
-    rw failed.1 (reply_text c.args.wanted.brief c.args.command reply state, false, (Ok reply, c.in-Ok.ensures.answer, (state, c.present.ensures.state, refl, refl)), c.in_err-put_reply-in-Ok.ensures, tt)
+    rw failed.1 (
+      reply_text c.args.wanted.brief c.args.command reply state,
+      false,
+      (Ok reply, c.in-Ok.ensures.answer, (state, c.present.ensures.state, refl, refl)),
+      c.in_err-put_reply-in-Ok.ensures,
+      tt,
+    )
 
 pub returns-in_ok-put_reply-in-Ok : goal.returns-in_ok-put_reply-in-Ok
 returns-in_ok-put_reply-in-Ok g c =
     let reply = c.in-Ok.reply in
-    let state = c.present.result.now in
-    (reply_text c.args.wanted.brief c.args.command reply state, false, (Ok reply, c.in-Ok.ensures.answer, (state, c.present.ensures.state, refl, refl)), c.in_ok-put_reply-in-Ok.ensures, refl)
+    let state = c.present.result.now in (
+      reply_text c.args.wanted.brief c.args.command reply state,
+      false,
+      (Ok reply, c.in-Ok.ensures.answer, (state, c.present.ensures.state, refl, refl)),
+      c.in_ok-put_reply-in-Ok.ensures,
+      refl,
+    )
 
 pub returns-in-Err : goal.returns-in-Err
 returns-in-Err g c =

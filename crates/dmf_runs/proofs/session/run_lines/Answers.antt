@@ -25,7 +25,8 @@ returns-in_err-ended g c =
     let holds = g.W.Sink.written c.loop-number.out in
     subst (λ result. RunsCommandsWith c.args.wanted (g.H.History.timeline c.args.session.now) (streams before held) (streams then holds) result)
     (sym (failed.1 ∙ ap Err failed.2))
-    (RunsCommands-refused c.args.wanted _ before _ then held holds c.loop-number.number _ _ c.loop-number.invariant c.in_err-ended.field-0.0 c.next_line.new.line (omega arith) c.in_err-ended.ensures)
+    (RunsCommands-refused c.args.wanted _ before _ then held holds c.loop-number.number _ _ c.loop-number.invariant c.in_err-ended.field-0.0
+    c.next_line.new.line (omega arith) c.in_err-ended.ensures)
 
 pub returns-in_default : goal.returns-in_default
 returns-in_default g c =
@@ -50,7 +51,8 @@ returns-in_err-answer g c =
     let gave = rw c.in-Line.is at c.in_ok-ended.ensures in
     subst (λ result. RunsCommandsWith c.args.wanted (g.H.History.timeline c.args.session.now) (streams before held) (streams then next) result)
     (sym (failed.1 ∙ ap Err failed.2))
-    (RunsCommands-write c.args.wanted _ before _ then held holds c.loop-number.number u _ c.loop-number.invariant next meaning c.next_line.new.line v c.in-Line.ended gave c.meaning_of-meaning.ensures broken)
+    (RunsCommands-write c.args.wanted _ before _ then held holds c.loop-number.number u _ c.loop-number.invariant next meaning c.next_line.new.line v
+    c.in-Line.ended gave c.meaning_of-meaning.ensures broken)
 
 -- a last line was carried out
 pub returns-then-not-ended : goal.returns-then-not-ended
@@ -62,10 +64,12 @@ returns-then-not-ended g c =
     let refused = c.is_refusal-is_refused.result in
     let u = g.H.History.timeline c.loop-number.session in
     let v = g.H.History.timeline c.answer.new.session in
-    let carried = Carried-told c.args.wanted u meaning c.loop-number.number holds next c.in_ok-answer.answer refused v c.is_refusal-is_refused.ensures c.in_ok-answer.ensures.line in
+    let carried = Carried-told c.args.wanted u meaning c.loop-number.number holds next c.in_ok-answer.answer refused v c.is_refusal-is_refused.ensures
+    c.in_ok-answer.ensures.line in
     let gave = rw (c.in-Line.is, c.if-not-ended.true) at c.in_ok-ended.ensures in
     let means = rw c.if-not-ended.true at c.meaning_of-meaning.ensures in
-    RunsCommands-last c.args.wanted _ _ _ then _ holds c.loop-number.number u c.loop-number.is_refused c.loop-number.invariant next meaning c.next_line.new.line v refused c.status-then-not-ended.result (omega arith) c.status-then-not-ended.ensures gave means carried
+    RunsCommands-last c.args.wanted _ _ _ then _ holds c.loop-number.number u c.loop-number.is_refused c.loop-number.invariant next meaning c.next_line.new.line
+    v refused c.status-then-not-ended.result (omega arith) c.status-then-not-ended.ensures gave means carried
 
 pub loop-number-preserved : goal.loop-number-preserved
 loop-number-preserved g c =
@@ -76,10 +80,12 @@ loop-number-preserved g c =
     let refused = c.is_refusal-is_refused.result in
     let u = g.H.History.timeline c.loop-number.session in
     let v = g.H.History.timeline c.answer.new.session in
-    let carried = Carried-told c.args.wanted u meaning c.loop-number.number holds next c.in_ok-answer.answer refused v c.is_refusal-is_refused.ensures c.in_ok-answer.ensures.line in
+    let carried = Carried-told c.args.wanted u meaning c.loop-number.number holds next c.in_ok-answer.answer refused v c.is_refusal-is_refused.ensures
+    c.in_ok-answer.ensures.line in
     let gave = rw (c.in-Line.is, c.if-not-ended.false) at c.in_ok-ended.ensures in
     let means = rw c.if-not-ended.false at c.meaning_of-meaning.ensures in
-    Progress-more c.args.wanted _ _ _ then _ holds next c.loop-number.number u c.loop-number.is_refused meaning c.next_line.new.line refused v c.loop-number.invariant gave means carried
+    Progress-more c.args.wanted _ _ _ then _ holds next c.loop-number.number u c.loop-number.is_refused meaning c.next_line.new.line refused v
+    c.loop-number.invariant gave means carried
 
 pub returns-in_err-expect_end : goal.returns-in_err-expect_end
 returns-in_err-expect_end g c =
@@ -90,7 +96,8 @@ returns-in_err-expect_end g c =
     let holds = g.W.Sink.written c.loop-number.out in
     subst (λ result. RunsCommandsWith c.args.wanted (g.H.History.timeline c.args.session.now) (streams before held) (streams then holds) result)
     (sym (failed.1 ∙ ap Err failed.2))
-    (RunsCommands-past c.args.wanted _ before _ then held holds c.loop-number.number _ _ c.loop-number.invariant c.in_err-expect_end.field-0.0 (omega arith) c.in_err-expect_end.ensures)
+    (RunsCommands-past c.args.wanted _ before _ then held holds c.loop-number.number _ _ c.loop-number.invariant c.in_err-expect_end.field-0.0
+    (omega arith) c.in_err-expect_end.ensures)
 
 pub returns : goal.returns
 returns g c =

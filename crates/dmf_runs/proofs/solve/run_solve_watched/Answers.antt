@@ -38,4 +38,9 @@ returns-in_err-put_solved-clause-run g c =
 pub returns-clause-run : goal.returns-clause-run
 returns-clause-run g c =
     let read = c.in_ok-state.ensures in
-    record { text = read.text; consumes = read.consumes; is_so = writes-solved g (goal.at.returns-clause-run g c).After-put_solved _ c.in_ok-put_solved.ensures }
+    record {
+      text = read.text;
+      consumes = read.consumes;
+      is_so = writes-solved g
+          (goal.at.returns-clause-run g c).After-put_solved _ c.in_ok-put_solved.ensures;
+    }

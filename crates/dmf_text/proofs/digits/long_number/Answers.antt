@@ -22,4 +22,5 @@ loop-byte-preserved c =
 pub returns : goal.returns
 returns c =
     c.ok_or.ensures.value
-    ∙ number_of-all c.args.field.now c.loop-byte.byte-index c.loop-byte.value c.requires c.loop-byte-test.false c.loop-byte.invariant.digits c.loop-byte.invariant.value
+    ∙ number_of-all c.args.field.now c.loop-byte.byte-index c.loop-byte.value c.requires c.loop-byte-test.false c.loop-byte.invariant.digits
+    c.loop-byte.invariant.value

@@ -27,4 +27,5 @@ loop-byte-preserved c =
 pub returns : goal.returns
 returns c =
     let some : 0 < length c.args.field.now = search rules in
-    number_of-short c.args.field.now c.loop-byte.byte-index c.loop-byte.value some c.loop-byte-test.false c.loop-byte.invariant.digits c.loop-byte.invariant.value (omega arith)
+    number_of-short c.args.field.now c.loop-byte.byte-index c.loop-byte.value some c.loop-byte-test.false c.loop-byte.invariant.digits
+    c.loop-byte.invariant.value (omega arith)

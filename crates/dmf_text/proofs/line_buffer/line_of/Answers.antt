@@ -21,7 +21,8 @@ module _ (fields : List LineField) (i n : ℕ) (d : LineField) (is : n ≡ i + 1
   at-end last same =
       added
       ∙ ap (λ l. field_bytes (get_or fields i d) ++ l)
-      (same ∙ stands ∙ ap (λ k. written_line (map field_bytes (drop k fields))) is ∙ ap (λ l. written_line (map field_bytes l)) (drop_all (i + 1) fields last) ∙ line-none)
+      (same ∙ stands ∙ ap (λ k. written_line (map field_bytes (drop k fields))) is ∙ ap (λ l. written_line (map field_bytes l))
+      (drop_all (i + 1) fields last) ∙ line-none)
       ∙ sym (line-last field_bytes fields i d below last)
 
   within : length line + most_line_bytes (take n fields) ≤ 80 → length new ≤ most_bytes (get_or fields i d) + length next → length next ≤ length line + 1
@@ -54,13 +55,17 @@ loop-i-preserved c =
           let space = w.line-is ∙ w.add_text.ensures in
           let longer = ap length space in
           record {
-            text = after-space fields i n _ is below c.loop-i.line c.if-i-fields.line c.add.new.self before.text c.add.ensures.text (omega (arith, w.if-i-fields.true)) space;
-            fits = within fields i n _ is below c.loop-i.line c.if-i-fields.line c.add.new.self before.text c.add.ensures.text before.fits c.add.ensures.len (omega (arith, longer));
+            text = after-space fields i n _ is below c.loop-i.line c.if-i-fields.line c.add.new.self before.text c.add.ensures.text
+                (omega (arith, w.if-i-fields.true)) space;
+            fits = within fields i n _ is below c.loop-i.line c.if-i-fields.line c.add.new.self before.text c.add.ensures.text before.fits c.add.ensures.len
+                (omega (arith, longer));
           })
       | else-i-fields w ↦ (
           let long = ap length w.line-is in
           record {
-            text = at-end fields i n _ is below c.loop-i.line c.if-i-fields.line c.add.new.self before.text c.add.ensures.text (omega (arith, w.if-i-fields.false)) w.line-is;
-            fits = within fields i n _ is below c.loop-i.line c.if-i-fields.line c.add.new.self before.text c.add.ensures.text before.fits c.add.ensures.len (omega (arith, long));
+            text = at-end fields i n _ is below c.loop-i.line c.if-i-fields.line c.add.new.self before.text c.add.ensures.text
+                (omega (arith, w.if-i-fields.false)) w.line-is;
+            fits = within fields i n _ is below c.loop-i.line c.if-i-fields.line c.add.new.self before.text c.add.ensures.text before.fits c.add.ensures.len
+                (omega (arith, long));
           })
     ]

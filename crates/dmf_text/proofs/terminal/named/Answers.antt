@@ -14,7 +14,8 @@ use Rattle.dmf_text.proofs.terminal.named.Goals.{then-node-lt1-via-then-node-lt1
 
 -- a node line of two fields, of which the first is this number
 module _ (nodes : ℕ) (f g : List ℕ) (node : ℕ) (number : number_of f ≡ Ok node) where
-  line-judged : node_named nodes (f ∷ g ∷ []) ≡ (expect (bytes_eq g (codes "s") || bytes_eq g (codes "t")) NotSourceOrSink >> (expect (is_node nodes node) NodeOutOfRange >> Ok node))
+  line-judged : node_named nodes (f ∷ g ∷ []) ≡ (expect (bytes_eq g (codes "s") || bytes_eq g (codes "t")) NotSourceOrSink >>
+      (expect (is_node nodes node) NodeOutOfRange >> Ok node))
   unfolding node_named
   line-judged = rw number refl
 
@@ -32,7 +33,8 @@ module _ (nodes : ℕ) (f g : List ℕ) (node : ℕ) (number : number_of f ≡ O
 pub returns-in_default : goal.returns-in_default
 returns-in_default c =
     subst (λ behind. node_named c.args.nodes behind ≡ Err NotSourceOrSink) (sym c.in_ok-node.ensures)
-    (other-letter c.args.nodes c.in_ok-node.node.now c.in_ok-node.letter.now c.in_ok-node-2.node (sym c.in_ok-node-2.ensures) c.in_default.ensures.0 c.in_default.ensures.1)
+    (other-letter c.args.nodes c.in_ok-node.node.now c.in_ok-node.letter.now c.in_ok-node-2.node
+    (sym c.in_ok-node-2.ensures) c.in_default.ensures.0 c.in_default.ensures.1)
 
 pub returns-then-node-lt1 : goal.returns-then-node-lt1
 returns-then-node-lt1 c =
@@ -47,6 +49,7 @@ returns-then-node-lt1 c =
 pub returns : goal.returns
 returns c =
     let node = c.in_ok-node-2.node in
-    let range : is_node c.args.nodes node ≡ true = and_from _ _ (le-leb 1 node c.if-node-lt1.false) (le-leb node c.args.nodes (omega (arith, c.from.ensures, c.if-node-from.false))) in
+    let range : is_node c.args.nodes node ≡ true = and_from _ _ (le-leb 1 node c.if-node-lt1.false)
+    (le-leb node c.args.nodes (omega (arith, c.from.ensures, c.if-node-from.false))) in
     subst (λ behind. Names c.args.nodes behind c.in-Some.terminal node) (sym c.in_ok-node.ensures)
     (names c.args.nodes c.in_ok-node.node.now c.in_ok-node.letter.now node (sym c.in_ok-node-2.ensures) c.in-Some.terminal c.in-Some.ensures range)

@@ -19,7 +19,8 @@ returns-in_err-put_arc g c =
     rw (failed.1, kept-split is_open arc_fields arcs i (open_arc 0 0 0) c.loop-arc-test.true)
     (front-after (g.W.Sink.written c.args.out.now) (g.W.Sink.written c.loop-arc.out) _ (arcs_text (take i arcs)) _ c.loop-arc.invariant.held
     (front-of (g.W.Sink.written c.loop-arc.out) _ (arcs_text (arc ∷ [])) (arcs_text (drop (suc i) arcs))
-    (subst (λ text. PutsFront (g.W.Sink.written c.loop-arc.out) (g.W.Sink.written c.put_arc.new.out) text) (sym (kept-one is_open arc_fields arc)) c.in_err-put_arc.ensures)))
+    (subst (λ text. PutsFront (g.W.Sink.written c.loop-arc.out) (g.W.Sink.written c.put_arc.new.out) text)
+    (sym (kept-one is_open arc_fields arc)) c.in_err-put_arc.ensures)))
 
 pub loop-arc-preserved : goal.loop-arc-preserved
 loop-arc-preserved g c = record {

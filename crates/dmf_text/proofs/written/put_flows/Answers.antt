@@ -50,7 +50,8 @@ loop-i-preserved g c =
     let line = flow-line arcs c.args.state.now.flows i c.flow.result d each c.loop-i-test.true c.flow.ensures in
     let long = zip-long arcs c.args.state.now.flows each in
     let below : i < length pairs = omega (arith, long, c.loop-i-test.true) in
-    let put = subst (λ text. Appends (g.W.Sink.written c.loop-i.out).contents (g.W.Sink.written c.put_arc.new.out).contents text) (sym line) c.in_ok-put_arc.ensures.0 in
+    let put = subst (λ text. Appends (g.W.Sink.written c.loop-i.out).contents (g.W.Sink.written c.put_arc.new.out).contents text)
+    (sym line) c.in_ok-put_arc.ensures.0 in
     record {
       held = rw (kept-more is_open_flow flow_fields pairs i (d, 0) below) (Appends-trans _ _ _ _ _ c.loop-i.invariant.held put);
       mark = c.in_ok-put_arc.ensures.1 ∙ c.loop-i.invariant.mark;
@@ -62,5 +63,7 @@ returns g c =
     let pairs = zip arcs c.args.state.now.flows in
     let long = zip-long arcs c.args.state.now.flows (one_each g (goal.at.returns g c).After-arcs-arcs) in
     let all : take c.loop-i.i pairs ≡ pairs = take_all c.loop-i.i pairs (omega (arith, long, c.loop-i-test.false)) in
-    rw (sym c.arcs-arcs.ensures.value)
-    (subst (λ ps. Appends (g.W.Sink.written c.args.out.now).contents (g.W.Sink.written c.loop-i.out).contents (flows_text ps)) all c.loop-i.invariant.held, c.loop-i.invariant.mark)
+    rw (sym c.arcs-arcs.ensures.value) (
+      subst (λ ps. Appends (g.W.Sink.written c.args.out.now).contents (g.W.Sink.written c.loop-i.out).contents (flows_text ps)) all c.loop-i.invariant.held,
+      c.loop-i.invariant.mark,
+    )

@@ -21,14 +21,16 @@ returns-in_err-put_line g c =
     let given = c.loop-id.yielded in
     let left = c.next.new.self in
     let all : given ++ (id ∷ left) ≡ c.args.ids = ap (λ ids. given ++ ids) (sym c.in-Some.ensures.steps) ∙ c.loop-id.invariant.given in
-    let put_front = subst (λ n. PutsFront (g.W.Sink.written c.loop-id.out) (g.W.Sink.written c.put_line.new.out) (written_line (side_fields n))) c.from.ensures c.in_err-put_line.ensures in
+    let put_front = subst (λ n. PutsFront (g.W.Sink.written c.loop-id.out) (g.W.Sink.written c.put_line.new.out) (written_line (side_fields n))) c.from.ensures
+    c.in_err-put_line.ensures in
     rw (failed.1, sym all, all-split side_fields given id left)
     (front-after (g.W.Sink.written c.args.out.now) (g.W.Sink.written c.loop-id.out) _ (nodes_text given) _ c.loop-id.invariant.held
     (front-of (g.W.Sink.written c.loop-id.out) _ (written_line (side_fields id)) (nodes_text left) put_front))
 
 pub loop-id-preserved : goal.loop-id-preserved
 loop-id-preserved g c =
-    let put = subst (λ n. Appends (g.W.Sink.written c.loop-id.out).contents (g.W.Sink.written c.put_line.new.out).contents (written_line (side_fields n))) c.from.ensures c.in_ok-put_line.ensures.0 in
+    let put = subst (λ n. Appends (g.W.Sink.written c.loop-id.out).contents (g.W.Sink.written c.put_line.new.out).contents (written_line (side_fields n)))
+    c.from.ensures c.in_ok-put_line.ensures.0 in
     record {
       given = append_assoc c.loop-id.yielded (c.in-Some.id ∷ []) c.next.new.self
           ∙ ap (λ ids. c.loop-id.yielded ++ ids) (sym c.in-Some.ensures.steps) ∙ c.loop-id.invariant.given;
@@ -39,5 +41,7 @@ loop-id-preserved g c =
 pub returns : goal.returns
 returns g c =
     let all : c.loop-id.yielded ≡ c.args.ids =
-    sym (append-nil c.loop-id.yielded) ∙ ap (λ ids. c.loop-id.yielded ++ ids) (sym c.in-None.ensures.steps.0) ∙ c.loop-id.invariant.given in
-    (subst (λ ids. Appends (g.W.Sink.written c.args.out.now).contents (g.W.Sink.written c.loop-id.out).contents (nodes_text ids)) all c.loop-id.invariant.held, c.loop-id.invariant.mark)
+    sym (append-nil c.loop-id.yielded) ∙ ap (λ ids. c.loop-id.yielded ++ ids) (sym c.in-None.ensures.steps.0) ∙ c.loop-id.invariant.given in (
+      subst (λ ids. Appends (g.W.Sink.written c.args.out.now).contents (g.W.Sink.written c.loop-id.out).contents (nodes_text ids)) all c.loop-id.invariant.held,
+      c.loop-id.invariant.mark,
+    )

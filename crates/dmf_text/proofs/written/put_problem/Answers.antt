@@ -15,9 +15,11 @@ first : (g : Over) (c : After-put_line g) → problem_text c.args.state.now.netw
     ++ (written_line (codes "n" ∷ decimal c.args.state.now.network.sink ∷ codes "t" ∷ []) ++ arcs_text c.args.state.now.network.arcs))
 first g c =
     let n = c.args.state.now.network in
-    let behind = written_line (codes "n" ∷ decimal n.source ∷ codes "s" ∷ []) ++ (written_line (codes "n" ∷ decimal n.sink ∷ codes "t" ∷ []) ++ arcs_text n.arcs) in
+    let behind = written_line (codes "n" ∷ decimal n.source ∷ codes "s" ∷ []) ++
+    (written_line (codes "n" ∷ decimal n.sink ∷ codes "t" ∷ []) ++ arcs_text n.arcs) in
     problem_text-lines n
-    ∙ sym (ap (λ k. written_line (codes "p" ∷ codes "max" ∷ decimal k ∷ decimal c.from-arcs.result ∷ []) ++ behind) (c.from-nodes.ensures ∙ c.nodes.ensures.value)
+    ∙ sym (ap (λ k. written_line (codes "p" ∷ codes "max" ∷ decimal k ∷ decimal c.from-arcs.result ∷ []) ++ behind)
+    (c.from-nodes.ensures ∙ c.nodes.ensures.value)
     ∙ ap (λ k. written_line (codes "p" ∷ codes "max" ∷ decimal n.nodes ∷ decimal k ∷ []) ++ behind) (c.from-arcs.ensures ∙ c.open_count.ensures.value))
 
 second : (g : Over) (c : After-put_terminal g)
@@ -27,7 +29,8 @@ second : (g : Over) (c : After-put_terminal g)
     ++ (written_line (codes "n" ∷ decimal c.args.state.now.network.sink ∷ codes "t" ∷ []) ++ arcs_text c.args.state.now.network.arcs)
 second g c =
     let n = c.args.state.now.network in
-    ap (λ k. written_line (codes "n" ∷ decimal k ∷ codes "s" ∷ []) ++ (written_line (codes "n" ∷ decimal n.sink ∷ codes "t" ∷ []) ++ arcs_text n.arcs)) (sym c.source.ensures.value)
+    ap (λ k. written_line (codes "n" ∷ decimal k ∷ codes "s" ∷ []) ++ (written_line (codes "n" ∷ decimal n.sink ∷ codes "t" ∷ []) ++ arcs_text n.arcs))
+    (sym c.source.ensures.value)
 
 third : (g : Over) (c : After-put_terminal-2 g)
     → written_line (codes "n" ∷ decimal c.args.state.now.network.sink ∷ codes "t" ∷ []) ++ arcs_text c.args.state.now.network.arcs
@@ -61,4 +64,5 @@ returns-clause-written g c =
     first-put _ (g.W.Sink.written c.put_line.new.out) _ _ _ _ _ (first g at.After-put_line) c.in_ok-put_line.ensures
     (first-put _ (g.W.Sink.written c.put_terminal.new.out) _ _ _ _ _ (second g at.After-put_terminal) c.in_ok-put_terminal.ensures
     (first-put _ (g.W.Sink.written c.put_terminal-2.new.out) _ _ _ _ _ (third g at.After-put_terminal-2) c.in_ok-put_terminal-2.ensures
-    (subst (λ arcs. Writes (g.W.Sink.written c.put_terminal-2.new.out) (g.W.Sink.written c.put_arcs.new.out) c.put_arcs.result (arcs_text arcs)) c.arcs.ensures.value c.put_arcs.ensures)))
+    (subst (λ arcs. Writes (g.W.Sink.written c.put_terminal-2.new.out) (g.W.Sink.written c.put_arcs.new.out) c.put_arcs.result (arcs_text arcs))
+    c.arcs.ensures.value c.put_arcs.ensures)))

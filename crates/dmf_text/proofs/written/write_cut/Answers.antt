@@ -27,5 +27,6 @@ pub returns : goal.returns
 returns g c = record {
   written = first-put _ (g.W.Sink.written c.put_line.new.out) _ _ _ _ _
       (first g (goal.at.returns g c).After-put_line) c.in_ok-put_line.ensures
-      (subst (λ ids. Writes (g.W.Sink.written c.put_line.new.out) (g.W.Sink.written c.put_nodes.new.out) c.put_nodes.result (nodes_text ids)) c.ids.ensures.value c.put_nodes.ensures);
+      (subst (λ ids. Writes (g.W.Sink.written c.put_line.new.out) (g.W.Sink.written c.put_nodes.new.out) c.put_nodes.result (nodes_text ids))
+      c.ids.ensures.value c.put_nodes.ensures);
 }

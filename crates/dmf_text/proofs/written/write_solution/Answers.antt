@@ -10,7 +10,8 @@ use Rattle.dmf_text.proofs.written.write_solution.Goals.{After-put_line}
 
 -- the text is its first line, and what comes behind it
 first : (g : Over) (c : After-put_line g)
-    → solution_text c.args.state.now ≡ written_line (codes "s" ∷ decimal c.value.result ∷ []) ++ flows_text (zip c.args.state.now.network.arcs c.args.state.now.flows)
+    → solution_text c.args.state.now ≡ written_line (codes "s" ∷ decimal c.value.result ∷ []) ++ flows_text
+    (zip c.args.state.now.network.arcs c.args.state.now.flows)
 first g c =
     let flows = flows_text (zip c.args.state.now.network.arcs c.args.state.now.flows) in
     solution_text-lines c.args.state.now

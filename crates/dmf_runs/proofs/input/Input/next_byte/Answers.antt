@@ -16,7 +16,8 @@ returns g c =
     let new = input_over (record { bytes = rest; count = a.count + 1 }) reader in
     let takes : Takes (input_over (the_view a) reader) new (byte ∷ []) =
     record {
-      consumes = subst (λ bytes. Consumes (prepend_known bytes reader.known) (prepend_known rest reader.known) (byte ∷ [])) (sym more) (Consumes-pending reader.known byte rest);
+      consumes = subst (λ bytes. Consumes (prepend_known bytes reader.known) (prepend_known rest reader.known) (byte ∷ [])) (sym more)
+          (Consumes-pending reader.known byte rest);
       counts = omega arith;
     } in
     let told = c.in_ok-fill.ensures in

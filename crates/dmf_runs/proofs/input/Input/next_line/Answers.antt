@@ -14,7 +14,8 @@ returns-then-byte-eq10 g c =
     record {
       line = so_far.0;
       no_line_feed = so_far.1;
-      takes = subst (λ b. Takes (input_over c.args.self.now (reader c.args.source.now)) (input_over c.next_byte.new.self (reader c.next_byte.new.source)) (so_far.0 ++ b ∷ [])) c.if-byte-eq10.true all;
+      takes = subst (λ b. Takes (input_over c.args.self.now (reader c.args.source.now)) (input_over c.next_byte.new.self (reader c.next_byte.new.source))
+          (so_far.0 ++ b ∷ [])) c.if-byte-eq10.true all;
       keeps = so_far.2;
       mark = gave.1 ∙ so_far.4;
       last = λ no. absurd (false≢true (sym no));

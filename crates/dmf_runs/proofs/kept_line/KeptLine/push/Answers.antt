@@ -14,4 +14,5 @@ pub returns-else-self-eq-MAX_LINE : goal.returns-else-self-eq-MAX_LINE
 returns-else-self-eq-MAX_LINE c = λ line is.
     let held = subst (λ kept. IsKept kept line) (sym c.self.view_is) is in
     let within : c.self.inside.len < length c.self.inside.bytes = omega arith in
-    rw (take_more_set c.self.inside.bytes c.self.inside.len c.args.byte within) (IsKept-push (the_view c.self.inside) line c.args.byte (omega (arith, length-take c.self.inside.len c.self.inside.bytes)) held)
+    rw (take_more_set c.self.inside.bytes c.self.inside.len c.args.byte within)
+    (IsKept-push (the_view c.self.inside) line c.args.byte (omega (arith, length-take c.self.inside.len c.self.inside.bytes)) held)

@@ -15,5 +15,10 @@ returns g c want_cut =
     let result = Ok (Added (length c.arcs.result.now) c.value.result) in
     let t = timeline c.args.self.now in
     let u = timeline c.change.new.self in
-    let changed = IsChanged-added t u s _ c.in_ok-edit.edit addition _ _ c.present.ensures.state c.in_ok-edit.ensures.plan.becomes c.in_ok-change.ensures.ok c.present-present.ensures.state (ap length c.arcs.ensures.value) c.value.ensures.value in
-    (s, c.present.ensures.state, subst (λ o. MatchOption o (IsChanged t s addition reply result u) (λ fault. IsRefused t (refusal_of fault) result u)) c.in_ok-edit.ensures.refused changed)
+    let changed = IsChanged-added t u s _ c.in_ok-edit.edit addition _ _ c.present.ensures.state c.in_ok-edit.ensures.plan.becomes c.in_ok-change.ensures.ok
+    c.present-present.ensures.state (ap length c.arcs.ensures.value) c.value.ensures.value in (
+      s,
+      c.present.ensures.state,
+      subst (λ o. MatchOption o (IsChanged t s addition reply result u) (λ fault. IsRefused t (refusal_of fault) result u))
+          c.in_ok-edit.ensures.refused changed,
+    )

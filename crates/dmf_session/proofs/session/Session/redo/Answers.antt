@@ -28,5 +28,6 @@ returns-in-Err g c want_cut =
     let within : c.args.steps ≤ future_of t = omega (arith, c.if-steps-from.false, c.from.ensures, c.future.ensures.count) in
     let more : taken < c.args.steps = omega (arith, c.loop-taken-test.true) in
     let is = c.loop-taken.invariant in
-    let adds = adds-there t (timeline c.loop-taken.self) taken c.args.steps c.in-Err.field-0 _ refl is more within c.in-Err.ensures.last c.in-Err.ensures.memory in
+    let adds = adds-there t (timeline c.loop-taken.self) taken c.args.steps c.in-Err.field-0 _ refl is more within c.in-Err.ensures.last c.in-Err.ensures.memory
+    in
     ((within, taken, more, adds), c.go_back.ensures ∙ ap (λ w. back w taken) (c.in-Err.ensures.err ∙ is) ∙ back-forward t taken)

@@ -31,7 +31,9 @@ pub returns-clause-optimal : goal.returns-clause-optimal
 returns-clause-optimal g c =
     let timeline = g.H.History.timeline in
     let plans = c.in_ok-edit.ensures.edit in
-    planned-optimal c.greatest_is_optimal.ensures (timeline c.take_network.new.self) (timeline c.append.new.self) c.present.result.now c.in_ok-edit.edit c.present.ensures.state plans.plan.fits plans.plan.becomes plans.greatest c.in_ok-append.ensures.ok
+    planned-optimal c.greatest_is_optimal.ensures (timeline c.take_network.new.self)
+    (timeline c.append.new.self) c.present.result.now c.in_ok-edit.edit c.present.ensures.state plans.plan.fits plans.plan.becomes plans.greatest
+    c.in_ok-append.ensures.ok
 
 -- Where memory is refused, nothing was told,
 pub returns-in_err-network-clause-told : goal.returns-in_err-network-clause-told
@@ -44,18 +46,21 @@ pub returns-in_err-edit-clause-told : goal.returns-in_err-edit-clause-told
 returns-in_err-edit-clause-told g c =
     let timeline = g.H.History.timeline in
     let present = rw c.take_network.ensures.unchanged at c.present.ensures.state in
-    TellsStep-refused (timeline c.args.self.now) (timeline c.take_network.new.self) c.present.result.now c.from_residual-in_err-edit.result _ _ present c.from_residual-in_err-edit.ensures.0 c.in_err-edit.ensures.told
+    TellsStep-refused (timeline c.args.self.now) (timeline c.take_network.new.self) c.present.result.now c.from_residual-in_err-edit.result _ _ present
+    c.from_residual-in_err-edit.ensures.0 c.in_err-edit.ensures.told
 
 pub returns-in_err-append-clause-told : goal.returns-in_err-append-clause-told
 returns-in_err-append-clause-told g c =
     let timeline = g.H.History.timeline in
     let s = c.present.result.now in
     let present = rw c.take_network.ensures.unchanged at c.present.ensures.state in
-    TellsStep-refused (timeline c.args.self.now) (timeline c.append.new.self) s c.from_residual-in_err-append.result _ _ present c.from_residual-in_err-append.ensures.0 (inr ((applied c.in_ok-edit.edit s).flows, c.in_ok-edit.ensures.told))
+    TellsStep-refused (timeline c.args.self.now) (timeline c.append.new.self) s c.from_residual-in_err-append.result _ _ present
+    c.from_residual-in_err-append.ensures.0 (inr ((applied c.in_ok-edit.edit s).flows, c.in_ok-edit.ensures.told))
 
 pub returns-clause-told : goal.returns-clause-told
 returns-clause-told g c =
     let timeline = g.H.History.timeline in
     let present = rw c.take_network.ensures.unchanged at c.present.ensures.state in
     let appends = rw c.take_network.ensures.unchanged at c.in_ok-append.ensures.ok in
-    TellsStep-solved (timeline c.args.self.now) (timeline c.append.new.self) c.present.result.now c.in_ok-edit.edit (Solution c.in_ok-edit.side) _ _ present appends c.in_ok-edit.ensures.told
+    TellsStep-solved (timeline c.args.self.now) (timeline c.append.new.self) c.present.result.now c.in_ok-edit.edit
+    (Solution c.in_ok-edit.side) _ _ present appends c.in_ok-edit.ensures.told

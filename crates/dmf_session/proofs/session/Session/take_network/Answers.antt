@@ -16,5 +16,6 @@ returns-clause-network g c =
       | in-Some w ↦ subst (λ r. IfOk r kept) (sym w.result-is) (subst (KeepsPresent t) (sym c.take.ensures.value ∙ w.in-Some.is) c.self.invariant)
       | in-None w ↦
           let s = w.present.result.now in
-          subst (λ r. IfOk r kept) (sym w.result-is) (IfOk-weaker w.new.result (IsResidualOf s) kept (λ network is. KeepsPresent-one t s network w.present.ensures.state is) w.new.ensures)
+          subst (λ r. IfOk r kept) (sym w.result-is) (IfOk-weaker w.new.result (IsResidualOf s) kept
+          (λ network is. KeepsPresent-one t s network w.present.ensures.state is) w.new.ensures)
     ]

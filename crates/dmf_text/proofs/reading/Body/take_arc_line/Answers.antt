@@ -1,4 +1,5 @@
-use Rattle.std.proofs.Common.{◌≡◌, ◌<◌, ◌+◌, ◌^◌, ◌&&◌, ◌⊎◌, ◌∷◌, ◌++◌, [], ℕ, List, Bool, true, false, Some, None, Result, Ok, Err, MatchOption, MatchResult, IsOkUnless, arith, codes, length, refl, sym, ap, ◌∙◌, subst, inl, inr, if◌then◌else◌, nat_lt}
+use Rattle.std.proofs.Common.{◌≡◌, ◌<◌, ◌+◌, ◌^◌, ◌&&◌, ◌⊎◌, ◌∷◌, ◌++◌, [], ℕ, List, Bool, true, false, Some, None, Result, Ok, Err, MatchOption, MatchResult}
+use Rattle.std.proofs.Common.{IsOkUnless, arith, codes, length, refl, sym, ap, ◌∙◌, subst, inl, inr, if◌then◌else◌, nat_lt}
 use Rattle.std.proofs.lemmas.Bool.{lt-ltb}
 use Rattle.std.proofs.lemmas.Result.{err_from_is_err_and}
 use Rattle.dmf_node.specs.Node.{is_node}
@@ -23,7 +24,8 @@ judgement from to fits = expect from NodeOutOfRange >> (expect to NodeOutOfRange
 
 -- the network takes such an arc, or tells the same fault
 same-told : (from to fits : Bool) (outcome : Result (Unit {0}) NetFault)
-    → MatchOption (if from && to then (if fits then None else Some arc.SumTooLarge) else Some arc.NoSuchNode) (IsOkUnless outcome net.NoMemory) (λ fault. outcome ≡ Err (net_fault fault))
+    → MatchOption (if from && to then (if fits then None else Some arc.SumTooLarge) else Some arc.NoSuchNode) (IsOkUnless outcome net.NoMemory)
+    (λ fault. outcome ≡ Err (net_fault fault))
     → MatchResult outcome (λ _. judgement from to fits ≡ Ok tt) (λ fault. (arc_kind fault ≡ NoMemory) ⊎ (judgement from to fits ≡ Err (arc_kind fault)))
 same-told true true true (Ok done) told = refl
 same-told true true true (Err fault) told = inl (ap arc_kind told)
@@ -52,7 +54,13 @@ module _ (body : Body) (f g h : List ℕ) (tail head cap : ℕ) (fewer : length 
   line-judged = rw (lt-ltb _ _ fewer, first, second, third) refl
 
   line-says : with_line (facts_in_body body) (codes "a" ∷ f ∷ g ∷ h ∷ [])
-      ≡ record { counts = Some (record { nodes = body.state.network.nodes; arcs = body.arcs }); source = Some body.state.network.source; sink = Some body.state.network.sink; arcs = body.state.network.arcs ++ open_arc tail head cap ∷ [] }
+      ≡ record {
+        counts = Some (record { nodes = body.state.network.nodes; arcs = body.arcs });
+        source = Some body.state.network.source;
+        sink =
+            Some body.state.network.sink;
+        arcs = body.state.network.arcs ++ open_arc tail head cap ∷ [];
+      }
   line-says = rw (first, second, third) refl
 
   line-told : (outcome : Result (Unit {0}) NetFault)
@@ -62,7 +70,8 @@ module _ (body : Body) (f g h : List ℕ) (tail head cap : ℕ) (fewer : length 
   line-told outcome told =
       let few : nat_lt (length body.state.network.arcs) (2 ^ 27) ≡ true = lt-ltb _ _ (omega (arith, fewer, body.at_most_arcs)) in
       rw line-judged
-      (same-told (is_node body.state.network.nodes tail) (is_node body.state.network.nodes head) (nat_lt (capacity_sum body.state.network.arcs + cap) (2 ^ 64)) outcome (rw few at told))
+      (same-told (is_node body.state.network.nodes tail) (is_node body.state.network.nodes head)
+      (nat_lt (capacity_sum body.state.network.arcs + cap) (2 ^ 64)) outcome (rw few at told))
 
 pub returns-in_err-push_arc : goal.returns-in_err-push_arc
 returns-in_err-push_arc c =
@@ -73,7 +82,8 @@ returns-in_err-push_arc c =
     let told = line-told body three.tail.now three.head.now three.cap.now c.in_ok-tail-2.tail c.in_ok-head.head c.in_ok-cap.cap fewer
     (sym c.in_ok-tail-2.ensures) (sym c.in_ok-head.ensures) (sym c.in_ok-cap.ensures) (Err c.in_err-push_arc.field-0.0) c.in_err-push_arc.ensures.refused in
     rw (failed.1, failed.2)
-    (subst (λ behind. (arc_kind c.in_err-push_arc.field-0.0 ≡ NoMemory) ⊎ (judged_arc (facts_in_body body) behind ≡ Err (arc_kind c.in_err-push_arc.field-0.0))) (sym three.ensures) told)
+    (subst (λ behind. (arc_kind c.in_err-push_arc.field-0.0 ≡ NoMemory) ⊎ (judged_arc (facts_in_body body) behind ≡ Err (arc_kind c.in_err-push_arc.field-0.0)))
+    (sym three.ensures) told)
 
 pub returns : goal.returns
 returns c =
@@ -88,5 +98,6 @@ returns c =
     let cap = c.in_ok-cap.cap in
     let told = line-told body three.tail.now three.head.now three.cap.now tail head cap fewer first second third (Ok tt) c.in_ok-push_arc.ensures.refused in
     let says = line-says body three.tail.now three.head.now three.cap.now tail head cap fewer first second third in
-    subst (λ behind. (judged_arc (facts_in_body body) behind ≡ Ok tt) × (facts_at body.arcs c.push_arc.new.self ≡ with_line (facts_in_body body) (codes "a" ∷ behind))) (sym three.ensures)
+    subst (λ behind. (judged_arc (facts_in_body body) behind ≡ Ok tt) ×
+    (facts_at body.arcs c.push_arc.new.self ≡ with_line (facts_in_body body) (codes "a" ∷ behind))) (sym three.ensures)
     (told, ap (facts_at body.arcs) c.in_ok-push_arc.ensures.ok ∙ sym says)

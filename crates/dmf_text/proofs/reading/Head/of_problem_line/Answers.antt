@@ -7,7 +7,8 @@ use Rattle.dmf_text.specs.Judging.{◌>>◌, expect}
 use Rattle.dmf_text.specs.Problem.{Facts, Counts, counts_named}
 use Rattle.dmf_text.specs.Reading.{no_facts, with_line}
 use Rattle.dmf_text.proofs.reading.Head.of_problem_line.Goals as goal
-use Rattle.dmf_text.proofs.reading.Head.of_problem_line.Goals.{then-nodes-lt2-via-then-nodes-lt2, then-nodes-lt2-via-else-nodes-lt2+then-nodes-from, then-nodes-lt2-via-else-nodes-lt2+else-nodes-from+then-arcs-from}
+use Rattle.dmf_text.proofs.reading.Head.of_problem_line.Goals.{then-nodes-lt2-via-then-nodes-lt2, then-nodes-lt2-via-else-nodes-lt2+then-nodes-from}
+use Rattle.dmf_text.proofs.reading.Head.of_problem_line.Goals.{then-nodes-lt2-via-else-nodes-lt2+else-nodes-from+then-arcs-from}
 
 -- a problem line of three fields
 other-word : (f g h : List ℕ) → bytes_eq f (codes "max") ≡ false → counts_named (f ∷ g ∷ h ∷ []) ≡ Err NotMax
@@ -19,7 +20,8 @@ module _ (f g h : List ℕ) (nodes arcs : ℕ) (word : bytes_eq f (codes "max") 
   abbrev counts : Counts
   counts = record { nodes = nodes; arcs = arcs }
 
-  line-judged : counts_named (f ∷ g ∷ h ∷ []) ≡ (expect (nat_le 2 nodes && nat_le nodes (2 ^ 24)) CountOutOfRange >> (expect (nat_le arcs (2 ^ 27)) CountOutOfRange >> Ok counts))
+  line-judged : counts_named (f ∷ g ∷ h ∷ []) ≡ (expect (nat_le 2 nodes && nat_le nodes (2 ^ 24)) CountOutOfRange >>
+      (expect (nat_le arcs (2 ^ 27)) CountOutOfRange >> Ok counts))
   unfolding counts_named
   line-judged = rw (word, first, second) refl
 
@@ -54,7 +56,8 @@ returns-then-nodes-lt2 c =
     rw c.in_ok-word.ensures
     (elim c.then-nodes-lt2.branch [
       | then-nodes-lt2-via-then-nodes-lt2 w ↦ bad-nodes (and_left _ _ (lt-leb 2 nodes w.if-nodes-lt2.true))
-      | then-nodes-lt2-via-else-nodes-lt2+then-nodes-from w ↦ bad-nodes (and_right _ _ (lt-leb nodes (2 ^ 24) (omega (arith, w.from.ensures, w.if-nodes-from.true))))
+      | then-nodes-lt2-via-else-nodes-lt2+then-nodes-from w ↦ bad-nodes
+          (and_right _ _ (lt-leb nodes (2 ^ 24) (omega (arith, w.from.ensures, w.if-nodes-from.true))))
       | then-nodes-lt2-via-else-nodes-lt2+else-nodes-from+then-arcs-from w ↦
           bad-arcs (and_from _ _ (le-leb 2 nodes w.if-nodes-lt2.false) (le-leb nodes (2 ^ 24) (omega (arith, w.from.ensures, w.if-nodes-from.false))))
           (lt-leb arcs (2 ^ 27) (omega (arith, w.from-else-nodes-from.ensures, w.if-arcs-from.true)))
@@ -72,6 +75,7 @@ returns c =
     let high : nodes ≤ 2 ^ 24 = omega (arith, c.from.ensures, c.if-nodes-from.false) in
     let few : arcs ≤ 2 ^ 27 = omega (arith, c.from-else-nodes-from.ensures, c.if-arcs-from.false) in
     rw c.in_ok-word.ensures (
-      good-counts word c.in_ok-word.nodes.now c.in_ok-word.arcs.now nodes arcs max first second (and_from _ _ (le-leb 2 nodes low) (le-leb nodes (2 ^ 24) high)) (le-leb arcs (2 ^ 27) few),
+      good-counts word c.in_ok-word.nodes.now c.in_ok-word.arcs.now nodes arcs max first second (and_from _ _ (le-leb 2 nodes low) (le-leb nodes (2 ^ 24) high))
+          (le-leb arcs (2 ^ 27) few),
       line-says word c.in_ok-word.nodes.now c.in_ok-word.arcs.now nodes arcs max first second,
     )

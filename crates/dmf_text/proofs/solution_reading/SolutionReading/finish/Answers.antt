@@ -26,7 +26,8 @@ returns-in_err-solution c = λ facts kept.
     let put = put-is (goal.at.returns-in_err-solution c).After-put_on c.in_ok-flows.flows.items c.in_ok-flows.ensures.put facts kept in
     let failed = err_from_is_err_and c.from_residual-in_err-solution.result c.from_residual-in_err-solution.ensures.1 in
     let why = c.in_err-solution.field-0.0 in
-    let refused = subst (λ flows. IsErrOf {T = NetworkState} (Err why) NoMemory ⊎ (Some why ≡ flow_fault state.network flows)) put c.in_err-solution.ensures.refused in
+    let refused = subst (λ flows. IsErrOf {T = NetworkState} (Err why) NoMemory ⊎ (Some why ≡ flow_fault state.network flows)) put
+    c.in_err-solution.ensures.refused in
     let told = failed.1 ∙ ap (λ kind. Err kind) failed.2 in
     ⊎_elim (λ memory. inl (told ∙ ap (λ kind. Err kind) memory)) (λ end. inr (told ∙ end))
     (ended-refused state facts c.in-Some.value (sym kept.value ∙ c.in-Some.is) why refused)
@@ -40,7 +41,8 @@ returns-then-value c = λ facts kept.
     let flow = c.in_ok-solution.ensures.state.flow in
     inr (ended-differs state facts c.in-Some.value (sym kept.value ∙ c.in-Some.is)
     (subst (λ flows. IsFlow state.network flows) put flow)
-    (λ same. c.if-value.true (let equal : pos c.value.result ≡ pos c.in-Some.value = value ∙ ap (flow_value state.network) put ∙ same in omega (arith, ints, equal))))
+    (λ same. c.if-value.true (let equal : pos c.value.result ≡ pos c.in-Some.value = value ∙ ap (flow_value state.network) put ∙ same in
+    omega (arith, ints, equal))))
 
 pub returns : goal.returns
 returns c = λ facts kept.
