@@ -20,7 +20,7 @@ from tool_runs import Tools
 
 ROOT = Path(__file__).resolve().parent.parent
 # So many tests with random cases are to meet each text of the documents together.
-ALL_BATCHES = 60
+ALL_BATCHES = 120
 BUILT = ROOT / "crates" / "dmf" / "out" / "dmf"
 
 

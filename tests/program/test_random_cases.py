@@ -27,7 +27,7 @@ from reduced import reduced
 from refused import REFUSED, wanted_without, ways_of
 
 # The random cases that a seed determines: so many in a test, and so many tests.
-BATCH, BATCHES, LONG_BATCHES, SEED = 50, 60, 12_000, 1
+BATCH, BATCHES, LONG_BATCHES, SEED = 50, 120, 12_000, 1
 # Texts of the documents, each of which some of these cases is to meet: all but want of memory and the limits of size.
 TEXTS = """problem line expected, second problem line, unknown line, not a max problem, wrong number of fields, not a number,
     number too large, count out of range, no such node, neither source nor sink, terminal named twice,
