@@ -20,8 +20,8 @@ def machine():
 
 
 def table(head, rows):
-    aligned = ["---", *["--:"] * (len(head) - 1)]
-    return "\n".join("| " + " | ".join(map(str, row)) + " |" for row in [head, aligned, *rows])
+    first, *lines = ("| " + " | ".join(map(str, row)) + " |" for row in [head, *rows])
+    return "\n".join([first, "|---" + "|--:" * (len(head) - 1) + "|", *lines])
 
 
 def seconds(took):

@@ -76,10 +76,26 @@ def chain_ends(nodes: int, random: Random) -> Iterator[tuple[int, int]]:
         yield chain[place], random.choice(other[place + 1 :] or other[-1:])
 
 
+def hub_ends(nodes: int, random: Random) -> Iterator[tuple[int, int]]:
+    """The ends of arcs from suppliers to a few hubs, and on to customers. Some lead around the hubs, or from hub to hub."""
+    hubs = range(1, 1 + random.randint(1, 3))[: max(1, nodes - 3)]
+    others = range(1 + len(hubs), nodes - 1)
+    suppliers, customers = others[: len(others) // 2], others[len(others) // 2 :]
+    for hub in hubs:
+        yield from ((supplier, hub) for supplier in suppliers if random.random() < 0.7)
+        yield from ((hub, customer) for customer in customers if random.random() < 0.7)
+        yield random.choice([0, *hubs]), hub
+        yield hub, random.choice([*hubs, nodes - 1])
+    yield from ((0, supplier) for supplier in suppliers)
+    yield from ((customer, nodes - 1) for customer in customers)
+    for _ in range(random.randrange(1 + len(customers))):
+        yield random.choice(suppliers or [0]), random.choice(customers)
+
+
 def network(random: Random, most_nodes: int = 60) -> State:
     """A network without flow. A few have a sum of capacities past 64 bits."""
     nodes = min(most_nodes, random.choice([2, 3, 4, 5, 6, 6, 8, 10, 14, 14, 20, 26, 60]))
-    ends = list(random.choice([near_ends, level_ends, chain_ends, chain_ends])(nodes, random))
+    ends = list(random.choice([near_ends, level_ends, chain_ends, chain_ends, hub_ends])(nodes, random))
     for share, other in (0.05, 1), (random.choice([0, 0, 0.2, 1]), -1):
         # Parallel arcs and opposite ones.
         ends += [pair if other == 1 else (pair[1], pair[0]) for pair in ends if random.random() < share]
@@ -159,6 +175,10 @@ def solution_lines(state: State, random: Random) -> Lines:
     return lines
 
 
+# An addition is sometimes taken back and made again, before or after the arc is used.
+AFTER_ADDITION: list[Lines] = [[], [], [], [line("undo"), line("redo")], [line("solve"), line("undo", 2), line("redo", 2)], [line("undo"), line("solve")]]
+
+
 def command_lines(state: State, random: Random) -> Lines:
     """A script of commands. Most of them can be carried out."""
     count = random.choice([3, 8, 20, 60, 200])
@@ -167,9 +187,12 @@ def command_lines(state: State, random: Random) -> Lines:
     rest = random.choice([1, 1, 0.1])
     weights = {word: it.weight * (rest if word in FORGETTING else 1) for word, it in COMMANDS.items()}
     weights["print"] += random.randrange(9)
+    # Some begin with a solve, and have long chains of changes of its flow.
+    begins_solved = random.random() < 0.3
+    weights["solve"] *= 0.1 if begins_solved else 1
     commands = random.choices([*COMMANDS.values()], [*weights.values()], k=random.randint(1, count))
     arc_count = len(state.arcs)
-    lines = []
+    lines = [line("solve")] * begins_solved
     for command in commands:
         if random.random() < odd_share:
             lines.append(random.choice(ODD_COMMANDS))
@@ -186,7 +209,9 @@ def command_lines(state: State, random: Random) -> Lines:
             WHAT: lambda: [random.choice([*PRINTED, "flow", "cut"])],
         }
         lines.append(line(command.word, *(field for kind in command.kinds for field in fields[kind]())))
-        arc_count += command.word == "add"
+        if command.word == "add":
+            arc_count += 1
+            lines += random.choice(AFTER_ADDITION)
     return lines
 
 

@@ -39,10 +39,14 @@ MEMORY = 3.5
 # The seconds that each crate took in a first call on four idle processors of 2.5 GHz, side by side: they say which is begun first, and
 # how long the rest takes.
 SECONDS = {
-    "dmf_node": 3, "dmf_arguments": 60, "dmf_state": 63, "dmf_history": 37, "dmf_path": 140, "dmf_text": 90, "dmf_solver": 71,
-    "dmf_session": 80, "dmf_terminal": 162, "dmf_runs": 94, "dmf": 102,
+    "dmf_node": 10, "dmf_arguments": 155, "dmf_state": 154, "dmf_history": 70, "dmf_path": 341, "dmf_text": 164, "dmf_solver": 177,
+    "dmf_session": 110, "dmf_terminal": 228, "dmf_progress": 53, "dmf_runs": 136, "dmf": 158,
 }  # fmt: skip
 UNKNOWN_SECONDS = 60
+# From this slack on, in seconds, a crate is built by one job, and as nice as can be. One with less is as much nicer as it has more of it.
+SLACK_FOR_ONE_JOB = 300
+SECONDS_A_NICENESS = 40
+MOST_NICENESS = 15
 
 
 class Failure(Exception):
@@ -173,8 +177,16 @@ def lay_out(crate: Crate, place: Path, parts: list[str]) -> None:
             shutil.copytree(crate.folder / part, place / part, copy_function=link)
 
 
-def begin(crate: Crate, crates: dict[str, Crate], place: Path, is_urgent: bool) -> Work:
-    """Begins to build a crate. One that is not urgent leaves the processors to those that are."""
+def command_of(crate: Crate, slack: float) -> list[str]:
+    """What builds a crate that can be this many seconds late without delaying the program. The more slack it has, the more it leaves
+    the processors to others. One job takes a fifth less processor time than several."""
+    if slack < SLACK_FOR_ONE_JOB:
+        return ["nice", "-n", str(int(slack / SECONDS_A_NICENESS)), *crate.command]
+    return ["nice", "-n", str(MOST_NICENESS), *crate.command, "--jobs", "1"]
+
+
+def begin(crate: Crate, crates: dict[str, Crate], place: Path, slack: float) -> Work:
+    """Begins to build a crate that has this slack."""
     folder = Path(tempfile.mkdtemp(prefix="dmf-build-", dir=place))
     names = [*crate.below, crate.name]
     (folder / "crates.txt").write_text("".join(f"{name}: {' '.join(crates[name].libraries)}\n" for name in names))
@@ -185,7 +197,7 @@ def begin(crate: Crate, crates: dict[str, Crate], place: Path, is_urgent: bool) 
         shutil.copytree(crate.folder / "out", folder / "crates" / crate.name / "out")
     said = tempfile.TemporaryFile()
     process = subprocess.Popen(
-        crate.command if is_urgent else ["nice", "-n", "5", *crate.command],
+        command_of(crate, slack),
         cwd=folder / "crates" / crate.name,
         stdin=subprocess.DEVNULL,
         stdout=said,
@@ -238,10 +250,9 @@ class Build:
     def begin_more(self) -> None:
         """Begins crates as long as there is room. The longest chain has the first turn at the processors."""
         left = self.left()
+        longest = max(self.chain(it, left) for it in self.crates.values())
         for crate in self.ready()[: at_once() - len(self.running)]:
-            chains = [self.chain(it.crate, left) for it in self.running]
-            is_urgent = self.chain(crate, left) >= max(chains, default=0.0)
-            self.running.append(begin(crate, self.crates, self.place, is_urgent))
+            self.running.append(begin(crate, self.crates, self.place, longest - self.chain(crate, left)))
 
     def take_ended(self) -> None:
         """Keeps what was built, and fails where a crate did not succeed."""
@@ -322,7 +333,7 @@ def build(told: Told) -> None:
         if before is not None:
             told.line("a source has changed since the program was built. What depends on it is proved and built again.")
         else:
-            told.line("the program is proved and built. This happens once, and takes some 10 minutes on 4 idle processors.")
+            told.line("the program is proved and built. This happens once, and takes some 15 minutes on 4 idle processors.")
         git = ROOT / ".git"
         place = git if git.is_dir() and os.access(git, os.W_OK) else Path(tempfile.gettempdir())
         if place == git:

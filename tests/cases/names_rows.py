@@ -308,40 +308,32 @@ NO_TABLES: list[tuple[Text, Text | None, Text, str]] = [
         "the arcs of the last solution are not known; give the commands by --commands FILE",
     ),
 ]
-# The roads of examples/town.max: commands, the plan of today, what is told once they are changed, and the picture of that.
+# The roads of examples/town.max, with one that is added.
+TOWN_ROADS = {
+    1: "Quarry -> Hill", 2: "Quarry -> Valley", 3: "Hill -> Bridge", 4: "Hill -> Valley", 5: "Valley -> Bridge",
+    6: "Valley -> Tunnel", 7: "Bridge -> Site", 8: "Tunnel -> Site", 9: "Hill -> Site",
+}  # fmt: skip
+
+
+def carrying(flows: dict[int, str]) -> str:
+    """The lines of these roads, with what is told of each."""
+    return "".join(f"  {road} {TOWN_ROADS[road]}: {told}\n" for road, told in flows.items())
+
+
+# Commands, the plan of today, what is told once they are changed, and the picture of that.
 TOWN_CHANGES = "solve\nprint cut\ncap 6 9\nadd 2 6 3\nclose 7\nsolve\nprint cut\n"
-TOWN_PLAN = """value 11
-  1 Quarry -> Hill: 5 of 8
-  2 Quarry -> Valley: 6 of 7
-  3 Hill -> Bridge: 5 of 5
-  4 Hill -> Valley: 0 of 4
-  5 Valley -> Bridge: 2 of 2
-  6 Valley -> Tunnel: 4 of 4
-  7 Bridge -> Site: 7 of 9
-  8 Tunnel -> Site: 4 of 6
-"""
-TOWN_TOLD = """limit 11
+_TODAY = {1: "5 of 8", 2: "6 of 7", 3: "5 of 5", 4: "0 of 4", 5: "2 of 2", 6: "4 of 4", 7: "7 of 9", 8: "4 of 6"}
+_CHANGED = {1: "3 of 8", 2: "6 of 7", 3: "0 of 5", 4: "0 of 4", 5: "0 of 2", 6: "6 of 9", 8: "6 of 6", 9: "3 of 3"}
+TOWN_PLAN = f"value 11\n{carrying(_TODAY)}"
+TOWN_TOLD = f"""limit 11
   source's side: Quarry, Hill, Valley
-  3 Hill -> Bridge: 5
-  5 Valley -> Bridge: 2
-  6 Valley -> Tunnel: 4
-c cap value 11
+{carrying({3: "5", 5: "2", 6: "4"})}c cap value 11
 c add 9 value 11
 c close value 4
 value 9
-  1 Quarry -> Hill: 3 of 8
-  2 Quarry -> Valley: 6 of 7
-  3 Hill -> Bridge: 0 of 5
-  4 Hill -> Valley: 0 of 4
-  5 Valley -> Bridge: 0 of 2
-  6 Valley -> Tunnel: 6 of 9
-  8 Tunnel -> Site: 6 of 6
-  9 Hill -> Site: 3 of 3
-limit 9
+{carrying(_CHANGED)}limit 9
   source's side: Quarry, Hill, Valley, Bridge, Tunnel
-  8 Tunnel -> Site: 6
-  9 Hill -> Site: 3
-"""
+{carrying({8: "6", 9: "3"})}"""
 _GREY = 'color="#8f8f8f", fontcolor="#8f8f8f"'
 _RED = 'color="#c62828", fontcolor="#c62828"'
 _SIDE = 'style="filled", fillcolor="#d3e4f5"'

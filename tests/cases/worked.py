@@ -6,23 +6,8 @@ from collections.abc import Iterator
 
 from built import PROBLEM, Case
 from oracle.program import Outcome
-from worked_forms import (
-    CROSSED,
-    CROSSED_CUT,
-    CROSSED_FLOW,
-    CUT,
-    LARGEST,
-    LOOSE,
-    LOOSE_FLOW,
-    TWO,
-    Worked,
-    checked,
-    faulty,
-    held,
-    solved,
-    text,
-    wrong,
-)
+from worked_forms import CROSSED, CROSSED_CUT, CROSSED_FLOW, CUT, LARGEST, LOOSE, LOOSE_FLOW, TWO
+from worked_forms import Worked, checked, faulty, held, solved, text, wrong
 from worked_sessions import BRIEF_SESSIONS, HISTORIES, SESSIONS
 
 SOLVES = [

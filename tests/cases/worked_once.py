@@ -2,24 +2,8 @@
 
 from __future__ import annotations
 
-from worked_forms import (
-    CROSSED,
-    CROSSED_CUT,
-    CROSSED_FLOW,
-    CUT,
-    LARGEST,
-    LOOSE,
-    LOOSE_FLOW,
-    NARROW_FLOW,
-    NO_FLOW,
-    TWO,
-    checked,
-    faulty,
-    held,
-    solved,
-    text,
-    wrong,
-)
+from worked_forms import CROSSED, CROSSED_CUT, CROSSED_FLOW, CUT, LARGEST, LOOSE, LOOSE_FLOW, NARROW_FLOW, NO_FLOW, TWO
+from worked_forms import checked, faulty, held, solved, text, wrong
 
 NO_ARCS = "p max 2 0 / n 1 s / n 2 t"
 LARGEST_FLOW = "s 18446744073709551615 / f 1 2 18446744073709551615"

@@ -112,8 +112,7 @@ def test_names() -> None:
 
 
 def test_length() -> None:
-    """What parts the columns of a table is no word."""
-    assert sum(len(re.findall(r"\S*\w\S*", page.read_text())) for page in pages()) <= 24_000
+    assert sum(len(page.read_text().split()) for page in pages()) <= 24_000
 
 
 def test_readers() -> None:

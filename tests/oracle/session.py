@@ -114,6 +114,14 @@ class Session:
             raise Fault("flow is not greatest")
         return cut_of(state)
 
+    def answer(self, place: int, line: bytes) -> bytes:
+        """The reply to a line: none to a blank one and to a comment, and that of a refusal where the line is refused."""
+        try:
+            command = command_of(line.removesuffix(b"\n"), line.endswith(b"\n"))
+            return self.reply(*command) if command else b""
+        except Fault as fault:
+            return written("c", "refused", place, fault)
+
     def may_want_memory(self, word: str, *rest: Any) -> bool:
         """Whether this command may be refused memory, as it stands here: a change that nothing else refuses, a print of the
         cut, and steps forward of which one adds an arc."""

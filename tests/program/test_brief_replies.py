@@ -127,11 +127,7 @@ def followed(state: State, commands: list[bytes], wanted: session.SolveReply, is
     held, solves = session.Session(state, wanted), 0
     follower = Follower(read_problem(oracle_problem.problem_text(state)), iter(commands) if is_given else None)
     for place, line in enumerate(commands, 1):
-        try:
-            command = session.command_of(line.removesuffix(b"\n"), line.endswith(b"\n"))
-            reply = held.reply(*command) if command else b""
-        except texts.Fault as fault:
-            reply = texts.written("c", "refused", place, fault)
+        reply = held.answer(place, line)
         events = [] if is_given else follower.take(line)
         for reply_line in io.BytesIO(reply):
             events += follower.take(reply_line)

@@ -171,11 +171,7 @@ def follow(state: State, commands: list[bytes], wanted: session.SolveReply, boun
     held = session.Session(state, wanted, bound)
     follower = Follower(read_problem(oracle_problem.problem_text(state)), iter(commands) if is_given else None)
     for place, line in enumerate(commands, 1):
-        try:
-            command = session.command_of(line.removesuffix(b"\n"), line.endswith(b"\n"))
-            reply = held.reply(*command) if command else b""
-        except texts.Fault as fault:
-            reply = texts.written("c", "refused", place, fault)
+        reply = held.answer(place, line)
         events = [] if is_given else follower.take(line)
         told = lines_with_ends(reply)
         for reply_line in told:

@@ -142,32 +142,21 @@ class _Network:
         names = set(self.node_names)
         return next(it for it in (name, *(f"{name} {count}" for count in range(2, len(names) + 3))) if it not in names)
 
-    def join_sources(self) -> int:
-        """The source of the problem."""
-        sources = self.plan.sources
-        if len(sources) == 1 and sources[0].limit is None:
-            return self.entries[sources[0].place]
-        leaving: Counter[int] = Counter()
+    def join(self, terminals: Sequence[Terminal], *, are_sources: bool) -> int:
+        """The source of the problem, or its sink: the node of the one there is, or else a node that is joined to each of them."""
+        outer, inner = (self.entries, self.exits) if are_sources else (self.exits, self.entries)
+        if len(terminals) == 1 and terminals[0].limit is None:
+            return outer[terminals[0].place]
+        capacity_at: Counter[int] = Counter()
         for arc in self.arcs:
-            leaving[arc.tail] += arc.capacity
-        joint = self.add_node(self.unused_name("all sources"))
-        for place, limit in ((it.place, it.limit) for it in sources):
-            supply = leaving[self.exits[place]] if limit is None else limit
-            self.add_arc(joint, self.entries[place], supply, f"supply of {place}")
-        return joint
-
-    def join_sinks(self) -> int:
-        """The sink of the problem."""
-        sinks = self.plan.sinks
-        if len(sinks) == 1 and sinks[0].limit is None:
-            return self.exits[sinks[0].place]
-        entering: Counter[int] = Counter()
-        for arc in self.arcs:
-            entering[arc.head] += arc.capacity
-        joint = self.add_node(self.unused_name("all sinks"))
-        for place, limit in ((it.place, it.limit) for it in sinks):
-            demand = entering[self.entries[place]] if limit is None else limit
-            self.add_arc(self.exits[place], joint, demand, f"demand of {place}")
+            capacity_at[arc.tail if are_sources else arc.head] += arc.capacity
+        joint = self.add_node(self.unused_name("all sources" if are_sources else "all sinks"))
+        for place, limit in ((it.place, it.limit) for it in terminals):
+            most = capacity_at[inner[place]] if limit is None else limit
+            if are_sources:
+                self.add_arc(joint, outer[place], most, f"supply of {place}")
+            else:
+                self.add_arc(outer[place], joint, most, f"demand of {place}")
         return joint
 
 
@@ -198,7 +187,7 @@ def problem_text(plan: Plan, scale: Optional[Decimal] = None) -> str:
     network.add_rows()
     if plan.limits:
         network.add_limits(plan.limits)
-    source, sink = network.join_sources(), network.join_sinks()
+    source, sink = network.join(plan.sources, are_sources=True), network.join(plan.sinks, are_sources=False)
     if network.total > LARGEST:
         raise TableFault(f"with the arcs at the sources and the sinks {TOO_MUCH}; --source NAME=LIMIT limits one")
     if len(network.node_names) > MOST_NODES or len(network.arcs) > MOST_ARCS:

@@ -40,7 +40,7 @@ def add_options(parser: argparse._ActionsContainer) -> None:
     add("--capacity", metavar="TITLE", help="the title of the column of capacities")
     add("--name", metavar="TITLE", help="the title of the column of the names of arcs")
     add("--both-ways", action="store_true", help="make of each row two arcs, there and back")
-    add("--scale", metavar="K", type=scale, help="numbers may be decimal; K times each is a whole number, and is taken")
+    add("--scale", metavar="K", type=scale, help="numbers may be decimal; K times each counts, and is a whole number")
     add("--source", metavar="PLACE[=LIMIT]", action="append", default=[], help="a source, which gives at most LIMIT; may be repeated")
     add("--sink", metavar="PLACE[=LIMIT]", action="append", default=[], help="a sink, which takes at most LIMIT; may be repeated")
     add("--sources", metavar="FILE", help="a table of sources and their limits")

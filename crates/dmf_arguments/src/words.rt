@@ -1,7 +1,8 @@
 //! The words of the program's arguments: what they ask for.
 ghost use Rattle.std.specs.Prelude.{ℕ, ◌≡◌, ◌≤◌, IfOk, Some, codes, map};
 ghost use Rattle.clap.specs.Words.{app_of, first_value, found_of, kind_of, new_app, one_text, subcommand_rows_of, Text};
-ghost use Rattle.dmf_arguments.specs.CommandLine.{IsLine, IsRule, asked_of, arguments, check_line, flag_rule, history_rule, problem_rule, program_line, session_line, solve_line};
+ghost use Rattle.dmf_arguments.specs.CommandLine.{IsLine, IsRule, asked_of, arguments, flag_rule, history_rule, problem_rule};
+ghost use Rattle.dmf_arguments.specs.CommandLine.{check_line, program_line, session_line, solve_line};
 ghost use Rattle.dmf_arguments.specs.Words.{AsksCheck, AsksNothing, AsksSession, AsksSolve, HasBound, IsBound, ReadsMode, ReadsWords, Tells};
 
 use crate::help;

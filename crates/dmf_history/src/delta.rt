@@ -1,4 +1,5 @@
 ghost use Rattle.std.specs.Prelude.{◌≡◌, ◌≤◌, ◌↔◌, IfSome, None};
+ghost use Rattle.dmf_history.specs.declared.history.RedoFault.TheVariants as redo;
 ghost use Rattle.dmf_history.specs.Timeline.{start, future_of, LeadsBack, LeadsOn};
 
 use crate::history::{History, MAX_BOUND, NothingToUndo, RedoFault, forget_oldest};
@@ -7,9 +8,9 @@ use std::alloc::Global;
 use std::collections::VecDeque;
 use std::marker::Model;
 
-/// A history that keeps the present state alone, and the edits that lead from each state to the next.
+/// A history that keeps only the present state, and an edit for each step from one state to the next.
 ///
-/// A step back or forward looks only at the arcs that its edit names. To forget a state drops one edit, in constant time.
+/// A step back or forward looks only at the arcs that its edit names. Forgetting a state drops one edit, in constant time.
 #[derive(Drop)]
 pub struct DeltaHistory {
     present: State,
@@ -30,19 +31,19 @@ impl Model for DeltaHistory {
 }
 
 impl DeltaHistory {
-    /// A history of one state, which is the present one, with the largest bound, [`MAX_BOUND`]. Takes no memory.
+    /// Makes a history of this one state, with the largest bound, [`MAX_BOUND`]. Takes no memory.
     pub fn new(alloc: Global, state: State) -> Self
         ensures { result ≡ start 1000000 state }
     {
         DeltaHistory::with_bound(alloc, state, MAX_BOUND)
     }
 
-    /// A history of one state, which is the present one, with this bound, which is at most [`MAX_BOUND`]. Takes no memory.
+    /// Makes a history of this one state, with this bound, at most [`MAX_BOUND`]. Takes no memory.
     pub fn with_bound(alloc: Global, state: State, bound: u32) -> Self
         requires { bound ≤ 1000000 }
         ensures { result ≡ start bound state }
     {
-        // Each reader promises that the state is one, as the states of a timeline are.
+        // The contract of a reader says that this is a state, as each state of a timeline has to be.
         let _nodes = state.nodes();
         DeltaHistory {
             present: state,
@@ -72,7 +73,7 @@ impl History for DeltaHistory {
         self.bound
     }
 
-    // What can be refused memory comes first: room for the edit, and for an arc that it adds. Only then edits are dropped.
+    // The requests for memory come first: room for the edit, and for an arc that it adds. Only then does the call drop edits.
     fn append(&mut self, edit: Edit) -> Result<(), NoMemory> {
         reverting_gives_back();
         self.edits.reserve(1)?;
@@ -125,9 +126,6 @@ impl History for DeltaHistory {
 }
 
 impl From<NoMemory> for RedoFault {
-    ghost use Rattle.std.specs.Prelude.{◌≡◌};
-    ghost use Rattle.dmf_history.specs.declared.history.RedoFault.TheVariants as redo;
-
     ghost from_gives = { λ _ fault. fault ≡ redo.NoMemory };
 
     fn from(_error: NoMemory) -> RedoFault {

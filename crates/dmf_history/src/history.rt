@@ -24,8 +24,8 @@ pub enum RedoFault {
     NoMemory,
 }
 
-/// A list of states and the place of the present one, in whatever way a history keeps them. A history has a bound, which nothing
-/// alters: it keeps no more states than that before the present one.
+/// A list of states and the place of the present one, however the history keeps them. Nothing alters a history's bound: the most states
+/// that it keeps before the present one.
 pub trait History {
     ghost use Rattle.std.specs.Prelude.{◌≡◌, ◌<◌, ◌↔◌, Ok, Err, IfSome, OnOk, OnErr, IsOk};
     ghost use Rattle.dmf_history.specs.declared.history.RedoFault.TheVariants as redo;
@@ -54,40 +54,40 @@ pub trait History {
         ensures count { result ≡ (timeline self.now).bound }
         ensures timeline { IsTimeline (timeline self.now) };
 
-    /// Drops the states past the present one, and appends what the edit makes of the present state; that is the present state from
-    /// then on. Where more states than the bound would stand before it, the history forgets the oldest. The edit fits the present
-    /// state, as one that was planned on it does.
+    /// Drops the states past the present one, and appends the state that the edit makes of the present one. This becomes the present
+    /// state. If more states than the bound then stand before it, the history forgets the oldest. The edit has to fit the present
+    /// state, as one planned on it does.
     ///
-    /// The call fails only where memory is refused, and then nothing has changed. To forget a state takes no memory.
+    /// Fails only if memory is refused, and then nothing has changed. Forgetting a state takes no memory.
     fn append(&mut self, edit: Edit) -> Result<(), NoMemory>
         requires fits { FitsPresent edit (timeline self.old) }
         ensures ok { OnOk result (Appends edit (timeline self.old) (timeline self.new)) }
         ensures err { OnErr result (timeline self.new ≡ timeline self.old) };
 
-    /// Goes one state back. Takes no memory; refused only where there is none, and then nothing has changed.
+    /// Steps one state back. Fails only if there is none, and then nothing has changed. Takes no memory.
     fn undo(&mut self) -> Result<(), NothingToUndo>
         ensures variant { IsOk result ↔ (0 < (timeline self.old).place) }
         ensures ok { OnOk result (timeline self.new ≡ back (timeline self.old) 1) }
         ensures err { OnErr result (timeline self.new ≡ timeline self.old) };
 
-    /// Goes one state forward. This takes memory only where that state has more arcs than the present one; where memory is refused,
-    /// nothing has changed.
+    /// Steps one state forward. Takes memory only if that state has more arcs than the present one. After an error nothing has
+    /// changed.
     fn redo(&mut self) -> Result<(), RedoFault>
         ensures last { (result ≡ Err redo.NothingToRedo) ↔ (future_of (timeline self.old) ≡ 0) }
         ensures memory { result ≡ Err redo.NoMemory → AddsArcs (timeline self.old) (timeline self.old).place }
         ensures ok { OnOk result (timeline self.new ≡ forward (timeline self.old) 1) }
         ensures err { OnErr result (timeline self.new ≡ timeline self.old) };
 
-    /// The edit that made the present state of the one before it: none where no state stands before it, or where the history
-    /// keeps no edits. Takes no memory.
+    /// The edit that made the present state of the one before it. `None` if no state stands before it, or if the history keeps no
+    /// edits. Takes no memory.
     fn last_edit(&self) -> Option<&Edit>
         ensures { IfSome result (λ edit. LeadsBack edit.now (timeline self.now)) }
     {
         None
     }
 
-    /// The edit that makes the next state of the present one: none where no state stands past it, or where the history keeps
-    /// no edits. Takes no memory.
+    /// The edit that makes the next state of the present one. `None` if no state stands past it, or if the history keeps no edits.
+    /// Takes no memory.
     fn next_edit(&self) -> Option<&Edit>
         ensures { IfSome result (λ edit. LeadsOn edit.now (timeline self.now)) }
     {
@@ -95,7 +95,7 @@ pub trait History {
     }
 }
 
-/// Drops what was put in first. Takes no memory, and constant time.
+/// Drops the oldest element, in constant time. Takes no memory.
 pub(crate) fn forget_oldest<T: Drop, A: Allocator>(kept: &mut VecDeque<T, A>)
     ensures { kept.new.items ≡ drop 1 kept.old.items }
 {

@@ -27,16 +27,16 @@ impl Model for WholeHistory {
 }
 
 impl WholeHistory {
-    /// A history of one state, which is the present one, with the largest bound, [`MAX_BOUND`]. Fails only where memory is
-    /// refused; the state is then dropped.
+    /// Makes a history of this one state, with the largest bound, [`MAX_BOUND`]. Fails only if memory is refused, and then drops the
+    /// state.
     pub fn new(alloc: Global, state: State) -> Result<Self, NoMemory>
         ensures { IfOk result (λ history. history ≡ start 1000000 state) }
     {
         WholeHistory::with_bound(alloc, state, MAX_BOUND)
     }
 
-    /// A history of one state, which is the present one, with this bound, which is at most [`MAX_BOUND`]. Fails only where
-    /// memory is refused; the state is then dropped.
+    /// Makes a history of this one state, with this bound, at most [`MAX_BOUND`]. Fails only if memory is refused, and then drops the
+    /// state.
     pub fn with_bound(alloc: Global, state: State, bound: u32) -> Result<Self, NoMemory>
         requires { bound ≤ 1000000 }
         ensures { IfOk result (λ history. history ≡ start bound state) }
@@ -71,7 +71,7 @@ impl History for WholeHistory {
         self.bound
     }
 
-    // What can be refused memory comes first: the copy, an arc that the edit adds, and room for the state. Only then states are dropped.
+    // The requests for memory come first: the copy, an arc that the edit adds, and room for the state. Only then does the call drop states.
     fn append(&mut self, edit: Edit) -> Result<(), NoMemory> {
         let mut next = self.states[self.place].copy(self.alloc)?;
         next.apply(&edit)?;

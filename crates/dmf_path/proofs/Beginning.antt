@@ -1,12 +1,10 @@
 -- Where a search begins: what its labels and current links say.
-use Rattle.std.proofs.Common.{ℕ, ◌≡◌, ◌≢◌, ◌+◌, ◌<◌, inl, inr, List, [], length, get_or, set, replicate, ap, subst, ◌∙◌, arith}
+use Rattle.std.proofs.Common.{ℕ, ◌≡◌, ◌≢◌, ◌+◌, ◌<◌, inl, inr, List, length, get_or, set, replicate, subst, ◌∙◌, arith}
 use Rattle.std.proofs.lemmas.List.{get_or_default, get_or-replicate, length-replicate, get_or-set_same, get_or-set_other, length-set}
 use Rattle.dmf_node.specs.Node.{IsNode}
 use Rattle.dmf_path.specs.Links.{Links, AreLinks}
 use Rattle.dmf_path.specs.Labels.{no_label, AreQueued}
-use Rattle.dmf_path.specs.declared.frontier.Frontier.{Frontier}
 use Rattle.dmf_path.specs.declared.levels.Levels.{Levels}
-use Rattle.dmf_path.specs.Frontier.{IsClean}
 use Rattle.dmf_path.specs.Walk.{ArePassed}
 use Rattle.dmf_path.specs.BothEnds.{AreSmall, AreSound}
 use Rattle.dmf_path.specs.Searching.{AreReady, IsFresh, IsReady, fresh_labels}
@@ -93,23 +91,6 @@ first-queued l labels queue current long queued first v node has =
     let is : get_or queue at.0 0 ≡ v = get_or_default queue at.0 0 v at.1 ∙ at.2 in
     let P : ℕ → Type 0 = λ u. get_or current u 0 ≡ get_or l.first u 0 in
     subst P is (first at.0 at.1)
-
--- Where no node has a label, the queue has none.
-queued-none : (nodes : ℕ) (labels queue : List ℕ) → labels ≡ replicate (nodes + 1) no_label → queue ≡ [] → AreQueued labels queue
-queued-none nodes labels queue clean none = record {
-  within = λ k before. absurd (omega (arith, before, ap length none));
-  listed = λ v within has. absurd (has (ap (λ ls. get_or ls v 0) clean ∙ get_or-replicate (nodes + 1) v no_label 0
-      (omega (arith, within, ap length clean, length-replicate {A = ℕ} (nodes + 1) no_label))));
-}
-
--- Two searches that have not begun are ready.
-pub ready-clean : (nodes : ℕ) (near far : Frontier) → IsClean nodes near → near.queue.items ≡ [] → IsClean nodes far → IsReady nodes near far
-ready-clean nodes near far clean empty other = record {
-  one_label_each = ap length clean.labels_are ∙ length-replicate (nodes + 1) no_label;
-  queued = queued-none nodes near.labels.items near.queue.items clean.labels_are empty;
-  capacity = clean.capacity;
-  clean = other;
-}
 
 -- Levels that are ready are so for the number of nodes that have labels.
 pub ready-at : (nodes : ℕ) (levels : Levels) → AreReady levels → length levels.near.labels.items ≡ nodes + 1 → IsReady nodes levels.near levels.far

@@ -52,9 +52,12 @@ pub mod Sums
 pub mod Starts
 pub mod Putting
 pub mod Filling
+pub mod Twins
 pub mod Built
 pub mod Searching
-mod Unpassed
+mod Untouched
+mod Numbering
+mod TouchedIndices
 pub mod Lowered
 pub mod RoomsSet
 pub mod Released

@@ -11,8 +11,8 @@ pub mod Walk
 pub mod Held
 pub mod Residual
 pub mod Search
-pub mod Passed
+pub mod Touched
 pub mod Searching
 pub mod BothEnds
 pub mod Frontier
-pub mod Passing
+pub mod Touching

@@ -19,6 +19,11 @@ pub record ArePairs (nodes : ℕ) (pairs : List (Option Pair)) : Type 0 where
   pub each : (k : ℕ) (p : Pair) → slice_get pairs k ≡ Some (Some p) → IsPair nodes p
   pub at_most : length pairs ≤ 2 ^ 27 + 1
 
+-- the same pair without room
+abbrev pub emptied : Option Pair → Option Pair
+emptied None = None
+emptied (Some p) = Some (record { tail = p.tail; head = p.head; along = 0; against = 0 })
+
 -- the steps of pair number `j`: the one along it, and then the one against it, each where it has room
 abbrev pub pair_steps : ℕ → Option Pair → List Step
 pair_steps j None = []

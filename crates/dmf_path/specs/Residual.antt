@@ -16,7 +16,7 @@ pub record Residual : Type 0 where
 
 -- the residual network that links with rooms are
 abbrev pub residual_of : Roomy → Residual
-residual_of a = record { links = links_of a.table; takes_back = a.takes_back; rooms = a.rooms.items }
+residual_of a = record { links = links_of a.table.value; takes_back = a.takes_back; rooms = a.rooms.items }
 
 -- the same links with other rooms
 abbrev pub roomed : Residual → List ℕ → Residual

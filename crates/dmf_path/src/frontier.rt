@@ -71,10 +71,12 @@ pub fn unlabel(frontier: &mut Frontier)
 /// Looks at the links of the node that is next.
 pub fn expand<O: OpenLinks>(table: &LinkTable, opens: &O, frontier: &mut Frontier)
     requires one_flag_each { length (O.flags opens.now) ≡ length table.now.heads.items }
-    requires so_far { AreSpread (links_of table.now) (O.flags opens.now) frontier.old.root frontier.old.labels.items frontier.old.queue.items frontier.old.done }
+    requires so_far { AreSpread (links_of table.now) (O.flags opens.now) frontier.old.root
+        frontier.old.labels.items frontier.old.queue.items frontier.old.done }
     requires ahead { frontier.old.done < length frontier.old.queue.items }
     requires capacity { table.now.nodes + 1 ≤ vec_capacity frontier.old.queue }
-    ensures so_far { AreSpread (links_of table.now) (O.flags opens.now) frontier.new.root frontier.new.labels.items frontier.new.queue.items frontier.new.done }
+    ensures so_far { AreSpread (links_of table.now) (O.flags opens.now) frontier.new.root
+        frontier.new.labels.items frontier.new.queue.items frontier.new.done }
     ensures expands { Expands (links_of table.now) (O.flags opens.now) frontier.old.labels.items frontier.old.queue.items frontier.old.done
         frontier.new.labels.items frontier.new.queue.items }
     ensures done { frontier.new.done ≡ frontier.old.done + 1 }
@@ -107,17 +109,20 @@ pub fn expand_level<O: OpenLinks>(
 ) -> Option<u32>
     requires one_flag_each { length (O.flags opens.now) ≡ length table.now.heads.items }
     requires one_label_each { length others.now ≡ table.now.nodes + 1 }
-    requires so_far { AreSpread (links_of table.now) (O.flags opens.now) frontier.old.root frontier.old.labels.items frontier.old.queue.items frontier.old.done }
+    requires so_far { AreSpread (links_of table.now) (O.flags opens.now) frontier.old.root
+        frontier.old.labels.items frontier.old.queue.items frontier.old.done }
     requires ahead { frontier.old.done < length frontier.old.queue.items }
     requires at_rest { IsAtRest frontier.old.labels.items frontier.old.queue.items frontier.old.done }
     requires apart { AreApart frontier.old.labels.items others.now }
     requires capacity { table.now.nodes + 1 ≤ vec_capacity frontier.old.queue }
-    ensures so_far { AreSpread (links_of table.now) (O.flags opens.now) frontier.new.root frontier.new.labels.items frontier.new.queue.items frontier.new.done }
+    ensures so_far { AreSpread (links_of table.now) (O.flags opens.now) frontier.new.root
+        frontier.new.labels.items frontier.new.queue.items frontier.new.done }
     ensures levels { AreLevels (links_of table.now) (O.flags opens.now) frontier.new.root
         (slice_index frontier.old.labels.items (slice_index frontier.old.queue.items frontier.old.done)) frontier.new.labels.items }
     ensures at_rest { result ≡ None → IsAtRest frontier.new.labels.items frontier.new.queue.items frontier.new.done }
     ensures apart { result ≡ None → AreApart frontier.new.labels.items others.now }
-    ensures beyond { MeetBeyond (slice_index frontier.old.labels.items (slice_index frontier.old.queue.items frontier.old.done)) frontier.new.labels.items others.now }
+    ensures beyond { MeetBeyond (slice_index frontier.old.labels.items (slice_index frontier.old.queue.items frontier.old.done))
+        frontier.new.labels.items others.now }
     ensures met { (v : ℕ) → result ≡ Some v → IsNode table.now.nodes v
         × (slice_index frontier.new.labels.items v ≢ no_label) × (slice_index others.now v ≢ no_label) }
     ensures further { result ≡ None → frontier.old.done < frontier.new.done }

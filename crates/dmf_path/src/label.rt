@@ -2,8 +2,10 @@
 ghost use Rattle.std.specs.Prelude.{◌≡◌, ◌≢◌, ℕ, ◌+◌, ◌++◌, ◌≤◌, ◌<◌, ◌^◌, List, None, length, replicate, slice_index, vec_capacity};
 ghost use Rattle.dmf_node.specs.Node.{IsNode};
 ghost use Rattle.dmf_path.specs.LinkTable.{links_of};
+ghost use Rattle.dmf_path.specs.Frontier.{IsClean};
 ghost use Rattle.dmf_path.specs.Labels.{AreLabels, AreQueued, Spreads, no_label, unlabelled_count};
 
+use crate::frontier::Frontier;
 use crate::open::OpenLinks;
 use crate::table::LinkTable;
 
@@ -17,18 +19,17 @@ pub fn label_nodes<O: OpenLinks>(
     opens: &O,
     root: u32,
     stop: u32,
-    labels: &mut [u32],
-    queue: &mut Vec<u32>,
+    frontier: &mut Frontier,
 ) -> u64
     requires one_flag_each { length (O.flags opens.now) ≡ length table.now.heads.items }
-    requires clean { labels.old ≡ replicate (table.now.nodes + 1) no_label }
-    requires queue_capacity { table.now.nodes + 1 ≤ vec_capacity queue.old }
+    requires clean { IsClean table.now.nodes frontier.old }
     requires root { IsNode table.now.nodes root }
     requires stop { stop ≤ table.now.nodes }
-    ensures labels { AreLabels (links_of table.now) (O.flags opens.now) root stop labels.new }
-    ensures queued { AreQueued labels.new queue.new.items }
-    ensures queue_capacity { vec_capacity queue.new ≡ vec_capacity queue.old }
+    ensures labels { AreLabels (links_of table.now) (O.flags opens.now) root stop frontier.new.labels.items }
+    ensures queued { AreQueued frontier.new.labels.items frontier.new.queue.items }
+    ensures queue_capacity { vec_capacity frontier.new.queue ≡ vec_capacity frontier.old.queue }
 {
+    let Frontier { labels, queue, .. } = frontier;
     label_most(table, opens, root, stop, u64::MAX, labels, queue).unwrap()
 }
 

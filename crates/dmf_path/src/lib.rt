@@ -2,9 +2,9 @@
 #![tactic(auto)]
 
 pub use pair::{Pair, Pairs};
-pub use passed::is_passed;
 pub use places::Indices;
 pub use search::{AugmentingPath, Search};
+pub use touched::Touched;
 
 mod frontier;
 mod label;
@@ -12,9 +12,9 @@ mod levels;
 mod links;
 mod listed;
 mod meet;
+mod numbers;
 mod open;
 mod pair;
-mod passed;
 mod phase;
 mod places;
 mod push;
@@ -24,5 +24,6 @@ mod release;
 mod room;
 mod search;
 mod table;
+mod touched;
 mod trail;
 mod walk;

@@ -23,7 +23,8 @@ pub fn meet(
     requires rooms { AreRooms (links_of table.now) rooms.now }
     requires flags { AreFlags (links_of table.now) rooms.now flags.now }
     requires goal_side { AreSpread (links_of table.now) flags.now to_goal.old.root to_goal.old.labels.items to_goal.old.queue.items to_goal.old.done }
-    requires start_side { AreSpread (links_of table.now) (map open_flag rooms.now) from_start.old.root from_start.old.labels.items from_start.old.queue.items from_start.old.done }
+    requires start_side { AreSpread (links_of table.now) (map open_flag rooms.now) from_start.old.root
+        from_start.old.labels.items from_start.old.queue.items from_start.old.done }
     requires start { IsNode table.now.nodes from_start.old.root }
     requires goal { IsNode table.now.nodes to_goal.old.root }
     requires goal_rest { IsAtRest to_goal.old.labels.items to_goal.old.queue.items to_goal.old.done }
@@ -32,7 +33,8 @@ pub fn meet(
     requires goal_capacity { table.now.nodes + 1 ≤ vec_capacity to_goal.old.queue }
     requires start_capacity { table.now.nodes + 1 ≤ vec_capacity from_start.old.queue }
     ensures goal_side { AreSpread (links_of table.now) flags.now to_goal.old.root to_goal.new.labels.items to_goal.new.queue.items to_goal.new.done }
-    ensures start_side { AreSpread (links_of table.now) (map open_flag rooms.now) from_start.old.root from_start.new.labels.items from_start.new.queue.items from_start.new.done }
+    ensures start_side { AreSpread (links_of table.now) (map open_flag rooms.now) from_start.old.root
+        from_start.new.labels.items from_start.new.queue.items from_start.new.done }
     ensures met { (v : ℕ) → result ≡ Some v → HasMetAt (links_of table.now) flags.now (map open_flag rooms.now) from_start.old.root to_goal.old.root v
         to_goal.new.labels.items from_start.new.labels.items }
     ensures none { result ≡ None → IsSeparated (links_of table.now) rooms.now from_start.old.root to_goal.old.root }
@@ -61,7 +63,8 @@ fn expand_one(
     requires rooms { AreRooms (links_of table.now) rooms.now }
     requires flags { AreFlags (links_of table.now) rooms.now flags.now }
     requires goal_side { AreSpread (links_of table.now) flags.now to_goal.old.root to_goal.old.labels.items to_goal.old.queue.items to_goal.old.done }
-    requires start_side { AreSpread (links_of table.now) (map open_flag rooms.now) from_start.old.root from_start.old.labels.items from_start.old.queue.items from_start.old.done }
+    requires start_side { AreSpread (links_of table.now) (map open_flag rooms.now) from_start.old.root
+        from_start.old.labels.items from_start.old.queue.items from_start.old.done }
     requires start { IsNode table.now.nodes from_start.old.root }
     requires goal { IsNode table.now.nodes to_goal.old.root }
     requires goal_rest { IsAtRest to_goal.old.labels.items to_goal.old.queue.items to_goal.old.done }
@@ -72,7 +75,8 @@ fn expand_one(
     requires goal_ahead { to_goal.old.done < length to_goal.old.queue.items }
     requires start_ahead { from_start.old.done < length from_start.old.queue.items }
     ensures goal_side { AreSpread (links_of table.now) flags.now to_goal.old.root to_goal.new.labels.items to_goal.new.queue.items to_goal.new.done }
-    ensures start_side { AreSpread (links_of table.now) (map open_flag rooms.now) from_start.old.root from_start.new.labels.items from_start.new.queue.items from_start.new.done }
+    ensures start_side { AreSpread (links_of table.now) (map open_flag rooms.now) from_start.old.root
+        from_start.new.labels.items from_start.new.queue.items from_start.new.done }
     ensures met { (v : ℕ) → result ≡ Some v → HasMetAt (links_of table.now) flags.now (map open_flag rooms.now) from_start.old.root to_goal.old.root v
         to_goal.new.labels.items from_start.new.labels.items }
     ensures goal_rest { result ≡ None → IsAtRest to_goal.new.labels.items to_goal.new.queue.items to_goal.new.done }

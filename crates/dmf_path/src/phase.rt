@@ -24,7 +24,7 @@ pub fn find(links: &mut Links, levels: &mut Levels, trail: &mut Trail) -> bool
     ensures ready { AreReady levels.new }
     ensures same { sought (residual_of links.new) (way_of trail.new) ≡ sought (residual_of links.old) (way_of trail.old) }
     ensures found { result ≡ true → IsFound (residual_of links.new) (way_of trail.new) }
-    ensures none { result ≡ false → IsSeparated (links_of links.old.table)
+    ensures none { result ≡ false → IsSeparated (links_of links.old.table.value)
         (told (residual_of links.old) (way_of trail.old)).rooms trail.old.start trail.old.goal }
 {
     if walk(links, &levels.near.labels, &mut levels.current, trail) {
@@ -34,26 +34,19 @@ pub fn find(links: &mut Links, levels: &mut Levels, trail: &mut Trail) -> bool
     relabel(links, levels, trail) && walk(links, &levels.near.labels, &mut levels.current, trail)
 }
 
-/// Labels the nodes anew, where nothing is held, and begins again. Whether the start has a label.
+/// Labels the nodes anew, and frees the slots; no push is held. Returns whether the start has a label, so that a path is left.
 fn relabel(links: &Links, levels: &mut Levels, trail: &mut Trail) -> bool
     requires searching { IsSearching (residual_of links.now) (labelling_of levels.old) (way_of trail.old) }
     requires ready { AreReady levels.old }
     ensures searching { IsSearching (residual_of links.now) (labelling_of levels.new) (way_of trail.new) }
     ensures ready { AreReady levels.new }
     ensures way { way_of trail.new ≡ with_slots (way_of trail.old) trail.new.slots.items }
-    ensures labelled { result ≡ true → (ps : List ℕ) × IsWalk (links_of links.now.table) levels.new.near.labels.items links.now.rooms.items
+    ensures labelled { result ≡ true → (ps : List ℕ) × IsWalk (links_of links.now.table.value) levels.new.near.labels.items links.now.rooms.items
         trail.old.goal trail.old.start ps }
-    ensures none { result ≡ false → IsSeparated (links_of links.now.table) links.now.rooms.items trail.old.start trail.old.goal }
+    ensures none { result ≡ false → IsSeparated (links_of links.now.table.value) links.now.rooms.items trail.old.start trail.old.goal }
 {
     unlabel(&mut levels.near);
-    if !label_anew(
-        &links.table,
-        &links.rooms,
-        &links.flags,
-        levels,
-        trail.start,
-        trail.goal,
-    ) {
+    if !label_anew(links, levels, trail.start, trail.goal) {
         make_fresh(&links.table, levels, trail);
         return false;
     }
@@ -63,16 +56,17 @@ fn relabel(links: &Links, levels: &mut Levels, trail: &mut Trail) -> bool
     true
 }
 
-/// Begins anew between these nodes: all links leave, and the next walk ends at once. From then on nodes are labelled from both ends.
+/// Restarts the search between these nodes: applies the held pushes and takes off all labels, so that the next walk ends at once.
+/// From then on nodes are labelled from both ends.
 pub fn begin_anew(links: &mut Links, levels: &mut Levels, trail: &mut Trail, start: u32, goal: u32)
     requires searching { IsSearching (residual_of links.old) (labelling_of levels.old) (way_of trail.old) }
     requires ready { AreReady levels.old }
-    requires start { IsNode links.old.table.nodes start }
-    requires goal { IsNode links.old.table.nodes goal }
+    requires start { IsNode links.old.table.value.nodes start }
+    requires goal { IsNode links.old.table.value.nodes goal }
     requires apart { start ≢ goal }
     ensures searching { IsSearching (residual_of links.new) (labelling_of levels.new) (way_of trail.new) }
     ensures ready { AreReady levels.new }
-    ensures fresh { IsFresh (links_of links.new.table) levels.new.near.labels.items trail.new.start }
+    ensures fresh { IsFresh (links_of links.new.table.value) levels.new.near.labels.items trail.new.start }
     ensures same { sought (residual_of links.new) (way_of trail.new)
         ≡ record { residual = told (residual_of links.old) (way_of trail.old); start = start; goal = goal } }
 {
@@ -83,7 +77,7 @@ pub fn begin_anew(links: &mut Links, levels: &mut Levels, trail: &mut Trail, sta
     levels.both = true;
 }
 
-/// Takes off all labels, and gives both ends one that nothing falls to, which ends the next walk at once.
+/// Takes off all labels, and gives both ends the label 0. No link falls then, so the next walk ends at once.
 pub fn make_fresh(table: &LinkTable, levels: &mut Levels, trail: &mut Trail)
     requires ready { IsReady table.now.nodes levels.old.near levels.old.far }
     requires start { IsNode table.now.nodes trail.old.start }

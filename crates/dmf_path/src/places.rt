@@ -119,6 +119,16 @@ impl Places {
         }
     }
 
+    /// How many pairs there are.
+    pub fn len(&self) -> usize
+        ensures { result ≡ length self.now }
+    {
+        match &self.kept {
+            Kept::Each(places) => places.len(),
+            Kept::Listed { count, .. } => *count,
+        }
+    }
+
     /// The place of the pair at index `k`, if it has one.
     pub fn place_of(&self, k: usize) -> Option<u32>
         requires { k < length self.now }

@@ -1,16 +1,17 @@
-//! Links with their rooms, which pushes change.
+//! Links with their rooms: the residual network.
 ghost use Rattle.std.specs.Prelude.{◌≡◌, ◌<◌, length, slice_index, slice_set};
 ghost use Rattle.dmf_path.specs.Links.{AreRooms, AreFlags, open_flag};
 ghost use Rattle.dmf_path.specs.LinkTable.{links_of};
 
 use crate::links::open_flag;
 use crate::table::LinkTable;
+use std::rc::Rc;
 
 /// Links with their rooms.
 #[derive(Drop)]
 pub struct Links {
-    /// The links.
-    pub table: LinkTable,
+    /// The links, which several searches may share.
+    pub table: Rc<LinkTable>,
     /// Whether what is pushed along a link can be pushed back along the opposite one.
     pub takes_back: bool,
     /// The room of each link.
@@ -18,17 +19,17 @@ pub struct Links {
     /// Of each link whether the opposite one has room: 1, or else 0.
     pub flags: Vec<u8>,
     // The rooms of two opposite links fit 64 bits together, and the flags tell of the rooms.
-    ghost rooms_are: { AreRooms (links_of table) rooms.items },
-    ghost flags_are: { AreFlags (links_of table) rooms.items flags.items },
+    ghost rooms_are: { AreRooms (links_of table.value) rooms.items },
+    ghost flags_are: { AreFlags (links_of table.value) rooms.items flags.items },
 }
 
 impl Links {
     ghost use Rattle.std.specs.Prelude.{◌+◌, ◌^◌, ◌≤◌};
     ghost use Rattle.dmf_path.specs.Residual.{residual_of, put_at, pushed_along, lowered, pair_set};
 
-    /// Pushes an amount along a link.
+    /// Pushes an amount along a link: its room falls by that, and that of the opposite link rises if pushes are taken back.
     pub fn push(&mut self, place: u32, amount: u64)
-        requires within { place < length self.old.table.heads.items }
+        requires within { place < length self.old.table.value.heads.items }
         requires room { amount ≤ slice_index self.old.rooms.items place }
         ensures { residual_of self.new ≡ pushed_along (residual_of self.old) place amount }
     {
@@ -42,7 +43,7 @@ impl Links {
 
     /// Takes an amount off the room of a link.
     pub fn lower(&mut self, place: u32, amount: u64)
-        requires within { place < length self.old.table.heads.items }
+        requires within { place < length self.old.table.value.heads.items }
         requires room { amount ≤ slice_index self.old.rooms.items place }
         ensures { residual_of self.new ≡ lowered (residual_of self.old) place amount }
     {
@@ -51,9 +52,9 @@ impl Links {
         self.put(place, opposite, room - amount);
     }
 
-    /// Gives a link and its opposite these rooms.
+    /// Sets the rooms of a link and of its opposite.
     pub fn set_pair(&mut self, place: u32, along: u64, against: u64)
-        requires within { place < length self.old.table.heads.items }
+        requires within { place < length self.old.table.value.heads.items }
         requires fits { along + against < 2 ^ 64 }
         ensures { residual_of self.new ≡ pair_set (residual_of self.old) place along against }
     {
@@ -63,10 +64,10 @@ impl Links {
         self.put(place, opposite, along);
     }
 
-    /// Gives a link this room, of which the flag of its opposite tells.
+    /// Sets the room of a link, and the flag at its opposite, which says whether the link has room.
     fn put(&mut self, place: u32, opposite: u32, room: u64)
-        requires within { place < length self.old.table.heads.items }
-        requires opposite { opposite ≡ slice_index self.old.table.partners.items place }
+        requires within { place < length self.old.table.value.heads.items }
+        requires opposite { opposite ≡ slice_index self.old.table.value.partners.items place }
         requires fits { room + slice_index self.old.rooms.items opposite < 2 ^ 64 }
         ensures { residual_of self.new ≡ put_at (residual_of self.old) place room }
     {
@@ -76,8 +77,7 @@ impl Links {
     }
 }
 
-/// Makes a flag tell of a room what it told of the room before. It is written only where it changes: mostly it does not,
-/// and then the place of the flag is not looked at.
+/// Updates the flag for a room that has changed. Most changes leave the flag as it is, and then its memory is not touched.
 fn renew_flag(flags: &mut [u8], place: u32, before: u64, after: u64)
     requires within { place < length flags.old }
     requires told { slice_index flags.old place ≡ open_flag before }

@@ -1,4 +1,4 @@
-//! What paths reach: the labels from the start, once what is held is put on, and which nodes have one.
+//! The nodes that are reachable from the start, with the held pushes applied.
 ghost use Rattle.std.specs.Prelude.{◌≡◌, drop, length, map, IfOk};
 ghost use Rattle.dmf_node.specs.Node.{IsNode};
 ghost use Rattle.dmf_path.specs.Links.{open_flag};
@@ -7,6 +7,7 @@ ghost use Rattle.dmf_path.specs.Labels.{AreLabels, is_label};
 ghost use Rattle.dmf_path.specs.Held.{way_of, filled_slots, HaveLeft};
 ghost use Rattle.dmf_path.specs.Residual.{residual_of, told};
 
+use crate::frontier::Frontier;
 use crate::label::{NO_LABEL, label_nodes};
 use crate::open::Roomy;
 use crate::push::Links;
@@ -14,16 +15,16 @@ use crate::table::LinkTable;
 use crate::trail::Trail;
 use std::alloc::{AllocError, Global};
 
-/// Labels from the start over the links that have room, once what is held is put on. Takes memory for two numbers a node,
-/// and as long as some links are in slots, for the rooms too.
+/// Labels from the start over the links that have room, with the held pushes applied. Takes memory for two numbers a node, and for
+/// the rooms too if a slot is filled.
 pub fn labels_from_start(
     alloc: Global,
     links: &Links,
     trail: &Trail,
 ) -> Result<Vec<u32>, AllocError>
-    requires start { IsNode links.now.table.nodes trail.now.start }
+    requires start { IsNode links.now.table.value.nodes trail.now.start }
     requires have { HaveLeft trail.now.sent links.now.rooms.items (filled_slots (way_of trail.now)) }
-    ensures { IfOk result (λ labels. AreLabels (links_of links.now.table)
+    ensures { IfOk result (λ labels. AreLabels (links_of links.now.table.value)
         (map open_flag (told (residual_of links.now) (way_of trail.now)).rooms) trail.now.start 0 labels.items) }
 {
     if trail.is_empty() {
@@ -33,7 +34,7 @@ pub fn labels_from_start(
     labels_over(alloc, &links.table, &settled, trail.start)
 }
 
-/// The rooms of all links, once what is held is put on. Takes memory for them.
+/// The rooms of all links with the held pushes applied. Takes memory for them.
 fn settled_rooms(alloc: Global, links: &Links, trail: &Trail) -> Result<Vec<u64>, AllocError>
     requires have { HaveLeft trail.now.sent links.now.rooms.items (filled_slots (way_of trail.now)) }
     ensures { IfOk result (λ rooms. rooms.items ≡ (told (residual_of links.now) (way_of trail.now)).rooms) }
@@ -56,10 +57,9 @@ fn labels_over(
     requires root { IsNode table.now.nodes root }
     ensures { IfOk result (λ labels. AreLabels (links_of table.now) (map open_flag rooms.now) root 0 labels.items) }
 {
-    let nodes = table.nodes as usize;
-    let mut labels = vec![in alloc; NO_LABEL; nodes + 1]?;
-    let mut queue = Vec::with_capacity(alloc, nodes + 1)?;
-    let _looked = label_nodes(table, &Roomy(rooms), root, 0, &mut labels, &mut queue);
+    let mut frontier = Frontier::new(alloc, table.nodes)?;
+    let _looked = label_nodes(table, &Roomy(rooms), root, 0, &mut frontier);
+    let Frontier { labels, .. } = frontier;
     Ok(labels)
 }
 

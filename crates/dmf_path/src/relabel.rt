@@ -1,7 +1,6 @@
 //! The nodes are labelled anew: from the goal alone, or from both ends.
-ghost use Rattle.std.specs.Prelude.{◌≡◌, ◌≢◌, ℕ, ◌+◌, ◌≤◌, ◌<◌, true, false, length, replicate, slice_index, vec_capacity};
+ghost use Rattle.std.specs.Prelude.{◌≡◌, ◌≢◌, ℕ, ◌+◌, ◌≤◌, ◌<◌, true, false, length, slice_index, vec_capacity};
 ghost use Rattle.dmf_node.specs.Node.{IsNode};
-ghost use Rattle.dmf_path.specs.Links.{AreRooms, AreFlags};
 ghost use Rattle.dmf_path.specs.LinkTable.{links_of};
 ghost use Rattle.dmf_path.specs.Labels.{AreQueued, no_label, unlabelled_count};
 ghost use Rattle.dmf_path.specs.BothEnds.{AreJoined, IsLabelled};
@@ -9,106 +8,67 @@ ghost use Rattle.dmf_path.specs.Frontier.{IsClean};
 ghost use Rattle.dmf_path.specs.Searching.{IsReady, IsSeparated};
 
 use crate::frontier::{Frontier, begin, unlabel};
-use crate::label::{NO_LABEL, label_most, label_nodes, take_off};
+use crate::label::{NO_LABEL, label_most, label_nodes};
 use crate::levels::Levels;
 use crate::meet::meet;
 use crate::open::{Flagged, Roomy};
-use crate::table::LinkTable;
+use crate::push::Links;
 
 /// Labels the nodes, of which none has a label. Whether the start has one then: else no path is left.
-pub fn label_anew(
-    table: &LinkTable,
-    rooms: &[u64],
-    flags: &[u8],
-    levels: &mut Levels,
-    start: u32,
-    goal: u32,
-) -> bool
-    requires rooms { AreRooms (links_of table.now) rooms.now }
-    requires flags { AreFlags (links_of table.now) rooms.now flags.now }
-    requires near { IsClean table.now.nodes levels.old.near }
-    requires far { IsClean table.now.nodes levels.old.far }
-    requires start { IsNode table.now.nodes start }
-    requires goal { IsNode table.now.nodes goal }
+pub fn label_anew(links: &Links, levels: &mut Levels, start: u32, goal: u32) -> bool
+    requires near { IsClean links.now.table.value.nodes levels.old.near }
+    requires far { IsClean links.now.table.value.nodes levels.old.far }
+    requires start { IsNode links.now.table.value.nodes start }
+    requires goal { IsNode links.now.table.value.nodes goal }
     requires apart { start ≢ goal }
-    ensures ready { IsReady table.now.nodes levels.new.near levels.new.far }
-    ensures labelled { result ≡ true → IsLabelled (links_of table.now) rooms.now levels.new.near.labels.items start goal }
-    ensures none { result ≡ false → IsSeparated (links_of table.now) rooms.now start goal }
+    ensures ready { IsReady links.now.table.value.nodes levels.new.near levels.new.far }
+    ensures labelled { result ≡ true → IsLabelled (links_of links.now.table.value) links.now.rooms.items levels.new.near.labels.items start goal }
+    ensures none { result ≡ false → IsSeparated (links_of links.now.table.value) links.now.rooms.items start goal }
     ensures current { levels.new.current ≡ levels.old.current }
     ensures capacity { vec_capacity levels.new.near.queue ≡ vec_capacity levels.old.near.queue }
 {
     if levels.both {
-        return label_from_both(
-            table,
-            rooms,
-            flags,
-            &mut levels.near,
-            &mut levels.far,
-            start,
-            goal,
-        );
+        return label_from_both(links, levels, start, goal);
     }
     let few = levels.looked / 32;
-    if is_enclosed(table, rooms, start, goal, few, &mut levels.near) {
+    if is_enclosed(links, &mut levels.near, start, goal, few) {
         return false;
     }
-    levels.looked = label_from_goal(table, rooms, flags, &mut levels.near, start, goal);
+    levels.looked = label_from_goal(links, &mut levels.near, start, goal);
     levels.near.labels[start as usize] != NO_LABEL
 }
 
 /// Labels the nodes from the goal, until the start has a label. Answers how many links were looked at.
-fn label_from_goal(
-    table: &LinkTable,
-    rooms: &[u64],
-    flags: &[u8],
-    near: &mut Frontier,
-    start: u32,
-    goal: u32,
-) -> u64
-    requires flags { AreFlags (links_of table.now) rooms.now flags.now }
-    requires near { IsClean table.now.nodes near.old }
-    requires start { IsNode table.now.nodes start }
-    requires goal { IsNode table.now.nodes goal }
-    ensures long { length near.new.labels.items ≡ table.now.nodes + 1 }
+fn label_from_goal(links: &Links, near: &mut Frontier, start: u32, goal: u32) -> u64
+    requires near { IsClean links.now.table.value.nodes near.old }
+    requires start { IsNode links.now.table.value.nodes start }
+    requires goal { IsNode links.now.table.value.nodes goal }
+    ensures long { length near.new.labels.items ≡ links.now.table.value.nodes + 1 }
     ensures queued { AreQueued near.new.labels.items near.new.queue.items }
-    ensures labelled { slice_index near.new.labels.items start ≢ no_label → IsLabelled (links_of table.now) rooms.now near.new.labels.items start goal }
-    ensures none { slice_index near.new.labels.items start ≡ no_label → IsSeparated (links_of table.now) rooms.now start goal }
+    ensures labelled { slice_index near.new.labels.items start ≢ no_label →
+        IsLabelled (links_of links.now.table.value) links.now.rooms.items near.new.labels.items start goal }
+    ensures none { slice_index near.new.labels.items start ≡ no_label → IsSeparated (links_of links.now.table.value) links.now.rooms.items start goal }
     ensures capacity { vec_capacity near.new.queue ≡ vec_capacity near.old.queue }
 {
-    label_nodes(
-        table,
-        &Flagged(flags),
-        goal,
-        start,
-        &mut near.labels,
-        &mut near.queue,
-    )
+    label_nodes(&links.table, &Flagged(&links.flags), goal, start, near)
 }
 
 /// Whether few links are enough to see that those with room lead from the start nowhere near the goal. Else no node has a label.
 ///
 /// Few are a part of those that labelling from the goal looked at the last time, which are often nearly all.
-fn is_enclosed(
-    table: &LinkTable,
-    rooms: &[u64],
-    start: u32,
-    goal: u32,
-    few: u64,
-    near: &mut Frontier,
-) -> bool
-    requires rooms { AreRooms (links_of table.now) rooms.now }
-    requires near { IsClean table.now.nodes near.old }
-    requires start { IsNode table.now.nodes start }
-    requires goal { IsNode table.now.nodes goal }
-    ensures separated { result ≡ true → IsSeparated (links_of table.now) rooms.now start goal }
-    ensures long { length near.new.labels.items ≡ table.now.nodes + 1 }
+fn is_enclosed(links: &Links, near: &mut Frontier, start: u32, goal: u32, few: u64) -> bool
+    requires near { IsClean links.now.table.value.nodes near.old }
+    requires start { IsNode links.now.table.value.nodes start }
+    requires goal { IsNode links.now.table.value.nodes goal }
+    ensures separated { result ≡ true → IsSeparated (links_of links.now.table.value) links.now.rooms.items start goal }
+    ensures long { length near.new.labels.items ≡ links.now.table.value.nodes + 1 }
     ensures queued { AreQueued near.new.labels.items near.new.queue.items }
     ensures clean { result ≡ false → near.new.labels.items ≡ near.old.labels.items }
     ensures capacity { vec_capacity near.new.queue ≡ vec_capacity near.old.queue }
 {
     let looked = label_most(
-        table,
-        &Roomy(rooms),
+        &links.table,
+        &Roomy(&links.rooms),
         start,
         goal,
         few,
@@ -124,32 +84,23 @@ fn is_enclosed(
 
 /// Labels the nodes from the goal and from the start until both meet, and joins the labels to those of the goal's side. Whether they
 /// meet.
-fn label_from_both(
-    table: &LinkTable,
-    rooms: &[u64],
-    flags: &[u8],
-    near: &mut Frontier,
-    far: &mut Frontier,
-    start: u32,
-    goal: u32,
-) -> bool
-    requires rooms { AreRooms (links_of table.now) rooms.now }
-    requires flags { AreFlags (links_of table.now) rooms.now flags.now }
-    requires near { IsClean table.now.nodes near.old }
-    requires far { IsClean table.now.nodes far.old }
-    requires start { IsNode table.now.nodes start }
-    requires goal { IsNode table.now.nodes goal }
+fn label_from_both(links: &Links, levels: &mut Levels, start: u32, goal: u32) -> bool
+    requires near { IsClean links.now.table.value.nodes levels.old.near }
+    requires far { IsClean links.now.table.value.nodes levels.old.far }
+    requires start { IsNode links.now.table.value.nodes start }
+    requires goal { IsNode links.now.table.value.nodes goal }
     requires apart { start ≢ goal }
-    ensures long { length near.new.labels.items ≡ table.now.nodes + 1 }
-    ensures queued { AreQueued near.new.labels.items near.new.queue.items }
-    ensures clean { IsClean table.now.nodes far.new }
-    ensures labelled { result ≡ true → IsLabelled (links_of table.now) rooms.now near.new.labels.items start goal }
-    ensures none { result ≡ false → IsSeparated (links_of table.now) rooms.now start goal }
-    ensures capacity { vec_capacity near.new.queue ≡ vec_capacity near.old.queue }
+    ensures ready { IsReady links.now.table.value.nodes levels.new.near levels.new.far }
+    ensures labelled { result ≡ true → IsLabelled (links_of links.now.table.value) links.now.rooms.items levels.new.near.labels.items start goal }
+    ensures none { result ≡ false → IsSeparated (links_of links.now.table.value) links.now.rooms.items start goal }
+    ensures current { levels.new.current ≡ levels.old.current }
+    ensures capacity { vec_capacity levels.new.near.queue ≡ vec_capacity levels.old.near.queue }
 {
+    let near = &mut levels.near;
+    let far = &mut levels.far;
     begin(near, goal);
     begin(far, start);
-    let Some(node) = meet(table, rooms, flags, near, far) else {
+    let Some(node) = meet(&links.table, &links.rooms, &links.flags, near, far) else {
         unlabel(far);
         return false;
     };

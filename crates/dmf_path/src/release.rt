@@ -1,4 +1,4 @@
-//! Nothing is held for a link any more, so that its room can be changed.
+//! Before a caller changes the room of a link, the pushes held for that link are applied.
 ghost use Rattle.std.specs.Prelude.{◌≡◌, ◌+◌, ◌<◌, ◌==◌, length, slice_index};
 ghost use Rattle.dmf_path.specs.Links.{tail_of};
 ghost use Rattle.dmf_path.specs.LinkTable.{links_of};
@@ -11,10 +11,10 @@ use crate::push::Links;
 use crate::table::LinkTable;
 use crate::trail::Trail;
 
-/// Sees to it that nothing is held for the link at a place, and that nothing is to be given to it. All links leave where
-/// that may be so: pushes can be taken back, or the link falls, as those of a trail do.
+/// Applies all held pushes if one of them may change the room of the link at a place: if pushes are taken back, or if the link
+/// falls, as those in slots do.
 pub fn release(links: &mut Links, levels: &Levels, trail: &mut Trail, place: u32)
-    requires place { place < length links.old.table.heads.items }
+    requires place { place < length links.old.table.value.heads.items }
     requires searching { IsSearching (residual_of links.old) (labelling_of levels.now) (way_of trail.old) }
     ensures searching { IsSearching (residual_of links.new) (labelling_of levels.now) (way_of trail.new) }
     ensures same { sought (residual_of links.new) (way_of trail.new) ≡ sought (residual_of links.old) (way_of trail.old) }

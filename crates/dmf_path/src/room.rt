@@ -1,4 +1,4 @@
-//! The room of one link, once what is held is put on.
+//! The room of one link with the held pushes applied.
 ghost use Rattle.std.specs.Prelude.{◌≡◌, ◌<◌, length, slice_index};
 ghost use Rattle.dmf_path.specs.Held.{way_of, filled_slots, HaveLeft, held_for, held_in};
 
@@ -8,9 +8,9 @@ use crate::trail::{Slot, Trail};
 impl Links {
     ghost use Rattle.dmf_path.specs.Residual.{residual_of, told};
 
-    /// The room of a link, once what is held is put on.
+    /// The room of a link with the held pushes applied.
     pub fn settled_room(&self, trail: &Trail, place: u32) -> u64
-        requires place { place < length self.now.table.heads.items }
+        requires place { place < length self.now.table.value.heads.items }
         requires have { HaveLeft trail.now.sent self.now.rooms.items (filled_slots (way_of trail.now)) }
         ensures { result ≡ slice_index (told (residual_of self.now) (way_of trail.now)).rooms place }
     {
@@ -26,7 +26,7 @@ impl Links {
     }
 }
 
-/// How much is held for a link.
+/// The amount held for a link.
 fn held_for(rooms: &[u64], trail: &Trail, place: u32) -> u64
     requires place { place < length rooms.now }
     requires have { HaveLeft trail.now.sent rooms.now (filled_slots (way_of trail.now)) }
@@ -40,7 +40,7 @@ fn held_for(rooms: &[u64], trail: &Trail, place: u32) -> u64
     }
 }
 
-/// How much is held for a link in these slots, if it is in one.
+/// The amount that these slots hold for a link, if it is in one of them.
 fn held_in(rooms: &[u64], slots: &[Slot], sent: u64, place: u32) -> Option<u64>
     requires place { place < length rooms.now }
     requires have { HaveLeft sent rooms.now slots.now }

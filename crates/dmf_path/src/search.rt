@@ -3,19 +3,22 @@ ghost use Rattle.std.specs.Prelude.{◌≡◌, ◌≢◌, ℕ, ◌+◌, ◌-◌,
 ghost use Rattle.dmf_node.specs.Node.{IsNode};
 ghost use Rattle.dmf_path.specs.Path.{HasNoPath, IsReachable};
 ghost use Rattle.dmf_path.specs.Pair.{steps_of};
-ghost use Rattle.dmf_path.specs.Passed.{Passes};
-ghost use Rattle.dmf_path.specs.Search.{Augments, Covers, HasAlong, indices_of, pair_number, along_at, against_at, aimed, lowered_along, with_rooms, with_pairs};
+ghost use Rattle.dmf_path.specs.Search.{Augments, Covers, HasAlong, indices_of, pair_number, along_at, against_at};
+ghost use Rattle.dmf_path.specs.Search.{aimed, lowered_along, with_rooms, with_pairs};
+ghost use Rattle.dmf_path.specs.Touched.{Touches};
 
 use crate::levels::Levels;
-use crate::passed::mark_ends;
+use crate::numbers::number_links;
 use crate::phase::{begin_anew, find};
 use crate::places::{Indices, Places};
 use crate::push::Links;
 use crate::reach::{labelled, labels_from_start};
 use crate::release::release;
+use crate::touched::Touched;
 use crate::trail::Trail;
 use std::alloc::{AllocError, Global};
 use std::marker::Model;
+use std::rc::Rc;
 
 mod making;
 
@@ -37,7 +40,9 @@ pub struct AugmentingPath {
 #[derive(Drop)]
 pub struct Search {
     links: Links,
-    places: Places,
+    places: Rc<Places>,
+    /// Of each link the index of its pair, once the links are numbered.
+    numbers: Option<Vec<u32>>,
     levels: Levels,
     trail: Trail,
     /// Whether no path was looked for since the search began, or began anew: then nothing is held, and no link is passed.
@@ -46,26 +51,29 @@ pub struct Search {
 
 impl Model for Search {
     ghost use Rattle.dmf_path.specs.Held.{way_of};
+    ghost use Rattle.dmf_path.specs.LinkTable.{links_of};
     ghost use Rattle.dmf_path.specs.Residual.{residual_of};
     ghost use Rattle.dmf_path.specs.Search.{Searched};
     ghost use Rattle.dmf_path.specs.Searching.{labelling_of, sought, searched, AreReady, IsSearch};
+    ghost use Rattle.dmf_path.specs.Touching.{MayBeNumbered};
 
     ghost Value = { Searched };
 
-    ghost view = { λ a. searched (sought (residual_of a.links) (way_of a.trail)) a.places };
+    ghost view = { λ a. searched (sought (residual_of a.links) (way_of a.trail)) a.places.value };
 
-    ghost invariant = { λ a. AreReady a.levels × IsSearch (residual_of a.links) a.places (labelling_of a.levels) (way_of a.trail) a.is_fresh };
+    ghost invariant = { λ a. (AreReady a.levels × MayBeNumbered (links_of a.links.table.value) a.places.value a.numbers)
+        × IsSearch (residual_of a.links) a.places.value (labelling_of a.levels) (way_of a.trail) a.is_fresh };
 }
 
 impl Search {
     /// Pushes along the least path from the start to the goal as much as the limit and its rooms allow, and answers how
-    /// much that is, and how long the path; nothing, where no path is left. The nodes of the path are marked, each at the
-    /// index of its number, where there is a mark for it. Takes no memory.
-    pub fn augment(&mut self, limit: u64, passed: &mut [bool]) -> Option<AugmentingPath>
+    /// much that is, and how long the path; nothing, where no path is left. The pairs of the path count as touched then; all pairs
+    /// do, unless the links were numbered. Takes no memory.
+    pub fn augment(&mut self, limit: u64, touched: &mut Touched) -> Option<AugmentingPath>
         ensures found { MatchOption result
             (HasNoPath (steps_of self.old.pairs) self.old.start self.old.goal × (self.new ≡ self.old))
             (λ found. Augments limit found self.old self.new) }
-        ensures passed { Passes passed.old passed.new self.old.pairs self.new.pairs }
+        ensures touched { Touches touched.old touched.new self.old.pairs self.new.pairs }
     {
         self.is_fresh = false;
         if !find(&mut self.links, &mut self.levels, &mut self.trail) {
@@ -73,10 +81,22 @@ impl Search {
         }
         let amount = self.trail.bottleneck(limit);
         let links = self.trail.slots.len() as u32;
-        mark_ends(&self.links, &self.trail, passed);
+        touched.touch(&self.numbers, &self.trail.slots);
         self.trail.sent = self.trail.sent.wrapping_add(amount);
         self.trail.split(&mut self.links);
         Some(AugmentingPath { amount, links })
+    }
+
+    /// Numbers the links, so that paths list the pairs that they lead over. Takes memory for a number a link; where they are numbered
+    /// already, the call does nothing.
+    pub fn number_links(&mut self, alloc: Global) -> Result<(), AllocError>
+        ensures { self.new ≡ self.old }
+    {
+        if self.numbers.is_none() {
+            let links = &self.links;
+            self.numbers = Some(number_links(alloc, &links.table, &self.places)?);
+        }
+        Ok(())
     }
 
     /// The room of the link against the pair at index `k`, and nothing where there is no pair. Takes no memory.

@@ -1,29 +1,29 @@
-//! The trail: a slot for each link of a path, in which what is sent along the link is held until it leaves.
+//! The trail: a slot for each link of the augmenting path. A slot holds the pushes along its link until the link leaves.
 ghost use Rattle.std.specs.Prelude.{◌≡◌, ◌≤◌, length, vec_capacity};
 
 use crate::push::Links;
 
-/// A link of a path. Its room is as it was when it came into the slot: what was sent since is held.
+/// A link of the path. Its room is still that from when it entered the slot: the pushes since then are held.
 #[derive(Clone, Copy)]
 pub struct Slot {
     /// The place of the link.
     pub place: u32,
-    /// How much is sent in all when the link is full, modulo 2^64.
+    /// The total sent at which the link is saturated, modulo 2^64.
     pub full_at: u64,
 }
 
-/// Two parts of a path from the start to the goal: where the walk has come from the start, and the end of the last path.
+/// Two parts of a path from the start to the goal: the walk so far, and the rest, which is the end of the last path.
 #[derive(Drop)]
 pub struct Trail {
     /// A slot for each link that a path has.
     pub slots: Vec<Slot>,
-    /// The walk has filled the slots below this one.
+    /// The walk fills the slots below this index.
     pub walked: usize,
-    /// The slots from this one on have the end of the last path; those between are empty.
+    /// The rest fills the slots from this index on. The slots between are free.
     pub rest: usize,
-    /// The node at which that end begins: the goal, where it is empty.
+    /// The node at which the rest begins, or the goal if it is empty.
     pub joint: u32,
-    /// How much was sent in all, modulo 2^64.
+    /// The total sent so far, modulo 2^64.
     pub sent: u64,
     /// The node at which paths begin.
     pub start: u32,
@@ -36,7 +36,7 @@ pub struct Trail {
 impl Slot {
     ghost use Rattle.dmf_path.specs.Held.{room_left};
 
-    /// The room that is left to a link, once so much is sent in all.
+    /// The room that the link has left once this total has been sent.
     pub fn room_left(self, sent: u64) -> u64
         ensures { result ≡ room_left sent self.full_at }
     {
@@ -49,9 +49,9 @@ impl Links {
     ghost use Rattle.dmf_path.specs.LinkTable.{links_of};
     ghost use Rattle.dmf_path.specs.Residual.{residual_of, put_on, put_each_on};
 
-    /// Puts on each of these links what is held for it.
+    /// Applies the pushes that these slots hold to the rooms of their links.
     fn put_each_on(&mut self, slots: &[Slot], sent: u64)
-        requires can { CanPut (links_of self.old.table) self.old.takes_back sent slots.now self.old.rooms.items }
+        requires can { CanPut (links_of self.old.table.value) self.old.takes_back sent slots.now self.old.rooms.items }
         ensures { residual_of self.new ≡ put_each_on (residual_of self.old) sent slots.now }
     {
         for slot in slots {
@@ -59,9 +59,9 @@ impl Links {
         }
     }
 
-    /// Puts on a link what is held for it.
+    /// Applies the pushes that a slot holds to the rooms of its link.
     fn put_on(&mut self, slot: Slot, sent: u64)
-        requires slot { IsSlot (links_of self.old.table) sent self.old.rooms.items slot }
+        requires slot { IsSlot (links_of self.old.table.value) sent self.old.rooms.items slot }
         ensures { residual_of self.new ≡ put_on (residual_of self.old) sent slot }
     {
         let held = self.rooms[slot.place as usize] - slot.room_left(sent);
@@ -75,14 +75,14 @@ impl Trail {
     ghost use Rattle.dmf_path.specs.Held.{least_left, way_of, filled_slots, slot_at, CanPut, IsSlot, entered, stepped_back, emptied, with_slots};
     ghost use Rattle.dmf_path.specs.Residual.{residual_of, told, put_on, CanSettle, MakesWay, IsSplit};
 
-    /// Whether no slot is filled.
+    /// Whether all slots are free.
     pub fn is_empty(&self) -> bool
         ensures { result ≡ true → filled_slots (way_of self.now) ≡ [] }
     {
         self.walked == 0 && self.rest == self.slots.len()
     }
 
-    /// The least of the limit and the rooms that are left to the links in slots: the bottleneck.
+    /// The bottleneck: the least of the limit and of what the links in slots have left.
     pub fn bottleneck(&self, limit: u64) -> u64
         ensures { result ≡ least_left self.now.sent limit self.now.slots.items }
     {
@@ -93,11 +93,11 @@ impl Trail {
         least
     }
 
-    /// Makes the next slot free: where it has the first link of the end of the last path, that one leaves.
+    /// Frees the next slot: if the rest begins there, its first link leaves.
     pub fn make_way(&mut self, links: &mut Links)
         requires within { self.old.walked < length self.old.slots.items }
         requires slot { self.old.walked ≡ self.old.rest →
-            IsSlot (links_of links.old.table) self.old.sent links.old.rooms.items (slot_at self.old.slots.items self.old.rest) }
+            IsSlot (links_of links.old.table.value) self.old.sent links.old.rooms.items (slot_at self.old.slots.items self.old.rest) }
         ensures { MakesWay (residual_of links.old) (way_of self.old) (residual_of links.new) (way_of self.new) }
     {
         if self.walked == self.rest {
@@ -108,7 +108,7 @@ impl Trail {
         }
     }
 
-    /// Goes on along a link with so much room, for which the next slot is free.
+    /// Takes the walk one step on: a link with this room enters the next slot, which is free.
     pub fn enter(&mut self, place: u32, room: u64)
         requires free { self.old.walked < self.old.rest }
         ensures { way_of self.new ≡ entered (way_of self.old) place room }
@@ -120,10 +120,10 @@ impl Trail {
         self.walked += 1;
     }
 
-    /// Steps back over the last link, which leaves, and tells its place.
+    /// Takes the walk one step back: its last link leaves. Returns the place of that link.
     pub fn step_back(&mut self, links: &mut Links) -> u32
         requires some { 0 < self.old.walked }
-        requires slot { IsSlot (links_of links.old.table) self.old.sent links.old.rooms.items
+        requires slot { IsSlot (links_of links.old.table.value) self.old.sent links.old.rooms.items
             (slot_at self.old.slots.items (self.old.walked - 1)) }
         ensures place { result ≡ (slot_at self.old.slots.items (self.old.walked - 1)).place }
         ensures way { way_of self.new ≡ stepped_back (way_of self.old) }
@@ -136,7 +136,7 @@ impl Trail {
         slot.place
     }
 
-    /// Lets all links leave.
+    /// Applies all held pushes to the rooms, and frees all slots.
     pub fn settle(&mut self, links: &mut Links)
         requires can { CanSettle (residual_of links.old) (way_of self.old) }
         ensures way { way_of self.new ≡ emptied (way_of self.old) }
@@ -149,13 +149,14 @@ impl Trail {
         self.joint = self.goal;
     }
 
-    /// Cuts a path at its full links: the first leaves, the last, and those between.
+    /// Splits the path at its saturated links: the links from the first to the last of them leave. What is before them stays as the
+    /// walk, and what is behind them as the rest.
     pub fn split(&mut self, links: &mut Links)
         requires can { (first behind : ℕ) → first < behind → behind ≤ length self.old.slots.items →
-            CanPut (links_of links.old.table) links.old.takes_back self.old.sent
+            CanPut (links_of links.old.table.value) links.old.takes_back self.old.sent
             (take (behind - first) (drop first self.old.slots.items)) links.old.rooms.items }
         requires places { (i : ℕ) → i < length self.old.slots.items →
-            (slot_at self.old.slots.items i).place < length links.old.table.heads.items }
+            (slot_at self.old.slots.items i).place < length links.old.table.value.heads.items }
         ensures { IsSplit (residual_of links.old) (way_of self.old) (residual_of links.new) (way_of self.new) }
     {
         let first = self.first_full();
@@ -168,7 +169,7 @@ impl Trail {
         }
     }
 
-    /// The index of the first full link; where there is none, the number of links.
+    /// The index of the first saturated link, or the number of slots if there is none.
     fn first_full(&self) -> usize
         ensures within { result ≤ length self.now.slots.items }
         ensures open_links { (i : ℕ) → i < result → (slot_at self.now.slots.items i).full_at ≢ self.now.sent }
@@ -181,7 +182,7 @@ impl Trail {
         self.slots.len()
     }
 
-    /// The index behind the last full link; where there is none, 0.
+    /// The index behind the last saturated link, or 0 if there is none.
     fn behind_last_full(&self) -> usize
         ensures within { result ≤ length self.now.slots.items }
         ensures open_links { (i : ℕ) → result ≤ i → i < length self.now.slots.items → (slot_at self.now.slots.items i).full_at ≢ self.now.sent }
@@ -193,7 +194,7 @@ impl Trail {
         behind
     }
 
-    /// Makes the slots free, and as many as paths have links.
+    /// Makes a free slot for each link that paths have.
     pub fn free(&mut self, links: u32)
         requires capacity { links ≤ vec_capacity self.old.slots }
         ensures count { length self.new.slots.items ≡ links }
@@ -206,7 +207,7 @@ impl Trail {
     }
 }
 
-/// Makes so many slots.
+/// Replaces the slots by so many free ones.
 fn make_slots(slots: &mut Vec<Slot>, links: u32)
     requires capacity { links ≤ vec_capacity slots.old }
     ensures count { length slots.new.items ≡ links }

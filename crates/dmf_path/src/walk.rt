@@ -60,19 +60,19 @@ impl Links {
     /// or `end`.
     fn first_admissible(&self, labels: &[u32], from: u32, end: u32, label: u32) -> u32
         requires range { from ≤ end }
-        requires links { end ≤ length self.now.table.heads.items }
-        requires one_label_each { length labels.now ≡ self.now.table.nodes + 1 }
+        requires links { end ≤ length self.now.table.value.heads.items }
+        requires one_label_each { length labels.now ≡ self.now.table.value.nodes + 1 }
         ensures from { from ≤ result }
         ensures to { result ≤ end }
         ensures room { result < end → 0 < slice_index self.now.rooms.items result }
-        ensures falls { result < end → slice_index labels.now (slice_index self.now.table.heads.items result) + 1 ≡ label }
+        ensures falls { result < end → slice_index labels.now (slice_index self.now.table.value.heads.items result) + 1 ≡ label }
         ensures first { (p : ℕ) → from ≤ p → p < result → 0 < slice_index self.now.rooms.items p
-            → slice_index labels.now (slice_index self.now.table.heads.items p) + 1 ≢ label }
+            → slice_index labels.now (slice_index self.now.table.value.heads.items p) + 1 ≢ label }
     {
+        let heads = &self.table.heads;
         for place in from..end {
             if self.rooms[place as usize] > 0
-                && u64::from(labels[self.table.heads[place as usize] as usize]) + 1
-                    == u64::from(label)
+                && u64::from(labels[heads[place as usize] as usize]) + 1 == u64::from(label)
             {
                 return place;
             }

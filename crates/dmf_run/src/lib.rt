@@ -1,5 +1,4 @@
-//! The runs of `dmf` over any reader and writer, from the bytes that come in to the bytes that go out, and the program's arguments
-//! that ask for them, in one crate.
+//! A front for callers: the runs of `dmf` over any reader and writer, and the program's arguments that ask for them.
 #![tactic(auto)]
 
 pub use dmf_arguments::{Arguments, MAX_HISTORY, Mode, WordsFault, read_arguments, read_words};

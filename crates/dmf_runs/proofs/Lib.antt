@@ -1,7 +1,7 @@
+pub mod Giving
 pub mod KeptLineLemmas
 pub mod TakingLemmas
 pub mod ReplyLemmas
-pub mod Replying
 pub mod LineLemmas
 pub mod Progress
 pub mod Endings

@@ -1,4 +1,4 @@
--- What a command line means.
+-- What a command line means, and the word of a command.
 -- Public: a public contract says no more than this.
 use Rattle.std.specs.Prelude.{ℕ, List, [], ◌∷◌, if◌then◌else◌, codes, Option, Some, None, Result, Ok, Err}
 use Rattle.std.specs.Str.{bytes_eq}
@@ -77,3 +77,16 @@ meaning_of (word ∷ behind) =
 -- what a line without its end means: nothing, a command, or why it is refused
 abbrev pub command_of : List ℕ → Result (Option Command) Refusal
 command_of line = meaning_of (fields line)
+
+-- the word of a command, which is the first field of its lines
+abbrev pub word_of : Command → List ℕ
+word_of (Cap arc cap) = codes "cap"
+word_of (Add tail head cap) = codes "add"
+word_of (Close arc) = codes "close"
+word_of (Shut node) = codes "shut"
+word_of Solve = codes "solve"
+word_of (Undo steps) = codes "undo"
+word_of (Redo steps) = codes "redo"
+word_of PrintProblem = codes "print"
+word_of PrintFlow = codes "print"
+word_of PrintCut = codes "print"

@@ -3,7 +3,6 @@ pub mod Streams
 pub mod Pending
 pub mod Line
 pub mod KeptLine
-pub mod ReplyTo
 pub mod Run
 pub mod Laws
 pub mod Input

@@ -5,27 +5,15 @@ use Rattle.dmf_state.specs.NetworkState.{NetworkState}
 use Rattle.dmf_state.specs.Side.{CutSide}
 use Rattle.dmf_text.specs.Written.{written_line, problem_text, solution_text, cut_text}
 use Rattle.dmf_session.specs.declared.command.Command.{Command}
-use Rattle.dmf_session.specs.declared.command.Command.TheVariants.{Cap, Add, Close, Shut, Solve, Undo, Redo, PrintProblem, PrintFlow, PrintCut}
+use Rattle.dmf_session.specs.declared.command.Command.TheVariants.{Solve}
 use Rattle.dmf_session.specs.declared.command.Reply.{Reply}
 use Rattle.dmf_session.specs.declared.command.Reply.TheVariants.{Value, Added, Solution, Problem, Flow, Cut}
 use Rattle.dmf_session.specs.declared.command.Refusal.{Refusal}
 use Rattle.dmf_history.specs.Timeline.{Timeline, IsPresent}
 use Rattle.dmf_session.specs.RefusalText.{refusal_text}
 use Rattle.dmf_session.specs.Step.{value_of}
+use Rattle.dmf_runs.specs.CommandText.{word_of}
 use Rattle.dmf_runs.specs.Line.{line_meaning}
-
--- the word of a command
-abbrev pub word_of : Command → List ℕ
-word_of (Cap arc cap) = codes "cap"
-word_of (Add tail head cap) = codes "add"
-word_of (Close arc) = codes "close"
-word_of (Shut node) = codes "shut"
-word_of Solve = codes "solve"
-word_of (Undo steps) = codes "undo"
-word_of (Redo steps) = codes "redo"
-word_of PrintProblem = codes "print"
-word_of PrintFlow = codes "print"
-word_of PrintCut = codes "print"
 
 -- `c WORD value V`
 abbrev pub value_text : Command → ℕ → List ℕ

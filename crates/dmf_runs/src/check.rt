@@ -1,4 +1,4 @@
-//! A solution is checked, from bytes to bytes.
+//! Checking a solution, from bytes to bytes.
 ghost use Rattle.std.specs.Prelude.{◌≡◌, ◌≤◌, length, codes, if◌then◌else◌, IfOk, IsOkUnless};
 ghost use Rattle.dmf_runs.specs.Session.{HasGiven};
 ghost use Rattle.dmf_runs.specs.declared.fault.EngineFault.TheVariants as fault;
@@ -14,13 +14,12 @@ use dmf_text::LineField::{Number, Text};
 use dmf_text::{LineBuffer, Sink, SolutionFaultKind, Source, line_of, read_solution};
 use std::alloc::Global;
 
-/// Reads a problem, then a solution of it, and then writes `c greatest V` where no flow has a larger value than that of
-/// the solution, and else `c flow V`, and flushes it. The status tells it too.
+/// Reads a problem and a solution of it. Writes `c greatest V` if no flow has a larger value than the solution, else `c flow V`,
+/// and flushes. The status tells the same.
 ///
-/// Stopped before anything is written by [`EngineFault::Problem`] and [`EngineFault::Solution`], where a text has a fault,
-/// by [`EngineFault::Read`] and [`EngineFault::TooMuchInput`] in reading them, and by [`EngineFault::NoMemory`]; and by
-/// [`EngineFault::Write`] where a call of the writer failed, its flush too. Where the problem is stopped at, no byte of the
-/// solution is read.
+/// Fails before it writes anything with [`EngineFault::Problem`] or [`EngineFault::Solution`] if a text has a fault, with
+/// [`EngineFault::Read`], [`EngineFault::TooMuchInput`] or [`EngineFault::NoMemory`]. Fails with [`EngineFault::Write`] if a write
+/// or the flush fails. After a fault of the problem it has read no byte of the solution.
 pub fn run_check<P: Source, C: Source, W: Sink>(
     alloc: Global,
     problem: &mut P,
@@ -37,7 +36,7 @@ pub fn run_check<P: Source, C: Source, W: Sink>(
     tell_verdict(&solved, greatest, out)
 }
 
-/// Reads a solution text of a state's network, and judges it. The state is let go then.
+/// Reads a solution text of a state's network, and judges it. Drops the state.
 fn read_solved<C: Source>(alloc: Global, state: State, source: &mut C) -> Result<State, EngineFault>
     ensures { HasGiven (C.left source.old) (C.left source.new)
         (λ text. ReadsSolution state (C.left source.old) (C.left source.new) text result) }
@@ -59,7 +58,7 @@ fn verdict_of(alloc: Global, state: &State) -> Result<bool, NoMemory>
     is_greatest(alloc, state)
 }
 
-/// Writes whether the state's flow is greatest, and flushes it. The status tells it too.
+/// Writes whether the state's flow is greatest, and flushes. The status tells the same.
 fn tell_verdict<W: Sink>(state: &State, greatest: bool, out: &mut W) -> Result<Status, EngineFault>
     requires { IsVerdict state.now greatest }
     ensures told { TellsVerdict state.now (W.written out.old) (W.written out.new) result }

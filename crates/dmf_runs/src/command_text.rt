@@ -1,8 +1,9 @@
-//! What command lines mean.
-ghost use Rattle.std.specs.Prelude.{◌≡◌, ◌∷◌, codes, false};
+//! What command lines mean, and the words of commands.
+ghost use Rattle.std.specs.Prelude.{◌≡◌, ◌≤◌, ◌∷◌, length, codes, false};
 ghost use Rattle.std.specs.Str.{bytes_eq};
 ghost use Rattle.std.specs.Str.Lines.{strip_carriage_return};
 ghost use Rattle.dmf_text.specs.Number.{number_of};
+ghost use Rattle.dmf_runs.specs.CommandText as text;
 ghost use Rattle.dmf_runs.specs.CommandText.{command_of, meaning_of, command_by, capping, addition, one_number, solving, steps, printing, with_number};
 ghost use Rattle.dmf_runs.specs.KeptLine.{Means};
 
@@ -13,7 +14,7 @@ use dmf_text::{Fields, NumberFault, number};
 /// What a command line means: nothing, a command, or why it is refused.
 pub type Meaning = Result<Option<Command>, Refusal>;
 
-/// What a line means that was taken, which a line feed ended or the end of the input.
+/// What a line means. `ended` says whether a line feed ended it, or the end of the input.
 pub fn meaning_of(line: &KeptLine, ended: bool) -> Meaning
     ensures { Means line.now ended result }
 {
@@ -40,9 +41,9 @@ fn without_carriage_return(line: &[u8]) -> &[u8]
 
 /// Reads a command line, given without its end. A blank line and a comment, whose first field is `c`, mean nothing.
 ///
-/// Refused, in this order, by [`Refusal::UnknownCommand`] for the first field, [`Refusal::FieldCount`],
-/// [`Refusal::UnknownCommand`] for what is to be printed, and for each number from left to right
-/// [`Refusal::NotANumber`] and [`Refusal::TooLarge`]. Takes no memory.
+/// Answers the first of these faults: [`Refusal::UnknownCommand`] of the first field, [`Refusal::FieldCount`],
+/// [`Refusal::UnknownCommand`] of the field behind `print`, and for each number from left to right
+/// [`Refusal::NotANumber`] or [`Refusal::TooLarge`]. Takes no memory.
 pub fn read_command(line: &[u8]) -> Result<Option<Command>, Refusal>
     ensures { result ≡ command_of line.now }
 {
@@ -56,7 +57,7 @@ pub fn read_command(line: &[u8]) -> Result<Option<Command>, Refusal>
     Ok(Some(read_named(word, fields)?))
 }
 
-/// The command whose first field is this word, which is not `c`.
+/// The command with this first field, which is not `c`.
 fn read_named(word: &[u8], fields: Fields<'_>) -> Result<Command, Refusal>
     requires { bytes_eq word.now (codes "c") ≡ false }
     ensures { command_by (λ command. command) result ≡ meaning_of (word.now ∷ fields.entry) }
@@ -86,7 +87,7 @@ fn read_named(word: &[u8], fields: Fields<'_>) -> Result<Command, Refusal>
     }
 }
 
-/// The fields behind `cap`.
+/// Reads the fields behind `cap`.
 #[tactic(auto, unfolding(crate::specs::CommandText::capping))]
 fn read_capping(mut fields: Fields<'_>) -> Result<Command, Refusal>
     ensures { result ≡ capping fields.entry }
@@ -100,7 +101,7 @@ fn read_capping(mut fields: Fields<'_>) -> Result<Command, Refusal>
     }
 }
 
-/// The fields behind `add`.
+/// Reads the fields behind `add`.
 #[tactic(auto, unfolding(crate::specs::CommandText::addition))]
 fn read_addition(mut fields: Fields<'_>) -> Result<Command, Refusal>
     ensures { result ≡ addition fields.entry }
@@ -115,7 +116,7 @@ fn read_addition(mut fields: Fields<'_>) -> Result<Command, Refusal>
     }
 }
 
-/// The field behind `close` or `shut`.
+/// Reads the field behind `close` or `shut`.
 #[tactic(auto, unfolding(crate::specs::CommandText::one_number))]
 fn read_one_number(mut fields: Fields<'_>) -> Result<u64, Refusal>
     ensures { result ≡ one_number fields.entry }
@@ -126,7 +127,7 @@ fn read_one_number(mut fields: Fields<'_>) -> Result<u64, Refusal>
     }
 }
 
-/// The fields behind `solve`: there are none.
+/// Reads the fields behind `solve`, of which there are none.
 #[tactic(auto, unfolding(crate::specs::CommandText::solving))]
 fn read_solving(mut fields: Fields<'_>) -> Result<Command, Refusal>
     ensures { result ≡ solving fields.entry }
@@ -137,7 +138,7 @@ fn read_solving(mut fields: Fields<'_>) -> Result<Command, Refusal>
     }
 }
 
-/// The fields behind `undo` and `redo`.
+/// Reads the fields behind `undo` or `redo`.
 #[tactic(auto, unfolding(crate::specs::CommandText::steps))]
 fn read_steps(mut fields: Fields<'_>) -> Result<u64, Refusal>
     ensures { result ≡ steps fields.entry }
@@ -149,7 +150,7 @@ fn read_steps(mut fields: Fields<'_>) -> Result<u64, Refusal>
     }
 }
 
-/// The field behind `print`.
+/// Reads the field behind `print`.
 #[tactic(auto, unfolding(crate::specs::CommandText::printing))]
 fn read_printing(mut fields: Fields<'_>) -> Result<Command, Refusal>
     ensures { result ≡ printing fields.entry }
@@ -170,5 +171,22 @@ fn read_number(field: &[u8]) -> Result<u64, Refusal>
         Ok(n) => Ok(n),
         Err(NumberFault::NotANumber) => Err(Refusal::NotANumber),
         Err(NumberFault::TooLarge) => Err(Refusal::TooLarge),
+    }
+}
+
+/// The word of a command, which is the first field of its lines.
+pub fn word_of(command: Command) -> &'static [u8]
+    ensures word { result.now ≡ text.word_of command }
+    ensures short { length result.now ≤ 5 }
+{
+    match command {
+        Command::Cap { .. } => b"cap",
+        Command::Add { .. } => b"add",
+        Command::Close { .. } => b"close",
+        Command::Shut { .. } => b"shut",
+        Command::Solve => b"solve",
+        Command::Undo(_) => b"undo",
+        Command::Redo(_) => b"redo",
+        Command::PrintProblem | Command::PrintFlow | Command::PrintCut => b"print",
     }
 }

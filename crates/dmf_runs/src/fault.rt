@@ -1,4 +1,5 @@
 ghost use Rattle.std.specs.Prelude.{◌≡◌};
+ghost use Rattle.dmf_runs.specs.declared.fault.EngineFault.TheVariants as engine;
 ghost use Rattle.dmf_runs.specs.Status.{status_of};
 
 use dmf_state::NoMemory;
@@ -6,7 +7,7 @@ use dmf_text::{ProblemFault, SolutionFault, WriteFault};
 use std::alloc::AllocError;
 use thiserror::Error;
 
-/// How a run ended that was not stopped.
+/// How a run ended that met no fault.
 #[derive(Clone, Copy, Debug, PartialEq, Eq)]
 pub enum Status {
     /// Nothing was refused.
@@ -17,13 +18,13 @@ pub enum Status {
     NotGreatest,
 }
 
-/// What stopped a run.
+/// The fault that stopped a run.
 #[derive(Clone, Copy, Debug, PartialEq, Eq, Error)]
 pub enum EngineFault {
-    /// A call of a reader failed.
+    /// A read failed.
     #[error("read failed")]
     Read,
-    /// A call of the writer failed, its flush too, or it took none of the bytes that it was given.
+    /// A write or a flush failed, or the writer took none of the bytes that it was given.
     #[error("write failed")]
     Write,
     /// The problem text has a fault.
@@ -35,15 +36,12 @@ pub enum EngineFault {
     /// A request for memory was refused.
     #[error("no memory")]
     NoMemory,
-    /// A text or a list of commands is larger than is read.
+    /// A text or the list of commands passes its limit.
     #[error("too much input")]
     TooMuchInput,
 }
 
 impl From<WriteFault> for EngineFault {
-    ghost use Rattle.std.specs.Prelude.{◌≡◌};
-    ghost use Rattle.dmf_runs.specs.declared.fault.EngineFault.TheVariants as engine;
-
     ghost from_gives = { λ _ fault. fault ≡ engine.Write };
 
     fn from(_fault: WriteFault) -> EngineFault {
@@ -52,9 +50,6 @@ impl From<WriteFault> for EngineFault {
 }
 
 impl From<NoMemory> for EngineFault {
-    ghost use Rattle.std.specs.Prelude.{◌≡◌};
-    ghost use Rattle.dmf_runs.specs.declared.fault.EngineFault.TheVariants as engine;
-
     ghost from_gives = { λ _ fault. fault ≡ engine.NoMemory };
 
     fn from(_fault: NoMemory) -> EngineFault {
@@ -63,9 +58,6 @@ impl From<NoMemory> for EngineFault {
 }
 
 impl From<AllocError> for EngineFault {
-    ghost use Rattle.std.specs.Prelude.{◌≡◌};
-    ghost use Rattle.dmf_runs.specs.declared.fault.EngineFault.TheVariants as engine;
-
     ghost from_gives = { λ _ fault. fault ≡ engine.NoMemory };
 
     fn from(_fault: AllocError) -> EngineFault {
@@ -73,8 +65,8 @@ impl From<AllocError> for EngineFault {
     }
 }
 
-/// The status with which the program ends after a run: 0 where all is well, 1 where a command was refused or a
-/// checked flow is not greatest, 3 for a fault in a text, 4 for a read, write or size fault, 5 for want of memory.
+/// The exit status of the program after a run: 0 if all is well, 1 if a command was refused or a checked flow is not greatest,
+/// 3 for a fault in a text, 4 for a failed read or write or a passed limit, 5 for want of memory.
 pub fn status_of(outcome: &Result<Status, EngineFault>) -> u8
     ensures { result ≡ status_of outcome.now }
 {

@@ -1,4 +1,4 @@
-//! Lines, taken from a reader that gives its bytes in any pieces.
+//! Lines from a reader that gives its bytes in pieces of any length.
 ghost use Rattle.std.specs.Prelude.{◌≡◌, []};
 ghost use Rattle.dmf_runs.specs.Input.{input_over, Fills, GivesByte, GivesLine, GivesEnd};
 
@@ -12,7 +12,7 @@ pub const MAX_BYTES: u64 = 1_073_741_824;
 
 const PIECE: usize = 2048;
 
-/// What asking for a line gives.
+/// What a request for a line gives.
 #[derive(Clone, Copy)]
 pub enum Next {
     /// A line.
@@ -24,7 +24,7 @@ pub enum Next {
     End,
 }
 
-/// The bytes of a reader, one after the other, of which at most [`MAX_BYTES`] are taken.
+/// The bytes of a reader, one after the other, up to a limit of [`MAX_BYTES`].
 #[derive(Drop)]
 pub struct Input {
     piece: [u8; PIECE],
@@ -45,7 +45,7 @@ impl Model for Input {
 }
 
 impl Input {
-    /// Nothing was read.
+    /// An input of which nothing is read yet.
     pub fn new() -> Self
         ensures { result ≡ record { bytes = []; count = 0 } }
     {
@@ -57,7 +57,7 @@ impl Input {
         }
     }
 
-    /// Reads the next piece, where no byte is pending. At the end of the input none is pending afterwards.
+    /// Reads the next piece if no byte is pending. At the end of the input none is pending afterwards.
     fn fill<C: Source>(&mut self, source: &mut C) -> Result<(), EngineFault>
         ensures { Fills
             (input_over self.old (C.left source.old))
@@ -96,7 +96,7 @@ impl Input {
         Ok(Some(byte))
     }
 
-    /// Takes the next line, if there is one, in place of the one that is kept. No byte past its line feed is asked for.
+    /// Takes the next line, if there is one, in place of the kept one. Asks for no byte past its line feed.
     pub fn next_line<C: Source>(
         &mut self,
         source: &mut C,
@@ -120,7 +120,7 @@ impl Input {
         Ok(Next::Line { ended: false })
     }
 
-    /// Refuses any further byte.
+    /// Fails if there is a further byte.
     pub fn expect_end<C: Source>(&mut self, source: &mut C) -> Result<(), EngineFault>
         ensures { GivesEnd
             (input_over self.old (C.left source.old))

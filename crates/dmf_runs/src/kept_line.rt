@@ -1,4 +1,4 @@
-//! A line that is taken byte by byte, as far as it is kept.
+//! A command line, taken byte by byte, and kept up to its limit.
 ghost use Rattle.std.specs.Prelude.{◌≡◌, ◌∷◌, ◌++◌, [], List, ℕ, IsTrue, ◌↔◌};
 ghost use Rattle.dmf_runs.specs.KeptLine.{IsKept};
 
@@ -7,7 +7,7 @@ use std::marker::Model;
 /// The largest number of bytes of a command line, a carriage return counted and the line feed not.
 pub const MAX_LINE: usize = 4096;
 
-/// A line, of which at most the first [`MAX_LINE`] bytes are kept.
+/// A line that keeps at most its first [`MAX_LINE`] bytes.
 #[derive(Drop)]
 pub struct KeptLine {
     bytes: [u8; MAX_LINE],
@@ -27,7 +27,7 @@ impl Model for KeptLine {
 }
 
 impl KeptLine {
-    /// A line without a byte.
+    /// Makes an empty line.
     pub fn new() -> Self
         ensures { IsKept result [] }
     {
@@ -65,14 +65,14 @@ impl KeptLine {
         self.len == 0
     }
 
-    /// Whether the line has more bytes than are kept.
+    /// Whether the line has more bytes than it keeps.
     pub fn is_long(&self) -> bool
         ensures { result ≡ self.now.is_long }
     {
         self.is_long
     }
 
-    /// The bytes that are kept.
+    /// The bytes that the line keeps.
     pub fn bytes(&self) -> &[u8]
         ensures { result.now ≡ self.now.bytes }
     {

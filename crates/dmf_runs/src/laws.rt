@@ -6,16 +6,14 @@ use dmf_session::{
 use dmf_solver::solved_is_greatest;
 use dmf_text::accepted_is_state;
 
-/// The law that from the start of each state each command text, of any bytes, has a run in which no command is refused
-/// memory.
+/// The law that each command text, of any bytes, has a run from the start of each state in which no command is refused memory.
 pub fn command_text_has_run()
     ensures { HasRun }
 {
     command_has_answer();
 }
 
-/// The law that each command text has one such run: any two write the same text, and are the same in whether a line is
-/// refused.
+/// The law that each command text has only one such run: any two write the same text, and agree on whether a line is refused.
 pub fn command_text_has_one_run()
     ensures { HasOneRun }
 {
@@ -23,8 +21,7 @@ pub fn command_text_has_one_run()
     command_has_one_answer();
 }
 
-/// The law that each such run is one of those of which the contracts of runs speak, in which a command may be refused
-/// memory.
+/// The law that each such run is also a run in which commands may be refused memory, as the contracts of runs have it.
 pub fn steps_are_answers()
     ensures { StepsAreAnswers }
 {
@@ -32,8 +29,8 @@ pub fn steps_are_answers()
     command_has_one_answer();
 }
 
-/// The law that in each run, also one that may be refused memory, a solve that is not refused leaves a present state whose
-/// value is the greatest of all flows, and the capacity of the smallest minimum cut.
+/// The law that in each run, also if commands may be refused memory, a solve that is not refused leaves a state whose value is the
+/// greatest of all flows, and the capacity of the smallest minimum cut.
 pub fn solves_are_optimal()
     ensures each { SolvesAreOptimal }
     ensures whole { RunsAreOptimal }
@@ -43,14 +40,14 @@ pub fn solves_are_optimal()
     solved_is_optimal();
 }
 
-/// The law that with the bound 1,000,000, the largest, no run of a command text of at most 1,000,000 lines forgets a state: to
-/// what stands up to the present state all is appended as if there were no bound.
+/// The law that with the bound 1,000,000, the largest, no run of at most 1,000,000 lines forgets a state: each change appends its
+/// state as if there were no bound.
 pub fn million_is_never_forgotten()
     ensures { MillionIsNeverForgotten }
 {}
 
-/// The law that the solution which a solving run writes has the greatest value of all flows, and that this is the capacity of
-/// the smallest minimum cut.
+/// The law that the solution that a solving run writes has the greatest value of all flows, and that this value is the capacity of the
+/// smallest minimum cut.
 pub fn written_is_optimal()
     ensures { WrittenIsOptimal }
 {

@@ -1,10 +1,11 @@
-//! Replies to command lines, each written and then flushed.
-ghost use Rattle.std.specs.Prelude.{◌≡◌, ◌≤◌, [], length, true, IfOk};
+//! Replies to command lines. Each is written and flushed.
+ghost use Rattle.std.specs.Prelude.{◌≡◌, [], true, IfOk};
 ghost use Rattle.dmf_text.specs.Writing.{Writes};
-ghost use Rattle.dmf_runs.specs.ReplyTo.{IsReplyTo};
+ghost use Rattle.dmf_session.specs.Step.{IsReplyTo};
 ghost use Rattle.dmf_runs.specs.Run as run;
 ghost use Rattle.dmf_runs.specs.WrittenLine.{is_refusal};
 
+use crate::command_text::word_of;
 use crate::refusal::refusal_text;
 use dmf_session::{Command, Refusal, Reply};
 use dmf_state::{Side, State};
@@ -13,21 +14,21 @@ use dmf_text::{
     LineBuffer, Sink, WriteFault, line_of, put_all, write_cut, write_problem, write_solution,
 };
 
-/// How a solve in a session is to be answered.
+/// What is wanted of the reply to a solve.
 #[derive(Clone, Copy)]
 pub struct SolveReply {
-    /// With the smallest minimum cut behind the solution, or behind the value.
+    /// Whether the smallest minimum cut follows the solution or the value.
     pub cut: bool,
-    /// By its value, as `c solve value V`, in place of the solution.
+    /// Whether the value, as `c solve value V`, stands in place of the solution.
     pub brief: bool,
 }
 
 /// How a line was answered.
 #[derive(Clone, Copy)]
 pub enum Answer {
-    /// It was carried out.
+    /// The session carried it out.
     Accepted,
-    /// It was refused.
+    /// The session refused it.
     Refused,
 }
 
@@ -43,7 +44,7 @@ impl Answer {
     }
 }
 
-/// Tells that a line was refused.
+/// Writes that a line was refused, and flushes.
 pub fn refuse<W: Sink>(number: u32, refusal: &Refusal, out: &mut W) -> Result<Answer, WriteFault>
     ensures text { Writes (W.written out.old) (W.written out.new) result (run.refused_text number refusal.now) }
     ensures refused { IfOk result (λ answer. is_refusal answer ≡ true) }
@@ -52,7 +53,7 @@ pub fn refuse<W: Sink>(number: u32, refusal: &Refusal, out: &mut W) -> Result<An
     Ok(Answer::Refused)
 }
 
-/// Writes a line, and flushes it.
+/// Writes a line, and flushes.
 pub fn put_line<W: Sink>(line: &LineBuffer, out: &mut W) -> Result<(), WriteFault>
     ensures { Writes (W.written out.old) (W.written out.new) result line.now }
 {
@@ -60,7 +61,7 @@ pub fn put_line<W: Sink>(line: &LineBuffer, out: &mut W) -> Result<(), WriteFaul
     flush(out)
 }
 
-/// Writes the solution of a state, and this cut after it, if there is one, and flushes them.
+/// Writes the solution of a state, and after it this cut, if there is one, and flushes.
 pub fn put_solved<W: Sink>(
     state: &State,
     side: &Option<Side>,
@@ -72,7 +73,7 @@ pub fn put_solved<W: Sink>(
     flush(out)
 }
 
-/// Writes the reply to a command, briefly to a solve where that is wanted, and flushes it.
+/// Writes the reply to a command, and flushes. With `brief` the reply to a solve has its value alone.
 pub fn put_reply<W: Sink>(
     command: Command,
     reply: &Reply,
@@ -88,7 +89,7 @@ pub fn put_reply<W: Sink>(
     flush(out)
 }
 
-/// Passes on what was written.
+/// Flushes what was written.
 fn flush<W: Sink>(out: &mut W) -> Result<(), WriteFault>
     ensures { Writes (W.written out.old) (W.written out.new) result [] }
 {
@@ -124,7 +125,7 @@ fn write_reply<W: Sink>(
     }
 }
 
-/// What a solve is answered by: the solution of the present state, or briefly its value.
+/// Writes the reply to a solve: the solution of the present state, or with `brief` its value.
 fn write_solve<W: Sink>(
     state: &State,
     side: &Option<Side>,
@@ -140,7 +141,7 @@ fn write_solve<W: Sink>(
     }
 }
 
-/// The value of a solve, and this cut after it, if there is one.
+/// Writes the value of a solve, and after it this cut, if there is one.
 fn write_brief<W: Sink>(state: &State, side: &Option<Side>, out: &mut W) -> Result<(), WriteFault>
     ensures { Writes (W.written out.old) (W.written out.new) result (run.solve_text true state.now side.now) }
 {
@@ -148,7 +149,7 @@ fn write_brief<W: Sink>(state: &State, side: &Option<Side>, out: &mut W) -> Resu
     write_side(side, out)
 }
 
-/// The solution of a state, and this cut after it, if there is one.
+/// Writes the solution of a state, and after it this cut, if there is one.
 fn write_solved<W: Sink>(state: &State, side: &Option<Side>, out: &mut W) -> Result<(), WriteFault>
     ensures { Writes (W.written out.old) (W.written out.new) result (run.solved_text state.now side.now) }
 {
@@ -198,20 +199,4 @@ fn added_line(command: Command, arc: u32, value: u64) -> LineBuffer
         Text(b"value"),
         Number(value),
     ])
-}
-
-fn word_of(command: Command) -> &'static [u8]
-    ensures word { result.now ≡ run.word_of command }
-    ensures short { length result.now ≤ 5 }
-{
-    match command {
-        Command::Cap { .. } => b"cap",
-        Command::Add { .. } => b"add",
-        Command::Close { .. } => b"close",
-        Command::Shut { .. } => b"shut",
-        Command::Solve => b"solve",
-        Command::Undo(_) => b"undo",
-        Command::Redo(_) => b"redo",
-        Command::PrintProblem | Command::PrintFlow | Command::PrintCut => b"print",
-    }
 }

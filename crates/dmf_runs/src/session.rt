@@ -1,4 +1,4 @@
-//! A session from bytes to bytes.
+//! Sessions, from bytes to bytes.
 ghost use Rattle.std.specs.Prelude.{◌≡◌, ◌≤◌, IsOk, None, Ok, Some, length};
 ghost use Rattle.dmf_runs.specs.Streams.{streams_of};
 ghost use Rattle.dmf_runs.specs.Outcome.{RunsCommands, RunsCommandsWith, solutions, status_if};
@@ -22,11 +22,12 @@ pub const MAX_LINES: u32 = 1_000_000;
 
 /// Carries out command lines, one after the other, on a session that stands at its start.
 ///
-/// A line's reply is written and flushed before the next line is asked for. A line without a reply flushes nothing.
-/// With `want_cut` each solution that answers `solve` is followed by the smallest minimum cut.
-/// Stopped by [`EngineFault::Read`] and [`EngineFault::Write`] where a call of the reader or the writer failed, and by
-/// [`EngineFault::TooMuchInput`] past [`MAX_LINES`] lines or [`crate::MAX_BYTES`] bytes. Takes no memory but that of
-/// changes: a command that is refused it is answered so, and the run goes on.
+/// Writes and flushes the reply to a line before it asks for the next. A line without a reply flushes nothing. With `want_cut` the
+/// smallest minimum cut follows each solution.
+///
+/// Fails with [`EngineFault::Read`] or [`EngineFault::Write`] if a read, a write or a flush fails, and with
+/// [`EngineFault::TooMuchInput`] past [`MAX_LINES`] lines or [`crate::MAX_BYTES`] bytes. Only commands take memory. If a command is
+/// refused memory, the reply says so, and the run goes on.
 pub fn run_commands<H: History + Drop, C: Source, W: Sink>(
     alloc: Global,
     session: Session<H>,
@@ -49,8 +50,8 @@ pub fn run_commands<H: History + Drop, C: Source, W: Sink>(
     )
 }
 
-/// Does the same with solves answered as wanted, and tells the watch of each state that is solved, and of each path along which a solve
-/// augments the flow.
+/// As [`run_commands`], with the wanted replies to solves. Also tells the watch of each state that it solves, and of each augmenting
+/// path.
 pub fn run_commands_watched<H: History + Drop, C: Source, W: Sink, V: Watch>(
     alloc: Global,
     session: Session<H>,
@@ -68,7 +69,7 @@ pub fn run_commands_watched<H: History + Drop, C: Source, W: Sink, V: Watch>(
     run_lines(alloc, &mut session, commands, out, wanted, watch)
 }
 
-/// Carries out the command lines on a session that is the caller's.
+/// Carries out the command lines on the caller's session.
 fn run_lines<H: History, C: Source, W: Sink, V: Watch>(
     alloc: Global,
     session: &mut Session<H>,
@@ -100,8 +101,8 @@ fn run_lines<H: History, C: Source, W: Sink, V: Watch>(
     Ok(status(is_refused))
 }
 
-/// Runs a session as [`run_session_bounded`] does, with the largest bound, [`MAX_BOUND`]. A session has no more lines than
-/// that, so no state is ever forgotten.
+/// As [`run_session_bounded`], with the largest bound, [`MAX_BOUND`]. A session has no more lines than that, so it never forgets a
+/// state.
 pub fn run_session<P: Source, C: Source, W: Sink>(
     alloc: Global,
     problem: &mut P,
@@ -115,11 +116,11 @@ pub fn run_session<P: Source, C: Source, W: Sink>(
     run_session_bounded(alloc, problem, commands, out, want_cut, MAX_BOUND)
 }
 
-/// Reads the problem, and then carries out command lines on it, as [`run_commands`] does, over a history with this bound,
-/// which is at most [`MAX_BOUND`]: the largest number of states that are kept before the present one.
+/// Reads the problem, and then carries out command lines on it as [`run_commands`] does. The session keeps at most `bound` states
+/// before the present one. The bound is at most [`MAX_BOUND`].
 ///
-/// Stopped before the first command byte by [`EngineFault::Problem`], where the problem text has a fault, and by
-/// [`EngineFault::Read`], [`EngineFault::TooMuchInput`] and [`EngineFault::NoMemory`] in reading it; nothing is written then.
+/// Fails before it reads a command or writes anything with [`EngineFault::Problem`] if the problem text has a fault, and with
+/// [`EngineFault::Read`], [`EngineFault::TooMuchInput`] or [`EngineFault::NoMemory`] if it cannot read that text.
 pub fn run_session_bounded<P: Source, C: Source, W: Sink>(
     alloc: Global,
     problem: &mut P,
@@ -143,8 +144,8 @@ pub fn run_session_bounded<P: Source, C: Source, W: Sink>(
     )
 }
 
-/// Does the same with solves answered as wanted, and tells the watch of each state that is solved, and of each path along which a solve
-/// augments the flow.
+/// As [`run_session_bounded`], with the wanted replies to solves. Also tells the watch of each state that it solves, and of each
+/// augmenting path.
 pub fn run_session_watched<P: Source, C: Source, W: Sink, V: Watch>(
     alloc: Global,
     problem: &mut P,
@@ -163,7 +164,7 @@ pub fn run_session_watched<P: Source, C: Source, W: Sink, V: Watch>(
     run_commands_watched(alloc, Session::new(history), commands, out, wanted, watch)
 }
 
-/// Solves are answered by their solutions, and a cut after each where it is wanted.
+/// Replies that have whole solutions, and with `want_cut` a cut after each.
 fn solutions(want_cut: bool) -> SolveReply
     ensures { result ≡ solutions want_cut }
 {
@@ -183,7 +184,7 @@ fn status(is_refused: bool) -> Status
     }
 }
 
-/// Carries out a line, and writes and flushes its reply. One without a reply leaves the writer as it was.
+/// Carries out a line, writes its reply and flushes. A line without a reply leaves the writer as it was.
 fn answer<H: History, W: Sink, V: Watch>(
     alloc: Global,
     session: &mut Session<H>,
@@ -226,7 +227,7 @@ fn answer_command<H: History, W: Sink, V: Watch>(
     }
 }
 
-/// Tells the watch of the state that is solved, where the command asks for a solve.
+/// Tells the watch of the present state if the command is a solve.
 fn tell_solve<H: History, V: Watch>(session: &Session<H>, command: Command, watch: &mut V) {
     if let Command::Solve = command {
         watch.begun(session.present());

@@ -1,4 +1,4 @@
-//! A problem is solved, from bytes to bytes.
+//! Solving a problem, from bytes to bytes.
 ghost use Rattle.std.specs.Prelude.{IfOk};
 ghost use Rattle.dmf_solver.specs.Change.{Solve, Becomes};
 ghost use Rattle.dmf_solver.specs.Planning.{IsSideWanted};
@@ -14,12 +14,11 @@ use dmf_state::{NoMemory, Side, State};
 use dmf_text::{Sink, Source};
 use std::alloc::Global;
 
-/// Reads a problem, solves it, and then writes the solution, with `want_cut` the smallest minimum cut after it, and flushes
-/// them. No flow has a larger value than the solution, which is the capacity of that cut.
+/// Reads a problem and solves it. Writes the solution, with `want_cut` the smallest minimum cut after it, and flushes. No flow has a
+/// larger value than the solution, and its value is the capacity of that cut.
 ///
-/// Stopped before anything is written by [`EngineFault::Problem`], where the problem text has a fault, by
-/// [`EngineFault::Read`] and [`EngineFault::TooMuchInput`] in reading it, and by [`EngineFault::NoMemory`]; and by
-/// [`EngineFault::Write`] where a call of the writer failed, its flush too.
+/// Fails before it writes anything with [`EngineFault::Problem`] if the problem text has a fault, and with [`EngineFault::Read`],
+/// [`EngineFault::TooMuchInput`] or [`EngineFault::NoMemory`]. Fails with [`EngineFault::Write`] if a write or the flush fails.
 pub fn run_solve<P: Source, W: Sink>(
     alloc: Global,
     problem: &mut P,
@@ -33,7 +32,7 @@ pub fn run_solve<P: Source, W: Sink>(
     run_solve_watched(alloc, problem, out, want_cut, &mut Unwatched)
 }
 
-/// Does the same, and tells the watch of the state that is solved, and of each path along which the flow is augmented.
+/// As [`run_solve`]. Also tells the watch of the state that it solves, and of each augmenting path.
 pub fn run_solve_watched<P: Source, W: Sink, V: Watch>(
     alloc: Global,
     problem: &mut P,
@@ -52,15 +51,15 @@ pub fn run_solve_watched<P: Source, W: Sink, V: Watch>(
     Ok(Status::Well)
 }
 
-/// A state with a greatest flow, and a cut, where one is wanted.
+/// A state with a greatest flow, and a cut if one is wanted.
 #[derive(Drop)]
 struct Solved {
     state: State,
     side: Option<Side>,
 }
 
-/// The state with the greatest flow that augmenting reaches from its own, and the smallest side of its network, where it is
-/// wanted. The state is dropped where memory is refused.
+/// Augments the state's flow to a greatest one, and finds the smallest side of its network if that is wanted. Drops the state if
+/// memory is refused.
 fn solve<V: Watch>(
     alloc: Global,
     mut state: State,

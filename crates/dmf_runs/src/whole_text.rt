@@ -1,4 +1,4 @@
-//! A text, read whole before it is judged.
+//! Reading a whole text before it is judged.
 ghost use Rattle.std.specs.Prelude.{◌<◌, vec_len, Ok, Err, IfOk, MatchResult};
 ghost use Rattle.dmf_runs.specs.Session.{HasGiven};
 ghost use Rattle.dmf_runs.specs.WholeText.{ReadsText};
@@ -10,7 +10,7 @@ use std::alloc::{AllocError, Global};
 
 const PIECE: usize = 65536;
 
-/// Reads a whole text, of at most [`MAX_BYTES`] bytes. The memory for a read is taken before the first.
+/// Reads a whole text, of at most [`MAX_BYTES`] bytes. Takes the buffer for reads before the first of them.
 pub fn read_all<P: Source>(alloc: Global, source: &mut P) -> Result<Vec<u8>, EngineFault>
     ensures { let from = P.left source.old in
         let to = P.left source.new in
@@ -34,7 +34,7 @@ pub fn read_all<P: Source>(alloc: Global, source: &mut P) -> Result<Vec<u8>, Eng
     Err(EngineFault::TooMuchInput)
 }
 
-/// What one read is put into.
+/// The buffer into which each read puts its bytes.
 fn buffer(alloc: Global) -> Result<Vec<u8>, AllocError>
     ensures { IfOk result (λ buffer. 0 < vec_len buffer) }
 {

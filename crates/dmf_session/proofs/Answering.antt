@@ -1,5 +1,5 @@
--- Each command has an answer.
-use Rattle.std.proofs.Common.{ℕ, ◌≡◌, ◌≢◌, ◌+◌, ◌<◌, ◌≤◌, List, length, take, Bool, true, false, cond, Option, Some, None, is_none, option_map, Result, Ok, Err}
+-- Each step has an answer.
+use Rattle.std.proofs.Common.{ℕ, ◌≡◌, ◌≢◌, ◌+◌, ◌<◌, ◌≤◌, List, take, Bool, true, false, cond, Option, Some, None, is_none, option_map, Result, Ok, Err}
 use Rattle.std.proofs.Common.{nat_le, refl, ap, ◌∙◌, arith, ⊎_elim}
 use Rattle.std.proofs.lemmas.Bool.{leb-true}
 use Rattle.std.proofs.lemmas.List.{length_push, length-take-le, length-drop}
@@ -17,14 +17,14 @@ use Rattle.dmf_solver.specs.Greatest.{IsGreatest, IsSurpassed}
 use Rattle.dmf_state.specs.Side.{CutSide}
 use Rattle.dmf_solver.specs.Laws.{HasSmallestSide, IsGreatestOrSurpassed, HasOutcome}
 use Rattle.dmf_session.specs.declared.command.Command.{Command}
-use Rattle.dmf_session.specs.declared.command.Command.TheVariants.{Cap, Add, Close, Shut, Solve, Undo, Redo, PrintProblem, PrintFlow, PrintCut}
+use Rattle.dmf_session.specs.declared.command.Command.TheVariants.{Solve, Undo, Redo, PrintCut}
 use Rattle.dmf_session.specs.declared.command.Reply.{Reply}
-use Rattle.dmf_session.specs.declared.command.Reply.TheVariants.{Value, Added, Solution, Problem, Flow, Cut}
+use Rattle.dmf_session.specs.declared.command.Reply.TheVariants.{Value, Solution, Cut}
 use Rattle.dmf_session.specs.declared.command.Refusal.{Refusal}
 use Rattle.dmf_session.specs.declared.command.Refusal.TheVariants.{NothingToUndo, NothingToRedo, NotGreatest, NoMemory}
 use Rattle.dmf_history.specs.Timeline.{Timeline, IsPresent, future_of, extended, forgotten, appended, back, forward}
 use Rattle.dmf_session.specs.Step.{Steps, Changes, IsChanged, IsRefused, IsMoved, IsSolved, refusal_of, value_of}
-use Rattle.dmf_session.specs.Laws.{HasStates, Answered, HasAnswer}
+use Rattle.dmf_session.specs.Laws.{HasStates, Answered}
 use Rattle.dmf_history.proofs.Appending.{within_bound-keeps}
 use Rattle.dmf_session.proofs.Changed.{some-present}
 
@@ -143,7 +143,7 @@ wanted : HasSmallestSide → (want_cut : Bool) (s : NetworkState) → IsState s 
 wanted law true s state = let some = law s.network state.network in record { side = Some some.0; is = some.1 }
 wanted law false s state = record { side = None; is = tt }
 
-solve-answered : NetworkLaws → (want_cut : Bool) (t : Timeline) → HasStates t → Answered want_cut t Solve
+pub solve-answered : NetworkLaws → (want_cut : Bool) (t : Timeline) → HasStates t → Answered want_cut t Solve
 solve-answered laws want_cut t has =
     let s = some-present t has in
     let made = laws.outcome s.state change.Solve s.is refl in
@@ -170,7 +170,7 @@ solve-answered laws want_cut t has =
 moved : (t : Timeline) (has : HasStates t) → IsMoved t (Ok (Value (value_of (some-present t has).state))) t
 moved t has = let s = some-present t has in record { state = s.state; present = s.present; told = refl; moves = refl }
 
-undo-by : (want_cut : Bool) (t : Timeline) (count : ℕ) → HasStates t → (b : Bool) → nat_le count t.place ≡ b → Answered want_cut t (Undo count)
+pub undo-by : (want_cut : Bool) (t : Timeline) (count : ℕ) → HasStates t → (b : Bool) → nat_le count t.place ≡ b → Answered want_cut t (Undo count)
 undo-by want_cut t count has true within =
     let u = back t count in
     let there = HasStates-back t count has in
@@ -179,7 +179,7 @@ undo-by want_cut t count has false past =
     let is : IsRefused t NothingToUndo (Err NothingToUndo) t = record { told = refl; unchanged = refl } in
     record { result = Err NothingToUndo; after = t; steps = rw past is; memory = λ e. cc; has_states = has }
 
-redo-by : (want_cut : Bool) (t : Timeline) (count : ℕ) → HasStates t → (b : Bool) → nat_le count (future_of t) ≡ b → Answered want_cut t (Redo count)
+pub redo-by : (want_cut : Bool) (t : Timeline) (count : ℕ) → HasStates t → (b : Bool) → nat_le count (future_of t) ≡ b → Answered want_cut t (Redo count)
 redo-by want_cut t count has true within =
     let u = forward t count in
     let there = HasStates-forward t count has (leb-true count (future_of t) within) in
@@ -190,7 +190,7 @@ redo-by want_cut t count has false past =
 
 -- ---- telling a cut
 
-cut-answered : NetworkLaws → (want_cut : Bool) (t : Timeline) → HasStates t → Answered want_cut t PrintCut
+pub cut-answered : NetworkLaws → (want_cut : Bool) (t : Timeline) → HasStates t → Answered want_cut t PrintCut
 cut-answered laws want_cut t has =
     let s = some-present t has in
     ⊎_elim
@@ -201,10 +201,10 @@ cut-answered laws want_cut t has =
     record { result = Err NotGreatest; after = t; steps = ((s.state, s.present, larger), refl); memory = λ e. cc; has_states = has })
     (laws.greatest s.state.network s.state.flows s.is.network s.is.flow)
 
--- ---- each command
+-- ---- changes by a command
 
 -- An answer to a change.
-changed-answered : NetworkLaws → (want_cut : Bool) (t : Timeline) (command : Command) (asked : Change) (reply : NetworkState → Reply) → HasStates t
+pub changed-answered : NetworkLaws → (want_cut : Bool) (t : Timeline) (command : Command) (asked : Change) (reply : NetworkState → Reply) → HasStates t
     → ((result : Result Reply Refusal) (u : Timeline) → (s : NetworkState) × IsPresent t s × Changes t s asked reply result u
     → Steps want_cut t command result u) → Answered want_cut t command
 changed-answered laws want_cut t command asked reply has steps =
@@ -214,24 +214,6 @@ changed-answered laws want_cut t command asked reply has steps =
       result = made.result;
       after = made.after;
       steps = steps made.result made.after (s.state, s.present, made.changes);
-      memory =
-          made.memory;
+      memory = made.memory;
       has_states = made.has_states;
     }
-
--- Each command has an answer.
-pub has-answer : NetworkLaws → HasAnswer
-has-answer laws want_cut t (Cap j cap) has = changed-answered laws want_cut t (Cap j cap) (change.Cap j cap) (λ new. Value (value_of new)) has
-    (λ result u is. is)
-has-answer laws want_cut t (Add tail head cap) has =
-    changed-answered laws want_cut t (Add tail head cap) (change.Add tail head cap) (λ new. Added (length new.network.arcs) (value_of new)) has
-    (λ result u is. is)
-has-answer laws want_cut t (Close j) has = changed-answered laws want_cut t (Close j) (change.Close j) (λ new. Value (value_of new)) has (λ result u is. is)
-has-answer laws want_cut t (Shut node) has = changed-answered laws want_cut t (Shut node) (change.Shut node) (λ new. Value (value_of new)) has
-    (λ result u is. is)
-has-answer laws want_cut t Solve has = solve-answered laws want_cut t has
-has-answer laws want_cut t (Undo count) has = undo-by want_cut t count has (nat_le count t.place) refl
-has-answer laws want_cut t (Redo count) has = redo-by want_cut t count has (nat_le count (future_of t)) refl
-has-answer laws want_cut t PrintProblem has = record { result = Ok Problem; after = t; steps = (refl, refl); memory = λ e. cc; has_states = has }
-has-answer laws want_cut t PrintFlow has = record { result = Ok Flow; after = t; steps = (refl, refl); memory = λ e. cc; has_states = has }
-has-answer laws want_cut t PrintCut has = cut-answered laws want_cut t has

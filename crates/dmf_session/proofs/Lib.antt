@@ -3,5 +3,8 @@ pub mod Optimal
 pub mod Telling
 pub mod Answering
 pub mod OneAnswer
+pub mod Growing
+pub mod Replying
+pub mod EachCommand
 pub mod Undoing
 pub mod Keeping

@@ -1,5 +1,5 @@
--- Each command has one answer.
-use Rattle.std.proofs.Common.{◌≡◌, length, Bool, true, false, Option, Some, None, Result, Ok, Err, ◌⊎◌, inl, inr, ⊎_elim, refl, sym, ap, ◌∙◌, subst, nat_le}
+-- Each step has one answer.
+use Rattle.std.proofs.Common.{◌≡◌, Bool, true, false, Option, Some, None, Result, Ok, Err, ◌⊎◌, inl, inr, ⊎_elim, refl, sym, ap, ◌∙◌, subst}
 use Rattle.std.specs.Bool.{MatchBool}
 use Rattle.std.specs.Option.{MatchOption}
 use Rattle.dmf_solver.specs.declared.fault.PlanFault.{PlanFault}
@@ -10,14 +10,13 @@ use Rattle.dmf_solver.specs.Greatest.{IsGreatest, IsSurpassed}
 use Rattle.dmf_state.specs.Side.{CutSide, IsSmallestSide}
 use Rattle.dmf_solver.specs.Change.{Change, change_fault}
 use Rattle.dmf_solver.specs.Change as change
-use Rattle.dmf_session.specs.declared.command.Command.TheVariants.{Cap, Add, Close, Shut, Solve, Undo, Redo, PrintProblem, PrintFlow, PrintCut}
 use Rattle.dmf_session.specs.declared.command.Reply.{Reply}
-use Rattle.dmf_session.specs.declared.command.Reply.TheVariants.{Value, Added, Solution, Cut}
+use Rattle.dmf_session.specs.declared.command.Reply.TheVariants.{Value, Solution, Cut}
 use Rattle.dmf_session.specs.declared.command.Refusal.{Refusal}
-use Rattle.dmf_session.specs.declared.command.Refusal.TheVariants.{NothingToUndo, NothingToRedo, NotGreatest}
-use Rattle.dmf_history.specs.Timeline.{Timeline, IsPresent, future_of, appended, back, forward}
+use Rattle.dmf_session.specs.declared.command.Refusal.TheVariants.{NotGreatest}
+use Rattle.dmf_history.specs.Timeline.{Timeline, IsPresent, appended}
 use Rattle.dmf_session.specs.Step.{Changes, IsChanged, IsRefused, IsMoved, IsSolved, TellsCut, refusal_of, value_of}
-use Rattle.dmf_session.specs.Laws.{HasStates, HasOneAnswer}
+use Rattle.dmf_session.specs.Laws.{HasStates}
 use Rattle.dmf_session.proofs.Optimal.{not-surpassed}
 use Rattle.dmf_history.proofs.Appending.{one-present}
 use Rattle.dmf_session.proofs.Changed.{is-state}
@@ -48,7 +47,7 @@ one-by_fault law t u v s asked reply result other None state a b = one-changed l
 one-by_fault law t u v s asked reply result other (Some f) state a b = one-refused t u v (refusal_of f) result other a b
 
 -- of a change that is asked of the present state
-one-change : HasOneOutcome → (t u v : Timeline) (asked : Change) (reply : NetworkState → Reply) (result other : Result Reply Refusal) → HasStates t
+pub one-change : HasOneOutcome → (t u v : Timeline) (asked : Change) (reply : NetworkState → Reply) (result other : Result Reply Refusal) → HasStates t
     → (s : NetworkState) × IsPresent t s × Changes t s asked reply result u → (s : NetworkState) × IsPresent t s × Changes t s asked reply other v
     → (result ≡ other) × (u ≡ v)
 one-change law t u v asked reply result other has a b =
@@ -66,7 +65,7 @@ one-wanted law false n None None a b = refl
 one-wanted law false n None (Some other) a b = absurd b
 one-wanted law false n (Some side) other a b = absurd a
 
-one-solved : NetworkOneLaws → (want_cut : Bool) (t u v : Timeline) (s : NetworkState) (result other : Result Reply Refusal) → IsState s
+pub one-solved : NetworkOneLaws → (want_cut : Bool) (t u v : Timeline) (s : NetworkState) (result other : Result Reply Refusal) → IsState s
     → IsSolved want_cut t s result u → IsSolved want_cut t s other v → (result ≡ other) × (u ≡ v)
 one-solved laws want_cut t u v s result other state a b =
     let same : a.new ≡ b.new = laws.outcome s a.new b.new change.Solve state a.becomes b.becomes in
@@ -80,7 +79,7 @@ one-moved : (t u v : Timeline) (result other : Result Reply Refusal) → IsMoved
 one-moved t u v result other a b =
     (a.told ∙ ap (λ s. Ok (Value (value_of s))) (one-present t a.state b.state a.present b.present) ∙ sym b.told, a.moves ∙ sym b.moves)
 
-one-move : (t moved u v : Timeline) (refusal : Refusal) (result other : Result Reply Refusal) (may : Bool)
+pub one-move : (t moved u v : Timeline) (refusal : Refusal) (result other : Result Reply Refusal) (may : Bool)
     → MatchBool may (IsMoved moved result u) (IsRefused t refusal result u) → MatchBool may (IsMoved moved other v) (IsRefused t refusal other v)
     → (result ≡ other) × (u ≡ v)
 one-move t moved u v refusal result other true a b = one-moved moved u v result other a b
@@ -105,7 +104,7 @@ told-cases s (Ok (Cut side)) a = inl (record { side = side; is = refl; greatest 
 told-cases s (Err NotGreatest) a = inr (record { is = refl; larger = a })
 told-cases s result a = absurd a
 
-one-told : HasOneSmallestSide → (s : NetworkState) (result other : Result Reply Refusal) → TellsCut s result → TellsCut s other → result ≡ other
+pub one-told : HasOneSmallestSide → (s : NetworkState) (result other : Result Reply Refusal) → TellsCut s result → TellsCut s other → result ≡ other
 one-told law s result other a b = ⊎_elim
     (λ (x : ToldCut s result). ⊎_elim
     (λ (y : ToldCut s other). x.is ∙ ap (λ side. Ok (Cut side)) (law s.network x.side y.side x.smallest y.smallest) ∙ sym y.is)
@@ -116,27 +115,3 @@ one-told law s result other a b = ⊎_elim
     (λ (y : ToldSurpassed s other). x.is ∙ sym y.is)
     (told-cases s other b))
     (told-cases s result a)
-
--- ---- each command
-
--- Each command has one answer.
-pub has-one-answer : NetworkOneLaws → HasOneAnswer
-has-one-answer laws want_cut t u v (Cap j cap) result other has a b =
-    one-change laws.outcome t u v (change.Cap j cap) (λ new. Value (value_of new)) result other has a b
-has-one-answer laws want_cut t u v (Add tail head cap) result other has a b =
-    one-change laws.outcome t u v (change.Add tail head cap) (λ new. Added (length new.network.arcs) (value_of new)) result other has a b
-has-one-answer laws want_cut t u v (Close j) result other has a b =
-    one-change laws.outcome t u v (change.Close j) (λ new. Value (value_of new)) result other has a b
-has-one-answer laws want_cut t u v (Shut node) result other has a b =
-    one-change laws.outcome t u v (change.Shut node) (λ new. Value (value_of new)) result other has a b
-has-one-answer laws want_cut t u v Solve result other has a b =
-    one-solved laws want_cut t u v a.0 result other (is-state t a.0 has a.1) a.2
-    (subst (λ s. IsSolved want_cut t s other v) (one-present t b.0 a.0 b.1 a.1) b.2)
-has-one-answer laws want_cut t u v (Undo count) result other has a b =
-    one-move t (back t count) u v NothingToUndo result other (nat_le count t.place) a b
-has-one-answer laws want_cut t u v (Redo count) result other has a b =
-    one-move t (forward t count) u v NothingToRedo result other (nat_le count (future_of t)) a b
-has-one-answer laws want_cut t u v PrintProblem result other has a b = (a.0 ∙ sym b.0, a.1 ∙ sym b.1)
-has-one-answer laws want_cut t u v PrintFlow result other has a b = (a.0 ∙ sym b.0, a.1 ∙ sym b.1)
-has-one-answer laws want_cut t u v PrintCut result other has a b =
-    (one-told laws.side a.0.0 result other a.0.2 (subst (λ s. TellsCut s other) (one-present t b.0.0 a.0.0 b.0.1 a.0.1) b.0.2), a.1 ∙ sym b.1)

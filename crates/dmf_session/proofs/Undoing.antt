@@ -1,49 +1,18 @@
 -- A change that was accepted is undone by one step back, where a state is kept before the present one.
-use Rattle.std.proofs.Common.{◌≡◌, ◌<◌, ◌≤◌, length, Bool, Option, Some, None, Result, Ok, MatchOption, nat_le, arith, sym, ap, ◌∙◌, subst}
+use Rattle.std.proofs.Common.{◌≡◌, ◌<◌, ◌≤◌, Result, Ok, nat_le, arith, sym, ap, ◌∙◌, subst}
 use Rattle.std.specs.Bool.{MatchBool}
 use Rattle.std.proofs.lemmas.Bool.{le-leb, lt-leb}
 use Rattle.std.proofs.lemmas.Bool.Decides.{when_true, when_false}
-use Rattle.dmf_solver.specs.declared.fault.PlanFault.{PlanFault}
 use Rattle.dmf_state.specs.NetworkState.{NetworkState}
-use Rattle.dmf_solver.specs.Change.{Change, change_fault}
-use Rattle.dmf_solver.specs.Change as change
-use Rattle.dmf_session.specs.declared.command.Command.{Command}
-use Rattle.dmf_session.specs.declared.command.Command.TheVariants.{Cap, Add, Close, Shut, Solve, Undo, Redo, PrintProblem, PrintFlow, PrintCut}
 use Rattle.dmf_session.specs.declared.command.Reply.{Reply}
-use Rattle.dmf_session.specs.declared.command.Reply.TheVariants.{Value, Added}
+use Rattle.dmf_session.specs.declared.command.Reply.TheVariants.{Value}
 use Rattle.dmf_session.specs.declared.command.Refusal.{Refusal}
 use Rattle.dmf_session.specs.declared.command.Refusal.TheVariants.{NothingToUndo}
 use Rattle.dmf_history.specs.Timeline.{Timeline, IsTimeline, IsPresent, extended, appended, back}
-use Rattle.dmf_session.specs.Step.{Answers, IsChange, IsChanged, IsRefused, IsMoved, refusal_of, value_of}
+use Rattle.dmf_session.specs.Step.{IsRefused, IsMoved, value_of}
 use Rattle.dmf_session.specs.Laws.{UndoesChange, ChangeIsUndone}
+use Rattle.dmf_session.proofs.EachCommand.{change-appends}
 use Rattle.dmf_history.proofs.Appending.{one-present, before-extended, within_bound-keeps, within_bound-past, forgotten-present}
-
--- ---- what a change appended
-
-changed-by : (t u : Timeline) (s : NetworkState) (asked : Change) (told : NetworkState → Reply) (reply : Reply) (fault : Option PlanFault)
-    → MatchOption fault (IsChanged t s asked told (Ok reply) u) (λ f. IsRefused t (refusal_of f) (Ok reply) u) → (new : NetworkState) × (u ≡ appended t new)
-changed-by t u s asked told reply None m = (m.new, m.appends)
-changed-by t u s asked told reply (Some f) m = let refused = m.told in absurd (cc)
-
-change-appends : (want_cut : Bool) (t u : Timeline) (command : Command) (reply : Reply) → IsChange command → Answers want_cut t command (Ok reply) u
-    → (new : NetworkState) × (u ≡ appended t new)
-change-appends want_cut t u (Cap arc cap) reply is a =
-    changed-by t u a.0 (change.Cap arc cap) (λ new. Value (value_of new)) reply (change_fault a.0 (change.Cap arc cap)) a.2
-change-appends want_cut t u (Add tail head cap) reply is a =
-    changed-by t u a.0 (change.Add tail head cap) (λ new. Added (length new.network.arcs) (value_of new)) reply
-    (change_fault a.0 (change.Add tail head cap)) a.2
-change-appends want_cut t u (Close arc) reply is a =
-    changed-by t u a.0 (change.Close arc) (λ new. Value (value_of new)) reply (change_fault a.0 (change.Close arc)) a.2
-change-appends want_cut t u (Shut node) reply is a =
-    changed-by t u a.0 (change.Shut node) (λ new. Value (value_of new)) reply (change_fault a.0 (change.Shut node)) a.2
-change-appends want_cut t u Solve reply is a = (a.2.new, a.2.appends)
-change-appends want_cut t u (Undo steps) reply is a = absurd is
-change-appends want_cut t u (Redo steps) reply is a = absurd is
-change-appends want_cut t u PrintProblem reply is a = absurd is
-change-appends want_cut t u PrintFlow reply is a = absurd is
-change-appends want_cut t u PrintCut reply is a = absurd is
-
--- ---- one step back from it
 
 -- The state before it is present again.
 before-appended : (t : Timeline) (s new : NetworkState) → IsPresent t s → 0 < t.bound → IsPresent (back (appended t new) 1) s

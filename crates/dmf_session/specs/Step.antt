@@ -138,3 +138,17 @@ IsChange (Redo steps) = ⊥
 IsChange PrintProblem = ⊥
 IsChange PrintFlow = ⊥
 IsChange PrintCut = ⊥
+
+-- The reply is of the kind that the command has where it is accepted.
+abbrev pub IsReplyTo : Command → Reply → Type 0
+IsReplyTo (Cap arc cap) (Value value) = Unit {0}
+IsReplyTo (Add tail head cap) (Added arc value) = Unit {0}
+IsReplyTo (Close arc) (Value value) = Unit {0}
+IsReplyTo (Shut node) (Value value) = Unit {0}
+IsReplyTo Solve (Solution side) = Unit {0}
+IsReplyTo (Undo steps) (Value value) = Unit {0}
+IsReplyTo (Redo steps) (Value value) = Unit {0}
+IsReplyTo PrintProblem Problem = Unit {0}
+IsReplyTo PrintFlow Flow = Unit {0}
+IsReplyTo PrintCut (Cut side) = Unit {0}
+IsReplyTo command reply = ⊥

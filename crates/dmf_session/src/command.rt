@@ -1,5 +1,7 @@
-ghost use Rattle.std.specs.Prelude.{◌≡◌, ◌≤◌, length};
+ghost use Rattle.std.specs.Prelude.{◌≡◌, ◌≤◌, Some, length};
+ghost use Rattle.dmf_session.specs.declared.command.Refusal.TheVariants as refusal;
 ghost use Rattle.dmf_session.specs.RefusalText.{refusal_text};
+ghost use Rattle.dmf_session.specs.Step.{refusal_of, refusal_of_cut};
 
 use dmf_solver::{CutFault, PlanFault};
 use dmf_state::{NoMemory, Side};
@@ -15,7 +17,7 @@ pub enum Command {
         /// Its new capacity.
         cap: u64,
     },
-    /// Add an arc of this capacity from a tail to a head.
+    /// Add an arc from `tail` to `head`.
     Add {
         /// The node that the arc leaves.
         tail: u64,
@@ -24,7 +26,7 @@ pub enum Command {
         /// Its capacity.
         cap: u64,
     },
-    /// Let nothing flow on an arc any more.
+    /// Close an arc, so that nothing flows on it any more.
     Close {
         /// The arc's number, counted from 1.
         arc: u64,
@@ -34,17 +36,17 @@ pub enum Command {
         /// The node's number, counted from 1.
         node: u64,
     },
-    /// Put the greatest flow that augmenting reaches in place of the present one.
+    /// Augment the present flow to a greatest one.
     Solve,
-    /// Go so many changes back.
+    /// Take so many changes back.
     Undo(u64),
-    /// Go so many undone changes forward.
+    /// Make so many undone changes again.
     Redo(u64),
-    /// Show the problem.
+    /// Print the problem.
     PrintProblem,
-    /// Show the flow.
+    /// Print the flow.
     PrintFlow,
-    /// Show the smallest minimum cut.
+    /// Print the smallest minimum cut.
     PrintCut,
 }
 
@@ -55,22 +57,22 @@ pub enum Reply {
     Value(u64),
     /// The number of the new arc, and the value of the present flow.
     Added(u32, u64),
-    /// The problem is solved, and the present flow is to be shown, and after it this cut, where one was wanted.
+    /// The problem is solved. Print the present flow, and this cut after it if one was wanted.
     Solution(Option<Side>),
-    /// The present problem is to be shown.
+    /// Print the present problem.
     Problem,
-    /// The present flow is to be shown.
+    /// Print the present flow.
     Flow,
-    /// This cut is to be shown.
+    /// Print this cut.
     Cut(Side),
 }
 
-/// Why a command is refused. The first four and the last are told by the reader of commands alone.
+/// Why a command is refused. Only the reader of command lines gives the first four and the last.
 #[derive(Clone, Copy, Debug, PartialEq, Eq)]
 pub enum Refusal {
     /// The first field is no command, or the field behind `print` names nothing to print.
     UnknownCommand,
-    /// The command has another number of fields.
+    /// The command takes another number of fields.
     FieldCount,
     /// A field that should be a number has a byte that is no digit.
     NotANumber,
@@ -86,11 +88,11 @@ pub enum Refusal {
     TooManyArcs,
     /// The sum of the capacities would pass 2^64 - 1.
     SumTooLarge,
-    /// There are not so many changes before the present state.
+    /// Fewer changes stand before the present state.
     NothingToUndo,
-    /// There are not so many undone changes.
+    /// Fewer changes are undone.
     NothingToRedo,
-    /// A flow of larger value exists.
+    /// Some flow has a larger value.
     NotGreatest,
     /// A request for memory was refused.
     NoMemory,
@@ -99,7 +101,7 @@ pub enum Refusal {
 }
 
 impl Refusal {
-    /// What a session tells of the refused command. Takes no memory.
+    /// The text that a session writes of the refusal. Takes no memory.
     pub fn text(self) -> &'static str
         ensures text { result.now ≡ refusal_text self }
         ensures short { length result.now ≤ 24 }
@@ -124,9 +126,6 @@ impl Refusal {
 }
 
 impl fmt::Display for Refusal {
-    ghost use Rattle.std.specs.Prelude.{Some};
-    ghost use Rattle.dmf_session.specs.RefusalText.{refusal_text};
-
     ghost output = { λ refusal. Some (refusal_text refusal) };
 
     fn fmt<W: fmt::Write>(&self, f: &mut fmt::Formatter<W>) -> fmt::Result {
@@ -137,10 +136,7 @@ impl fmt::Display for Refusal {
 impl std::error::Error for Refusal {}
 
 impl From<PlanFault> for Refusal {
-    ghost use Rattle.std.specs.Prelude.{◌≡◌};
-    ghost use Rattle.dmf_session.specs.Step.{refusal_of};
-
-    ghost from_gives = { λ fault refusal. refusal ≡ refusal_of fault };
+    ghost from_gives = { λ fault told. told ≡ refusal_of fault };
 
     fn from(fault: PlanFault) -> Refusal {
         match fault {
@@ -155,10 +151,7 @@ impl From<PlanFault> for Refusal {
 }
 
 impl From<CutFault> for Refusal {
-    ghost use Rattle.std.specs.Prelude.{◌≡◌};
-    ghost use Rattle.dmf_session.specs.Step.{refusal_of_cut};
-
-    ghost from_gives = { λ fault refusal. refusal ≡ refusal_of_cut fault };
+    ghost from_gives = { λ fault told. told ≡ refusal_of_cut fault };
 
     fn from(fault: CutFault) -> Refusal {
         match fault {
@@ -169,9 +162,6 @@ impl From<CutFault> for Refusal {
 }
 
 impl From<NoMemory> for Refusal {
-    ghost use Rattle.std.specs.Prelude.{◌≡◌};
-    ghost use Rattle.dmf_session.specs.declared.command.Refusal.TheVariants as refusal;
-
     ghost from_gives = { λ _ told. told ≡ refusal.NoMemory };
 
     fn from(_error: NoMemory) -> Refusal {

@@ -4,7 +4,7 @@ ghost use Rattle.dmf_session.specs.Kept.{KeepsPresent};
 use dmf_history::History;
 use dmf_solver::ResidualNetwork;
 
-/// The kept network, as it is one state back. None where the history does not tell the edit, or where the edit added an arc.
+/// The kept network, one state back. `None` if the history does not tell the edit, or if the edit added an arc.
 pub(crate) fn kept_before<H: History>(
     kept: Option<ResidualNetwork>,
     history: &H,
@@ -17,7 +17,7 @@ pub(crate) fn kept_before<H: History>(
     network.follow_back(history.present(), edit)
 }
 
-/// The kept network, as it is one state forward. None where the history does not tell the edit, or where the edit adds an arc.
+/// The kept network, one state forward. `None` if the history does not tell the edit, or if the edit adds an arc.
 pub(crate) fn kept_after<H: History>(
     kept: Option<ResidualNetwork>,
     history: &H,

@@ -12,7 +12,7 @@ pub fn greatest_is_optimal()
     max_flow_min_cut();
 }
 
-/// The law that after a solve which was not refused the value of the present flow is the greatest of all flows, and the
+/// The law that after a solve that was not refused the value of the present flow is the greatest of all flows, and the
 /// capacity of the smallest minimum cut.
 pub fn solved_is_optimal()
     ensures { SolvedIsOptimal }
@@ -21,7 +21,7 @@ pub fn solved_is_optimal()
     greatest_is_optimal();
 }
 
-/// The law that each command has an answer which tells of no want of memory.
+/// The law that each command has an answer other than *no memory*.
 pub fn command_has_answer()
     ensures { HasAnswer }
 {
@@ -30,8 +30,8 @@ pub fn command_has_answer()
     flow_is_greatest_or_surpassed();
 }
 
-/// The law that each command has one answer where memory is there: any two from one timeline are the same, and leave the
-/// same timeline.
+/// The law that each command has only one answer other than *no memory*: any two such answers from one timeline are the same, and
+/// leave the same timeline.
 pub fn command_has_one_answer()
     ensures { HasOneAnswer }
 {

@@ -12,17 +12,18 @@ use crate::kept::{kept_after, kept_before};
 use crate::laws::greatest_is_optimal;
 use dmf_history::{History, RedoFault};
 use dmf_solver::{
-    ResidualNetwork, Unwatched, Watch, plan_add, plan_cap, plan_close, plan_shut, smallest_side,
+    ResidualNetwork, Unwatched, Watch, plan_add, plan_cap_with, plan_close_with, plan_shut_with,
+    smallest_side,
 };
 use dmf_state::{Edit, NoMemory, State};
 use std::alloc::Global;
 use std::marker::Model;
 
-/// A network that is changed by commands, over the history that keeps its states.
+/// A network that commands change, over the history that keeps its states.
 ///
-/// From the first solve on the session also keeps the residual network of the present state, so that the next solve need not make
-/// it anew. The network follows each change, and each step back or forward where the history tells the edit; the first of these
-/// after a solve takes time for each node. The session drops it where an arc is added or taken back, and where memory is refused.
+/// From the first solve or drain on the session also keeps the residual network of the present state, so that the next of these need
+/// not make it anew. The network follows each change, and each step back or forward where the history tells the edit; the first of
+/// these after a solve takes time for each node. The session drops it where an arc is added or taken back, and where memory is refused.
 #[derive(Drop)]
 pub struct Session<H: History> {
     history: H,
@@ -40,7 +41,7 @@ impl<H: History> Model for Session<H> {
 }
 
 impl<H: History> Session<H> {
-    /// A session that stands where the history stands.
+    /// Makes a session on the present state of the history.
     pub fn new(history: H) -> Self
         ensures { result ≡ history }
     {
@@ -82,12 +83,11 @@ impl<H: History> Session<H> {
         self.history.bound()
     }
 
-    /// Carries out a command. A change after which more states than the bound would stand before the present one makes the
-    /// history forget the oldest.
+    /// Carries out a command. If a change leads past the bound, the history forgets its oldest state.
     ///
-    /// A command that is refused changes nothing. Only a change, a step forward over an added arc and a cut take memory.
-    /// After a solve the value of the present flow is the greatest of all flows, and the capacity of the smallest minimum
-    /// cut; with `want_cut` the reply has that cut.
+    /// A refused command changes nothing. Only a change, a step forward over an added arc and a cut take memory. After a solve
+    /// the value of the present flow is the greatest of all flows, and the capacity of the smallest minimum cut. With
+    /// `want_cut` the reply has that cut.
     pub fn step(
         &mut self,
         alloc: Global,
@@ -100,7 +100,7 @@ impl<H: History> Session<H> {
         self.step_watched(alloc, command, want_cut, &mut Unwatched)
     }
 
-    /// Does the same, and tells the watch of each path along which a solve augments the flow.
+    /// As [`Session::step`]; also tells the watch of each augmenting path of a solve.
     pub fn step_watched<W: Watch>(
         &mut self,
         alloc: Global,
@@ -145,8 +145,9 @@ impl<H: History> Session<H> {
     fn cap(&mut self, alloc: Global, arc: u64, cap: u64) -> Result<Reply, Refusal>
         ensures { (want_cut : Bool) → Answers want_cut (H.timeline self.old) (Cap arc cap) result (H.timeline self.new) }
     {
-        let edit = plan_cap(alloc, self.present(), arc, cap)?;
-        self.change(edit)?;
+        let edit = plan_cap_with(alloc, self.history.present(), arc, cap, &mut self.kept)?;
+        let kept = self.kept.take();
+        self.append(edit, kept)?;
         Ok(Reply::Value(self.present().value()))
     }
 
@@ -154,7 +155,7 @@ impl<H: History> Session<H> {
         ensures { (want_cut : Bool) → Answers want_cut (H.timeline self.old) (Add tail head cap) result (H.timeline self.new) }
     {
         let edit = plan_add(self.present(), tail, head, cap)?;
-        self.change(edit)?;
+        self.append(edit, None)?;
         let present = self.present();
         Ok(Reply::Added(present.arcs().len() as u32, present.value()))
     }
@@ -162,20 +163,22 @@ impl<H: History> Session<H> {
     fn close(&mut self, alloc: Global, arc: u64) -> Result<Reply, Refusal>
         ensures { (want_cut : Bool) → Answers want_cut (H.timeline self.old) (Close arc) result (H.timeline self.new) }
     {
-        let edit = plan_close(alloc, self.present(), arc)?;
-        self.change(edit)?;
+        let edit = plan_close_with(alloc, self.history.present(), arc, &mut self.kept)?;
+        let kept = self.kept.take();
+        self.append(edit, kept)?;
         Ok(Reply::Value(self.present().value()))
     }
 
     fn shut(&mut self, alloc: Global, node: u64) -> Result<Reply, Refusal>
         ensures { (want_cut : Bool) → Answers want_cut (H.timeline self.old) (Shut node) result (H.timeline self.new) }
     {
-        let edit = plan_shut(alloc, self.present(), node)?;
-        self.change(edit)?;
+        let edit = plan_shut_with(alloc, self.history.present(), node, &mut self.kept)?;
+        let kept = self.kept.take();
+        self.append(edit, kept)?;
         Ok(Reply::Value(self.present().value()))
     }
 
-    // A side that is wanted is made before the history takes the solve: where memory is refused for it, nothing has changed.
+    // Finds the side, if one is wanted, before the history takes the solve. So if memory is refused for it, nothing has changed.
     fn solve<W: Watch>(
         &mut self,
         alloc: Global,
@@ -229,21 +232,8 @@ impl<H: History> Session<H> {
         Ok(Reply::Value(self.present().value()))
     }
 
-    /// Makes the change of an edit that fits the present state. A kept network follows it where it can.
-    fn change(&mut self, edit: Edit) -> Result<(), NoMemory>
-        requires fits { FitsPresent edit (H.timeline self.old) }
-        ensures ok { OnOk result (Appends edit (H.timeline self.old) (H.timeline self.new)) }
-        ensures err { OnErr result (H.timeline self.new ≡ H.timeline self.old) }
-    {
-        let kept = match self.kept.take() {
-            Some(network) => network.follow(self.history.present(), &edit),
-            None => None,
-        };
-        self.append(edit, kept)
-    }
-
-    /// Appends what an edit makes of the present state, and keeps this network, which is that of the new state. Where memory
-    /// is refused, none is kept.
+    /// Appends the state that the edit makes of the present one, and keeps this network, which is that of the new state. If memory
+    /// is refused, the session keeps none.
     fn append(&mut self, edit: Edit, kept: Option<ResidualNetwork>) -> Result<(), NoMemory>
         requires fits { FitsPresent edit (H.timeline self.old) }
         requires kept { KeepsApplied edit (H.timeline self.old) kept }
@@ -256,7 +246,7 @@ impl<H: History> Session<H> {
         Ok(())
     }
 
-    /// The residual network of the present state: the one that was kept, or else a new one. None is kept afterwards.
+    /// Takes the kept residual network of the present state, or makes one. The session keeps none afterwards.
     fn take_network(&mut self, alloc: Global) -> Result<ResidualNetwork, NoMemory>
         ensures unchanged { self.new ≡ self.old }
         ensures network { IfOk result (λ network. KeepsPresent (H.timeline self.old) (Some network)) }
@@ -267,7 +257,7 @@ impl<H: History> Session<H> {
         }
     }
 
-    /// Drops the kept network where memory was refused, so that there is more for the next command.
+    /// Drops the kept network if memory was refused, so that the next command finds more.
     fn drop_if_refused(&mut self, answer: &Result<Reply, Refusal>)
         ensures { self.new ≡ self.old }
     {
@@ -276,7 +266,7 @@ impl<H: History> Session<H> {
         }
     }
 
-    /// Goes one state forward. A kept network follows it where it can; where memory is refused, none is kept.
+    /// Steps one state forward. A kept network follows where it can. If memory is refused, the session keeps none.
     fn go_on(&mut self) -> Result<(), RedoFault>
         ensures last { (result ≡ Err redo.NothingToRedo) ↔ (future_of (H.timeline self.old) ≡ 0) }
         ensures memory { result ≡ Err redo.NoMemory → AddsArcs (H.timeline self.old) (H.timeline self.old).place }
@@ -289,7 +279,7 @@ impl<H: History> Session<H> {
         Ok(())
     }
 
-    /// Goes so many states back. A kept network follows them where it can.
+    /// Steps so many states back. A kept network follows where it can.
     fn go_back(&mut self, steps: u32)
         requires { steps ≤ (H.timeline self.old).place }
         ensures { H.timeline self.new ≡ back (H.timeline self.old) steps }

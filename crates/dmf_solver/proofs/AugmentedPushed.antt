@@ -1,13 +1,13 @@
 -- Augmenting along a path gives what pushing along its steps in turn gives.
-use Rattle.std.proofs.Common.{ℕ, ◌≡◌, ◌≢◌, ◌+◌, ◌-◌, ◌*◌, ◌<◌, ◌==◌, List, [], ◌∷◌, length, get_or, zero, suc, true, false, cond, refl, ap, ◌∙◌, sym, subst}
-use Rattle.std.proofs.Common.{arith, ⊎_elim, get_or-set_other, add-zero, eq-eqb}
-use Rattle.std.proofs.lemmas.Bool.{ne_eqb, cases_eq}
+use Rattle.std.proofs.Common.{ℕ, ◌≡◌, ◌≢◌, ◌+◌, ◌-◌, ◌*◌, ◌%◌, ◌<◌, ◌≤◌, ◌==◌, Bool, List, [], ◌∷◌, length, get_or, zero, suc, true, false}
+use Rattle.std.proofs.Common.{cond, refl, ap, ◌∙◌, sym, subst, arith, ⊎_elim, get_or-set_other, add-zero, eq-eqb}
+use Rattle.std.proofs.lemmas.Bool.{both_ways, eqb-true, ne_eqb, cases_eq}
 use Rattle.std.proofs.lemmas.Grind.{get_or-set_at, same_number_lists}
 use Rattle.dmf_state.specs.declared.arc.Arc.{Arc}
 use Rattle.dmf_path.specs.Step.{Step}
 use Rattle.dmf_path.specs.Path.{has_rank}
 use Rattle.dmf_solver.specs.Residual.{augmented_from}
-use Rattle.dmf_solver.proofs.Pushing.{arc_index, pushed_once, pushed, CanPush, along, against, pushed-along, pushed-against, length-pushed_once, length-pushed}
+use Rattle.dmf_solver.proofs.Pushing.{arc_index, flow_pushed, pushed_once, pushed, CanPush, rank-pushed, length-pushed_once, length-pushed}
 use Rattle.dmf_solver.proofs.Pushing.{Skips, CanPushInTurn}
 
 -- there stay as many flows
@@ -35,43 +35,37 @@ ranks-skipped k (s ∷ path) skips =
     let later = ranks-skipped k path skips.2 in
     (rw (ne_eqb s.rank (2 * (1 + k)) skips.0) later.0, rw (ne_eqb s.rank (2 * (1 + k) + 1) skips.1) later.1)
 
--- one step more in front, at each arc: at that of the step, and at the others
-augmented-first : (amount : ℕ) (arcs : List Arc) (flows : List ℕ) (s : Step) (path : List Step) (k : ℕ) → length flows ≡ length arcs → k < length flows
+-- one step more in front, at its arc
+augmented-here : (amount : ℕ) (s : Step) (path : List Step) (k flow : ℕ) (ahead : Bool) → (s.rank % 2 == 0) ≡ ahead → 2 ≤ s.rank → arc_index s ≡ k
+    → Skips k path → flow_augmented amount path (1 + k) (flow_pushed amount s flow) ≡ flow_augmented amount (s ∷ path) (1 + k) flow
+augmented-here amount s path k flow true e from index skips =
+    let none = ranks-skipped k path skips in
+    let parity = eqb-true (s.rank % 2) 0 e in
+    let even : (s.rank == 2 * (1 + k)) ≡ true = eq-eqb s.rank (2 * (1 + k)) (omega arith) in
+    let odd : (s.rank == 2 * (1 + k) + 1) ≡ false = ne_eqb s.rank (2 * (1 + k) + 1) (omega arith) in
+    rw (e, none.0, none.1, even, odd) (omega arith)
+augmented-here amount s path k flow false e from index skips =
+    let none = ranks-skipped k path skips in
+    let parity : s.rank % 2 ≢ 0 = λ same. both_ways (s.rank % 2 == 0) e (eq-eqb (s.rank % 2) 0 same) in
+    let even : (s.rank == 2 * (1 + k)) ≡ false = ne_eqb s.rank (2 * (1 + k)) (omega arith) in
+    let odd : (s.rank == 2 * (1 + k) + 1) ≡ true = eq-eqb s.rank (2 * (1 + k) + 1) (omega arith) in
+    rw (e, none.0, none.1, even, odd) (omega arith)
+
+-- and at each arc
+augmented-first : (amount : ℕ) (arcs : List Arc) (flows : List ℕ) (s : Step) (path : List Step) (k : ℕ) → k < length flows
     → CanPush amount arcs flows s → Skips (arc_index s) path →
     flow_augmented amount path (1 + k) (get_or (pushed_once amount s flows) k 0) ≡ flow_augmented amount (s ∷ path) (1 + k) (get_or flows k 0)
-augmented-first amount arcs flows s path k same h (along i leads room) skips =
-    let index : arc_index s ≡ i = omega (arith, leads.rank_is) in
+augmented-first amount arcs flows s path k h can skips =
+    let i : ℕ = arc_index s in
+    let from = rank-pushed amount arcs flows s can in
     ⊎_elim
     (λ (here : i ≡ k).
-    let place : arc_index s ≡ k = index ∙ here in
-    let none = ranks-skipped k path (subst (λ m. Skips m path) place skips) in
-    let even : (s.rank == 2 * (1 + k)) ≡ true = eq-eqb s.rank (2 * (1 + k)) (omega (arith, leads.rank_is, here)) in
-    let odd : (s.rank == 2 * (1 + k) + 1) ≡ false = ne_eqb s.rank (2 * (1 + k) + 1) (omega (arith, leads.rank_is, here)) in
-    let now = get_or-set_at flows i k (get_or flows i 0 + amount) 0 (sym here) (omega (arith, h, here)) in
-    let old = ap (λ m. get_or flows m 0) here in
-    rw (pushed-along amount arcs flows s i leads, now, none.0, none.1, even, odd) (omega (arith, old)))
+    rw (get_or-set_at flows i k (flow_pushed amount s (get_or flows i 0)) 0 (sym here) (omega (arith, h, here)), here)
+    (augmented-here amount s path k (get_or flows k 0) (s.rank % 2 == 0) refl from here (subst (λ m. Skips m path) here skips)))
     (λ (elsewhere : i ≢ k).
-    let even : (s.rank == 2 * (1 + k)) ≡ false = ne_eqb s.rank (2 * (1 + k)) (omega (arith, leads.rank_is, elsewhere)) in
-    let odd : (s.rank == 2 * (1 + k) + 1) ≡ false = ne_eqb s.rank (2 * (1 + k) + 1) (omega (arith, leads.rank_is, elsewhere)) in
-    let now = get_or-set_other flows i k (get_or flows i 0 + amount) 0 (λ e. elsewhere (sym e)) in
-    rw (pushed-along amount arcs flows s i leads, now, even, odd) refl)
-    (cases_eq i k)
-augmented-first amount arcs flows s path k same h (against i leads some) skips =
-    let index : arc_index s ≡ i = omega (arith, leads.rank_is) in
-    ⊎_elim
-    (λ (here : i ≡ k).
-    let place : arc_index s ≡ k = index ∙ here in
-    let none = ranks-skipped k path (subst (λ m. Skips m path) place skips) in
-    let even : (s.rank == 2 * (1 + k)) ≡ false = ne_eqb s.rank (2 * (1 + k)) (omega (arith, leads.rank_is, here)) in
-    let odd : (s.rank == 2 * (1 + k) + 1) ≡ true = eq-eqb s.rank (2 * (1 + k) + 1) (omega (arith, leads.rank_is, here)) in
-    let now = get_or-set_at flows i k (get_or flows i 0 - amount) 0 (sym here) (omega (arith, h, here)) in
-    let old = ap (λ m. get_or flows m 0) here in
-    rw (pushed-against amount arcs flows s i leads, now, none.0, none.1, even, odd) (omega (arith, old)))
-    (λ (elsewhere : i ≢ k).
-    let even : (s.rank == 2 * (1 + k)) ≡ false = ne_eqb s.rank (2 * (1 + k)) (omega (arith, leads.rank_is, elsewhere)) in
-    let odd : (s.rank == 2 * (1 + k) + 1) ≡ false = ne_eqb s.rank (2 * (1 + k) + 1) (omega (arith, leads.rank_is, elsewhere)) in
-    let now = get_or-set_other flows i k (get_or flows i 0 - amount) 0 (λ e. elsewhere (sym e)) in
-    rw (pushed-against amount arcs flows s i leads, now, even, odd) refl)
+    let even : (s.rank == 2 * (1 + k)) ≡ false = ne_eqb s.rank (2 * (1 + k)) (omega (arith, from, elsewhere)) in
+    let odd : (s.rank == 2 * (1 + k) + 1) ≡ false = ne_eqb s.rank (2 * (1 + k) + 1) (omega (arith, from, elsewhere)) in
+    rw (get_or-set_other flows i k (flow_pushed amount s (get_or flows i 0)) 0 (λ e. elsewhere (sym e)), even, odd) refl)
     (cases_eq i k)
 
 -- each of the flows that pushing makes
@@ -82,7 +76,7 @@ get_or-pushed amount arcs flows (s ∷ path) k same h can =
     let next : List ℕ = pushed_once amount s flows in
     let long = length-pushed_once amount s flows in
     get_or-pushed amount arcs next path k (long ∙ same) (omega (arith, long, h)) can.2
-    ∙ augmented-first amount arcs flows s path k same h can.0 can.1
+    ∙ augmented-first amount arcs flows s path k h can.0 can.1
 
 -- Pushing along the steps in turn is augmenting.
 pub pushed-augmented : (amount : ℕ) (arcs : List Arc) (flows : List ℕ) (path : List Step) → length flows ≡ length arcs → CanPushInTurn amount arcs flows path

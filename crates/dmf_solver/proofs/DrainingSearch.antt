@@ -1,10 +1,9 @@
 -- Draining an arc by a search over the pairs of links that stand for carrying steps, and reading the flows off it.
-use Rattle.std.proofs.Common.{ℕ, ◌≡◌, ◌≢◌, ◌+◌, ◌-◌, ◌*◌, ◌<◌, ◌≤◌, Bool, true, false, cond, List, [], ◌∷◌, ◌++◌, length, get_or, zero, suc, refl, ap, sym, ◌∙◌}
-use Rattle.std.proofs.Common.{subst, arith, ⊎_elim, add-zero, Option, Some, None}
+use Rattle.std.proofs.Common.{ℕ, ◌≡◌, ◌≢◌, ◌+◌, ◌-◌, ◌*◌, ◌<◌, ◌≤◌, ◌==◌, Bool, true, false, cond, List, [], ◌∷◌, ◌++◌, length, get_or, zero, suc, refl, ap}
+use Rattle.std.proofs.Common.{sym, ◌∙◌, subst, arith, add-zero, Option, Some, None}
 use Rattle.std.specs.List.{slice_get}
 use Rattle.std.specs.Option.{option_map, unwrap_or}
-use Rattle.std.proofs.lemmas.Bool.{ne_eqb, cases_Bool}
-use Rattle.std.proofs.lemmas.List.Elements.{AllZip-get_or}
+use Rattle.std.proofs.lemmas.Bool.{ne_eqb, eqb-true}
 use Rattle.std.proofs.lemmas.Option.{get_or_from_slice_get}
 use Rattle.std.proofs.lemmas.Slice.Zip.{AllZip-long}
 use Rattle.dmf_path.specs.declared.pair.Pair.{Pair}
@@ -20,18 +19,20 @@ use Rattle.dmf_state.specs.declared.arc.Arc.{Arc}
 use Rattle.dmf_state.specs.Arc.{no_arc}
 use Rattle.dmf_state.specs.Network.{Network, arc_number, has_arc}
 use Rattle.dmf_state.specs.Flow.{flow_on, IsFlow}
-use Rattle.dmf_solver.specs.Drain.{carrying_steps, lowered, Drains}
+use Rattle.dmf_state.specs.declared.edit.Move.{Move}
+use Rattle.dmf_state.specs.Edit.{moved, differences}
+use Rattle.dmf_state.proofs.Moving.{moves-between}
+use Rattle.dmf_solver.specs.Drain.{carrying_steps, lowered, value_or_zero, Drains}
 use Rattle.dmf_state.specs.NetworkState.{NetworkState, IsState, with_flows}
-use Rattle.dmf_solver.specs.Pairs.{Along, AreNoMore, KeepLoops, Carries, IsCarryingSearch, carrying_pair, carrying_from, return_pair, carrying_pairs}
-use Rattle.dmf_solver.specs.Pairs.{flows_read}
+use Rattle.dmf_solver.specs.CarryingNetwork.{IsCarryingOf, MayCarry, carrying_pair, carrying_from, return_pair, carrying_pairs}
+use Rattle.dmf_solver.specs.Pairs.{Along, KeepLoops, Carries, IsCarryingSearch, flows_read}
 use Rattle.dmf_solver.specs.Moves.{CoverDifferences, Stays}
 use Rattle.dmf_solver.proofs.FlowsRead.{stays-unpaired}
-use Rattle.dmf_solver.proofs.CarryingPairs.{is_idle, idle-why, length-carrying_pairs, carrying-without_loops, pair-of_arc}
+use Rattle.dmf_solver.proofs.CarryingPairs.{length-carrying_pairs, carrying-without_loops, pair-of_arc}
 use Rattle.dmf_solver.proofs.CarryingSteps.{IsCarrying, along, returns, carrying-contained, carrying-path}
 use Rattle.dmf_state.proofs.ChangedArc.{has_arc-within}
-use Rattle.dmf_solver.proofs.Draining.{IsNoMore, no_more-same}
 use Rattle.dmf_solver.proofs.DrainingWalk.{AreDrainedSoFar, drained-none, drained-more, drained-all}
-use Rattle.dmf_solver.proofs.LoweredPairs.{other-rank, carrying_pairs-lowered, no_more-lowered}
+use Rattle.dmf_solver.proofs.LoweredPairs.{other-rank, carrying_pairs-lowered}
 use Rattle.dmf_solver.proofs.Lowering.{HaveOwnRanks-least, lowered-amount, lowered-on, unlowered}
 
 -- ---- arcs that come back to their tails
@@ -71,42 +72,36 @@ KeepLoops-lowered n unpaired flows j limit path apart flow least kept k within l
 -- ---- the pair of an arc
 
 -- the pair of an arc, once the pairs are pushed
-slice_get-pushed : (amount i : ℕ) (path : List Step) (arcs : List Arc) (firsts flows : List ℕ) (last : Option Pair) (k : ℕ) → k < length arcs
-    → length firsts ≡ length arcs → length flows ≡ length arcs →
-    slice_get (pushed_from false i amount path (carrying_from arcs firsts flows ++ last ∷ [])) k ≡ Some
-    (pushed_pair false (i + k) amount path (carrying_pair (get_or arcs k no_arc) (get_or firsts k 0) (get_or flows k 0)))
-slice_get-pushed amount i path [] firsts flows last k within long same = absurd (omega (arith, within))
-slice_get-pushed amount i path (arc ∷ arcs) [] flows last k within long same = absurd (omega (arith, long))
-slice_get-pushed amount i path (arc ∷ arcs) (first ∷ firsts) [] last k within long same = absurd (omega (arith, same))
-slice_get-pushed amount i path (arc ∷ arcs) (first ∷ firsts) (flow ∷ flows) last zero within long same =
-    ap (λ m. Some (pushed_pair false m amount path (carrying_pair arc first flow))) (sym (add-zero i))
-slice_get-pushed amount i path (arc ∷ arcs) (first ∷ firsts) (flow ∷ flows) last (suc k) within long same =
+slice_get-pushed : (amount i : ℕ) (path : List Step) (arcs : List Arc) (flows : List ℕ) (last : Option Pair) (k : ℕ) → k < length arcs
+    → length flows ≡ length arcs → slice_get (pushed_from false i amount path (carrying_from arcs flows ++ last ∷ [])) k ≡ Some
+    (pushed_pair false (i + k) amount path (carrying_pair (get_or arcs k no_arc) (get_or flows k 0)))
+slice_get-pushed amount i path [] flows last k within same = absurd (omega (arith, within))
+slice_get-pushed amount i path (arc ∷ arcs) [] last k within same = absurd (omega (arith, same))
+slice_get-pushed amount i path (arc ∷ arcs) (flow ∷ flows) last zero within same =
+    ap (λ m. Some (pushed_pair false m amount path (carrying_pair arc flow))) (sym (add-zero i))
+slice_get-pushed amount i path (arc ∷ arcs) (flow ∷ flows) last (suc k) within same =
     let place : i + 1 + k ≡ i + suc k = omega arith in
-    slice_get-pushed amount (i + 1) path arcs firsts flows last k (omega (arith, within)) (omega (arith, long)) (omega (arith, same))
-    ∙ ap (λ m. Some (pushed_pair false m amount path (carrying_pair (get_or arcs k no_arc) (get_or firsts k 0) (get_or flows k 0)))) place
+    slice_get-pushed amount (i + 1) path arcs flows last k (omega (arith, within)) (omega (arith, same))
+    ∙ ap (λ m. Some (pushed_pair false m amount path (carrying_pair (get_or arcs k no_arc) (get_or flows k 0)))) place
 
 -- The room along the pair of an arc is what flows there; what flows on an arc without a pair is told beside it.
-flow-left : (arc : Arc) (first unpaired flow : ℕ) (idle : Bool) → is_idle arc first ≡ idle → flow ≤ first → unpaired ≤ first
-    → (arc.tail ≡ arc.head → flow ≡ unpaired) → unwrap_or (option_map (λ (p : Pair). p.along) (carrying_pair arc first flow)) unpaired ≡ flow
-flow-left arc first unpaired flow false e less fewer kept = rw e refl
-flow-left arc first unpaired flow true e less fewer kept =
-    let same : unpaired ≡ flow = ⊎_elim (λ (loop : arc.tail ≡ arc.head). sym (kept loop)) (λ (none : first ≡ 0). omega (arith, none, less, fewer))
-    (idle-why arc first e) in
-    rw e same
+flow-left : (arc : Arc) (unpaired flow : ℕ) (loop : Bool) → (arc.tail == arc.head) ≡ loop → (arc.tail ≡ arc.head → flow ≡ unpaired)
+    → unwrap_or (option_map (λ (p : Pair). p.along) (carrying_pair arc flow)) unpaired ≡ flow
+flow-left arc unpaired flow false e kept = rw e refl
+flow-left arc unpaired flow true e kept = let same : unpaired ≡ flow = sym (kept (eqb-true arc.tail arc.head e)) in rw e same
 
 -- The flows are read off the pairs of the arcs, and the list.
-read-flows : (arcs : List Arc) (firsts unpaired flows : List ℕ) (rest : List (Option Pair)) → length firsts ≡ length arcs → IsNoMore firsts flows
-    → IsNoMore firsts unpaired → ((k : ℕ) → k < length arcs → (get_or arcs k no_arc).tail ≡ (get_or arcs k no_arc).head
-    → get_or flows k 0 ≡ get_or unpaired k 0) → flows_read Along unpaired (carrying_from arcs firsts flows ++ rest) ≡ flows
-read-flows arcs [] [] [] rest long less fewer kept = refl
-read-flows arcs [] [] (flow ∷ flows) rest long less fewer kept = absurd less
-read-flows arcs [] (u ∷ unpaired) flows rest long less fewer kept = absurd fewer
-read-flows arcs (first ∷ firsts) unpaired [] rest long less fewer kept = absurd less
-read-flows arcs (first ∷ firsts) [] (flow ∷ flows) rest long less fewer kept = absurd fewer
-read-flows [] (first ∷ firsts) (u ∷ unpaired) (flow ∷ flows) rest long less fewer kept = absurd (omega (arith, long))
-read-flows (arc ∷ arcs) (first ∷ firsts) (u ∷ unpaired) (flow ∷ flows) rest long less fewer kept =
-    let here = flow-left arc first u flow (is_idle arc first) refl less.0 fewer.0 (λ loop. kept 0 (omega arith) loop) in
-    let later = read-flows arcs firsts unpaired flows rest (omega (arith, long)) less.1 fewer.1 (λ k h loop. kept (suc k) (omega (arith, h)) loop) in
+read-flows : (arcs : List Arc) (unpaired flows : List ℕ) (rest : List (Option Pair)) → length unpaired ≡ length arcs → length flows ≡ length arcs
+    → ((k : ℕ) → k < length arcs → (get_or arcs k no_arc).tail ≡ (get_or arcs k no_arc).head → get_or flows k 0 ≡ get_or unpaired k 0)
+    → flows_read Along unpaired (carrying_from arcs flows ++ rest) ≡ flows
+read-flows [] [] [] rest long same kept = refl
+read-flows [] [] (flow ∷ flows) rest long same kept = absurd (omega (arith, same))
+read-flows [] (u ∷ unpaired) flows rest long same kept = absurd (omega (arith, long))
+read-flows (arc ∷ arcs) [] flows rest long same kept = absurd (omega (arith, long))
+read-flows (arc ∷ arcs) (u ∷ unpaired) [] rest long same kept = absurd (omega (arith, same))
+read-flows (arc ∷ arcs) (u ∷ unpaired) (flow ∷ flows) rest long same kept =
+    let here = flow-left arc u flow (arc.tail == arc.head) refl (λ loop. kept 0 (omega arith) loop) in
+    let later = read-flows arcs unpaired flows rest (omega (arith, long)) (omega (arith, same)) (λ k h loop. kept (suc k) (omega (arith, h)) loop) in
     λ i. here i ∷ later i
 
 -- the pair of an arc, once it is pushed
@@ -118,31 +113,20 @@ pushed_link amount i path arc flow = record {
   against = 0 - cond (has_rank path (2 * i + 1)) amount 0 + 0;
 }
 
--- an arc to another node on which something flowed at first has a pair
-busy : (arc : Arc) (first : ℕ) → arc.head ≢ arc.tail → 0 < first → is_idle arc first ≡ false
-busy arc first apart some = ⊎_elim
-    (λ (idle : is_idle arc first ≡ true). absurd (⊎_elim (λ (loop : arc.tail ≡ arc.head). apart (sym loop)) (λ (none : first ≡ 0). omega (arith, none, some))
-    (idle-why arc first idle)))
-    (λ (own : is_idle arc first ≡ false). own)
-    (cases_Bool (is_idle arc first))
-
 -- The pair of arc number `j` has the room that the arc has, when pairs are pushed along a path that has not the arc's rank.
-has-along : (n : Network) (firsts flows : List ℕ) (j amount : ℕ) (path : List Step) → AreNoMore n firsts flows → has_arc n j ≡ true
-    → (arc_number n j).head ≢ (arc_number n j).tail → 0 < flow_on flows j → amount ≤ flow_on flows j → has_rank path (2 * j) ≡ false
-    → HasAlong (pushed_pairs false amount path (carrying_pairs n firsts flows)) (j - 1) amount
-has-along n firsts flows j amount path less has apart some within none =
+has-along : (n : Network) (flows : List ℕ) (j amount : ℕ) (path : List Step) → length flows ≡ length n.arcs → has_arc n j ≡ true
+    → (arc_number n j).head ≢ (arc_number n j).tail → amount ≤ flow_on flows j → has_rank path (2 * j) ≡ false
+    → HasAlong (pushed_pairs false amount path (carrying_pairs n flows)) (j - 1) amount
+has-along n flows j amount path same has apart within none =
     let at = has_arc-within n j has in
     let place : 1 + (j - 1) ≡ j = omega (arith, at.0) in
-    let same = AllZip-long _ firsts flows less.no_more in
-    let no_more : flow_on flows j ≤ flow_on firsts j = AllZip-get_or (λ x y. y ≤ x) firsts flows (j - 1) 0 0 less.no_more
-    (omega (arith, at.1, less.one_each)) in
-    let own = busy (arc_number n j) (flow_on firsts j) apart (omega (arith, some, no_more)) in
-    let here : carrying_pair (arc_number n j) (flow_on firsts j) (flow_on flows j) ≡ Some
+    let own = ne_eqb (arc_number n j).tail (arc_number n j).head (λ loop. apart (sym loop)) in
+    let here : carrying_pair (arc_number n j) (flow_on flows j) ≡ Some
     (record { tail = (arc_number n j).tail; head = (arc_number n j).head; along = flow_on flows j; against = 0 }) = rw own refl in
     record {
       pair = pushed_link amount (1 + (j - 1)) path (arc_number n j) (flow_on flows j);
       is =
-          slice_get-pushed amount 1 path n.arcs firsts flows (return_pair n firsts flows) (j - 1) at.1 less.one_each (same ∙ less.one_each)
+          slice_get-pushed amount 1 path n.arcs flows (return_pair n flows) (j - 1) at.1 same
           ∙ ap (λ o. Some (pushed_pair false (1 + (j - 1)) amount path o)) here;
       enough = rw (place, none) (omega (arith, within));
     }
@@ -150,22 +134,32 @@ has-along n firsts flows j amount path less has apart some within none =
 -- ---- the search
 
 -- the search over the pairs of carrying steps, from the head of arc number `j` to its tail
-abbrev pub carrying_search : Network → ℕ → List ℕ → List ℕ → Searched
-carrying_search n j firsts flows = record {
+abbrev pub carrying_search : Network → ℕ → List ℕ → Searched
+carrying_search n j flows = record {
   nodes = n.nodes;
-  pairs = carrying_pairs n firsts flows;
+  pairs = carrying_pairs n flows;
   start = (arc_number n j).head;
   goal = (arc_number n j).tail;
   takes_back = false;
 }
 
+-- There is a flow for each arc,
+pub one_each : (s : NetworkState) (unpaired flows : List ℕ) (search : Searched) → Carries s unpaired flows search → length flows ≡ length s.network.arcs
+one_each s unpaired flows search carries = AllZip-long _ s.network.arcs flows carries.state.flow.within
+
+-- and a pair for each, and one more.
+pub length-carries : (s : NetworkState) (unpaired flows : List ℕ) (search : Searched) → Carries s unpaired flows search
+    → length search.pairs ≡ length s.network.arcs + 1
+length-carries s unpaired flows search carries =
+    ap (λ (pairs : List (Option Pair)). length pairs) carries.search_is.pairs_are
+    ∙ length-carrying_pairs s.network flows (one_each s unpaired flows search carries)
+
 -- The flows are read off the search and the list.
 pub carries-read : (s : NetworkState) (unpaired flows : List ℕ) (search : Searched) → Carries s unpaired flows search
     → flows_read Along unpaired search.pairs ≡ flows
 carries-read s unpaired flows search carries =
-    ap (flows_read Along unpaired) carries.pairs_are
-    ∙ read-flows s.network.arcs s.flows unpaired flows (return_pair s.network s.flows flows ∷ []) carries.no_more.one_each carries.no_more.no_more carries.less
-    carries.loops
+    ap (flows_read Along unpaired) carries.search_is.pairs_are
+    ∙ read-flows s.network.arcs unpaired flows (return_pair s.network flows ∷ []) carries.listed (one_each s unpaired flows search carries) carries.loops
 
 -- So they are those that are read.
 pub IsCarryingSearch-from : (s : NetworkState) (unpaired flows : List ℕ) (search : Searched) → Carries s unpaired flows search
@@ -173,39 +167,37 @@ pub IsCarryingSearch-from : (s : NetworkState) (unpaired flows : List ℕ) (sear
 IsCarryingSearch-from s unpaired flows search carries =
     subst (λ xs. Carries s unpaired xs search) (sym (carries-read s unpaired flows search carries)) carries
 
--- A search that is made of the state's pairs carries the state's flows, and tells them.
-pub carrying-first : (s : NetworkState) (search : Searched) (nodes start goal : ℕ) → IsState s → nodes ≡ s.network.nodes
-    → search ≡ record { nodes = nodes; pairs = carrying_pairs s.network s.flows s.flows; start = start; goal = goal; takes_back = false }
+-- A search over the carrying steps of the state's flow carries it, and tells its flows.
+pub carrying-first : (s : NetworkState) (search : Searched) → IsState s → IsCarryingOf s search
     → IsCarryingSearch s s.flows search × (flows_read Along s.flows search.pairs ≡ s.flows)
-carrying-first s search nodes start goal state same is =
+carrying-first s search state is =
     let carries : Carries s s.flows s.flows search = record {
       state = state;
-      no_more = record { one_each = AllZip-long _ s.network.arcs s.flows state.flow.within; no_more = no_more-same s.flows; at_sink = omega arith };
-      less = no_more-same s.flows;
+      listed = AllZip-long _ s.network.arcs s.flows state.flow.within;
       loops = λ k within loop. refl;
-      nodes_are = ap (λ (x : Searched). x.nodes) is ∙ same;
-      pairs_are = ap (λ (x : Searched). x.pairs) is;
-      takes_none_back = ap (λ (x : Searched). x.takes_back) is;
+      search_is = is;
     } in
     (IsCarryingSearch-from s s.flows s.flows search carries, carries-read s s.flows s.flows search carries)
 
--- There is a pair for each flow, or the place of one.
-pub length-carries : (s : NetworkState) (unpaired flows : List ℕ) (search : Searched) → Carries s unpaired flows search → length s.flows ≤ length search.pairs
-length-carries s unpaired flows search carries =
-    let first = carries.no_more.one_each in
-    let same = AllZip-long _ s.flows flows carries.no_more.no_more in
-    omega (
-      arith,
-      length-carrying_pairs s.network s.flows flows first (same ∙ first),
-      first,
-      ap (λ (pairs : List (Option Pair)). length pairs) carries.pairs_are,
-    )
+-- After the moves between the flows before and those that are read the search carries these.
+pub carries-moved : (s : NetworkState) (unpaired : List ℕ) (moves : List Move) (search : Searched) → IsState s → IsCarryingSearch s unpaired search
+    → moves ≡ differences 1 s.flows (flows_read Along unpaired search.pairs) → MayCarry (with_flows s (moved moves s.flows)) search
+carries-moved s unpaired moves search state carries listed =
+    let last = flows_read Along unpaired search.pairs in
+    let same = one_each s unpaired last search carries ∙ sym (AllZip-long _ s.network.arcs s.flows state.flow.within) in
+    subst (λ flows. MayCarry (with_flows s flows) search) (sym (moves-between moves s.flows last same listed).makes)
+    (value_or_zero s.network last, carries.search_is)
 
 -- Where the list has the flows before, only those on arcs whose pairs are there may differ.
-pub differences-covered : (s : NetworkState) (unpaired indices : List ℕ) (search : Searched) → IsCarryingSearch s unpaired search → unpaired ≡ s.flows
+pub differences-covered : (s : NetworkState) (unpaired indices : List ℕ) (search : Searched) → IsState s
+    → IsCarryingSearch s unpaired search → unpaired ≡ s.flows
     → Covers (length search.pairs) (λ k. pair_number search.pairs k ≡ None) indices → CoverDifferences s.flows (flows_read Along unpaired search.pairs) indices
-differences-covered s unpaired indices search carries same covers =
-    let paired = length-carries s unpaired _ search carries in
+differences-covered s unpaired indices search state carries same covers =
+    let paired : length s.flows ≤ length search.pairs = omega (
+      arith,
+      length-carries s unpaired _ search carries,
+      AllZip-long _ s.network.arcs s.flows state.flow.within,
+    ) in
     record {
       count = length search.pairs;
       most = paired;
@@ -221,15 +213,10 @@ pub carries-along : (s : NetworkState) (unpaired flows : List ℕ) (search : Sea
 carries-along s unpaired flows search j has apart carries =
     let n : Network = s.network in
     let at = has_arc-within n j has in
-    let same = AllZip-long _ s.flows flows carries.no_more.no_more in
-    let long = carries.no_more.one_each in
-    let no_more : flow_on flows j ≤ flow_on s.flows j = AllZip-get_or (λ x y. y ≤ x) s.flows flows (j - 1) 0 0 carries.no_more.no_more
-    (omega (arith, at.1, long)) in
-    let pair = get_or_from_slice_get _ (j - 1) _ None (pair-of_arc n s.flows flows (j - 1) at.1 long (same ∙ long)) in
-    ap (λ pairs. unwrap_or (along_at pairs (j - 1)) 0) carries.pairs_are
+    let pair = get_or_from_slice_get _ (j - 1) _ None (pair-of_arc n flows (j - 1) at.1 (one_each s unpaired flows search carries)) in
+    ap (λ pairs. unwrap_or (along_at pairs (j - 1)) 0) carries.search_is.pairs_are
     ∙ ap (λ p. unwrap_or (option_map (λ (p : Pair). p.along) p) 0) pair
-    ∙ flow-left (arc_number n j) (flow_on s.flows j) 0 (flow_on flows j) (is_idle (arc_number n j) (flow_on s.flows j)) refl no_more (omega arith)
-    (λ loop. absurd (apart (sym loop)))
+    ∙ flow-left (arc_number n j) 0 (flow_on flows j) ((arc_number n j).tail == (arc_number n j).head) refl (λ loop. absurd (apart (sym loop)))
 
 -- ---- draining
 
@@ -237,10 +224,9 @@ carries-along s unpaired flows search j has apart carries =
 pub record IsDraining (s : NetworkState) (unpaired first : List ℕ) (j limit left : ℕ) (search : Searched) : Type 0 where
   pub flows : List ℕ
   pub so_far : AreDrainedSoFar (with_flows s first) j limit flows
-  pub no_more : AreNoMore s.network s.flows flows
-  pub less : IsNoMore s.flows unpaired
+  pub listed : length unpaired ≡ length s.network.arcs
   pub loops : KeepLoops s.network unpaired flows
-  pub search_is : search ≡ carrying_search s.network j s.flows flows
+  pub search_is : search ≡ carrying_search s.network j flows
   pub left_is : left ≡ flow_on flows j - limit
 
 -- no path yet
@@ -249,15 +235,14 @@ pub draining-begun : (s : NetworkState) (unpaired first : List ℕ) (j limit lef
 draining-begun s unpaired first j limit left search left_is carries = record {
   flows = first;
   so_far = drained-none (with_flows s first) j limit carries.state;
-  no_more = carries.no_more;
-  less = carries.less;
+  listed = carries.listed;
   loops = carries.loops;
   search_is = λ i. record {
-    nodes = carries.nodes_are i;
-    pairs = carries.pairs_are i;
+    nodes = carries.search_is.nodes_are i;
+    pairs = carries.search_is.pairs_are i;
     start = (arc_number s.network j).head;
     goal = (arc_number s.network j).tail;
-    takes_back = carries.takes_none_back i;
+    takes_back = carries.search_is.takes_none_back i;
   };
   left_is = left_is;
 }
@@ -269,11 +254,17 @@ draining-has_path s unpaired first j limit left search has some draining none =
     let n : Network = s.network in
     let state = draining.so_far.state in
     let found = carrying-path n draining.flows j state.network state.flow state.value_from_zero has (omega (arith, some, draining.left_is)) in
-    let without = carrying-without_loops n s.flows draining.flows draining.no_more in
-    let here : HasNoPath (steps_of (carrying_pairs n s.flows draining.flows)) (arc_number n j).head (arc_number n j).tail =
+    let without = carrying-without_loops n draining.flows (AllZip-long _ n.arcs draining.flows state.flow.within) in
+    let here : HasNoPath (steps_of (carrying_pairs n draining.flows)) (arc_number n j).head (arc_number n j).tail =
     subst (λ (x : Searched). HasNoPath (steps_of x.pairs) x.start x.goal) draining.search_is none in
-    no_path-without_loops (carrying_steps n draining.flows) (steps_of (carrying_pairs n s.flows draining.flows)) (arc_number n j).head
+    no_path-without_loops (carrying_steps n draining.flows) (steps_of (carrying_pairs n draining.flows)) (arc_number n j).head
     (arc_number n j).tail without here found.path found.leads
+
+pub length-draining : (s : NetworkState) (unpaired first : List ℕ) (j limit left : ℕ) (search : Searched)
+    → IsDraining s unpaired first j limit left search → length search.pairs ≡ length s.network.arcs + 1
+length-draining s unpaired first j limit left search draining =
+    ap (λ (x : Searched). length x.pairs) draining.search_is
+    ∙ length-carrying_pairs s.network draining.flows (AllZip-long _ s.network.arcs draining.flows draining.so_far.state.flow.within)
 
 -- What is said of one path more: the amount is above 0, no more than is left, and the arc's link has room for it.
 pub record DrainsOnce (s : NetworkState) (unpaired first : List ℕ) (j limit left amount : ℕ) (next : Searched) : Type 0 where
@@ -289,20 +280,21 @@ draining-once s unpaired first j limit left found search next has apart some dra
     let amount : ℕ = found.amount in
     let n : Network = s.network in
     let flows : List ℕ = draining.flows in
-    let old : Searched = carrying_search n j s.flows flows in
+    let old : Searched = carrying_search n j flows in
     let own : Augments left found old next = subst (λ x. Augments left found x next) draining.search_is augments in
     let path : List Step = own.path in
     let state = draining.so_far.state in
     let above : limit < flow_on flows j = omega (arith, some, draining.left_is) in
-    let without = carrying-without_loops n s.flows flows draining.no_more in
-    let least = least-without_loops (carrying_steps n flows) (steps_of (carrying_pairs n s.flows flows)) (arc_number n j).head
+    let same = AllZip-long _ n.arcs flows state.flow.within in
+    let without = carrying-without_loops n flows same in
+    let least = least-without_loops (carrying_steps n flows) (steps_of (carrying_pairs n flows)) (arc_number n j).head
     (arc_number n j).tail path without own.least in
     let is : amount ≡ bottleneck_up_to (flow_on flows j - limit) path = own.amount_is ∙ ap (λ bound. bottleneck_up_to bound path) draining.left_is in
     let told = lowered-amount n j limit flows path above least in
     let none = other-rank j path (HaveOwnRanks-least n j flows path has state.network (omega (arith, above)) least) in
     let on = lowered-on n j limit flows path has state.flow in
     let along : HasAlong (pushed_pairs false amount path old.pairs) (j - 1) amount =
-    has-along n s.flows flows j amount path draining.no_more has apart (omega (arith, above)) (omega (arith, is, told.1)) none in
+    has-along n flows j amount path same has apart (omega (arith, is, told.1)) none in
     record {
       some = omega (arith, is, told.0);
       within = omega (arith, is, told.1, draining.left_is);
@@ -310,13 +302,12 @@ draining-once s unpaired first j limit left found search next has apart some dra
       draining = record {
         flows = lowered j limit path flows;
         so_far = drained-more (with_flows s first) j limit flows path has above least draining.so_far;
-        no_more = no_more-lowered n s.flows flows j limit path draining.no_more above has state.network state.flow least;
-        less = draining.less;
+        listed = draining.listed;
         loops = KeepLoops-lowered n unpaired flows j limit path apart state.flow least draining.loops;
         search_is =
             ap (λ (x : Searched). with_pairs x (lowered_along x.pairs (j - 1) amount)) own.gives
             ∙ ap (λ m. with_pairs old (lowered_along (pushed_pairs false m path old.pairs) (j - 1) m)) is
-            ∙ ap (with_pairs old) (sym (carrying_pairs-lowered n s.flows flows j limit path draining.no_more above has state.network state.flow least));
+            ∙ ap (with_pairs old) (sym (carrying_pairs-lowered n flows j limit path above has state.network state.flow least));
         left_is = omega (arith, is, told.1, on, draining.left_is);
       };
     }
@@ -329,12 +320,13 @@ draining-done s unpaired first j limit left search done draining =
     let flows : List ℕ = draining.flows in
     let carries : Carries s unpaired flows search = record {
       state = draining.so_far.state;
-      no_more = draining.no_more;
-      less = draining.less;
+      listed = draining.listed;
       loops = draining.loops;
-      nodes_are = ap (λ (x : Searched). x.nodes) draining.search_is;
-      pairs_are = ap (λ (x : Searched). x.pairs) draining.search_is;
-      takes_none_back = ap (λ (x : Searched). x.takes_back) draining.search_is;
+      search_is = record {
+        nodes_are = ap (λ (x : Searched). x.nodes) draining.search_is;
+        pairs_are = ap (λ (x : Searched). x.pairs) draining.search_is;
+        takes_none_back = ap (λ (x : Searched). x.takes_back) draining.search_is;
+      };
     } in (
       IsCarryingSearch-from s unpaired flows search carries,
       subst (Drains s.network j limit first) (sym (carries-read s unpaired flows search carries))

@@ -1,6 +1,6 @@
 -- The flows that are read off a search.
-use Rattle.std.proofs.Common.{ℕ, ◌≡◌, ◌≤◌, ◌<◌, List, [], ◌∷◌, length, get_or, zero, suc, refl, ap, sym, ◌∙◌, ⊎_elim, arith, Option, None, Bool, true, false}
-use Rattle.std.proofs.Common.{◌==◌}
+use Rattle.std.proofs.Common.{ℕ, ◌≡◌, ◌≤◌, ◌<◌, List, [], ◌∷◌, ◌++◌, length, get_or, zero, suc, refl, ap, sym, ◌∙◌, ⊎_elim, arith, Option, None}
+use Rattle.std.proofs.Common.{◌==◌, Bool, true, false}
 use Rattle.std.specs.Option.{option_map}
 use Rattle.std.proofs.lemmas.Bool.{cases_lt}
 use Rattle.dmf_path.specs.declared.pair.Pair.{Pair}
@@ -43,11 +43,13 @@ left-here : (arc : Arc) (first flow : ℕ) (loop : Bool) → (arc.tail == arc.he
 left-here arc first flow true e within = rw e refl
 left-here arc first flow false e within = rw e (omega (arith, within))
 
-pub left-along : (arcs : List Arc) (firsts flows : List ℕ) (k : ℕ) → AreWithinCapacities arcs flows → length firsts ≡ length arcs → k < length firsts
-    → flow_left (get_or arcs k no_arc) (get_or firsts k 0) (along_at (residual_pairs arcs flows) k) ≡ get_or
-    (flows_read Against firsts (residual_pairs arcs flows)) k 0
-left-along [] firsts flows k within long h = absurd (omega (arith, long, h))
-left-along (arc ∷ arcs) [] flows k within long h = absurd (omega (arith, h))
-left-along (arc ∷ arcs) (first ∷ firsts) [] k within long h = absurd within
-left-along (arc ∷ arcs) (first ∷ firsts) (flow ∷ flows) zero within long h = left-here arc first flow (arc.tail == arc.head) refl within.0
-left-along (arc ∷ arcs) (first ∷ firsts) (flow ∷ flows) (suc k) within long h = left-along arcs firsts flows k within.1 (omega (arith, long)) (omega (arith, h))
+pub left-along : (arcs : List Arc) (firsts flows : List ℕ) (rest : List (Option Pair)) (k : ℕ) → AreWithinCapacities arcs flows
+    → length firsts ≡ length arcs → k < length firsts
+    → flow_left (get_or arcs k no_arc) (get_or firsts k 0) (along_at (residual_pairs arcs flows ++ rest) k) ≡ get_or
+    (flows_read Against firsts (residual_pairs arcs flows ++ rest)) k 0
+left-along [] firsts flows rest k within long h = absurd (omega (arith, long, h))
+left-along (arc ∷ arcs) [] flows rest k within long h = absurd (omega (arith, h))
+left-along (arc ∷ arcs) (first ∷ firsts) [] rest k within long h = absurd within
+left-along (arc ∷ arcs) (first ∷ firsts) (flow ∷ flows) rest zero within long h = left-here arc first flow (arc.tail == arc.head) refl within.0
+left-along (arc ∷ arcs) (first ∷ firsts) (flow ∷ flows) rest (suc k) within long h =
+    left-along arcs firsts flows rest k within.1 (omega (arith, long)) (omega (arith, h))

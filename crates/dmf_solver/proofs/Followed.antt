@@ -1,7 +1,8 @@
 -- What becomes of the residual pairs where flows and capacities of arcs change.
-use Rattle.std.proofs.Common.{ℕ, ◌≡◌, ◌+◌, ◌-◌, ◌<◌, ◌≤◌, ◌==◌, Bool, true, false, List, [], ◌∷◌, length, get_or, set, drop, zero, suc, refl, ap, sym, ◌∙◌}
-use Rattle.std.proofs.Common.{subst, arith, Option, Some, None, length-set, Vec, Global}
+use Rattle.std.proofs.Common.{ℕ, ◌≡◌, ◌+◌, ◌-◌, ◌<◌, ◌≤◌, ◌==◌, Bool, true, false, List, [], ◌∷◌, ◌++◌, length, get_or, set, drop, zero, suc, refl, ap}
+use Rattle.std.proofs.Common.{sym, ◌∙◌, subst, arith, Option, Some, None, length-set, Vec, Global}
 use Rattle.std.specs.Option.{option_map}
+use Rattle.std.proofs.lemmas.List.{length_push}
 use Rattle.std.proofs.lemmas.Option.{slice_get_within}
 use Rattle.std.proofs.Math.ListN.{drop_of_length-le}
 use Rattle.std.proofs.Math.Seq.{drop-cons}
@@ -20,13 +21,13 @@ use Rattle.dmf_state.specs.Edit.{applied, moved, moves_of, numbers, with_closed,
 use Rattle.dmf_state.specs.Network.{Network, arc_number, with_arc}
 use Rattle.dmf_state.specs.NetworkState.{NetworkState}
 use Rattle.dmf_solver.specs.Pairs.{recapped, with_capacity}
-use Rattle.dmf_solver.specs.ResidualNetwork.{residual_pair, residual_pairs, residual_search}
+use Rattle.dmf_solver.specs.ResidualNetwork.{residual_pair, residual_pairs, closed_return, network_pairs, residual_search}
 use Rattle.dmf_state.specs.Revert.{with_opened}
 use Rattle.dmf_state.proofs.ChangedArc.{has_arc-within}
 use Rattle.dmf_state.proofs.ClosedArcs.{HasArcs-open, HasArcs}
 use Rattle.dmf_state.proofs.ClosedTogether.{HasArcs-long, length-closed}
 use Rattle.dmf_state.proofs.Moving.{no_move, MovesFit-made}
-use Rattle.dmf_solver.proofs.ResidualSearch.{length-pairs_each}
+use Rattle.dmf_solver.proofs.NetworkPairs.{length-network_pairs}
 use Rattle.dmf_state.proofs.Reverting.{fit-back}
 
 -- ---- moves
@@ -69,20 +70,20 @@ flow-pair : (arc : Arc) (first flow : ℕ) (loop : Bool) → (arc.tail == arc.he
 flow-pair arc first flow true e = rw e refl
 flow-pair arc first flow false e = rw e refl
 
-flow-pairs : (arcs : List Arc) (flows : List ℕ) (k flow : ℕ) → k < length arcs
-    → residual_pairs arcs (set flows k flow) ≡ with_rooms (residual_pairs arcs flows) k ((get_or arcs k no_arc).cap - flow) flow
-flow-pairs [] flows k flow h = absurd (omega (arith, h))
-flow-pairs (arc ∷ arcs) [] k flow h = refl
-flow-pairs (arc ∷ arcs) (first ∷ flows) zero flow h = ap (λ (p : Option Pair). p ∷ residual_pairs arcs flows)
+flow-pairs : (arcs : List Arc) (flows : List ℕ) (rest : List (Option Pair)) (k flow : ℕ) → length flows ≡ length arcs → k < length arcs
+    → residual_pairs arcs (set flows k flow) ++ rest ≡ with_rooms (residual_pairs arcs flows ++ rest) k ((get_or arcs k no_arc).cap - flow) flow
+flow-pairs [] flows rest k flow same h = absurd (omega (arith, h))
+flow-pairs (arc ∷ arcs) [] rest k flow same h = absurd (omega (arith, same))
+flow-pairs (arc ∷ arcs) (first ∷ flows) rest zero flow same h = ap (λ (p : Option Pair). p ∷ (residual_pairs arcs flows ++ rest))
     (flow-pair arc first flow (arc.tail == arc.head) refl)
-flow-pairs (arc ∷ arcs) (first ∷ flows) (suc k) flow h = ap (λ (ps : List (Option Pair)). residual_pair arc first ∷ ps)
-    (flow-pairs arcs flows k flow (omega (arith, h)))
+flow-pairs (arc ∷ arcs) (first ∷ flows) rest (suc k) flow same h = ap (λ (ps : List (Option Pair)). residual_pair arc first ∷ ps)
+    (flow-pairs arcs flows rest k flow (omega (arith, same)) (omega (arith, h)))
 
 -- Another flow on one arc gives the links of its pair other rooms.
-pub flow-followed : (n : Network) (flows : List ℕ) (k flow : ℕ) → k < length n.arcs
+pub flow-followed : (n : Network) (flows : List ℕ) (k flow : ℕ) → length flows ≡ length n.arcs → k < length n.arcs
     → residual_search n (set flows k flow) ≡ with_pairs (residual_search n flows)
-    (with_rooms (residual_pairs n.arcs flows) k ((get_or n.arcs k no_arc).cap - flow) flow)
-flow-followed n flows k flow h = ap (with_pairs (residual_search n flows)) (flow-pairs n.arcs flows k flow h)
+    (with_rooms (network_pairs n flows) k ((get_or n.arcs k no_arc).cap - flow) flow)
+flow-followed n flows k flow same h = ap (with_pairs (residual_search n flows)) (flow-pairs n.arcs flows (closed_return n ∷ []) k flow same h)
 
 -- ---- one capacity
 
@@ -91,28 +92,32 @@ cap-pair : (old arc : Arc) (flow : ℕ) (loop : Bool) → (old.tail == old.head)
 cap-pair old arc flow true e tail head = rw (tail, head, e) refl
 cap-pair old arc flow false e tail head = rw (tail, head, e) refl
 
-cap-pairs : (arcs : List Arc) (flows : List ℕ) (k : ℕ) (arc : Arc) → k < length arcs → arc.tail ≡ (get_or arcs k no_arc).tail
-    → arc.head ≡ (get_or arcs k no_arc).head → residual_pairs (set arcs k arc) flows ≡ with_capacity (residual_pairs arcs flows) k arc.cap
-cap-pairs [] flows k arc h tail head = absurd (omega (arith, h))
-cap-pairs (old ∷ arcs) [] zero arc h tail head = refl
-cap-pairs (old ∷ arcs) [] (suc k) arc h tail head = refl
-cap-pairs (old ∷ arcs) (flow ∷ flows) zero arc h tail head = ap (λ (p : Option Pair). p ∷ residual_pairs arcs flows)
+cap-pairs : (arcs : List Arc) (flows : List ℕ) (rest : List (Option Pair)) (k : ℕ) (arc : Arc) → k < length (residual_pairs arcs flows)
+    → arc.tail ≡ (get_or arcs k no_arc).tail → arc.head ≡ (get_or arcs k no_arc).head
+    → residual_pairs (set arcs k arc) flows ++ rest ≡ with_capacity (residual_pairs arcs flows ++ rest) k arc.cap
+cap-pairs [] flows rest k arc h tail head = absurd (omega (arith, h))
+cap-pairs (old ∷ arcs) [] rest k arc h tail head = absurd (omega (arith, h))
+cap-pairs (old ∷ arcs) (flow ∷ flows) rest zero arc h tail head = ap (λ (p : Option Pair). p ∷ (residual_pairs arcs flows ++ rest))
     (cap-pair old arc flow (old.tail == old.head) refl tail head)
-cap-pairs (old ∷ arcs) (flow ∷ flows) (suc k) arc h tail head = ap (λ (ps : List (Option Pair)). residual_pair old flow ∷ ps)
-    (cap-pairs arcs flows k arc (omega (arith, h)) tail head)
+cap-pairs (old ∷ arcs) (flow ∷ flows) rest (suc k) arc h tail head = ap (λ (ps : List (Option Pair)). residual_pair old flow ∷ ps)
+    (cap-pairs arcs flows rest k arc (omega (arith, h)) tail head)
 
 -- Another capacity of one arc gives the link along its pair another room.
-pub cap-followed : (n : Network) (flows : List ℕ) (j : ℕ) (arc : Arc) → j - 1 < length n.arcs → arc.tail ≡ (arc_number n j).tail
+cap-followed : (n : Network) (flows : List ℕ) (j : ℕ) (arc : Arc) → j - 1 < length (residual_pairs n.arcs flows) → arc.tail ≡ (arc_number n j).tail
     → arc.head ≡ (arc_number n j).head
-    → residual_search (with_arc n j arc) flows ≡ with_pairs (residual_search n flows) (with_capacity (residual_pairs n.arcs flows) (j - 1) arc.cap)
-cap-followed n flows j arc h tail head = ap (with_pairs (residual_search n flows)) (cap-pairs n.arcs flows (j - 1) arc h tail head)
+    → residual_search (with_arc n j arc) flows ≡ with_pairs (residual_search n flows) (with_capacity (network_pairs n flows) (j - 1) arc.cap)
+cap-followed n flows j arc h tail head =
+    ap (with_pairs (residual_search n flows)) (cap-pairs n.arcs flows (closed_return n ∷ []) (j - 1) arc h tail head)
 
 -- The same, of a search that is the residual one.
-pub cap-search : (n : Network) (flows : List ℕ) (j : ℕ) (arc : Arc) (old new : Searched) → j - 1 < length n.arcs → arc.tail ≡ (arc_number n j).tail
-    → arc.head ≡ (arc_number n j).head
+cap-search : (n : Network) (flows : List ℕ) (j : ℕ) (arc : Arc) (old new : Searched) → length old.pairs ≡ length n.arcs + 1 → j - 1 < length n.arcs
+    → arc.tail ≡ (arc_number n j).tail → arc.head ≡ (arc_number n j).head
     → new ≡ with_pairs old (with_capacity old.pairs (j - 1) arc.cap) → old ≡ residual_search n flows → new ≡ residual_search (with_arc n j arc) flows
-cap-search n flows j arc old new h tail head put is =
-    put ∙ ap (λ (o : Searched). with_pairs o (with_capacity o.pairs (j - 1) arc.cap)) is ∙ sym (cap-followed n flows j arc h tail head)
+cap-search n flows j arc old new long h tail head put is =
+    let pairs : length old.pairs ≡ length (network_pairs n flows) = ap (λ (o : Searched). length o.pairs) is in
+    let within : j - 1 < length (residual_pairs n.arcs flows) =
+    omega (arith, h, long, pairs, length_push (residual_pairs n.arcs flows) (closed_return n)) in
+    put ∙ ap (λ (o : Searched). with_pairs o (with_capacity o.pairs (j - 1) arc.cap)) is ∙ sym (cap-followed n flows j arc within tail head)
 
 -- There are as many pairs as before.
 pub length-with_capacity : (pairs : List (Option Pair)) (k cap : ℕ) → length (with_capacity pairs k cap) ≡ length pairs
@@ -141,10 +146,10 @@ pub record AreFollowed (n : Network) (moves : List Move) (last : List ℕ) (i : 
   pub one_each : length flows ≡ length n.arcs
   pub is : search ≡ residual_search n flows
 
--- there is a pair for each arc
+-- there is a pair for each arc, and one more
 pub long-followed : (n : Network) (moves : List Move) (last : List ℕ) (i : ℕ) (search : Searched) → AreFollowed n moves last i search
-    → length search.pairs ≡ length n.arcs
-long-followed n moves last i search are = ap (λ (o : Searched). length o.pairs) are.is ∙ length-pairs_each n.arcs are.flows are.one_each ∙ are.one_each
+    → length search.pairs ≡ length n.arcs + 1
+long-followed n moves last i search are = ap (λ (o : Searched). length o.pairs) are.is ∙ length-network_pairs n are.flows are.one_each
 
 -- the arc of the next one is there
 pub move-within : (n : Network) (moves : List Move) (last : List ℕ) (i : ℕ) (m : Move) (search : Searched) → i < length moves → get_or moves i no_move ≡ m
@@ -168,7 +173,7 @@ followed-next n moves last i m old new h same are is =
       put = subst (λ (x : Move). ArePut moves last (i + 1) (set are.flows (x.arc - 1) x.to)) same (put-more moves last i are.flows h are.put);
       one_each = length-set are.flows k m.to ∙ are.one_each;
       is = is ∙ ap (λ (o : Searched). with_pairs o (with_rooms o.pairs k ((get_or n.arcs k no_arc).cap - m.to) m.to)) are.is ∙ sym
-          (flow-followed n are.flows k m.to within);
+          (flow-followed n are.flows k m.to are.one_each within);
     }
 
 -- and in the end all are.
@@ -179,22 +184,22 @@ followed-all n moves last i search long are = are.is ∙ ap (residual_search n) 
 -- ---- one capacity, made or taken back
 
 pub cap-along : (d : Direction) (s : NetworkState) (flows : List ℕ) (j old new : ℕ) (moves : Vec Move Global) (search after : Searched)
-    → j - 1 < length s.network.arcs
+    → length search.pairs ≡ length s.network.arcs + 1 → j - 1 < length s.network.arcs
     → after ≡ with_pairs search (with_capacity search.pairs (j - 1) (cap_along d old new)) → search ≡ residual_search s.network flows
     → after ≡ residual_search (edited_along d (Cap j old new moves) s).network flows
-cap-along Forward s flows j old new moves search after h put is = cap-search s.network flows j
-    (with_cap new (arc_number s.network j)) search after h refl refl put is
-cap-along Back s flows j old new moves search after h put is = cap-search s.network flows j
-    (open_arc (arc_number s.network j).tail (arc_number s.network j).head old) search after h refl refl put is
+cap-along Forward s flows j old new moves search after long h put is = cap-search s.network flows j
+    (with_cap new (arc_number s.network j)) search after long h refl refl put is
+cap-along Back s flows j old new moves search after long h put is = cap-search s.network flows j
+    (open_arc (arc_number s.network j).tail (arc_number s.network j).head old) search after long h refl refl put is
 
 pub close-along : (d : Direction) (s : NetworkState) (flows : List ℕ) (j old : ℕ) (moves : Vec Move Global) (search after : Searched)
-    → j - 1 < length s.network.arcs
+    → length search.pairs ≡ length s.network.arcs + 1 → j - 1 < length s.network.arcs
     → after ≡ with_pairs search (with_capacity search.pairs (j - 1) (cap_along d old 0)) → search ≡ residual_search s.network flows
     → after ≡ residual_search (edited_along d (Close j old moves) s).network flows
-close-along Forward s flows j old moves search after h put is = cap-search s.network flows j
-    (closed_arc (arc_number s.network j)) search after h refl refl put is
-close-along Back s flows j old moves search after h put is = cap-search s.network flows j
-    (open_arc (arc_number s.network j).tail (arc_number s.network j).head old) search after h refl refl put is
+close-along Forward s flows j old moves search after long h put is = cap-search s.network flows j
+    (closed_arc (arc_number s.network j)) search after long h refl refl put is
+close-along Back s flows j old moves search after long h put is = cap-search s.network flows j
+    (open_arc (arc_number s.network j).tail (arc_number s.network j).head old) search after long h refl refl put is
 
 -- ---- arcs closed in turn, or opened again
 
@@ -222,7 +227,7 @@ pub record AreShutUpTo (d : Direction) (n last : Network) (rest : List Shutting)
   pub now : Network
   pub has : HasArcs now (numbers rest)
   pub leads : shut_along d rest now ≡ last
-  pub one_each : length search.pairs ≡ length now.arcs
+  pub one_each : length search.pairs ≡ length now.arcs + 1
   pub is : (flows : List ℕ) → old ≡ residual_search n flows → search ≡ residual_search now flows
 
 pub shut-next : (d : Direction) (n last : Network) (a : Shutting) (rest all : List Shutting) (old search new : Searched) → all ≡ a ∷ rest
@@ -237,8 +242,12 @@ shut-next d n last a rest all old search new split up_to put =
       now = with_arc up.now a.arc arc;
       has = HasArcs-long up.now (with_arc up.now a.arc arc) (numbers rest) long up.has.1;
       leads = shut-first d a rest up.now ∙ up.leads;
-      one_each = ap (λ (o : Searched). length o.pairs) put ∙ length-with_capacity search.pairs (a.arc - 1) (cap_along d a.old 0) ∙ up.one_each ∙ sym long;
-      is = λ flows same. cap-search up.now flows a.arc arc search new at.1 refl refl put (up.is flows same);
+      one_each =
+          ap (λ (o : Searched). length o.pairs) put
+          ∙ length-with_capacity search.pairs (a.arc - 1) (cap_along d a.old 0)
+          ∙ up.one_each
+          ∙ ap (λ count. count + 1) (sym long);
+      is = λ flows same. cap-search up.now flows a.arc arc search new up.one_each at.1 refl refl put (up.is flows same);
     }
 
 -- ---- edits

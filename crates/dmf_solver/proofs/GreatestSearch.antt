@@ -9,11 +9,11 @@ use Rattle.dmf_path.specs.Search.{Searched, Augments}
 use Rattle.dmf_path.proofs.Loops.{least-without_loops, no_path-without_loops}
 use Rattle.dmf_solver.specs.Greatest.{IsGreatest, IsSurpassed}
 use Rattle.dmf_state.specs.NetworkState.{NetworkState, IsState}
-use Rattle.dmf_solver.specs.ResidualNetwork.{residual_pairs, residual_search}
+use Rattle.dmf_solver.specs.ResidualNetwork.{network_pairs, residual_search}
 use Rattle.dmf_solver.specs.Residual.{residual_steps}
 use Rattle.dmf_solver.proofs.GreatestFlow.{greatest-from_no_path}
 use Rattle.dmf_solver.proofs.LargerFlow.{surpassed, not-surpassed}
-use Rattle.dmf_solver.proofs.ResidualPairs.{residual-without_loops}
+use Rattle.dmf_solver.proofs.NetworkPairs.{network-without_loops}
 
 -- The answer is yes where the flow is greatest, and no where it is surpassed.
 pub record IsAnswer (s : NetworkState) (answer : Bool) : Type 0 where
@@ -36,10 +36,10 @@ pub found-answers : (s : NetworkState) (limit : ℕ) (found : Option AugmentingP
 found-answers s limit None old new answer state is told e =
     let yes = yes-of answer e in
     let n = s.network in
-    let without = residual-without_loops n.arcs s.flows in
+    let without = network-without_loops n s.flows in
     let left = subst (λ (o : Searched). HasNoPath (steps_of o.pairs) o.start o.goal) is told.0 in
     let greatest = greatest-from_no_path n s.flows state.network state.flow
-    (no_path-without_loops (residual_steps n.arcs s.flows) (steps_of (residual_pairs n.arcs s.flows)) n.source n.sink without left) in
+    (no_path-without_loops (residual_steps n.arcs s.flows) (steps_of (network_pairs n s.flows)) n.source n.sink without left) in
     record {
       yes = (λ told. greatest, λ is. yes);
       no = (λ told. absurd (let wrong : ⊥ = cc in wrong), λ larger. absurd (not-surpassed n s.flows greatest larger));
@@ -47,9 +47,9 @@ found-answers s limit None old new answer state is told e =
 found-answers s limit (Some found) old new answer state is told e =
     let no = no-of answer e in
     let n = s.network in
-    let without = residual-without_loops n.arcs s.flows in
+    let without = network-without_loops n s.flows in
     let push = subst (λ o. Augments limit found o new) is told in
-    let least = least-without_loops (residual_steps n.arcs s.flows) (steps_of (residual_pairs n.arcs s.flows)) n.source n.sink push.path without push.least in
+    let least = least-without_loops (residual_steps n.arcs s.flows) (steps_of (network_pairs n s.flows)) n.source n.sink push.path without push.least in
     let larger = surpassed n s.flows push.path state.network state.flow least in
     record {
       yes = (λ told. absurd (let wrong : ⊥ = cc in wrong), λ greatest. absurd (not-surpassed n s.flows greatest larger));

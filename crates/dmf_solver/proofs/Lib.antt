@@ -20,7 +20,7 @@ pub mod GreatestFlow
 pub mod GreatestSearch
 pub mod SomeSide
 pub mod ResidualPairs
-pub mod ResidualSearch
+pub mod NetworkPairs
 pub mod SmallestSide
 pub mod RoomLeaving
 pub mod FlowsRead
@@ -29,9 +29,11 @@ pub mod SolvedEdit
 pub mod Followed
 pub mod LoweredValue
 pub mod CarryingPairs
+pub mod CarryingFollowed
 pub mod LoweredPairs
 pub mod DrainingSearch
 pub mod DrainedInTurn
 pub mod ClosedInTurn
+pub mod DrainedEdits
 pub mod UnpairedLoop
-mod Unpassed
+mod Untouched

@@ -14,12 +14,10 @@ use Rattle.dmf_state.specs.declared.arc.Arc.{Arc}
 use Rattle.dmf_state.specs.Network.{Network, IsNetwork, arc_number, has_arc}
 use Rattle.dmf_state.specs.Flow.{flow_on, IsFlow}
 use Rattle.dmf_solver.specs.Drain.{value_or_zero, carrying_steps, lowered_from, lowered}
-use Rattle.dmf_solver.specs.Pairs.{AreNoMore, carrying_pair, carrying_from, return_pair, carrying_pairs}
-use Rattle.dmf_solver.proofs.CarryingPairs.{is_idle}
+use Rattle.dmf_solver.specs.CarryingNetwork.{carrying_pair, carrying_from, return_pair, carrying_pairs}
 use Rattle.dmf_state.proofs.ChangedArc.{has_arc-within}
-use Rattle.dmf_solver.proofs.Draining.{no_more-in_turn}
 use Rattle.dmf_solver.proofs.LoweredValue.{value_or_zero-lowered}
-use Rattle.dmf_solver.proofs.Lowering.{HaveOwnRanks, HaveOwnRanks-least, lowered-no_more}
+use Rattle.dmf_solver.proofs.Lowering.{HaveOwnRanks, HaveOwnRanks-least}
 
 -- a pair with other rooms
 pair-rooms : (tail head a b c d : ℕ) → a ≡ c → b ≡ d → ◌≡◌ {A = Option Pair} (Some (record { tail = tail; head = head; along = a; against = b }))
@@ -27,61 +25,58 @@ pair-rooms : (tail head a b c d : ℕ) → a ≡ c → b ≡ d → ◌≡◌ {A 
 pair-rooms tail head a b c d first second = λ i. Some (record { tail = tail; head = head; along = first i; against = second i })
 
 -- The pair of an arc whose flow is less where the path has its step is the arc's pair, pushed.
-pair-pushed : (amount j : ℕ) (path : List Step) (arc : Arc) (first flow : ℕ) (idle : Bool) → is_idle arc first ≡ idle
-    → carrying_pair arc first (flow - cond (has_rank path (2 * j)) amount 0) ≡ pushed_pair false j amount path (carrying_pair arc first flow)
-pair-pushed amount j path arc first flow true e = rw e refl
-pair-pushed amount j path arc first flow false e = rw e (pair-rooms arc.tail arc.head _ _ _ _ (omega arith) (omega arith))
+pair-pushed : (amount j : ℕ) (path : List Step) (arc : Arc) (flow : ℕ) (loop : Bool) → (arc.tail == arc.head) ≡ loop
+    → carrying_pair arc (flow - cond (has_rank path (2 * j)) amount 0) ≡ pushed_pair false j amount path (carrying_pair arc flow)
+pair-pushed amount j path arc flow true e = rw e refl
+pair-pushed amount j path arc flow false e = rw e (pair-rooms arc.tail arc.head _ _ _ _ (omega arith) (omega arith))
 
 -- The pair of an arc whose flow is less, while the path has not its step, is the arc's pair, pushed and lowered.
-pair-lowered : (amount j : ℕ) (path : List Step) (arc : Arc) (first flow : ℕ) (idle : Bool) → is_idle arc first ≡ idle → has_rank path (2 * j) ≡ false
-    → carrying_pair arc first (flow - amount) ≡ option_map (lowered_pair amount) (pushed_pair false j amount path (carrying_pair arc first flow))
-pair-lowered amount j path arc first flow true e none = rw e refl
-pair-lowered amount j path arc first flow false e none = rw (e, none) (pair-rooms arc.tail arc.head _ _ _ _ (omega arith) (omega arith))
+pair-lowered : (amount j : ℕ) (path : List Step) (arc : Arc) (flow : ℕ) (loop : Bool) → (arc.tail == arc.head) ≡ loop → has_rank path (2 * j) ≡ false
+    → carrying_pair arc (flow - amount) ≡ option_map (lowered_pair amount) (pushed_pair false j amount path (carrying_pair arc flow))
+pair-lowered amount j path arc flow true e none = rw e refl
+pair-lowered amount j path arc flow false e none = rw (e, none) (pair-rooms arc.tail arc.head _ _ _ _ (omega arith) (omega arith))
 
 -- The pair of the return link carries less where the path has it.
-return-pushed : (amount : ℕ) (path : List Step) (n : Network) (firsts flows now : List ℕ) (idle : Bool) → (value_or_zero n firsts == 0) ≡ idle
+return-pushed : (amount : ℕ) (path : List Step) (n : Network) (flows now : List ℕ)
     → value_or_zero n now ≡ value_or_zero n flows - cond (has_rank path (2 * length n.arcs + 2)) amount 0
-    → return_pair n firsts now ≡ pushed_pair false (1 + length n.arcs) amount path (return_pair n firsts flows)
-return-pushed amount path n firsts flows now true e less = rw e refl
-return-pushed amount path n firsts flows now false e less =
+    → return_pair n now ≡ pushed_pair false (1 + length n.arcs) amount path (return_pair n flows)
+return-pushed amount path n flows now less =
     let rank : 2 * (1 + length n.arcs) ≡ 2 * length n.arcs + 2 = omega arith in
-    rw (e, less, rank) (pair-rooms n.sink n.source _ _ _ _ (omega arith) (omega arith))
+    rw (less, rank) (pair-rooms n.sink n.source _ _ _ _ (omega arith) (omega arith))
 
 -- The pairs behind that of arc number `j` are pushed.
-pairs-behind : (amount i j : ℕ) (path : List Step) (arcs : List Arc) (firsts flows : List ℕ) (last now : Option Pair) → j < i → length firsts ≡ length arcs
-    → length flows ≡ length arcs → now ≡ pushed_pair false (i + length arcs) amount path last →
-    carrying_from arcs firsts (lowered_from i j amount path flows) ++ now ∷ [] ≡ pushed_from false i amount path (carrying_from arcs firsts flows ++ last ∷ [])
-pairs-behind amount i j path [] firsts flows last now behind long same is =
+pairs-behind : (amount i j : ℕ) (path : List Step) (arcs : List Arc) (flows : List ℕ) (last now : Option Pair) → j < i → length flows ≡ length arcs
+    → now ≡ pushed_pair false (i + length arcs) amount path last →
+    carrying_from arcs (lowered_from i j amount path flows) ++ now ∷ [] ≡ pushed_from false i amount path (carrying_from arcs flows ++ last ∷ [])
+pairs-behind amount i j path [] flows last now behind same is =
     ap (λ p. p ∷ []) (is ∙ ap (λ m. pushed_pair false m amount path last) (add-zero i))
-pairs-behind amount i j path (arc ∷ arcs) [] flows last now behind long same is = absurd (omega (arith, long))
-pairs-behind amount i j path (arc ∷ arcs) (first ∷ firsts) [] last now behind long same is = absurd (omega (arith, same))
-pairs-behind amount i j path (arc ∷ arcs) (first ∷ firsts) (flow ∷ flows) last now behind long same is =
+pairs-behind amount i j path (arc ∷ arcs) [] last now behind same is = absurd (omega (arith, same))
+pairs-behind amount i j path (arc ∷ arcs) (flow ∷ flows) last now behind same is =
     let place : i + length (arc ∷ arcs) ≡ i + 1 + length arcs = omega arith in
-    let own = pair-pushed amount i path arc first flow (is_idle arc first) refl in
-    let rest = pairs-behind amount (i + 1) j path arcs firsts flows last now (omega (arith, behind)) (omega (arith, long)) (omega (arith, same))
+    let own = pair-pushed amount i path arc flow (arc.tail == arc.head) refl in
+    let rest = pairs-behind amount (i + 1) j path arcs flows last now (omega (arith, behind)) (omega (arith, same))
     (is ∙ ap (λ m. pushed_pair false m amount path last) place) in
     rw (ne_eqb i j (omega (arith, behind))) (λ t. own t ∷ rest t)
 
 -- The pairs are pushed, and that of arc number `j` lowered.
-pairs-lowered : (amount i j k : ℕ) (path : List Step) (arcs : List Arc) (firsts flows : List ℕ) (last now : Option Pair) → j ≡ i + k → k < length arcs
-    → has_rank path (2 * j) ≡ false → length firsts ≡ length arcs → length flows ≡ length arcs → now ≡ pushed_pair false (i + length arcs) amount path last →
-    carrying_from arcs firsts (lowered_from i j amount path flows) ++ now ∷ [] ≡ lowered_along
-    (pushed_from false i amount path (carrying_from arcs firsts flows ++ last ∷ [])) k amount
-pairs-lowered amount i j k path [] firsts flows last now at within none long same is = absurd (omega (arith, within))
-pairs-lowered amount i j k path (arc ∷ arcs) [] flows last now at within none long same is = absurd (omega (arith, long))
-pairs-lowered amount i j k path (arc ∷ arcs) (first ∷ firsts) [] last now at within none long same is = absurd (omega (arith, same))
-pairs-lowered amount i j zero path (arc ∷ arcs) (first ∷ firsts) (flow ∷ flows) last now at within none long same is =
+pairs-lowered : (amount i j k : ℕ) (path : List Step) (arcs : List Arc) (flows : List ℕ) (last now : Option Pair) → j ≡ i + k → k < length arcs
+    → has_rank path (2 * j) ≡ false → length flows ≡ length arcs → now ≡ pushed_pair false (i + length arcs) amount path last →
+    carrying_from arcs (lowered_from i j amount path flows) ++ now ∷ [] ≡ lowered_along
+    (pushed_from false i amount path (carrying_from arcs flows ++ last ∷ [])) k amount
+pairs-lowered amount i j k path [] flows last now at within none same is = absurd (omega (arith, within))
+pairs-lowered amount i j k path (arc ∷ arcs) [] last now at within none same is = absurd (omega (arith, same))
+pairs-lowered amount i j zero path (arc ∷ arcs) (flow ∷ flows) last now at within none same is =
     let here : i ≡ j = omega (arith, at) in
     let place : i + length (arc ∷ arcs) ≡ i + 1 + length arcs = omega arith in
-    let own = pair-lowered amount i path arc first flow (is_idle arc first) refl (ap (λ m. has_rank path (2 * m)) here ∙ none) in
-    let rest = pairs-behind amount (i + 1) j path arcs firsts flows last now (omega (arith, here)) (omega (arith, long)) (omega (arith, same))
+    let own = pair-lowered amount i path arc flow (arc.tail == arc.head) refl (ap (λ m. has_rank path (2 * m)) here ∙ none) in
+    let rest = pairs-behind amount (i + 1) j path arcs flows last now (omega (arith, here)) (omega (arith, same))
     (is ∙ ap (λ m. pushed_pair false m amount path last) place) in
     rw (eq-eqb i j here) (λ t. own t ∷ rest t)
-pairs-lowered amount i j (suc k) path (arc ∷ arcs) (first ∷ firsts) (flow ∷ flows) last now at within none long same is =
+pairs-lowered amount i j (suc k) path (arc ∷ arcs) (flow ∷ flows) last now at within none same is =
     let place : i + length (arc ∷ arcs) ≡ i + 1 + length arcs = omega arith in
-    let own = pair-pushed amount i path arc first flow (is_idle arc first) refl in
-    let rest = pairs-lowered amount (i + 1) j k path arcs firsts flows last now (omega (arith, at)) (omega (arith, within)) none (omega (arith, long))
-    (omega (arith, same)) (is ∙ ap (λ m. pushed_pair false m amount path last) place) in
+    let own = pair-pushed amount i path arc flow (arc.tail == arc.head) refl in
+    let rest = pairs-lowered amount (i + 1) j k path arcs flows last now (omega (arith, at)) (omega (arith, within)) none (omega (arith, same))
+    (is ∙ ap (λ m. pushed_pair false m amount path last) place) in
     rw (ne_eqb i j (omega (arith, at))) (λ t. own t ∷ rest t)
 
 -- a path whose ranks are its own has not the rank of arc number `j`
@@ -90,26 +85,16 @@ other-rank j [] own = refl
 other-rank j (s ∷ path) own = rw (ne_eqb s.rank (2 * j) own.0) (other-rank j path own.2)
 
 -- The pairs of the lowered flows are the pairs of the flows, pushed along the path and lowered at the arc.
-pub carrying_pairs-lowered : (n : Network) (firsts flows : List ℕ) (j limit : ℕ) (path : List Step) → AreNoMore n firsts flows → limit < flow_on flows j
+pub carrying_pairs-lowered : (n : Network) (flows : List ℕ) (j limit : ℕ) (path : List Step) → limit < flow_on flows j
     → has_arc n j ≡ true → IsNetwork n → IsFlow n flows → IsLeastPath (carrying_steps n flows) (arc_number n j).head (arc_number n j).tail path →
-    carrying_pairs n firsts (lowered j limit path flows) ≡ lowered_along
-    (pushed_pairs false (bottleneck_up_to (flow_on flows j - limit) path) path (carrying_pairs n firsts flows)) (j - 1)
+    carrying_pairs n (lowered j limit path flows) ≡ lowered_along
+    (pushed_pairs false (bottleneck_up_to (flow_on flows j - limit) path) path (carrying_pairs n flows)) (j - 1)
     (bottleneck_up_to (flow_on flows j - limit) path)
-carrying_pairs-lowered n firsts flows j limit path less above has network flow least =
+carrying_pairs-lowered n flows j limit path above has network flow least =
     let at = has_arc-within n j has in
     let own = HaveOwnRanks-least n j flows path has network (omega (arith, above)) least in
-    pairs-lowered (bottleneck_up_to (flow_on flows j - limit) path) 1 j (j - 1) path n.arcs firsts flows (return_pair n firsts flows)
-    (return_pair n firsts (lowered j limit path flows))
-    (omega (arith, at.0)) at.1 (other-rank j path own) less.one_each (AllZip-long _ n.arcs flows flow.within)
-    (return-pushed (bottleneck_up_to (flow_on flows j - limit) path) path n firsts flows (lowered j limit path flows) (value_or_zero n firsts == 0) refl
+    pairs-lowered (bottleneck_up_to (flow_on flows j - limit) path) 1 j (j - 1) path n.arcs flows (return_pair n flows)
+    (return_pair n (lowered j limit path flows))
+    (omega (arith, at.0)) at.1 (other-rank j path own) (AllZip-long _ n.arcs flows flow.within)
+    (return-pushed (bottleneck_up_to (flow_on flows j - limit) path) path n flows (lowered j limit path flows)
     (value_or_zero-lowered n j limit flows path above has network flow least))
-
--- No flow is more than it was at first then, nor is what the sink receives.
-pub no_more-lowered : (n : Network) (firsts flows : List ℕ) (j limit : ℕ) (path : List Step) → AreNoMore n firsts flows → limit < flow_on flows j
-    → has_arc n j ≡ true → IsNetwork n → IsFlow n flows → IsLeastPath (carrying_steps n flows) (arc_number n j).head (arc_number n j).tail path
-    → AreNoMore n firsts (lowered j limit path flows)
-no_more-lowered n firsts flows j limit path less above has network flow least = record {
-  one_each = less.one_each;
-  no_more = no_more-in_turn firsts flows (lowered j limit path flows) less.no_more (lowered-no_more j limit path flows);
-  at_sink = omega (arith, less.at_sink, value_or_zero-lowered n j limit flows path above has network flow least);
-}

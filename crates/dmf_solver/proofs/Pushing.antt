@@ -33,7 +33,7 @@ pub data CanPush (amount : ℕ) (arcs : List Arc) (flows : List ℕ) (s : Step) 
   against : (k : ℕ) → LeadsAgainst 1 arcs k s → amount ≤ get_or flows k 0 → CanPush amount arcs flows s
 
 -- At a step along its arc, that arc's flow grows.
-pub pushed-along : (amount : ℕ) (arcs : List Arc) (flows : List ℕ) (s : Step) (k : ℕ) → LeadsAlong 1 arcs k s
+pushed-along : (amount : ℕ) (arcs : List Arc) (flows : List ℕ) (s : Step) (k : ℕ) → LeadsAlong 1 arcs k s
     → pushed_once amount s flows ≡ set flows k (get_or flows k 0 + amount)
 pushed-along amount arcs flows s k leads =
     let index : arc_index s ≡ k = omega (arith, leads.rank_is) in
@@ -41,12 +41,17 @@ pushed-along amount arcs flows s k leads =
     rw (index, even) refl
 
 -- At a step against its arc, it falls.
-pub pushed-against : (amount : ℕ) (arcs : List Arc) (flows : List ℕ) (s : Step) (k : ℕ) → LeadsAgainst 1 arcs k s
+pushed-against : (amount : ℕ) (arcs : List Arc) (flows : List ℕ) (s : Step) (k : ℕ) → LeadsAgainst 1 arcs k s
     → pushed_once amount s flows ≡ set flows k (get_or flows k 0 - amount)
 pushed-against amount arcs flows s k leads =
     let index : arc_index s ≡ k = omega (arith, leads.rank_is) in
     let odd : s.rank % 2 ≡ 1 = omega (arith, leads.rank_is) in
     rw (index, odd) refl
+
+-- such a step has the rank of an arc
+pub rank-pushed : (amount : ℕ) (arcs : List Arc) (flows : List ℕ) (s : Step) → CanPush amount arcs flows s → 2 ≤ s.rank
+rank-pushed amount arcs flows s (along k leads room) = omega (arith, leads.rank_is)
+rank-pushed amount arcs flows s (against k leads some) = omega (arith, leads.rank_is)
 
 -- there stay as many flows
 pub length-pushed_once : (amount : ℕ) (s : Step) (flows : List ℕ) → length (pushed_once amount s flows) ≡ length flows
@@ -154,17 +159,13 @@ CanPushEach-other amount arcs flows i y (t ∷ path) skips can =
 skips-other : (amount : ℕ) (arcs : List Arc) (flows : List ℕ) (s t : Step) → CanPush amount arcs flows s → CanPush amount arcs flows t → t.from ≢ s.from
     → t.to ≢ s.from → (t.rank ≢ 2 * (1 + arc_index s)) × (t.rank ≢ 2 * (1 + arc_index s) + 1)
 skips-other amount arcs flows s t (along k leads room) (along i other more) leaves arrives =
-    let apart : i ≢ k = λ e. leaves (subst (λ m. t.from ≡ (get_or arcs m no_arc).tail) e other.tail ∙ sym leads.tail) in
-    (omega (arith, leads.rank_is, other.rank_is), omega (arith, leads.rank_is, other.rank_is))
+    let apart : i ≢ k = λ e. leaves (cc) in (omega arith, omega arith)
 skips-other amount arcs flows s t (along k leads room) (against i other more) leaves arrives =
-    let apart : i ≢ k = λ e. arrives (subst (λ m. t.to ≡ (get_or arcs m no_arc).tail) e other.tail ∙ sym leads.tail) in
-    (omega (arith, leads.rank_is, other.rank_is), omega (arith, leads.rank_is, other.rank_is))
+    let apart : i ≢ k = λ e. arrives (cc) in (omega arith, omega arith)
 skips-other amount arcs flows s t (against k leads room) (along i other more) leaves arrives =
-    let apart : i ≢ k = λ e. arrives (subst (λ m. t.to ≡ (get_or arcs m no_arc).head) e other.head ∙ sym leads.head) in
-    (omega (arith, leads.rank_is, other.rank_is), omega (arith, leads.rank_is, other.rank_is))
+    let apart : i ≢ k = λ e. arrives (cc) in (omega arith, omega arith)
 skips-other amount arcs flows s t (against k leads room) (against i other more) leaves arrives =
-    let apart : i ≢ k = λ e. leaves (subst (λ m. t.from ≡ (get_or arcs m no_arc).head) e other.head ∙ sym leads.head) in
-    (omega (arith, leads.rank_is, other.rank_is), omega (arith, leads.rank_is, other.rank_is))
+    let apart : i ≢ k = λ e. leaves (cc) in (omega arith, omega arith)
 
 -- a path that avoids a step's start skips the step's arc
 skips-avoiding : (amount : ℕ) (arcs : List Arc) (flows : List ℕ) (s : Step) (path : List Step) → CanPush amount arcs flows s

@@ -3,15 +3,16 @@ use Rattle.std.proofs.Common.{ℕ, ◌≡◌, ◌+◌, ◌<◌, ◌≤◌, ◌==
 use Rattle.std.specs.List.{zip}
 use Rattle.std.proofs.lemmas.Bool.Decides.{nat_tests}
 use Rattle.std.proofs.lemmas.Int.{ints}
-use Rattle.std.proofs.lemmas.List.Sums.{sum_by-cons}
+use Rattle.std.proofs.lemmas.List.Sums.{sum_by-cons, sum_by_push}
 use Rattle.dmf_path.specs.declared.pair.Pair.{Pair}
 use Rattle.dmf_path.specs.Step.{Step}
 use Rattle.dmf_path.specs.Path.{IsLeastPath}
 use Rattle.dmf_state.specs.declared.arc.Arc.{Arc}
 use Rattle.dmf_state.specs.Flow.{AreWithinCapacities, outflow, inflow}
+use Rattle.dmf_state.specs.Network.{Network}
 use Rattle.dmf_state.specs.NetworkState.{NetworkState, IsState, with_flows}
 use Rattle.dmf_solver.specs.Residual.{residual_steps, augmented}
-use Rattle.dmf_solver.specs.ResidualNetwork.{residual_pair, residual_pairs}
+use Rattle.dmf_solver.specs.ResidualNetwork.{residual_pair, residual_pairs, closed_return, network_pairs}
 use Rattle.dmf_solver.proofs.Augmenting.{room-positive, augmented-value}
 
 -- the rooms of the links of a pair that leave node `v`
@@ -51,13 +52,23 @@ room_leaving-residual v (arc ∷ arcs) (flow ∷ flows) within =
       sum_by-cons (λ (p : Arc × ℕ). cond (p.0.head == v) p.1 0) (arc, flow) (zip arcs flows),
     )
 
+-- The return link has no room.
+room_at-return : (v : ℕ) (n : Network) → room_at v (closed_return n) ≡ 0
+room_at-return v n = grind (arith, nat_tests)
+
+room_leaving-network : (n : Network) (flows : List ℕ) (v : ℕ) → room_leaving (network_pairs n flows) v ≡ room_leaving (residual_pairs n.arcs flows) v
+room_leaving-network n flows v =
+    omega (arith, sum_by_push (room_at v) (residual_pairs n.arcs flows) (closed_return n), room_at-return v n)
+
 -- It falls with each path.
 pub room_leaving-falls : (s : NetworkState) (flows : List ℕ) (path : List Step) → IsState (with_flows s flows) → IsState (with_flows s (augmented path flows))
     → IsLeastPath (residual_steps s.network.arcs flows) s.network.source s.network.sink path
-    → room_leaving (residual_pairs s.network.arcs (augmented path flows)) s.network.source < room_leaving (residual_pairs s.network.arcs flows) s.network.source
+    → room_leaving (network_pairs s.network (augmented path flows)) s.network.source < room_leaving (network_pairs s.network flows) s.network.source
 room_leaving-falls s flows path state after least =
     let room = room-positive s.network flows path state.network.two_terminals least in
     let value = augmented-value s.network flows path state.network state.flow least in
     let before = room_leaving-residual s.network.source s.network.arcs flows state.flow.within in
     let then = room_leaving-residual s.network.source s.network.arcs (augmented path flows) after.flow.within in
-    omega (arith, ints, room, value, before, then)
+    let same = room_leaving-network s.network flows s.network.source in
+    let later = room_leaving-network s.network (augmented path flows) s.network.source in
+    omega (arith, ints, room, value, before, then, same, later)

@@ -12,7 +12,7 @@ use Rattle.dmf_state.specs.Side.{CutSide, has_node, IsSmallestSide}
 use Rattle.dmf_path.specs.Search.{Searched}
 use Rattle.dmf_solver.specs.ResidualNetwork.{residual_search}
 use Rattle.dmf_solver.specs.Pairs.{IsReachedSide}
-use Rattle.dmf_solver.proofs.ResidualSearch.{reached-residual}
+use Rattle.dmf_solver.proofs.NetworkPairs.{reached-residual}
 use Rattle.dmf_path.specs.Path.{HasNoPath}
 use Rattle.dmf_solver.specs.Residual.{residual_steps}
 use Rattle.dmf_solver.proofs.MaxFlowMinCut.{AreTight, tight-from_capacity, closed-from_tight, AreReached, reached-cut, reached-capacity, reached-minimum_cut}

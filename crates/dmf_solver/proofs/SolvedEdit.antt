@@ -1,10 +1,12 @@
 -- The edit of a solve: its moves list where the flow that the search has reached differs.
-use Rattle.std.proofs.Common.{◌≡◌, ◌∙◌, List, Option, IfSome, Vec, Global, ap, pos, refl, subst, sym}
+use Rattle.std.proofs.Common.{ℕ, ◌≡◌, ◌∙◌, List, Option, IfSome, Result, Ok, Err, MatchResult, Vec, Global, ap, inl, inr, pos, refl, subst, sym}
+use Rattle.std.specs.Prelude.{IsErr}
+use Rattle.std.proofs.lemmas.Bool.{false≢true}
 use Rattle.dmf_solver.specs.declared.solve.Solved.{Solved}
 use Rattle.dmf_state.specs.declared.edit.Move.{Move}
 use Rattle.dmf_state.specs.declared.edit.Edit.TheVariants as edit
 use Rattle.dmf_state.specs.Cut.{HasCutOf}
-use Rattle.dmf_state.specs.Edit.{applied, differences}
+use Rattle.dmf_state.specs.Edit.{applied, differences, MovesFit}
 use Rattle.dmf_state.specs.Flow.{flow_value}
 use Rattle.dmf_state.specs.Side.{CutSide}
 use Rattle.dmf_solver.specs.Greatest.{IsGreatest}
@@ -13,7 +15,8 @@ use Rattle.dmf_solver.specs.Pairs.{IsSolved, reached_flows}
 use Rattle.dmf_solver.specs.Planning.{PlansSolve}
 use Rattle.dmf_solver.specs.ResidualNetwork.{IsResidualOf, residual_search}
 use Rattle.dmf_solver.specs.Solve.{Solves}
-use Rattle.dmf_solver.specs.Told.{Told, TellsSolve}
+use Rattle.dmf_solver.specs.Told.{Told, MayTellSolve, TellsSolve}
+use Rattle.dmf_solver.proofs.Solving.{AreTold-none}
 use Rattle.dmf_solver.proofs.GreatestFlow.{greatest-from_no_path, cut-from_no_path}
 use Rattle.dmf_state.proofs.Moving.{AreMovesBetween, moves-between, flows-long}
 
@@ -39,7 +42,11 @@ module _ (s : NetworkState) (solved : Solved) (moves : Vec Move Global) (state :
         cut = subst (λ xs. HasCutOf n (flow_value n xs)) makes (cut-from_no_path n _ is.state.network is.state.flow is.solves.no_path);
       }
 
-  -- makes the flow that the search has reached,
+  -- its moves fit,
+  pub fits-listed : MovesFit 0 moves.items s.flows
+  fits-listed = between.fit
+
+  -- it makes the flow that the search has reached,
   pub flows-listed : (applied (edit.Solve moves) s).flows ≡ reached_flows s solved.search
   flows-listed = between.makes
 
@@ -56,3 +63,15 @@ module _ (s : NetworkState) (solved : Solved) (moves : Vec Move Global) (state :
   -- and leaves the search's links as those of the residual network.
   pub residual-listed : IsResidualOf (applied (edit.Solve moves) s) solved.search
   residual-listed = is.search_is ∙ ap (residual_search s.network) (sym flows-listed)
+
+-- Where memory is refused before the search begins, nothing was told.
+pub told-nothing : {A E : Type 0} (s : NetworkState) (result : Result A E) (P : A → Type 0) (before : Option (List Told)) → IsErr result
+    → MatchResult result P (λ _. MayTellSolve s before before)
+told-nothing s (Ok x) P before refused = absurd (false≢true refused)
+told-nothing s (Err fault) P before refused = inl (AreTold-none before)
+
+-- Where it is refused afterwards, what the search told was told.
+pub told-refused : {A E : Type 0} (s : NetworkState) (last : List ℕ) (result : Result A E) (P : A → Type 0) (before after : Option (List Told))
+    → IsErr result → TellsSolve s last before after → MatchResult result P (λ _. MayTellSolve s before after)
+told-refused s last (Ok x) P before after refused told = absurd (false≢true refused)
+told-refused s last (Err fault) P before after refused told = inr (last, told)

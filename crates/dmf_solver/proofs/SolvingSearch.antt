@@ -2,6 +2,8 @@
 use Rattle.std.proofs.Common.{ℕ, ◌≡◌, ◌≢◌, ◌+◌, ◌-◌, ◌*◌, ◌^◌, ◌<◌, ◌≤◌, Bool, true, false, ◌==◌, cond, ltb, min, List, [], ◌∷◌, ◌++◌, length, get_or, refl, ap}
 use Rattle.std.proofs.Common.{sym, ◌∙◌, subst, arith, pos, suc, ⊎_elim, Option}
 use Rattle.std.specs.List.{Contains}
+use Rattle.std.specs.List.Sorted.{IsStrictlyIncreasing}
+use Rattle.std.specs.Option.{IfSome}
 use Rattle.std.proofs.lemmas.Bool.Decides.{nat_tests}
 use Rattle.std.proofs.lemmas.Int.{ints}
 use Rattle.std.proofs.lemmas.List.Elements.{Contains-append_cases}
@@ -14,7 +16,7 @@ use Rattle.dmf_path.specs.Path.{has_rank, IsPath, HasNoPath, bottleneck, bottlen
 use Rattle.dmf_path.specs.Pair.{pair_steps, steps_from, steps_of, pushed_pairs}
 use Rattle.dmf_path.specs.declared.search.AugmentingPath.{AugmentingPath}
 use Rattle.dmf_path.specs.Search.{Searched, Augments}
-use Rattle.dmf_path.specs.Passed.{KeepsUnpassed}
+use Rattle.dmf_path.specs.Touched.{AreBelow, KeepsUntouched}
 use Rattle.dmf_path.proofs.Loops.{least-without_loops, no_path-without_loops}
 use Rattle.dmf_state.specs.declared.arc.Arc.{Arc}
 use Rattle.dmf_solver.specs.declared.solve.Solved.{Solved}
@@ -25,14 +27,14 @@ use Rattle.dmf_state.specs.NetworkState.{NetworkState, IsState, with_flows}
 use Rattle.dmf_solver.specs.Residual.{residual_steps, augmented}
 use Rattle.dmf_solver.specs.Solve.{Solves}
 use Rattle.dmf_solver.specs.Told.{Told, told_of, AreTold, TellsSolve}
-use Rattle.dmf_solver.specs.ResidualNetwork.{residual_pair, residual_pairs, residual_search}
+use Rattle.dmf_solver.specs.ResidualNetwork.{residual_pair, residual_pairs, closed_return, network_pairs, residual_search}
 use Rattle.dmf_solver.specs.Pairs.{Against, flow_read, flows_read, reached_flows, IsSolved}
 use Rattle.dmf_solver.proofs.Augmenting.{augmented-value, value-le-capacities}
 use Rattle.dmf_solver.proofs.AugmentedPushed.{get_or-augmented_from}
 use Rattle.dmf_solver.proofs.FlowsRead.{length-flows_read}
-use Rattle.dmf_solver.proofs.ResidualPairs.{is_loop, residual-without_loops, step-of_least, residual_pairs-augmented}
+use Rattle.dmf_solver.proofs.NetworkPairs.{length-network_pairs, network-steps, network-without_loops, network_pairs-augmented}
+use Rattle.dmf_solver.proofs.ResidualPairs.{is_loop, residual-without_loops, step-of_least}
 use Rattle.dmf_state.proofs.Changing.{within-at}
-use Rattle.dmf_solver.proofs.ResidualSearch.{length-residual_pairs}
 use Rattle.dmf_solver.proofs.ResidualSteps.{IsResidual, along, against, in-optional, residual-contained}
 use Rattle.dmf_solver.proofs.RoomLeaving.{room_leaving, room_leaving-falls}
 use Rattle.dmf_solver.proofs.Solving.{IsReached, reached-more, told_of-push}
@@ -134,6 +136,12 @@ pub record IsSolving (s : NetworkState) (search : Searched) (value : ℕ) : Type
   pub search_is : search ≡ residual_search s.network flows
   pub value_is : pos value ≡ flow_value s.network flows
 
+-- There are as many pairs as arcs, and one more.
+pub solving-long : (s : NetworkState) (search : Searched) (value : ℕ) → IsSolving s search value → length search.pairs ≡ length s.network.arcs + 1
+solving-long s search value is =
+    ap (λ (o : Searched). length o.pairs) is.search_is
+    ∙ length-network_pairs s.network is.flows (AllZip-long _ s.network.arcs is.flows is.reached.state.flow.within)
+
 -- The search augments, the value grows by the amount, what is told grows by that and the links, and the rooms that leave the
 -- source fall.
 pub record IsNext (s : NetworkState) (before : List (List Step)) (links : ℕ) (old new : Searched) (value : ℕ) : Type 0 where
@@ -150,12 +158,13 @@ solving-more s limit value found old new all is augments =
     let state = is.reached.state in
     let push = subst (λ o. Augments limit found o new) is.search_is augments in
     let path = push.path in
-    let least = least-without_loops (residual_steps n.arcs is.flows) (steps_of (residual_pairs n.arcs is.flows)) n.source n.sink path
-    (residual-without_loops n.arcs is.flows) push.least in
+    let least = least-without_loops (residual_steps n.arcs is.flows) (steps_of (network_pairs n is.flows)) n.source n.sink path
+    (network-without_loops n is.flows) push.least in
+    let leads = subst (λ (steps : List Step). IsPath steps n.source n.sink path) (network-steps n is.flows) push.least.leads in
     let same = push.amount_is ∙ bottleneck_up_to-least n is.flows limit path all state.network state.flow least.leads in
     let pairs =
-    ap (λ m. pushed_pairs true m path (residual_pairs n.arcs is.flows)) same
-    ∙ sym (residual_pairs-augmented n.arcs is.flows n.source n.sink path state.flow.within least.leads)
+    ap (λ m. pushed_pairs true m path (network_pairs n is.flows)) same
+    ∙ sym (network_pairs-augmented n is.flows n.source n.sink path state.flow.within least.leads)
     in
     let next = push.gives ∙ ap (λ (made : List (Option Pair)). record { nodes = n.nodes; pairs = made; start = n.source; goal = n.sink; takes_back = true })
     pairs in
@@ -167,7 +176,7 @@ solving-more s limit value found old new all is augments =
       solving = record {
         flows = augmented path is.flows;
         reached = reached;
-        kept = kept-augmented n.arcs s.flows is.flows n.source n.sink path state.flow.within push.least.leads is.kept;
+        kept = kept-augmented n.arcs s.flows is.flows n.source n.sink path state.flow.within leads is.kept;
         search_is = next;
         value_is = value_is;
       };
@@ -185,22 +194,23 @@ read-flow arc first flow true e kept = rw e (sym (kept (exact_unsigned_eq arc.ta
 read-flow arc first flow false e kept = rw e refl
 
 -- So the flows are read off the pairs.
-read-flows : (arcs : List Arc) (firsts flows : List ℕ) → AreWithinCapacities arcs firsts → AreWithinCapacities arcs flows → AreKept arcs firsts flows
-    → flows_read Against firsts (residual_pairs arcs flows) ≡ flows
-read-flows [] [] [] below within kept = refl
-read-flows [] [] (flow ∷ flows) below within kept = absurd within
-read-flows [] (first ∷ firsts) flows below within kept = absurd below
-read-flows (arc ∷ arcs) [] flows below within kept = absurd below
-read-flows (arc ∷ arcs) (first ∷ firsts) [] below within kept = absurd within
-read-flows (arc ∷ arcs) (first ∷ firsts) (flow ∷ flows) below within kept =
+read-flows : (arcs : List Arc) (firsts flows : List ℕ) (rest : List (Option Pair)) → AreWithinCapacities arcs firsts → AreWithinCapacities arcs flows
+    → AreKept arcs firsts flows → flows_read Against firsts (residual_pairs arcs flows ++ rest) ≡ flows
+read-flows [] [] [] rest below within kept = refl
+read-flows [] [] (flow ∷ flows) rest below within kept = absurd within
+read-flows [] (first ∷ firsts) flows rest below within kept = absurd below
+read-flows (arc ∷ arcs) [] flows rest below within kept = absurd below
+read-flows (arc ∷ arcs) (first ∷ firsts) [] rest below within kept = absurd within
+read-flows (arc ∷ arcs) (first ∷ firsts) (flow ∷ flows) rest below within kept =
     let here = read-flow arc first flow (arc.tail == arc.head) refl (λ loop. kept 0 (omega arith) loop) in
-    let later = read-flows arcs firsts flows below.1 within.1 (λ k h loop. kept (suc k) (omega (arith, h)) loop) in
+    let later = read-flows arcs firsts flows rest below.1 within.1 (λ k h loop. kept (suc k) (omega (arith, h)) loop) in
     λ i. here i ∷ later i
 
 -- The flows that are read off the search are those that were reached.
 solving-read : (s : NetworkState) (value : ℕ) (old new : Searched) → IsState s → (is : IsSolving s old value) → new ≡ old → is.flows ≡ reached_flows s new
 solving-read s value old new state is same =
-    sym (ap (reached_flows s) (same ∙ is.search_is) ∙ read-flows s.network.arcs s.flows is.flows state.flow.within is.reached.state.flow.within is.kept)
+    sym (ap (reached_flows s) (same ∙ is.search_is) ∙ read-flows s.network.arcs s.flows is.flows (closed_return s.network ∷ []) state.flow.within
+    is.reached.state.flow.within is.kept)
 
 -- Where no path is left, they are the outcome of solving,
 solving-solves : (s : NetworkState) (value : ℕ) (old : Searched) → (is : IsSolving s old value) → HasNoPath (steps_of old.pairs) old.start old.goal
@@ -208,15 +218,16 @@ solving-solves : (s : NetworkState) (value : ℕ) (old : Searched) → (is : IsS
 solving-solves s value old is none =
     let n = s.network in
     let left = subst (λ (o : Searched). HasNoPath (steps_of o.pairs) o.start o.goal) is.search_is none in
-    let no_path = no_path-without_loops (residual_steps n.arcs is.flows) (steps_of (residual_pairs n.arcs is.flows)) n.source n.sink
-    (residual-without_loops n.arcs is.flows) left in
+    let no_path = no_path-without_loops (residual_steps n.arcs is.flows) (steps_of (network_pairs n is.flows)) n.source n.sink
+    (network-without_loops n is.flows) left in
     record { paths = is.reached.paths; augments = is.reached.augments; no_path = no_path }
 
 -- the search has come to it,
 pub solving-done : (s : NetworkState) (solved : Solved) (old : Searched) → IsState s → IsSolving s old solved.value
     → HasNoPath (steps_of old.pairs) old.start old.goal → solved.search ≡ old
-    → KeepsUnpassed solved.passed.items (residual_pairs s.network.arcs s.flows) solved.search.pairs → IsSolved s solved
-solving-done s solved old state is none same kept =
+    → KeepsUntouched solved.touched (network_pairs s.network s.flows) solved.search.pairs → AreBelow (length s.network.arcs + 1) solved.touched
+    → IfSome solved.touched IsStrictlyIncreasing → IsSolved s solved
+solving-done s solved old state is none same kept below ascend =
     let n = s.network in
     let read = solving-read s solved.value old solved.search state is same in
     record {
@@ -225,6 +236,8 @@ solving-done s solved old state is none same kept =
       search_is = subst (λ flows. solved.search ≡ residual_search n flows) read (same ∙ is.search_is);
       value_is = subst (λ flows. pos solved.value ≡ flow_value n flows) read is.value_is;
       kept = kept;
+      below = below;
+      ascend = ascend;
     }
 
 -- and all its paths were told.
@@ -238,12 +251,12 @@ solving-told s value old new before after state is told none same =
 
 module _ (s : NetworkState) (search : Searched) (state : IsState s) (is : search ≡ residual_search s.network (reached_flows s search))
     (within : AreWithinCapacities s.network.arcs (reached_flows s search)) where
-  -- There is a pair, or the place of one, for each flow,
-  pub pairs-long : length search.pairs ≡ length s.flows
+  -- There is a pair, or the place of one, for each flow, and one more,
+  pub pairs-long : length search.pairs ≡ length s.flows + 1
   pairs-long =
       ap (λ (o : Searched). length o.pairs) is
-      ∙ length-residual_pairs s.network.arcs (reached_flows s search) within
-      ∙ sym (AllZip-long _ s.network.arcs s.flows state.flow.within)
+      ∙ length-network_pairs s.network (reached_flows s search) (AllZip-long _ s.network.arcs (reached_flows s search) within)
+      ∙ ap (λ count. count + 1) (sym (AllZip-long _ s.network.arcs s.flows state.flow.within))
 
   -- and a flow that is reached.
   pub reached-long : length (reached_flows s search) ≡ length s.flows

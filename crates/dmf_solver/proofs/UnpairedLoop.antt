@@ -2,7 +2,7 @@
 use Rattle.std.proofs.Common.{ℕ, ◌≡◌, ◌≢◌, ◌-◌, ◌<◌, ◌≤◌, true, List, [], ◌∷◌, ◌++◌, length, get_or, set, zero, suc, refl, ap, sym, ◌∙◌, subst, arith, ⊎_elim}
 use Rattle.std.proofs.Common.{eq-eqb}
 use Rattle.std.proofs.lemmas.Bool.{cases_lt, cases_eq}
-use Rattle.std.proofs.lemmas.List.{get_or-set_same, get_or-set_other, set-get_or}
+use Rattle.std.proofs.lemmas.List.{get_or-set_same, get_or-set_other, set-get_or, length-set}
 use Rattle.std.proofs.lemmas.Slice.Zip.{AllZip-long}
 use Rattle.dmf_path.specs.Search.{Searched}
 use Rattle.dmf_state.specs.declared.arc.Arc.{Arc}
@@ -11,29 +11,21 @@ use Rattle.dmf_solver.specs.Drain.{value_or_zero, Drains}
 use Rattle.dmf_state.specs.Flow.{flow_on}
 use Rattle.dmf_state.specs.Network.{Network, arc_number, has_arc}
 use Rattle.dmf_state.specs.NetworkState.{NetworkState}
-use Rattle.dmf_solver.specs.Pairs.{Along, Carries, IsCarryingSearch, carrying_pair, carrying_from, return_pair, flows_read}
+use Rattle.dmf_solver.specs.CarryingNetwork.{carrying_pair, carrying_from, return_pair}
+use Rattle.dmf_solver.specs.Pairs.{Along, Carries, IsCarryingSearch, flows_read}
 use Rattle.dmf_state.proofs.ChangedArc.{has_arc-within}
 use Rattle.dmf_state.proofs.Changing.{flow_at-set}
 use Rattle.dmf_solver.proofs.DrainedLoop.{drained-loop}
-use Rattle.dmf_solver.proofs.Draining.{IsNoMore, no_more-same, no_more-in_turn, drains-state}
+use Rattle.dmf_solver.proofs.Draining.{drains-state}
 use Rattle.dmf_solver.proofs.DrainingSearch.{carries-read, IsCarryingSearch-from}
 
--- No flow is more where one is dropped.
-no_more-dropped : (xs : List ℕ) (k : ℕ) → IsNoMore xs (set xs k 0)
-no_more-dropped [] k = tt
-no_more-dropped (x ∷ xs) zero = (omega arith, no_more-same xs)
-no_more-dropped (x ∷ xs) (suc k) = (omega arith, no_more-dropped xs k)
-
 -- The pairs of the arcs stay.
-pairs-dropped : (arcs : List Arc) (firsts flows : List ℕ) (k : ℕ) → (get_or arcs k no_arc).tail ≡ (get_or arcs k no_arc).head
-    → carrying_from arcs firsts (set flows k 0) ≡ carrying_from arcs firsts flows
-pairs-dropped [] firsts flows k loop = refl
-pairs-dropped (arc ∷ arcs) [] [] k loop = refl
-pairs-dropped (arc ∷ arcs) [] (x ∷ flows) zero loop = refl
-pairs-dropped (arc ∷ arcs) [] (x ∷ flows) (suc k) loop = refl
-pairs-dropped (arc ∷ arcs) (first ∷ firsts) [] k loop = refl
-pairs-dropped (arc ∷ arcs) (first ∷ firsts) (x ∷ flows) zero loop = rw (eq-eqb arc.tail arc.head loop) refl
-pairs-dropped (arc ∷ arcs) (first ∷ firsts) (x ∷ flows) (suc k) loop = ap (λ pairs. carrying_pair arc first x ∷ pairs) (pairs-dropped arcs firsts flows k loop)
+pairs-dropped : (arcs : List Arc) (flows : List ℕ) (k : ℕ) → (get_or arcs k no_arc).tail ≡ (get_or arcs k no_arc).head
+    → carrying_from arcs (set flows k 0) ≡ carrying_from arcs flows
+pairs-dropped [] flows k loop = refl
+pairs-dropped (arc ∷ arcs) [] k loop = refl
+pairs-dropped (arc ∷ arcs) (x ∷ flows) zero loop = rw (eq-eqb arc.tail arc.head loop) refl
+pairs-dropped (arc ∷ arcs) (x ∷ flows) (suc k) loop = ap (λ pairs. carrying_pair arc x ∷ pairs) (pairs-dropped arcs flows k loop)
 
 -- So does what the sink receives.
 value-dropped : (n : Network) (flows : List ℕ) (k : ℕ) → length flows ≡ length n.arcs → k < length n.arcs
@@ -70,28 +62,25 @@ drained-by_list s j unpaired search has loop carries =
     let drains = loop-drains s j unpaired flows search has loop carries in
     let left = drains-state n j 0 flows (set flows k 0) carries.state.network carries.state.flow carries.state.value_from_zero has drains in
     let value = value-dropped n flows k long at.1 loop in
-    let last : return_pair n s.flows (set flows k 0) ≡ return_pair n s.flows flows = rw value refl in
+    let last : return_pair n (set flows k 0) ≡ return_pair n flows = rw value refl in
     let next : Carries s (set unpaired k 0) (set flows k 0) search = record {
       state = record { network = carries.state.network; flow = left.0.flow; value_from_zero = left.1 };
-      no_more = record {
-        one_each = carries.no_more.one_each;
-        no_more = no_more-in_turn s.flows flows (set flows k 0) carries.no_more.no_more left.0.no_more;
-        at_sink = omega (arith, value, carries.no_more.at_sink);
-      };
-      less = no_more-in_turn s.flows unpaired (set unpaired k 0) carries.less (no_more-dropped unpaired k);
+      listed = length-set unpaired k 0 ∙ carries.listed;
       loops = λ i within back. ⊎_elim
           (λ (here : i ≡ k).
           let first = get_or-set_same flows k 0 0 (omega (arith, at.1, long)) in
-          let second = get_or-set_same unpaired k 0 0 (omega (arith, at.1, carries.no_more.one_each, AllZip-long _ s.flows unpaired carries.less)) in
+          let second = get_or-set_same unpaired k 0 0 (omega (arith, at.1, carries.listed)) in
           rw here (first ∙ sym second))
           (λ (other : i ≢ k). get_or-set_other flows k i 0 0 other ∙ carries.loops i within back ∙ sym (get_or-set_other unpaired k i 0 0 other))
           (cases_eq i k);
-      nodes_are = carries.nodes_are;
-      pairs_are =
-          carries.pairs_are
-          ∙ sym (ap (λ pairs. pairs ++ return_pair n s.flows flows ∷ []) (pairs-dropped n.arcs s.flows flows k loop))
-          ∙ ap (λ p. carrying_from n.arcs s.flows (set flows k 0) ++ p ∷ []) (sym last);
-      takes_none_back = carries.takes_none_back;
+      search_is = record {
+        nodes_are = carries.search_is.nodes_are;
+        pairs_are =
+            carries.search_is.pairs_are
+            ∙ sym (ap (λ pairs. pairs ++ return_pair n flows ∷ []) (pairs-dropped n.arcs flows k loop))
+            ∙ ap (λ p. carrying_from n.arcs (set flows k 0) ++ p ∷ []) (sym last);
+        takes_none_back = carries.search_is.takes_none_back;
+      };
     } in
     record {
       carrying = IsCarryingSearch-from s (set unpaired k 0) (set flows k 0) search next;

@@ -6,6 +6,8 @@ pub mod Drain
 pub mod Change
 pub mod Laws
 pub mod ResidualNetwork
+pub mod CarryingNetwork
+pub mod KeptNetwork
 pub mod Pairs
 pub mod Moves
 pub mod Planning

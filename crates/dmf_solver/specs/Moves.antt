@@ -1,8 +1,10 @@
 -- The moves that drain an arc.
 -- Private: only contracts inside the crate and proofs use this.
-use Rattle.std.specs.Prelude.{ℕ, ◌≡◌, ◌≢◌, ◌+◌, ◌-◌, ◌≤◌, List, [], ◌∷◌, length, slice_index}
+use Rattle.std.specs.Prelude.{ℕ, ◌≡◌, ◌≢◌, ◌+◌, ◌-◌, ◌≤◌, List, [], ◌∷◌, length, slice_index, IfSome}
 use Rattle.dmf_path.specs.Search.{Covers}
 use Rattle.dmf_state.specs.declared.edit.Move.{Move}
+use Rattle.dmf_solver.specs.declared.drain.Drained.{Drained}
+use Rattle.dmf_solver.specs.CarryingNetwork.{MayCarry}
 use Rattle.dmf_solver.specs.Drain.{Drains, TakesOff}
 use Rattle.dmf_state.specs.Flow.{flow_on, flow_on_all}
 use Rattle.dmf_state.specs.Edit.{moved, MovesFit, differences}
@@ -29,6 +31,10 @@ pub record AreDrainingMoves (s : NetworkState) (j limit : ℕ) (moves : List Mov
   pub drains : Drains s.network j limit s.flows (moved moves s.flows)
   pub state : IsState (with_flows s (moved moves s.flows))
   pub takes_off : TakesOff s.network (flow_on s.flows j - limit) s.flows (moved moves s.flows)
+
+-- Where a search is there, it is one over the carrying steps of the flow after the moves, but for the room of the return link.
+abbrev pub CarriesMoved : NetworkState → Drained → Type 0
+CarriesMoved s drained = IfSome drained.carrying (MayCarry (with_flows s (moved drained.moves.items s.flows)))
 
 -- The flow on the arc at index `k` stays as it was.
 abbrev pub Stays : List ℕ → List ℕ → ℕ → Type 0

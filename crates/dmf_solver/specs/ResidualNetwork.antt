@@ -1,6 +1,7 @@
--- The residual network as pairs of opposite links, one pair for each arc, over which solving looks for paths.
+-- The residual network as pairs of opposite links, over which solving looks for paths: one pair for each arc, and one for the
+-- return link.
 -- Public: a public contract says no more than this.
-use Rattle.std.specs.Prelude.{ℕ, ◌≡◌, ◌-◌, ◌==◌, true, if◌then◌else◌, List, [], ◌∷◌, Option, Some, None}
+use Rattle.std.specs.Prelude.{ℕ, ◌≡◌, ◌-◌, ◌==◌, true, if◌then◌else◌, List, [], ◌∷◌, ◌++◌, Option, Some, None}
 use Rattle.dmf_path.specs.declared.pair.Pair.{Pair}
 use Rattle.dmf_path.specs.Search.{Searched}
 use Rattle.dmf_state.specs.declared.arc.Arc.{Arc}
@@ -20,10 +21,18 @@ residual_pairs [] flows = []
 residual_pairs (arc ∷ arcs) [] = []
 residual_pairs (arc ∷ arcs) (flow ∷ flows) = residual_pair arc flow ∷ residual_pairs arcs flows
 
+-- The pair of the return link, from the sink to the source. It has no room, so no augmenting path leads over it.
+abbrev pub closed_return : Network → Option Pair
+closed_return n = Some (record { tail = n.sink; head = n.source; along = 0; against = 0 })
+
+-- the pairs of the arcs, and after them that of the return link
+abbrev pub network_pairs : Network → List ℕ → List (Option Pair)
+network_pairs n flows = residual_pairs n.arcs flows ++ closed_return n ∷ []
+
 -- the search for augmenting paths: from the source to the sink, and what is pushed along an arc can be pushed back
 abbrev pub residual_search : Network → List ℕ → Searched
 residual_search n flows =
-    record { nodes = n.nodes; pairs = residual_pairs n.arcs flows; start = n.source; goal = n.sink; takes_back = true }
+    record { nodes = n.nodes; pairs = network_pairs n flows; start = n.source; goal = n.sink; takes_back = true }
 
 -- The links are those of the state's residual network, with the rooms that its flow leaves.
 abbrev pub IsResidualOf : NetworkState → Searched → Type 0

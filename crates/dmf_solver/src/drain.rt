@@ -1,41 +1,80 @@
 ghost use Rattle.std.specs.Prelude.{◌≡◌, ◌≢◌, ◌≤◌, ℕ, true, List, [], ◌∷◌, length, IfOk, IsOk};
 ghost use Rattle.dmf_state.specs.Network.{arc_number, has_arc};
 ghost use Rattle.dmf_state.specs.Flow.{flow_on};
+ghost use Rattle.dmf_state.specs.NetworkState.{IsState};
+ghost use Rattle.dmf_path.specs.Touched.{Touches};
+ghost use Rattle.dmf_solver.specs.CarryingNetwork.{IsCarryingOf};
 ghost use Rattle.dmf_solver.specs.Drain.{Drains};
-ghost use Rattle.dmf_solver.specs.Moves.{AreDrainingMoves};
+ghost use Rattle.dmf_solver.specs.KeptNetwork.{Keeps};
+ghost use Rattle.dmf_solver.specs.Moves.{AreDrainingMoves, CarriesMoved};
 ghost use Rattle.dmf_solver.specs.Pairs.{Along, IsCarryingSearch, flows_read};
 
-use crate::carrying_pairs::CarryingPairs;
 use crate::drained_flows::DrainedFlows;
 use crate::moves::list_moves;
-use dmf_path::Search;
+use crate::residual_network::{ResidualNetwork, kept_or_new, none_touched};
+use dmf_path::{Search, Touched};
 use dmf_state::{Move, State};
 use std::alloc::{AllocError, Global};
 
-/// The moves that drain arc number `j` to the limit. Where no more than the limit flows on it, there are none, and no other arc is
-/// looked at.
-pub fn drain(alloc: Global, state: &State, j: u32, limit: u64) -> Result<Vec<Move>, AllocError>
-    requires { has_arc state.now.network j ≡ true }
+/// What draining gives.
+#[derive(Drop)]
+pub struct Drained {
+    /// The moves.
+    pub moves: Vec<Move>,
+    /// The carrying search of the flow after them, where one was needed.
+    pub carrying: Option<Search>,
+}
+
+/// Drains arc number `j` to the limit. Where no more than the limit flows on it, there are no moves, and no other arc is looked at.
+/// Else the carrying search is taken out of the kept network; where none is kept, a network is made and kept.
+pub fn drain(
+    alloc: Global,
+    state: &State,
+    j: u32,
+    limit: u64,
+    kept: &mut Option<ResidualNetwork>,
+) -> Result<Drained, AllocError>
+    requires is_there { has_arc state.now.network j ≡ true }
+    requires kept { Keeps state.now kept.old }
     ensures at_once { flow_on state.now.flows j ≤ limit → IsOk result }
-    ensures moves { IfOk result (λ moves. AreDrainingMoves state.now j limit moves.items) }
+    ensures moves { IfOk result (λ drained. AreDrainingMoves state.now j limit drained.moves.items) }
+    ensures carrying { IfOk result (CarriesMoved state.now) }
+    ensures kept { Keeps state.now kept.new }
 {
-    let before = state.flows();
-    let flow = before[j as usize - 1];
+    let flow = state.flows()[j as usize - 1];
     if flow <= limit {
-        return Ok(Vec::new(alloc));
+        return Ok(Drained {
+            moves: Vec::new(alloc),
+            carrying: None,
+        });
     }
     let arc = state.arc(j);
     if arc.tail == arc.head {
-        return loop_moves(alloc, j, flow, limit);
+        let moves = loop_moves(alloc, j, flow, limit)?;
+        return Ok(Drained {
+            moves,
+            carrying: None,
+        });
     }
-    let mut search = carrying_search(alloc, state)?;
-    drain_along(state, j, limit, &mut search);
-    let drained = DrainedFlows {
-        state,
-        unpaired: before,
-        search: &search,
-    };
-    list_moves(alloc, state, &drained, search.indices())
+    let carrying = take_carrying(alloc, state, kept)?;
+    drain_by(alloc, state, j, limit, carrying)
+}
+
+/// Takes the carrying search of the state's flow out of the kept network. Where none is kept, one is made and kept first.
+pub fn take_carrying(
+    alloc: Global,
+    state: &State,
+    kept: &mut Option<ResidualNetwork>,
+) -> Result<Search, AllocError>
+    requires state { IsState state.now }
+    requires kept { Keeps state.now kept.old }
+    ensures kept { Keeps state.now kept.new }
+    ensures carrying { IfOk result (IsCarryingOf state.now) }
+{
+    let mut network = kept_or_new(alloc, state, kept.take())?;
+    let carrying = network.take_carrying(alloc, state)?;
+    *kept = Some(network);
+    Ok(carrying)
 }
 
 /// The move that drains arc number `j`, which comes back to its tail: no other arc carries its flow.
@@ -51,29 +90,44 @@ fn loop_moves(alloc: Global, j: u32, flow: u64, limit: u64) -> Result<Vec<Move>,
     Ok(moves)
 }
 
-/// A search over the carrying steps of the state's flow. It has to be aimed before it looks for a path.
-pub fn carrying_search(alloc: Global, state: &State) -> Result<Search, AllocError>
-    ensures carrying { IfOk result (IsCarryingSearch state.now state.now.flows) }
-    ensures flows { IfOk result (λ search. flows_read Along state.now.flows search.pairs ≡ state.now.flows) }
+/// Drains arc number `j`, which leads from a node to another, to the limit, by this carrying search.
+fn drain_by(
+    alloc: Global,
+    state: &State,
+    j: u32,
+    limit: u64,
+    mut carrying: Search,
+) -> Result<Drained, AllocError>
+    requires is_there { has_arc state.now.network j ≡ true }
+    requires no_loop { (arc_number state.now.network j).tail ≢ (arc_number state.now.network j).head }
+    requires carrying { IsCarryingOf state.now carrying }
+    ensures moves { IfOk result (λ drained. AreDrainingMoves state.now j limit drained.moves.items) }
+    ensures carrying { IfOk result (CarriesMoved state.now) }
 {
-    let pairs = CarryingPairs { state };
-    Search::new(
-        alloc,
-        state.nodes(),
-        &pairs,
-        state.source(),
-        state.sink(),
-        false,
-    )
+    let before = state.flows();
+    let mut touched = none_touched(alloc, &mut carrying, state.nodes(), true)?;
+    drain_along(state, j, limit, &mut carrying, &mut touched);
+    touched.sort();
+    let drained = DrainedFlows {
+        state,
+        unpaired: before,
+        search: &carrying,
+    };
+    let moves = list_moves(alloc, state, &drained, touched.indices(before.len() + 1))?;
+    Ok(Drained {
+        moves,
+        carrying: Some(carrying),
+    })
 }
 
 /// Drains arc number `j`, which leads from a node to another, to the limit: it takes flow off along the paths that the search over
-/// carrying steps finds. Where no more than the limit flows on the arc, it does nothing.
-pub fn drain_along(state: &State, j: u32, limit: u64, search: &mut Search)
+/// carrying steps finds. Where no more than the limit flows on the arc, it does nothing. The pairs that it changes count as touched.
+pub fn drain_along(state: &State, j: u32, limit: u64, search: &mut Search, touched: &mut Touched)
     requires is_there { has_arc state.now.network j ≡ true }
     requires no_loop { (arc_number state.now.network j).tail ≢ (arc_number state.now.network j).head }
     requires carrying { (unpaired : List ℕ) × IsCarryingSearch state.now unpaired search.old }
-    ensures { (unpaired : List ℕ) → IsCarryingSearch state.now unpaired search.old →
+    ensures touched { Touches touched.old touched.new search.old.pairs search.new.pairs }
+    ensures drains { (unpaired : List ℕ) → IsCarryingSearch state.now unpaired search.old →
         IsCarryingSearch state.now unpaired search.new
         × Drains state.now.network j limit (flows_read Along unpaired search.old.pairs) (flows_read Along unpaired search.new.pairs) }
 {
@@ -84,8 +138,9 @@ pub fn drain_along(state: &State, j: u32, limit: u64, search: &mut Search)
     }
     let arc = state.arc(j);
     search.aim(arc.head, arc.tail);
+    touched.add(j - 1);
     while 0 < left {
-        match search.augment(left, &mut []) {
+        match search.augment(left, touched) {
             Some(found) => {
                 let amount = found.amount;
                 search.lower(i, amount);

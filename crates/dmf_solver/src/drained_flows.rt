@@ -4,8 +4,7 @@ use dmf_path::Search;
 use dmf_state::State;
 use std::marker::Model;
 
-/// The flows that draining has left of a state's. The search is not asked about an arc on which nothing flowed at first; the flow on
-/// an arc without a pair stands in the list.
+/// The flows that draining has left of a state's. The flow on an arc without a pair stands in the list.
 #[derive(Drop)]
 pub struct DrainedFlows<'a> {
     pub state: &'a State,
@@ -28,9 +27,6 @@ impl Flows for DrainedFlows<'_> {
     ghost flows = { λ flows. flows };
 
     fn flow(&self, k: usize, i: usize) -> u64 {
-        if self.state.flows()[k] == 0 {
-            return 0;
-        }
         self.search.along_near(k, i).unwrap_or(self.unpaired[k])
     }
 }

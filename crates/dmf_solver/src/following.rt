@@ -1,9 +1,11 @@
-//! The residual network of a state follows an edit that is made or taken back: the links of the arcs that the edit names get other
+//! The searches of a kept network follow an edit that is made or taken back: the links of the arcs that the edit names get other
 //! rooms.
-ghost use Rattle.std.specs.Prelude.{◌≡◌, ◌-◌, ◌<◌, ◌≤◌, ℕ, List, length};
+ghost use Rattle.std.specs.Prelude.{◌≡◌, ◌+◌, ◌-◌, ◌<◌, ◌≤◌, ℕ, List, length, IfSome};
 ghost use Rattle.dmf_path.specs.Search.{with_pairs};
 ghost use Rattle.dmf_state.specs.Direction.{along, edited_along, FitsAlong};
 ghost use Rattle.dmf_state.specs.Edit.{moved, moves_of, AddsArc, MovesFit};
+ghost use Rattle.dmf_state.specs.NetworkState.{IsState, with_flows};
+ghost use Rattle.dmf_solver.specs.CarryingNetwork.{MayCarry};
 ghost use Rattle.dmf_solver.specs.Pairs.{with_capacity};
 ghost use Rattle.dmf_solver.specs.ResidualNetwork.{residual_search, IsResidualOf};
 
@@ -28,7 +30,8 @@ pub fn put_flows(search: &mut Search, state: &State, moves: &[Move], direction: 
     requires residual { IsResidualOf state.now search.old }
     requires fit { MovesFit 0 (along direction moves.now) state.now.flows }
     ensures flows { search.new ≡ residual_search state.now.network (moved (along direction moves.now) state.now.flows) }
-    ensures one_each { length search.new.pairs ≡ length state.now.network.arcs }
+    ensures one_each { length search.new.pairs ≡ length state.now.network.arcs + 1 }
+    ensures state { IsState state.now }
 {
     let arcs = state.arcs();
     for m in moves {
@@ -38,13 +41,35 @@ pub fn put_flows(search: &mut Search, state: &State, moves: &[Move], direction: 
     }
 }
 
+/// The carrying search after the moves, or before them where they are taken back: the link along each arc that they name gets as its
+/// room what flows then. The return link keeps its room.
+pub fn carry_flows(
+    carrying: Option<Search>,
+    state: &State,
+    moves: &[Move],
+    direction: Direction,
+) -> Option<Search>
+    requires state { IsState state.now }
+    requires carrying { IfSome carrying (MayCarry state.now) }
+    requires fit { MovesFit 0 (along direction moves.now) state.now.flows }
+    ensures { IfSome result (MayCarry (with_flows state.now (moved (along direction moves.now) state.now.flows))) }
+{
+    let mut search = carrying?;
+    for m in moves {
+        let step = direction.step(m);
+        search.set_rooms(step.arc as usize - 1, step.to, 0);
+    }
+    Some(search)
+}
+
 /// Gives the link along each arc whose capacity the edit changes the room that its new capacity leaves; or its old one, where the
 /// edit is taken back.
 pub fn put_capacities(search: &mut Search, state: &State, edit: &Edit, direction: Direction)
     requires fits { FitsAlong direction edit.now state.now }
     requires adds_none { ¬ AddsArc edit.now }
-    requires one_each { length search.old.pairs ≡ length state.now.network.arcs }
-    ensures { (flows : List ℕ) → search.old ≡ residual_search state.now.network flows → search.new ≡ residual_search (edited_along direction edit.now state.now).network flows }
+    requires one_each { length search.old.pairs ≡ length state.now.network.arcs + 1 }
+    ensures { (flows : List ℕ) → search.old ≡ residual_search state.now.network flows
+        → search.new ≡ residual_search (edited_along direction edit.now state.now).network flows }
 {
     match *edit {
         Edit::Cap { arc, old, new, .. } => put_capacity(search, arc, direction.cap(old, new)),

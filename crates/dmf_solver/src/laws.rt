@@ -1,4 +1,5 @@
-ghost use Rattle.dmf_solver.specs.Laws.{HasSmallestSide, IsGreatestOrSurpassed, SolvedIsGreatest, HasOneOutcome, HasOutcome, HasGreatestFlow, MaxFlowMinCut, HasOneSmallestSide};
+ghost use Rattle.dmf_solver.specs.Laws.{HasSmallestSide, HasOneSmallestSide, HasGreatestFlow, IsGreatestOrSurpassed, SolvedIsGreatest};
+ghost use Rattle.dmf_solver.specs.Laws.{HasOneOutcome, HasOutcome, MaxFlowMinCut};
 
 /// The law that a change has one outcome: any two states that it makes of one state are the same.
 pub fn change_has_one_outcome()

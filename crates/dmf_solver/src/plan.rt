@@ -1,9 +1,12 @@
-ghost use Rattle.std.specs.Prelude.{◌≡◌, ◌≢◌, ◌-◌, ◌≤◌, Err, IfOk, IfSome, IsOkUnless, MatchResult, pos};
+ghost use Rattle.std.specs.Prelude.{◌≡◌, ◌≢◌, ◌-◌, ◌≤◌, Err, IfOk, IfErr, IfSome, IsOkUnless, MatchResult, OnErr, pos};
 ghost use Rattle.std.specs.Result.{result_err};
 ghost use Rattle.dmf_solver.specs.Change.{Cap, Close, Add, Shut, arc_refusal, change_fault};
 ghost use Rattle.dmf_state.specs.Arc.{open_arcs_at};
-ghost use Rattle.dmf_state.specs.Edit.{applied, shut_arcs, IsOpenWith};
+ghost use Rattle.dmf_state.specs.Edit.{applied, moved, moves_of, shut_arcs, Fits, IsOpenWith};
 ghost use Rattle.dmf_state.specs.Flow.{flow_on, flow_on_all, flow_value};
+ghost use Rattle.dmf_state.specs.NetworkState.{with_flows};
+ghost use Rattle.dmf_solver.specs.CarryingNetwork.{MayCarry};
+ghost use Rattle.dmf_solver.specs.KeptNetwork.{Keeps};
 ghost use Rattle.dmf_solver.specs.Planning.{EditTakesOff, IsRefusedFor, IsSideWanted, Plans, PlansSolve};
 ghost use Rattle.dmf_state.specs.Side.{IsSmallestSide};
 ghost use Rattle.dmf_solver.specs.Told.{TellsSolve, MayTellSolve};
@@ -12,10 +15,12 @@ use crate::drain::drain;
 use crate::fault::PlanFault;
 use crate::moves::{ListedFlows, list_all_moves};
 use crate::residual::residual_search;
-use crate::shut::{open_arcs_at, shutting_moves};
+use crate::residual_network::ResidualNetwork;
+use crate::shut::{drain_all, open_arcs_at};
 use crate::side::wanted_side;
 use crate::solve::{solve, solved_flows};
 use crate::watch::{Unwatched, Watch};
+use dmf_path::{Search, Touched};
 use dmf_state::{Edit, Side, State};
 use std::alloc::Global;
 
@@ -23,41 +28,93 @@ use std::alloc::Global;
 /// it first.
 ///
 /// The first of these that holds refuses the plan, before it drains anything: [`PlanFault::NoSuchArc`], [`PlanFault::Closed`],
-/// [`PlanFault::SumTooLarge`]. Only draining takes memory: for the flows, two links an arc and some numbers a node. Where that is
-/// refused, the answer is [`PlanFault::NoMemory`]. Where nothing is drained, the plan looks at no other arc.
+/// [`PlanFault::SumTooLarge`]. Only draining takes memory: for the links of the residual network, for the flows on them and for some
+/// numbers a node. Where that is refused, the answer is [`PlanFault::NoMemory`]. Where nothing is drained, the plan looks at no other
+/// arc.
 pub fn plan_cap(alloc: Global, state: &State, j: u64, cap: u64) -> Result<Edit, PlanFault>
     ensures refused { IsRefusedFor state.now (Cap j cap) result }
     ensures at_once { flow_on state.now.flows j ≤ cap → result ≢ Err PlanFault.NoMemory }
     ensures plan { IfOk result (Plans state.now (Cap j cap)) }
     ensures takes_off { IfOk result (EditTakesOff state.now (flow_on state.now.flows j - cap)) }
 {
+    plan_cap_with(alloc, state, j, cap, &mut None)
+}
+
+/// Plans the same capacity, and makes the kept network that of the state that the edit makes.
+///
+/// A plan that drains takes the kept network for it; where none is kept, one is made and kept. A plan that is refused leaves the
+/// network as it is, but for want of memory: then it may be dropped, or lose the search that drains use.
+pub fn plan_cap_with(
+    alloc: Global,
+    state: &State,
+    j: u64,
+    cap: u64,
+    kept: &mut Option<ResidualNetwork>,
+) -> Result<Edit, PlanFault>
+    requires { Keeps state.now kept.old }
+    ensures refused { IsRefusedFor state.now (Cap j cap) result }
+    ensures at_once { flow_on state.now.flows j ≤ cap → result ≢ Err PlanFault.NoMemory }
+    ensures plan { IfOk result (Plans state.now (Cap j cap)) }
+    ensures takes_off { IfOk result (EditTakesOff state.now (flow_on state.now.flows j - cap)) }
+    ensures kept { IfOk result (λ edit. Keeps (applied edit state.now) kept.new) }
+    ensures kept_if_refused { OnErr result (Keeps state.now kept.new) }
+    ensures same_if_refused { IfErr result (λ fault. fault ≢ PlanFault.NoMemory → kept.new ≡ kept.old) }
+{
     let (arc, old) = open_arc(state, j)?;
     if cap > state.largest_cap(old) {
         return Err(PlanFault::SumTooLarge);
     }
-    let moves = drain(alloc, state, arc, cap)?;
-    Ok(Edit::Cap {
+    let drained = drain(alloc, state, arc, cap, kept)?;
+    let edit = Edit::Cap {
         arc,
         old,
         new: cap,
-        moves,
-    })
+        moves: drained.moves,
+    };
+    follow_drained(state, &edit, drained.carrying, kept);
+    Ok(edit)
 }
 
 /// Plans to close arc number `j`. The state stays as it is. Where something flows on the arc, the plan drains it first.
 ///
 /// The first of these that holds refuses the plan, before it drains anything: [`PlanFault::NoSuchArc`], [`PlanFault::Closed`]. Only
-/// draining takes memory: for the flows, two links an arc and some numbers a node. Where that is refused, the answer is
-/// [`PlanFault::NoMemory`]. Where nothing is drained, the plan looks at no other arc.
+/// draining takes memory: for the links of the residual network, for the flows on them and for some numbers a node. Where that is
+/// refused, the answer is [`PlanFault::NoMemory`]. Where nothing is drained, the plan looks at no other arc.
 pub fn plan_close(alloc: Global, state: &State, j: u64) -> Result<Edit, PlanFault>
     ensures refused { IsRefusedFor state.now (Close j) result }
     ensures at_once { flow_on state.now.flows j ≡ 0 → result ≢ Err PlanFault.NoMemory }
     ensures plan { IfOk result (Plans state.now (Close j)) }
     ensures takes_off { IfOk result (EditTakesOff state.now (flow_on state.now.flows j)) }
 {
+    plan_close_with(alloc, state, j, &mut None)
+}
+
+/// Plans to close the same arc, and makes the kept network that of the state that the edit makes, as
+/// [`plan_cap_with`] does.
+pub fn plan_close_with(
+    alloc: Global,
+    state: &State,
+    j: u64,
+    kept: &mut Option<ResidualNetwork>,
+) -> Result<Edit, PlanFault>
+    requires { Keeps state.now kept.old }
+    ensures refused { IsRefusedFor state.now (Close j) result }
+    ensures at_once { flow_on state.now.flows j ≡ 0 → result ≢ Err PlanFault.NoMemory }
+    ensures plan { IfOk result (Plans state.now (Close j)) }
+    ensures takes_off { IfOk result (EditTakesOff state.now (flow_on state.now.flows j)) }
+    ensures kept { IfOk result (λ edit. Keeps (applied edit state.now) kept.new) }
+    ensures kept_if_refused { OnErr result (Keeps state.now kept.new) }
+    ensures same_if_refused { IfErr result (λ fault. fault ≢ PlanFault.NoMemory → kept.new ≡ kept.old) }
+{
     let (arc, old) = open_arc(state, j)?;
-    let moves = drain(alloc, state, arc, 0)?;
-    Ok(Edit::Close { arc, old, moves })
+    let drained = drain(alloc, state, arc, 0, kept)?;
+    let edit = Edit::Close {
+        arc,
+        old,
+        moves: drained.moves,
+    };
+    follow_drained(state, &edit, drained.carrying, kept);
+    Ok(edit)
 }
 
 /// Plans to close every open arc at node `v`, one after the other in the order of their numbers: those that leave the node or enter
@@ -65,20 +122,66 @@ pub fn plan_close(alloc: Global, state: &State, j: u64) -> Result<Edit, PlanFaul
 /// sink may be shut, and so may a node without open arcs.
 ///
 /// [`PlanFault::NoSuchNode`] refuses the plan before it drains anything. The plan takes memory for the arcs and, where something
-/// flows on one of them, for the flows, two links an arc of the network and some numbers a node. Where that is refused, the answer
-/// is [`PlanFault::NoMemory`].
+/// flows on one of them, for the links of the residual network, for the flows on them and for some numbers a node. Where that is
+/// refused, the answer is [`PlanFault::NoMemory`].
 pub fn plan_shut(alloc: Global, state: &State, v: u64) -> Result<Edit, PlanFault>
     ensures refused { IsRefusedFor state.now (Shut v) result }
     ensures plan { IfOk result (Plans state.now (Shut v)) }
     ensures arcs { IfOk result (λ edit. shut_arcs edit ≡ open_arcs_at v 1 state.now.network.arcs) }
     ensures takes_off { IfOk result (EditTakesOff state.now (flow_on_all state.now.flows (open_arcs_at v 1 state.now.network.arcs))) }
 {
+    plan_shut_with(alloc, state, v, &mut None)
+}
+
+/// Plans to close the same arcs, and makes the kept network that of the state that the edit makes, as
+/// [`plan_cap_with`] does.
+pub fn plan_shut_with(
+    alloc: Global,
+    state: &State,
+    v: u64,
+    kept: &mut Option<ResidualNetwork>,
+) -> Result<Edit, PlanFault>
+    requires { Keeps state.now kept.old }
+    ensures refused { IsRefusedFor state.now (Shut v) result }
+    ensures plan { IfOk result (Plans state.now (Shut v)) }
+    ensures arcs { IfOk result (λ edit. shut_arcs edit ≡ open_arcs_at v 1 state.now.network.arcs) }
+    ensures takes_off { IfOk result (EditTakesOff state.now (flow_on_all state.now.flows (open_arcs_at v 1 state.now.network.arcs))) }
+    ensures kept { IfOk result (λ edit. Keeps (applied edit state.now) kept.new) }
+    ensures kept_if_refused { OnErr result (Keeps state.now kept.new) }
+    ensures same_if_refused { IfErr result (λ fault. fault ≢ PlanFault.NoMemory → kept.new ≡ kept.old) }
+{
     if v < 1 || v > u64::from(state.nodes()) {
         return Err(PlanFault::NoSuchNode);
     }
     let arcs = open_arcs_at(alloc, state, v as u32)?;
-    let moves = shutting_moves(alloc, state, &arcs)?;
-    Ok(Edit::Shut { arcs, moves })
+    let drained = drain_all(alloc, state, &arcs, kept)?;
+    let edit = Edit::Shut {
+        arcs,
+        moves: drained.moves,
+    };
+    follow_drained(state, &edit, drained.carrying, kept);
+    Ok(edit)
+}
+
+/// Makes the kept network that of the state that an edit makes. The carrying search is that of the flow after the edit's moves.
+fn follow_drained(
+    state: &State,
+    edit: &Edit,
+    carrying: Option<Search>,
+    kept: &mut Option<ResidualNetwork>,
+)
+    requires fits { Fits edit.now state.now }
+    requires carrying { IfSome carrying (MayCarry (with_flows state.now (moved (moves_of edit.now) state.now.flows))) }
+    requires kept { Keeps state.now kept.old }
+    ensures { Keeps (applied edit.now state.now) kept.new }
+{
+    let Some(network) = kept.take() else {
+        return;
+    };
+    let Some(network) = network.follow(state, edit) else {
+        return;
+    };
+    *kept = Some(network.with_carrying(carrying));
 }
 
 /// Plans a new last arc from `tail` to `head` with capacity `cap`. The state stays as it is.
@@ -142,7 +245,7 @@ pub fn plan_solve_watched<W: Watch>(
         (λ _. MayTellSolve state.now (W.told watch.old) (W.told watch.new)) }
 {
     let search = residual_search(alloc, state)?;
-    let solved = solve(search, state, Vec::new(alloc), watch);
+    let solved = solve(search, state, Touched::all(), watch);
     let side = wanted_side(alloc, state, &solved, want_side)?;
     let flows = solved_flows(alloc, state, solved)?;
     let moves = list_all_moves(alloc, state, &ListedFlows(&flows))?;

@@ -4,12 +4,10 @@ ghost use Rattle.dmf_solver.specs.Pairs.{flow_left};
 
 use crate::moves::Flows;
 use crate::solve::Solved;
-use dmf_path::is_passed;
 use dmf_state::{Arc, State};
 use std::marker::Model;
 
-/// The flows that a solve of a state has reached. The search is not asked about an arc whose tail no path has passed: it has the
-/// flow that it had.
+/// The flows that a solve of a state has reached.
 #[derive(Drop)]
 pub struct ReachedFlows<'a> {
     pub state: &'a State,
@@ -33,10 +31,7 @@ impl Flows for ReachedFlows<'_> {
     fn flow(&self, k: usize, _i: usize) -> u64 {
         let arc = self.state.arcs()[k];
         let before = self.state.flows()[k];
-        if is_passed(&self.solved.passed, arc.tail) {
-            return flow_left(arc, before, self.solved.search.along(k));
-        }
-        before
+        flow_left(arc, before, self.solved.search.along(k))
     }
 }
 

@@ -1,7 +1,8 @@
 ghost use Rattle.std.specs.Prelude.{◌≡◌, IfOk};
 ghost use Rattle.dmf_state.specs.NetworkState.{IsState};
-ghost use Rattle.dmf_solver.specs.ResidualNetwork.{residual_pair, IsResidualOf};
+ghost use Rattle.dmf_solver.specs.ResidualNetwork.{closed_return, residual_pair, IsResidualOf};
 
+use crate::arc_flow::arc_at;
 use dmf_path::{Pair, Pairs, Search};
 use dmf_state::{Arc, State};
 use std::alloc::{AllocError, Global};
@@ -23,23 +24,26 @@ pub fn residual_search(alloc: Global, state: &State) -> Result<Search, AllocErro
 }
 
 /// The pairs of links that stand for the residual steps of a state's flow: one for each arc, but for those that come back
-/// to their tails.
+/// to their tails, and after all arcs one for the return link.
 #[derive(Clone, Copy)]
 struct ResidualPairs<'a> {
     state: &'a State,
 }
 
 impl Pairs for ResidualPairs<'_> {
-    ghost use Rattle.dmf_solver.specs.ResidualNetwork.{residual_pairs};
+    ghost use Rattle.dmf_solver.specs.ResidualNetwork.{network_pairs};
 
-    ghost pairs = { λ p. residual_pairs p.state.now.network.arcs p.state.now.flows };
+    ghost pairs = { λ p. network_pairs p.state.now.network p.state.now.flows };
 
     fn len(&self) -> usize {
-        self.state.arcs().len()
+        self.state.arcs().len() + 1
     }
 
     fn pair(&self, k: usize) -> Option<Pair> {
-        residual_pair(self.state.arcs()[k], self.state.flows()[k])
+        match arc_at(self.state, k) {
+            Some((arc, flow)) => residual_pair(arc, flow),
+            None => closed_return(self.state),
+        }
     }
 }
 
@@ -55,5 +59,17 @@ pub fn residual_pair(arc: Arc, flow: u64) -> Option<Pair>
         head: arc.head,
         along: arc.cap.saturating_sub(flow),
         against: flow,
+    })
+}
+
+/// The pair of the return link, from the sink to the source: no augmenting path leads over it.
+fn closed_return(state: &State) -> Option<Pair>
+    ensures { result ≡ closed_return state.now.network }
+{
+    Some(Pair {
+        tail: state.sink(),
+        head: state.source(),
+        along: 0,
+        against: 0,
     })
 }

@@ -1,55 +1,71 @@
-ghost use Rattle.std.specs.Prelude.{◌≡◌, ◌↔◌, None, pos, IfOk, IfSome, IsOkUnless, MatchResult};
+ghost use Rattle.std.specs.Prelude.{◌≡◌, ◌↔◌, ℕ, None, pos, IfOk, IfSome, IsOkUnless, MatchResult};
+ghost use Rattle.dmf_path.specs.Touched.{AreBelow};
 ghost use Rattle.dmf_state.specs.Direction.{edited_along, FitsAlong};
-ghost use Rattle.dmf_state.specs.Edit.{applied, AddsArc, Fits};
+ghost use Rattle.dmf_state.specs.Edit.{applied, differences, AddsArc, Fits};
 ghost use Rattle.dmf_state.specs.Flow.{flow_value};
+ghost use Rattle.dmf_state.specs.NetworkState.{IsState, NetworkState};
+ghost use Rattle.dmf_solver.specs.Pairs.{reached_flows, IsSolved};
 ghost use Rattle.dmf_solver.specs.Planning.{PlansSolve, IsSideWanted};
+ghost use Rattle.dmf_solver.specs.CarryingNetwork.{IsCarryingOf, MayCarry};
+ghost use Rattle.dmf_solver.specs.KeptNetwork.{IsNetworkOf, Keeps};
 ghost use Rattle.dmf_solver.specs.ResidualNetwork.{IsResidualOf};
 ghost use Rattle.dmf_state.specs.Revert.{reverted, Stands};
 ghost use Rattle.dmf_solver.specs.SmallestSide.{TellsSide};
 ghost use Rattle.dmf_solver.specs.Told.{TellsSolve, MayTellSolve};
 
+use crate::carrying_pairs::CarryingPairs;
 use crate::fault::{CutFault, PlanFault};
-use crate::following::{moves_of, put_capacities, put_flows};
-use crate::moves::list_all_moves;
+use crate::following::{carry_flows, moves_of, put_capacities, put_flows};
+use crate::moves::list_moves;
 use crate::reached_flows::ReachedFlows;
 use crate::residual::residual_search;
 use crate::side::{side_along, wanted_side};
 use crate::solve::{Solved, solve};
 use crate::watch::Watch;
-use dmf_path::Search;
-use dmf_state::{Direction, Edit, NoMemory, Side, State};
-use std::alloc::Global;
+use dmf_path::{Search, Touched};
+use dmf_state::{Direction, Edit, Move, NoMemory, Side, State};
+use std::alloc::{AllocError, Global};
 use std::marker::Model;
 
 /// The residual network of a state: the links along which a solve augments. A caller that solves again and again keeps it, and has
-/// it follow each change of the state. So its links need not be made anew for each solve.
+/// it follow each change of the state. So its links need not be made anew for each solve. From the first drain on it has a search over
+/// the same links for drains too, so that they need not be made anew for each of these.
 #[derive(Drop)]
 pub struct ResidualNetwork {
+    /// The search for augmenting paths.
     search: Search,
+    /// The search over carrying steps, where it is made.
+    carrying: Option<Search>,
+    /// Whether a solve has run over these links. Only from then on it is worth while to number them, for solves that move few arcs.
+    has_solved: bool,
 }
 
 impl Model for ResidualNetwork {
-    ghost use Rattle.dmf_path.specs.Search.{Searched};
+    ghost use Rattle.dmf_solver.specs.KeptNetwork.{KeptNetwork};
 
-    ghost Value = { Searched };
+    ghost Value = { KeptNetwork };
 
-    ghost view = { λ a. a.search };
+    ghost view = { λ a. record { residual = a.search; carrying = a.carrying } };
 }
 
 impl ResidualNetwork {
     /// The residual network of the state. This takes memory for two links an arc and some numbers a node.
     pub fn new(alloc: Global, state: &State) -> Result<ResidualNetwork, NoMemory>
-        ensures { IfOk result (IsResidualOf state.now) }
+        ensures { IfOk result (IsNetworkOf state.now) }
     {
-        let search = residual_search(alloc, state)?;
-        Ok(ResidualNetwork { search })
+        let network = kept_or_new(alloc, state, None)?;
+        Ok(network)
     }
 
     /// Plans what [`plan_solve_watched`](crate::plan_solve_watched) plans, and gives the residual network of the state that the edit
     /// makes.
     ///
-    /// The plan takes memory for the moves, for a mark a node, and for a side that is wanted, with marks and numbers while it looks
-    /// for it. Where that is refused, the answer is [`PlanFault::NoMemory`].
+    /// The first solve looks at all arcs for its moves. Each further one looks at the arcs of its paths alone, unless these have an
+    /// eighth as many links as there are nodes.
+    ///
+    /// The plan takes memory for the moves, and for a side that is wanted, with marks and numbers while it looks for it. A further
+    /// solve also takes memory for an eighth of a number a node, and the second one for a number a link. Where memory is refused,
+    /// the answer is [`PlanFault::NoMemory`].
     pub fn plan_solve<W: Watch>(
         self,
         alloc: Global,
@@ -57,26 +73,34 @@ impl ResidualNetwork {
         want_side: bool,
         watch: &mut W,
     ) -> Result<(Edit, Option<Side>, ResidualNetwork), PlanFault>
-        requires { IsResidualOf state.now self }
+        requires { IsNetworkOf state.now self }
         ensures refused { IsOkUnless result PlanFault.NoMemory }
         ensures edit { IfOk result (λ planned. PlansSolve state.now planned.0) }
         ensures side { IfOk result (λ planned. IsSideWanted want_side state.now.network planned.1) }
-        ensures value { IfOk result (λ planned. IfSome planned.1 (λ side. pos side.capacity ≡ flow_value state.now.network (applied planned.0 state.now).flows)) }
-        ensures kept { IfOk result (λ planned. IsResidualOf (applied planned.0 state.now) planned.2) }
+        ensures value { IfOk result (λ planned.
+            IfSome planned.1 (λ side. pos side.capacity ≡ flow_value state.now.network (applied planned.0 state.now).flows)) }
+        ensures kept { IfOk result (λ planned. IsNetworkOf (applied planned.0 state.now) planned.2) }
         ensures told { MatchResult result
             (λ planned. TellsSolve state.now (applied planned.0 state.now).flows (W.told watch.old) (W.told watch.new))
             (λ _. MayTellSolve state.now (W.told watch.old) (W.told watch.new)) }
     {
-        let passed = vec![in alloc; false; state.nodes() as usize + 1]?;
-        let solved = solve(self.search, state, passed, watch);
+        let ResidualNetwork {
+            mut search,
+            carrying,
+            has_solved,
+        } = self;
+        let touched = none_touched(alloc, &mut search, state.nodes(), has_solved)?;
+        let solved = solve(search, state, touched, watch);
         let side = wanted_side(alloc, state, &solved, want_side)?;
-        let reached = ReachedFlows {
-            state,
-            solved: &solved,
-        };
-        let moves = list_all_moves(alloc, state, &reached)?;
+        let moves = touched_moves(alloc, state, &solved)?;
         let Solved { search, .. } = solved;
-        Ok((Edit::Solve { moves }, side, ResidualNetwork { search }))
+        let carrying = carry_flows(carrying, state, &moves, Direction::Forward);
+        let kept = ResidualNetwork {
+            search,
+            carrying,
+            has_solved: true,
+        };
+        Ok((Edit::Solve { moves }, side, kept))
     }
 
     /// The smallest side of the state's network, as [`smallest_side`](crate::smallest_side) tells it. The state's flow must be
@@ -85,7 +109,7 @@ impl ResidualNetwork {
     /// The answer is [`CutFault::NotGreatest`] where some flow has a larger value. The call takes memory for the side, a mark and two
     /// numbers a node; where that is refused, the answer is [`CutFault::NoMemory`].
     pub fn smallest_side(&self, alloc: Global, state: &State) -> Result<Side, CutFault>
-        requires { IsResidualOf state.now self.now }
+        requires { IsNetworkOf state.now self.now }
         ensures { TellsSide state.now result }
     {
         side_along(alloc, &self.search, state)
@@ -95,9 +119,9 @@ impl ResidualNetwork {
     /// arc: then the links have to be made anew. The call takes no memory, and time for the arcs that the edit names; the first call
     /// after a solve takes time for each node.
     pub fn follow(self, state: &State, edit: &Edit) -> Option<ResidualNetwork>
-        requires residual { IsResidualOf state.now self }
+        requires network { IsNetworkOf state.now self }
         requires fits { Fits edit.now state.now }
-        ensures kept { IfSome result (λ kept. IsResidualOf (applied edit.now state.now) kept) }
+        ensures kept { IfSome result (λ kept. IsNetworkOf (applied edit.now state.now) kept) }
         ensures dropped { (result ≡ None) ↔ AddsArc edit.now }
     {
         self.follow_along(state, edit, Direction::Forward)
@@ -106,9 +130,9 @@ impl ResidualNetwork {
     /// The residual network of the state before an edit that stands in this one. There is none where the edit added an arc: then the
     /// links have to be made anew. The call takes as much memory and time as [`follow`](ResidualNetwork::follow).
     pub fn follow_back(self, state: &State, edit: &Edit) -> Option<ResidualNetwork>
-        requires residual { IsResidualOf state.now self }
+        requires network { IsNetworkOf state.now self }
         requires stands { Stands edit.now state.now }
-        ensures kept { IfSome result (λ kept. IsResidualOf (reverted edit.now state.now) kept) }
+        ensures kept { IfSome result (λ kept. IsNetworkOf (reverted edit.now state.now) kept) }
         ensures dropped { (result ≡ None) ↔ AddsArc edit.now }
     {
         self.follow_along(state, edit, Direction::Back)
@@ -121,17 +145,125 @@ impl ResidualNetwork {
         edit: &Edit,
         direction: Direction,
     ) -> Option<ResidualNetwork>
-        requires residual { IsResidualOf state.now self }
+        requires network { IsNetworkOf state.now self }
         requires fits { FitsAlong direction edit.now state.now }
-        ensures kept { IfSome result (λ kept. IsResidualOf (edited_along direction edit.now state.now) kept) }
+        ensures kept { IfSome result (λ kept. IsNetworkOf (edited_along direction edit.now state.now) kept) }
         ensures dropped { (result ≡ None) ↔ AddsArc edit.now }
     {
         if let Edit::Add { .. } = *edit {
             return None;
         }
-        let mut search = self.search;
-        put_flows(&mut search, state, moves_of(edit), direction);
+        let ResidualNetwork {
+            mut search,
+            carrying,
+            has_solved,
+        } = self;
+        let moves = moves_of(edit);
+        put_flows(&mut search, state, moves, direction);
         put_capacities(&mut search, state, edit, direction);
-        Some(ResidualNetwork { search })
+        let carrying = carry_flows(carrying, state, moves, direction);
+        Some(ResidualNetwork {
+            search,
+            carrying,
+            has_solved,
+        })
     }
+
+    /// Takes the carrying search of the state's flow out of the network, which has none afterwards. Where it had none, the search is
+    /// made over the links of the network: this takes memory for a room and a flag a link, and for some numbers a node.
+    pub(crate) fn take_carrying(
+        &mut self,
+        alloc: Global,
+        state: &State,
+    ) -> Result<Search, AllocError>
+        requires state { IsState state.now }
+        requires network { IsNetworkOf state.now self.old }
+        ensures network { IsNetworkOf state.now self.new }
+        ensures carrying { IfOk result (IsCarryingOf state.now) }
+    {
+        match self.carrying.take() {
+            Some(search) => Ok(with_value(search, state)),
+            None => carrying_twin(alloc, state, &self.search),
+        }
+    }
+
+    /// The network with this carrying search, where there is one, in place of its own.
+    pub(crate) fn with_carrying(self, carrying: Option<Search>) -> ResidualNetwork
+        ensures { (s : NetworkState) → IsNetworkOf s self → IfSome carrying (MayCarry s) → IsNetworkOf s result }
+    {
+        match carrying {
+            Some(_) => ResidualNetwork {
+                search: self.search,
+                carrying,
+                has_solved: self.has_solved,
+            },
+            None => self,
+        }
+    }
+}
+
+/// The kept network of the state, or a new one. A new one takes memory for two links an arc and some numbers a node.
+pub fn kept_or_new(
+    alloc: Global,
+    state: &State,
+    kept: Option<ResidualNetwork>,
+) -> Result<ResidualNetwork, AllocError>
+    requires { Keeps state.now kept }
+    ensures { IfOk result (IsNetworkOf state.now) }
+{
+    if let Some(network) = kept {
+        return Ok(network);
+    }
+    let search = residual_search(alloc, state)?;
+    Ok(ResidualNetwork {
+        search,
+        carrying: None,
+        has_solved: false,
+    })
+}
+
+/// What tells the pairs that the paths of a solve or a drain lead over. Where it is worth while the links are numbered, so that these
+/// pairs are listed: at most an eighth as many as there are nodes.
+pub fn none_touched(
+    alloc: Global,
+    search: &mut Search,
+    nodes: u32,
+    is_worth_while: bool,
+) -> Result<Touched, AllocError>
+    ensures search { search.new ≡ search.old }
+    ensures below { IfOk result (λ touched. (count : ℕ) → AreBelow count touched) }
+{
+    if !is_worth_while {
+        return Ok(Touched::all());
+    }
+    search.number_links(alloc)?;
+    Touched::new(alloc, nodes as usize / 8)
+}
+
+/// The moves of a solve: of the arcs whose pairs are not touched none is looked at.
+fn touched_moves(alloc: Global, state: &State, solved: &Solved) -> Result<Vec<Move>, AllocError>
+    requires { IsSolved state.now solved.now }
+    ensures { IfOk result (λ moves. moves.items ≡ differences 1 state.now.flows (reached_flows state.now solved.now.search)) }
+{
+    let indices = solved.touched.indices(state.arcs().len() + 1);
+    list_moves(alloc, state, &ReachedFlows { state, solved }, indices)
+}
+
+/// A carrying search of the state's flow over the links of its residual network.
+fn carrying_twin(alloc: Global, state: &State, residual: &Search) -> Result<Search, AllocError>
+    requires state { IsState state.now }
+    requires residual { IsResidualOf state.now residual.now }
+    ensures { IfOk result (IsCarryingOf state.now) }
+{
+    residual.twin(alloc, &CarryingPairs { state }, false)
+}
+
+/// The carrying search with the value of the state's flow as the room of the return link.
+fn with_value(mut search: Search, state: &State) -> Search
+    requires { MayCarry state.now search }
+    ensures carrying { IsCarryingOf state.now result }
+    ensures state { IsState state.now }
+{
+    search.set_rooms(state.arcs().len(), state.value(), 0);
+    search
 }

@@ -1,18 +1,22 @@
 //! Every open arc at a node is closed.
 ghost use Rattle.std.specs.Prelude.{◌≡◌, ◌≤◌, ℕ, true, false, length, map, IfOk};
 ghost use Rattle.dmf_state.specs.Arc.{open_arcs_at};
+ghost use Rattle.dmf_solver.specs.CarryingNetwork.{IsCarryingOf};
 ghost use Rattle.dmf_solver.specs.Drain.{Drains};
+ghost use Rattle.dmf_solver.specs.KeptNetwork.{Keeps};
 ghost use Rattle.dmf_state.specs.Edit.{AreOpenWith, numbers};
 ghost use Rattle.dmf_state.specs.Flow.{flow_on_all};
-ghost use Rattle.dmf_solver.specs.Moves.{AreShuttingMoves};
+ghost use Rattle.dmf_solver.specs.Moves.{AreShuttingMoves, CarriesMoved};
 ghost use Rattle.dmf_state.specs.Network.{has_arc};
+ghost use Rattle.dmf_state.specs.NetworkState.{IsState};
 ghost use Rattle.dmf_solver.specs.Pairs.{Along, IsCarryingSearch, flows_read};
 
-use crate::drain::{carrying_search, drain_along};
+use crate::drain::{Drained, drain_along, take_carrying};
 use crate::drained_flows::DrainedFlows;
 use crate::moves::list_moves;
-use dmf_path::{Indices, Search};
-use dmf_state::{Move, Shutting, State};
+use crate::residual_network::ResidualNetwork;
+use dmf_path::{Indices, Search, Touched};
+use dmf_state::{Shutting, State};
 use std::alloc::{AllocError, Global};
 
 /// The open arcs at node `v`, in the order of their numbers.
@@ -32,20 +36,44 @@ pub fn open_arcs_at(alloc: Global, state: &State, v: u32) -> Result<Vec<Shutting
     Ok(open)
 }
 
-/// The moves that drain these arcs in turn. Where nothing flows on any of them, there are none, and no other arc is looked at.
-pub fn shutting_moves(
+/// Drains these arcs in turn. Where nothing flows on any of them, there are no moves, and no other arc is looked at. Else the carrying
+/// search is taken out of the kept network; where none is kept, a network is made and kept.
+pub fn drain_all(
     alloc: Global,
     state: &State,
     arcs: &[Shutting],
-) -> Result<Vec<Move>, AllocError>
-    requires { AreOpenWith 0 arcs.now state.now.network }
-    ensures { IfOk result (λ moves. AreShuttingMoves state.now (numbers arcs.now) moves.items) }
+    kept: &mut Option<ResidualNetwork>,
+) -> Result<Drained, AllocError>
+    requires state { IsState state.now }
+    requires arcs { AreOpenWith 0 arcs.now state.now.network }
+    requires kept { Keeps state.now kept.old }
+    ensures moves { IfOk result (λ drained. AreShuttingMoves state.now (numbers arcs.now) drained.moves.items) }
+    ensures carrying { IfOk result (CarriesMoved state.now) }
+    ensures kept { Keeps state.now kept.new }
+{
+    if are_without_flow(state, arcs) {
+        return Ok(Drained {
+            moves: Vec::new(alloc),
+            carrying: None,
+        });
+    }
+    let carrying = take_carrying(alloc, state, kept)?;
+    drain_all_by(alloc, state, arcs, carrying)
+}
+
+/// Drains these arcs in turn, by this carrying search.
+fn drain_all_by(
+    alloc: Global,
+    state: &State,
+    arcs: &[Shutting],
+    mut search: Search,
+) -> Result<Drained, AllocError>
+    requires arcs { AreOpenWith 0 arcs.now state.now.network }
+    requires carrying { IsCarryingOf state.now search }
+    ensures moves { IfOk result (λ drained. AreShuttingMoves state.now (numbers arcs.now) drained.moves.items) }
+    ensures carrying { IfOk result (CarriesMoved state.now) }
 {
     let before = state.flows();
-    if are_without_flow(state, arcs) {
-        return Ok(Vec::new(alloc));
-    }
-    let mut search = carrying_search(alloc, state)?;
     let mut unpaired = Vec::from_slice(alloc, before)?;
     let mut are_loops_drained = false;
     for shutting in arcs {
@@ -62,7 +90,11 @@ pub fn shutting_moves(
         unpaired: &unpaired,
         search: &search,
     };
-    list_moves(alloc, state, &drained, indices)
+    let moves = list_moves(alloc, state, &drained, indices)?;
+    Ok(Drained {
+        moves,
+        carrying: Some(search),
+    })
 }
 
 /// Whether nothing flows on any of these arcs.
@@ -89,7 +121,7 @@ fn drain_in_turn(state: &State, j: u32, search: &mut Search, unpaired: &mut [u64
 {
     let arc = state.arc(j);
     if arc.tail != arc.head {
-        drain_along(state, j, 0, search);
+        drain_along(state, j, 0, search, &mut Touched::all());
         return false;
     }
     let i = j as usize - 1;

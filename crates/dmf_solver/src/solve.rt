@@ -1,4 +1,5 @@
-ghost use Rattle.std.specs.Prelude.{◌≡◌, ◌↔◌, false, IfOk, IsTrue};
+ghost use Rattle.std.specs.Prelude.{◌≡◌, ◌+◌, ◌↔◌, false, length, IfOk, IsTrue};
+ghost use Rattle.dmf_path.specs.Touched.{AreBelow};
 ghost use Rattle.dmf_state.specs.NetworkState.{IsState};
 ghost use Rattle.dmf_solver.specs.Greatest.{IsGreatest, IsSurpassed};
 ghost use Rattle.dmf_solver.specs.Pairs.{reached_flows, IsSolved};
@@ -9,47 +10,42 @@ use crate::moves::Flows;
 use crate::reached_flows::ReachedFlows;
 use crate::residual::residual_search;
 use crate::watch::Watch;
-use dmf_path::Search;
+use dmf_path::{Search, Touched};
 use dmf_state::{NoMemory, State};
 use std::alloc::{AllocError, Global};
 
-/// A search for augmenting paths that has none left, the value of the flow that it has reached, and marks at the nodes through
-/// which its paths went.
+/// A search for augmenting paths that has none left, the value of the flow that it has reached, and which pairs its paths led over.
 #[derive(Drop)]
 pub struct Solved {
     pub search: Search,
     pub value: u64,
-    pub passed: Vec<bool>,
+    pub touched: Touched,
 }
 
-/// Augments the flow of the state along least paths until none is left, and tells the watch of each. It marks the nodes of these
-/// paths. Once the paths have an eighth as many links in all as there are marks, it takes all marks away, and every node counts as
-/// marked.
+/// Augments the flow of the state along least paths until none is left, and tells the watch of each. The pairs of these paths count
+/// as touched then.
 pub fn solve<W: Watch>(
     mut search: Search,
     state: &State,
-    mut passed: Vec<bool>,
+    mut touched: Touched,
     watch: &mut W,
 ) -> Solved
-    requires { IsResidualOf state.now search }
+    requires residual { IsResidualOf state.now search }
+    requires below { AreBelow (length state.now.network.arcs + 1) touched }
     ensures solved { IsSolved state.now result }
     ensures told { TellsSolve state.now (reached_flows state.now result.search) (W.told watch.old) (W.told watch.new) }
     ensures state { IsState state.now }
 {
     let mut value = state.value();
-    let mut left = passed.len() / 8;
-    while let Some(found) = search.augment(u64::MAX, &mut passed) {
+    while let Some(found) = search.augment(u64::MAX, &mut touched) {
         value += found.amount;
         watch.augmented(value, found.links);
-        left = left.saturating_sub(found.links as usize);
-        if left == 0 {
-            passed.clear();
-        }
     }
+    touched.sort();
     Solved {
         search,
         value,
-        passed,
+        touched,
     }
 }
 
@@ -77,5 +73,5 @@ pub fn is_greatest(alloc: Global, state: &State) -> Result<bool, NoMemory>
     ensures surpassed { IfOk result (λ answer. (answer ≡ false) ↔ IsSurpassed state.now.network state.now.flows) }
 {
     let mut search = residual_search(alloc, state)?;
-    Ok(search.augment(u64::MAX, &mut []).is_none())
+    Ok(search.augment(u64::MAX, &mut Touched::all()).is_none())
 }

@@ -1,5 +1,5 @@
 -- States with arcs closed, and opened again, one after the other.
-use Rattle.std.proofs.Common.{ℕ, ◌≡◌, ◌-◌, ◌≤◌, true, List, [], ◌∷◌, refl, ap, sym, ◌∙◌, subst, arith, Vec, Global}
+use Rattle.std.proofs.Common.{ℕ, ◌≡◌, ◌+◌, ◌-◌, ◌<◌, ◌≤◌, true, List, [], ◌∷◌, length, get_or, drop, refl, ap, sym, ◌∙◌, subst, arith, Vec, Global}
 use Rattle.std.proofs.lemmas.List.{get_or-set_same}
 use Rattle.dmf_state.specs.declared.arc.Arc.{Arc}
 use Rattle.dmf_state.specs.declared.edit.Edit.TheVariants.{Shut}
@@ -15,7 +15,7 @@ use Rattle.dmf_state.specs.Revert.{with_open, with_opened, Stands}
 use Rattle.dmf_state.proofs.ChangedArc.{has_arc-within}
 use Rattle.dmf_state.proofs.ChangedState.{IsState-with_arc_back}
 use Rattle.dmf_state.proofs.Changing.{within-at}
-use Rattle.dmf_state.proofs.ClosedArcs.{closed_at, open-rest, IsState-all_closed, AreWithoutFlow}
+use Rattle.dmf_state.proofs.ClosedArcs.{closed_at, no_shutting, left-next, open-rest, IsState-all_closed, AreWithoutFlow}
 use Rattle.dmf_state.proofs.ClosedTogether.{IsNetwork-closed, open-before, with_open-replaced, length-closed}
 
 -- The flow of a state with arcs closed is one with them open, and nothing flows on them.
@@ -27,7 +27,8 @@ IsState-before_closed last (a ∷ arcs) n flows network are state =
     let rest = IsState-before_closed a.arc arcs (closed_at n a.arc) flows (IsNetwork-closed n a.arc network has) (open-rest last a arcs n are) state in
     let here : arc_number (closed_at n a.arc) a.arc ≡ closed_arc (arc_number n a.arc) =
     get_or-set_same n.arcs (a.arc - 1) _ no_arc (has_arc-within n a.arc has).1 in
-    let none : flow_on flows a.arc ≤ 0 = omega (arith, within-at (closed_at n a.arc).arcs flows (a.arc - 1) rest.0.flow.within, ap (λ (b : Arc). b.cap) here) in (
+    let none : flow_on flows a.arc ≤ 0 =
+    omega (arith, within-at (closed_at n a.arc).arcs flows (a.arc - 1) rest.0.flow.within, ap (λ (b : Arc). b.cap) here) in (
       IsState-with_arc_back (record { network = n; flows = flows }) a.arc (closed_arc (arc_number n a.arc)) network rest.0 has refl refl (omega arith),
       (none, rest.1),
     )
@@ -46,10 +47,12 @@ pub record ClosesNext (final : Network) (a : Shutting) (left : List Shutting) (t
   pub state : IsState (record { network = closed_at t.network a.arc; flows = t.flows })
   pub up_to : AreClosedUpTo final left (record { network = closed_at t.network a.arc; flows = t.flows }) flows
 
-pub closes-next : (final : Network) (a : Shutting) (rest left : List Shutting) (t : NetworkState) (flows : List ℕ) → IsState t → left ≡ a ∷ rest
-    → AreClosedUpTo final left t flows → ClosesNext final a rest t flows
-closes-next final a rest left t flows state is up_to =
-    let own : AreClosedUpTo final (a ∷ rest) t flows = subst (λ xs. AreClosedUpTo final xs t flows) is up_to in
+pub closes-next : (final : Network) (arcs : List Shutting) (i : ℕ) (t : NetworkState) (flows : List ℕ) → IsState t → i < length arcs
+    → AreClosedUpTo final (drop i arcs) t flows → ClosesNext final (get_or arcs i no_shutting) (drop (i + 1) arcs) t flows
+closes-next final arcs i t flows state inside up_to =
+    let a = get_or arcs i no_shutting in
+    let rest = drop (i + 1) arcs in
+    let own = subst (λ xs. AreClosedUpTo final xs t flows) (left-next arcs i inside) up_to in
     let has = own.are.1.is_there in
     let later = open-rest own.last a rest t.network own.are in
     record {
@@ -86,11 +89,13 @@ pub record OpensNext (final : Network) (a : Shutting) (left : List Shutting) (t 
   pub state : IsState (record { network = with_open t.network a.arc a.old; flows = t.flows })
   pub up_to : AreOpenedUpTo final left (record { network = with_open t.network a.arc a.old; flows = t.flows }) flows
 
--- The network has the first of them.
-pub opens-has : (final : Network) (a : Shutting) (rest left : List Shutting) (t : NetworkState) (flows : List ℕ) → left ≡ a ∷ rest
-    → AreOpenedUpTo final left t flows → has_arc t.network a.arc ≡ true
-opens-has final a rest left t flows is up_to =
-    let own : AreOpenedUpTo final (a ∷ rest) t flows = subst (λ xs. AreOpenedUpTo final xs t flows) is up_to in
+-- The network has the next of them.
+pub opens-has : (final : Network) (arcs : List Shutting) (i : ℕ) (t : NetworkState) (flows : List ℕ) → i < length arcs
+    → AreOpenedUpTo final (drop i arcs) t flows → has_arc t.network (get_or arcs i no_shutting).arc ≡ true
+opens-has final arcs i t flows inside up_to =
+    let a = get_or arcs i no_shutting in
+    let rest = drop (i + 1) arcs in
+    let own = subst (λ xs. AreOpenedUpTo final xs t flows) (left-next arcs i inside) up_to in
     let has : has_arc (with_closed (a ∷ rest) own.before) a.arc ≡ true = rw (length-closed (a ∷ rest) own.before) own.are.1.is_there in
     subst (λ m. has_arc m a.arc ≡ true) own.gives has
 
@@ -101,10 +106,12 @@ opened-first last a rest n are =
     open-before a.arc rest n (closed_at n a.arc) a.arc a.old (omega (arith, are.0)) (omega arith) are.2
     ∙ ap (with_closed rest) (with_open-replaced n a.arc a.old (closed_arc (arc_number n a.arc)) are.1 refl refl)
 
-pub opens-next : (final : Network) (a : Shutting) (rest left : List Shutting) (t : NetworkState) (flows : List ℕ) → IsState t → left ≡ a ∷ rest
-    → AreOpenedUpTo final left t flows → OpensNext final a rest t flows
-opens-next final a rest left t flows state is up_to =
-    let own : AreOpenedUpTo final (a ∷ rest) t flows = subst (λ xs. AreOpenedUpTo final xs t flows) is up_to in
+pub opens-next : (final : Network) (arcs : List Shutting) (i : ℕ) (t : NetworkState) (flows : List ℕ) → IsState t → i < length arcs
+    → AreOpenedUpTo final (drop i arcs) t flows → OpensNext final (get_or arcs i no_shutting) (drop (i + 1) arcs) t flows
+opens-next final arcs i t flows state inside up_to =
+    let a = get_or arcs i no_shutting in
+    let rest = drop (i + 1) arcs in
+    let own = subst (λ xs. AreOpenedUpTo final xs t flows) (left-next arcs i inside) up_to in
     let n : Network = own.before in
     let opened : with_open t.network a.arc a.old ≡ with_closed rest n =
     ap (λ m. with_open m a.arc a.old) (sym own.gives) ∙ opened-first own.last a rest n own.are in

@@ -3,14 +3,14 @@ ghost use Rattle.dmf_state.specs.Arc.{open_arc, with_cap, closed_arc, is_open_at
 
 /// A directed arc of a network.
 ///
-/// Its ends are node numbers, from 1 on. A closed arc keeps its number in the network, and its capacity is 0.
+/// Its ends are numbers of nodes, counted from 1. A closed arc keeps its number in the network, and has capacity 0.
 #[derive(Clone, Copy, Debug, PartialEq, Eq, Hash)]
 pub struct Arc {
     /// The node that the arc leaves.
     pub tail: u32,
     /// The node that the arc enters.
     pub head: u32,
-    /// The most that may flow on the arc, a whole number.
+    /// The capacity: the largest flow that the arc can carry.
     pub cap: u64,
     /// Whether the arc was closed.
     pub closed: bool,

@@ -9,7 +9,7 @@ pub struct Move {
     pub to: u64,
 }
 
-/// An arc that is closed beside others, by one change.
+/// An arc that an [`Edit::Shut`] closes.
 #[derive(Clone, Copy, Debug, PartialEq, Eq, Hash)]
 pub struct Shutting {
     /// The arc's number, counted from 1.
@@ -18,10 +18,10 @@ pub struct Shutting {
     pub old: u64,
 }
 
-/// A change that was planned on a state, with all that it takes to apply it there.
+/// A change planned on a state, with all that it takes to apply it there and to revert it.
 #[derive(Debug, PartialEq, Eq, Drop)]
 pub enum Edit {
-    /// Another capacity for an arc.
+    /// Gives an arc another capacity.
     Cap {
         /// The arc's number, counted from 1.
         arc: u32,
@@ -32,7 +32,7 @@ pub enum Edit {
         /// The arcs whose flow differs, in the order of their numbers.
         moves: Vec<Move>,
     },
-    /// A new last arc, open and without flow.
+    /// Appends an open arc without flow.
     Add {
         /// The node that the arc leaves.
         tail: u32,
@@ -41,7 +41,7 @@ pub enum Edit {
         /// Its capacity.
         cap: u64,
     },
-    /// Nothing may flow on an arc any more.
+    /// Closes an arc.
     Close {
         /// The arc's number, counted from 1.
         arc: u32,
@@ -50,14 +50,14 @@ pub enum Edit {
         /// The arcs whose flow differs, in the order of their numbers.
         moves: Vec<Move>,
     },
-    /// Nothing may flow on some arcs any more.
+    /// Closes all open arcs at a node.
     Shut {
-        /// The arcs, in the order of their numbers.
+        /// These arcs, in ascending order.
         arcs: Vec<Shutting>,
         /// The arcs whose flow differs, in the order of their numbers.
         moves: Vec<Move>,
     },
-    /// A greatest flow in place of the present one.
+    /// Augments the flow to a greatest one.
     Solve {
         /// The arcs whose flow differs, in the order of their numbers.
         moves: Vec<Move>,

@@ -17,7 +17,7 @@ impl From<AllocError> for NoMemory {
     }
 }
 
-/// Why a network cannot take an arc. The faults of building a network and of planning a change are made from it.
+/// Why a network cannot take an arc. [`NetFault`] and the faults of a plan come from it.
 #[derive(Clone, Copy, Debug, PartialEq, Eq, Error)]
 pub enum ArcFault {
     /// An end is 0 or past the last node.
@@ -68,16 +68,16 @@ impl From<NoMemory> for NetFault {
     }
 }
 
-/// Why numbers on the arcs of a network are no flow of a value from 0 on.
+/// Why the numbers on the arcs of a network are no flow, or a flow of negative value.
 #[derive(Clone, Copy, Debug, PartialEq, Eq, Error)]
 pub enum FlowFault {
-    /// More flows on this arc than its capacity. The number is that of the first such arc, counted from 1.
+    /// The flow on this arc exceeds its capacity. It is the first such arc, counted from 1.
     #[error("over capacity on arc {0}")]
     OverCapacity(u32),
-    /// At this node, neither source nor sink, outflow and inflow differ. It is the least such node.
+    /// This node, neither source nor sink, does not conserve flow. It is the least such node.
     #[error("flow not conserved at node {0}")]
     NotConserved(u32),
-    /// More flows into the source than out of it.
+    /// The value is negative: the inflow of the source exceeds its outflow.
     #[error("value below 0")]
     Negative,
     /// A request for memory was refused.

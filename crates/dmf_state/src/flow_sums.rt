@@ -7,16 +7,16 @@ ghost use Rattle.dmf_state.specs.FlowSums.{AreFlowSums, IsNodeFlow, IsLeast, IsO
 use crate::arc::Arc;
 use std::alloc::{AllocError, Global};
 
-/// What flows out of a node and into it.
+/// The outflow and the inflow of a node.
 #[derive(Clone, Copy, Debug)]
 pub struct NodeFlow {
-    /// The sum of the flows on the arcs that have the node as their tail.
+    /// The outflow: the sum of the flows on the arcs that leave the node.
     pub leaving: u64,
-    /// The sum of the flows on the arcs that have the node as their head.
+    /// The inflow: the sum of the flows on the arcs that enter the node.
     pub entering: u64,
 }
 
-/// What flows out of each node and into it, that of node 1 first.
+/// The outflow and the inflow of each node, beginning with node 1.
 #[derive(Drop)]
 pub struct FlowSums {
     pub leaving: Vec<u64>,
@@ -47,7 +47,7 @@ pub fn flow_sums(
 }
 
 impl FlowSums {
-    /// The least node other than these two at which the sums differ.
+    /// The least node, other than source and sink, that does not conserve flow.
     pub fn first_unbalanced(&self, source: u32, sink: u32) -> Option<u32>
         requires one_each { length self.now.leaving.items ≡ length self.now.entering.items }
         requires at_most_nodes { length self.now.leaving.items ≤ 2 ^ 24 }
@@ -64,7 +64,7 @@ impl FlowSums {
         None
     }
 
-    /// What flows out of a node and into it.
+    /// The outflow and the inflow of a node.
     pub fn at(&self, node: u32) -> NodeFlow
         requires from_one { 1 ≤ node }
         requires in_leaving { node ≤ length self.now.leaving.items }
@@ -80,7 +80,7 @@ impl FlowSums {
     }
 }
 
-/// The number of the first arc on which more flows than its capacity, counted from 1.
+/// The number of the first arc whose flow exceeds its capacity, counted from 1.
 pub fn first_over_capacity(arcs: &[Arc], flows: &[u64]) -> Option<u32>
     requires one_flow_each { length flows.now ≡ length arcs.now }
     requires at_most_arcs { length arcs.now ≤ 2 ^ 27 }

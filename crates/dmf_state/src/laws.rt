@@ -1,7 +1,7 @@
 ghost use Rattle.dmf_state.specs.Laws.{HasOneBefore, GivesBack};
 
-/// The law that an edit can be undone in one way alone: two states that it fits, and of which it makes the same
-/// state, are the same.
+/// The law that an edit can be reverted in one way only: if it makes the same state of two states that it fits, these two are
+/// the same.
 pub fn edit_has_one_state_before()
     ensures { HasOneBefore }
 {}

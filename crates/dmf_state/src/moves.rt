@@ -9,17 +9,17 @@ use crate::arc::Arc;
 use crate::edit::Move;
 use crate::flow_sums::NodeFlow;
 
-/// Whether an edit is made or taken back.
+/// Whether an edit is applied or reverted.
 #[derive(Clone, Copy)]
 pub enum Direction {
-    /// It is made.
+    /// It is applied.
     Forward,
-    /// It is taken back.
+    /// It is reverted.
     Back,
 }
 
 impl Direction {
-    /// The move, or the one that takes it back.
+    /// The move in this direction: the move itself, or the one that reverts it.
     pub fn step(self, m: &Move) -> Move
         ensures { result ≡ step_along self m.now }
     {
@@ -33,7 +33,7 @@ impl Direction {
         }
     }
 
-    /// The capacity after a change, or the one before it.
+    /// The capacity that the arc gets in this direction.
     pub fn cap(self, before: u64, after: u64) -> u64
         ensures { result ≡ cap_along self before after }
     {
@@ -44,8 +44,8 @@ impl Direction {
     }
 }
 
-/// Makes these moves, or takes them back: each arc that they name gets its new flow, or its old one. Beside that, `at_node` keeps what
-/// flows out of this node and into it.
+/// Applies or reverts these moves: each arc that they name gets its flow after them, or before them. `at_node` stays the outflow and
+/// the inflow of the node.
 pub fn make_moves(
     arcs: &[Arc],
     flows: &mut [u64],
@@ -72,7 +72,7 @@ pub fn make_moves(
     }
 }
 
-/// A sum of flows after a move. The move changes one of these flows where `is_part` says so, and else none.
+/// A sum of flows after a move. `is_part` says whether the flow that the move changes is part of the sum.
 fn sum_after(sum: u64, is_part: bool, m: &Move) -> u64
     requires part { is_part ≡ true → m.now.from ≤ sum }
     requires small { is_part ≡ true → sum - m.now.from + m.now.to < 2 ^ 64 }

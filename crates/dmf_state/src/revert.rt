@@ -1,4 +1,4 @@
-//! Taking back an edit.
+//! Reverting an edit.
 ghost use Rattle.std.specs.Prelude.{◌≡◌, true, map};
 ghost use Rattle.dmf_state.specs.Network.{has_arc};
 ghost use Rattle.dmf_state.specs.NetworkState.{IsState};
@@ -11,8 +11,8 @@ use crate::moves::Direction;
 use crate::state::State;
 
 impl State {
-    /// Takes back an edit that stands in the state. This gives the state to which the edit was applied. It looks only at the arcs that
-    /// the edit names, and takes no memory.
+    /// Reverts an edit that stands in the state, and so restores the state to which the edit was applied. Looks only at the arcs that
+    /// the edit names. Takes no memory.
     pub fn revert(&mut self, edit: &Edit)
         requires { Stands edit.now self.old }
         ensures { self.new ≡ reverted edit.now self.old }
@@ -40,7 +40,7 @@ impl State {
             Edit::Solve { ref moves } => self.move_flows(moves, Direction::Back),
         }
     }
-    /// Opens arc number `j` with its old capacity, and takes the moves back.
+    /// Opens arc number `j` with its old capacity, and reverts the moves.
     fn open_again(&mut self, j: u32, old: u64, moves: &[Move])
         requires is_there { has_arc self.old.network j ≡ true }
         requires fit { MovesFit 0 (map opposite moves.now) self.old.flows }

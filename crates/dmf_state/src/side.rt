@@ -8,8 +8,8 @@ use std::marker::Model;
 
 /// A set of nodes that is a cut, with the capacity of the cut.
 ///
-/// [`Side::new`] asks only that the numbers of the nodes ascend. That they are a cut, and that the capacity is theirs, is for the
-/// contract of a call to say that tells a side. No method takes memory.
+/// [`Side::new`] asks only that the numbers of the nodes ascend. Each call that finds a side says in its contract that the nodes are a
+/// cut of this capacity. No method takes memory.
 #[derive(Debug, Drop)]
 pub struct Side {
     ids: Vec<u32>,
@@ -52,7 +52,7 @@ impl Eq for Side {
 }
 
 impl Side {
-    /// The set of these nodes, which ascend, with this capacity.
+    /// Makes the set of these nodes, which ascend, with this capacity.
     pub fn new(ids: Vec<u32>, capacity: u64) -> Side
         requires { IsStrictlyIncreasing ids.items }
         ensures { result ≡ record { ids = ids.items; capacity = capacity } }

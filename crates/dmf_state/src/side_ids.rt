@@ -3,7 +3,7 @@ ghost use Rattle.std.specs.Iterator.{YieldsFirst, item_count};
 
 use std::marker::Model;
 
-/// The numbers of the nodes of a side, each once, ascending. It takes no memory.
+/// An iterator over the numbers of the nodes of a side, ascending. Takes no memory.
 #[derive(Drop)]
 pub struct SideIds<'a> {
     left: &'a [u32],

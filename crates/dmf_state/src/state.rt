@@ -19,9 +19,9 @@ mod equality;
 
 /// A network with a flow on it.
 ///
-/// Nodes are numbered from 1, and so are arcs, in the order in which they were added. The flow is within the capacities, is conserved
-/// at each node but the source and the sink, and its value is 0 or more. The state keeps the sum of the capacities, the value and the
-/// number of open arcs, so that a call that asks for one of them looks at no arc.
+/// Nodes are numbered from 1, and so are arcs, in the order in which they were added. The flow respects the capacities, is conserved
+/// at each node but the source and the sink, and has a value of 0 or more. The state keeps the sum of the capacities, the value and
+/// the number of open arcs, so reading one of them looks at no arc.
 #[derive(Debug, Drop)]
 pub struct State {
     nodes: u32,
@@ -54,7 +54,7 @@ impl Model for State {
 }
 
 impl State {
-    /// The state without arcs, of 2 to [`crate::MAX_NODES`] nodes. The source and the sink are two of them. The call takes no memory.
+    /// Makes a state without arcs, of 2 to [`crate::MAX_NODES`] nodes. The source and the sink are two of them. Takes no memory.
     pub fn new(alloc: Global, nodes: u32, source: u32, sink: u32) -> Self
         requires at_least_two_nodes { 2 ≤ nodes }
         requires at_most_nodes { nodes ≤ 2 ^ 24 }
@@ -63,7 +63,7 @@ impl State {
         requires two_terminals { source ≢ sink }
         ensures { result ≡ without_arcs nodes source sink }
     {
-        // The bound that `at_most_nodes` names.
+        // The invariant `at_most_nodes` names this bound.
         prove!(MAX_NODES == 16_777_216);
         State {
             nodes,
@@ -129,7 +129,7 @@ impl State {
         &self.flows
     }
 
-    /// The value of the flow: what flows out of the source less what flows into it. Looks at no arc.
+    /// The value of the flow: the outflow of the source minus its inflow. Looks at no arc.
     pub fn value(&self) -> u64
         ensures value { pos result ≡ flow_value self.now.network self.now.flows }
         ensures state { IsState self.now }
@@ -145,7 +145,7 @@ impl State {
         self.open_arcs
     }
 
-    /// A second state, equal to this one. Fails only where memory is refused.
+    /// Copies the state. Fails only if memory is refused.
     pub fn copy(&self, alloc: Global) -> Result<State, NoMemory>
         ensures { IfOk result (λ state. state ≡ self.now) }
     {

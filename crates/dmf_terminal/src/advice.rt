@@ -1,6 +1,6 @@
 //! What is wrong with a number's field, whatever the text.
 use crate::fields::{Placed, Places, field_at, first_fault};
-use crate::part::{Part, Parts, about, words};
+use crate::part::{Parts, about, no_number, words};
 use dmf_text::NumberFault;
 
 /// An explanation of a fault: which field of the line has it, counted from 1, or 0 where the whole line or text has; and what was
@@ -58,13 +58,7 @@ pub fn not_a_number<'a>(line: Option<&'a [u8]>, on_names: &'a str) -> Advice<'a>
     };
     Advice {
         place: placed.place,
-        parts: [
-            Part::Quoted(placed.field),
-            Part::Words(" is no whole number from 0 to 18446744073709551615"),
-            Part::Words(way),
-            Part::Words(""),
-            Part::Words(""),
-        ],
+        parts: no_number(placed.field, way),
     }
 }
 

@@ -3,8 +3,9 @@ ghost use Rattle.std.specs.Prelude.{◌≡◌};
 
 use crate::explain::{Origin, text_of};
 use crate::part::Said;
-use crate::refusal::{Known, Reason, Refused, refusal_advice};
+use crate::refusal::{Known, Refused, refusal_advice};
 use crate::typed::TypedLines;
+use dmf_session::Refusal;
 use dmf_text::{Failed, Sink, Source};
 use std::cell::{Cell, RefCell};
 use std::fs;
@@ -103,7 +104,7 @@ fn stamp_of(rt: &HostRuntime, path: &str) -> Option<(u64, SystemTime)> {
 }
 
 /// Tells why this command line was refused.
-fn tell(rt: &HostRuntime, reason: Reason, line: &[u8], known: Known<'_>) {
+fn tell(rt: &HostRuntime, reason: Refusal, line: &[u8], known: Known<'_>) {
     let said = Said(refusal_advice(reason, line, known));
     let _ = eprintln!(rt; "dmf: {said}");
 }

@@ -29,13 +29,24 @@ pub fn words<'a>(text: &'a str) -> Parts<'a> {
 
 /// A field in quotes, and words behind it.
 pub fn about<'a>(field: &'a [u8], text: &'a str) -> Parts<'a> {
+    about_with(field, text, NOTHING)
+}
+
+/// A field in quotes, words behind it, and one piece more.
+pub fn about_with<'a>(field: &'a [u8], text: &'a str, more: Part<'a>) -> Parts<'a> {
     [
         Part::Quoted(field),
         Part::Words(text),
-        NOTHING,
+        more,
         NOTHING,
         NOTHING,
     ]
+}
+
+/// A field that is no number, and these words behind it.
+pub fn no_number<'a>(field: &'a [u8], more: &'a str) -> Parts<'a> {
+    let text = " is no whole number from 0 to 18446744073709551615";
+    about_with(field, text, Part::Words(more))
 }
 
 /// A number between two texts.

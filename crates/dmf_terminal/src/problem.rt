@@ -3,7 +3,7 @@ use crate::advice::{Advice, not_a_number, too_large};
 use crate::fields::{Placed, Places, count, field_at, first_outside};
 use crate::front::Front;
 use crate::look::{is_of_table, look_of};
-use crate::part::{Part, Parts, numbered};
+use crate::part::{Part, Parts, about_with, numbered};
 use dmf_state::{MAX_ARCS, MAX_NODES};
 use dmf_text::{ProblemFault, ProblemFaultKind};
 
@@ -199,13 +199,11 @@ fn node_out_of_range<'a>(front: Front, line: Option<&'a [u8]>) -> Advice<'a> {
     };
     Advice {
         place: placed.place,
-        parts: [
-            Part::Quoted(placed.field),
-            Part::Words(" is no node: by the problem line they are numbered from 1 to "),
+        parts: about_with(
+            placed.field,
+            " is no node: by the problem line they are numbered from 1 to ",
             Part::Number(nodes),
-            Part::Words(""),
-            Part::Words(""),
-        ],
+        ),
     }
 }
 

@@ -3,34 +3,16 @@ use crate::advice::way_on;
 use crate::fields::{Places, count, field_at, first_fault};
 use crate::front::Front;
 use crate::names::{Named, Thing, behind, find_ends, find_named, without_last_field};
-use crate::part::{Part, Parts, about, numbered, words};
+use crate::part::{Part, Parts, about, about_with, no_number, numbered, words};
 use crate::problem::found;
+use dmf_session::Refusal;
 use dmf_text::{NumberFault, number};
-
-/// Why a command line was refused.
-#[derive(Clone, Copy, PartialEq, Eq)]
-pub enum Reason {
-    UnknownCommand,
-    FieldCount,
-    NotANumber,
-    TooLarge,
-    NoSuchArc,
-    Closed,
-    NoSuchNode,
-    TooManyArcs,
-    SumTooLarge,
-    NothingToUndo,
-    NothingToRedo,
-    NotGreatest,
-    NoMemory,
-    LineTooLong,
-}
 
 /// A refusal, as the reply to a command line tells it.
 #[derive(Clone, Copy)]
 pub struct Refused {
     pub line: u64,
-    pub reason: Reason,
+    pub reason: Refusal,
 }
 
 impl Refused {
@@ -41,7 +23,7 @@ impl Refused {
         }
         Some(Refused {
             line: number(field_at(reply, 3)?).ok()?,
-            reason: beside(REASONS, behind(reply, 3))?,
+            reason: refusal_told(behind(reply, 3))?,
         })
     }
 
@@ -49,28 +31,38 @@ impl Refused {
     pub fn is_about_problem(self) -> bool {
         matches!(
             self.reason,
-            Reason::NoSuchArc | Reason::NoSuchNode | Reason::NotANumber | Reason::FieldCount
+            Refusal::NoSuchArc | Refusal::NoSuchNode | Refusal::NotANumber | Refusal::FieldCount
         )
     }
 }
 
-/// The texts of refusals.
-const REASONS: &[(&[u8], Reason)] = &[
-    (b"unknown command", Reason::UnknownCommand),
-    (b"wrong number of fields", Reason::FieldCount),
-    (b"not a number", Reason::NotANumber),
-    (b"number too large", Reason::TooLarge),
-    (b"no such arc", Reason::NoSuchArc),
-    (b"arc is closed", Reason::Closed),
-    (b"no such node", Reason::NoSuchNode),
-    (b"too many arcs", Reason::TooManyArcs),
-    (b"capacities past 64 bits", Reason::SumTooLarge),
-    (b"nothing to undo", Reason::NothingToUndo),
-    (b"nothing to redo", Reason::NothingToRedo),
-    (b"flow is not greatest", Reason::NotGreatest),
-    (b"no memory", Reason::NoMemory),
-    (b"line too long", Reason::LineTooLong),
+/// Every refusal.
+const REFUSALS: &[Refusal] = &[
+    Refusal::UnknownCommand,
+    Refusal::FieldCount,
+    Refusal::NotANumber,
+    Refusal::TooLarge,
+    Refusal::NoSuchArc,
+    Refusal::Closed,
+    Refusal::NoSuchNode,
+    Refusal::TooManyArcs,
+    Refusal::SumTooLarge,
+    Refusal::NothingToUndo,
+    Refusal::NothingToRedo,
+    Refusal::NotGreatest,
+    Refusal::NoMemory,
+    Refusal::LineTooLong,
 ];
+
+/// The refusal that this text tells.
+fn refusal_told(text: &[u8]) -> Option<Refusal> {
+    for refusal in REFUSALS {
+        if refusal.text().as_bytes() == text {
+            return Some(*refusal);
+        }
+    }
+    None
+}
 
 /// A command, by its first field.
 #[derive(Clone, Copy, PartialEq, Eq)]
@@ -120,34 +112,34 @@ const COMMANDS: &str =
 print problem, print flow, print cut; Ctrl-D ends the session";
 
 /// What explains a refusal of this command line.
-pub fn refusal_advice<'a>(reason: Reason, line: &'a [u8], known: Known<'_>) -> Parts<'a> {
+pub fn refusal_advice<'a>(reason: Refusal, line: &'a [u8], known: Known<'_>) -> Parts<'a> {
     let word = field_at(line, 1).unwrap_or(&[]);
     let verb = beside(VERBS, word);
     match reason {
-        Reason::UnknownCommand if verb == Some(Verb::Print) => about(
+        Refusal::UnknownCommand if verb == Some(Verb::Print) => about(
             field_at(line, 2).unwrap_or(b""),
             " is not printed: print problem, print flow or print cut",
         ),
-        Reason::UnknownCommand => unknown_command(word),
-        Reason::FieldCount => field_count(verb, line, known),
-        Reason::NotANumber => not_a_number(verb, line, known),
-        Reason::TooLarge => words("the largest number is 18446744073709551615"),
-        Reason::NoSuchArc => arcs(known),
-        Reason::NoSuchNode => nodes(known),
-        Reason::Closed => words("undo alone opens a closed arc"),
-        Reason::TooManyArcs => words("a network has at most 134217728 arcs, closed ones counted"),
-        Reason::SumTooLarge => {
+        Refusal::UnknownCommand => unknown_command(word),
+        Refusal::FieldCount => field_count(verb, line, known),
+        Refusal::NotANumber => not_a_number(verb, line, known),
+        Refusal::TooLarge => words("the largest number is 18446744073709551615"),
+        Refusal::NoSuchArc => arcs(known),
+        Refusal::NoSuchNode => nodes(known),
+        Refusal::Closed => words("undo alone opens a closed arc"),
+        Refusal::TooManyArcs => words("a network has at most 134217728 arcs, closed ones counted"),
+        Refusal::SumTooLarge => {
             words("the sum of all capacities would pass 2^64 - 1: give a smaller number")
         }
-        Reason::NothingToUndo => {
+        Refusal::NothingToUndo => {
             words("there are not so many changes to undo; undo K takes back all K or none")
         }
-        Reason::NothingToRedo => words(
+        Refusal::NothingToRedo => words(
             "there are not so many undone changes; a new change drops them, and redo K makes all K or none",
         ),
-        Reason::NotGreatest => words("solve first: a cut is told of a greatest flow alone"),
-        Reason::NoMemory => words("a request for memory was refused; the command changed nothing"),
-        Reason::LineTooLong => words("a command line has at most 4096 bytes"),
+        Refusal::NotGreatest => words("solve first: a cut is told of a greatest flow alone"),
+        Refusal::NoMemory => words("a request for memory was refused; the command changed nothing"),
+        Refusal::LineTooLong => words("a command line has at most 4096 bytes"),
     }
 }
 
@@ -161,13 +153,7 @@ fn unknown_command<'a>(word: &'a [u8]) -> Parts<'a> {
             " is no command: all commands are in lower case (help lists them)",
         );
     }
-    [
-        Part::Quoted(word),
-        Part::Words(" is no command: "),
-        Part::Words(COMMANDS),
-        Part::Words(""),
-        Part::Words(""),
-    ]
+    about_with(word, " is no command: ", Part::Words(COMMANDS))
 }
 
 /// Whether somebody asks with this word for help or for the end.
@@ -242,13 +228,7 @@ fn not_a_number<'a>(verb: Option<Verb>, line: &'a [u8], known: Known<'_>) -> Par
         return words("a number has digits alone");
     };
     let Some(thing) = thing_at(verb, placed.place) else {
-        return [
-            Part::Quoted(placed.field),
-            Part::Words(" is no whole number from 0 to 18446744073709551615"),
-            Part::Words(way_on(placed.field)),
-            Part::Words(""),
-            Part::Words(""),
-        ];
+        return no_number(placed.field, way_on(placed.field));
     };
     match known
         .text

@@ -45,9 +45,9 @@ unfolding number_of
 number_of-empty [] e = refl
 number_of-empty (b ∷ bs) e = absurd (omega arith)
 
-pub number_of-other : (field : List ℕ) (i : ℕ) → i < length field → is_ascii_digit (get_or field i 0) ≡ false → number_of field ≡ Err NotANumber
+pub number_of-other : (field : List ℕ) (i : ℕ) → i < length field → false ≡ is_ascii_digit (get_or field i 0) → Err NotANumber ≡ number_of field
 unfolding number_of
-number_of-other field i below other = cond-false _ _ _ (and_right _ _ (list_all_at is_ascii_digit field i 0 below other))
+number_of-other field i below other = sym (cond-false _ _ _ (and_right _ _ (list_all_at is_ascii_digit field i 0 below (sym other))))
 
 pub number_of-digits : (field : List ℕ) → 0 < length field → list_all is_ascii_digit field ≡ true
     → number_of field ≡ ok_or (within (digits_value 10 field)) TooLarge
@@ -55,20 +55,20 @@ unfolding number_of
 number_of-digits field some all = cond-true _ _ _ (and_from _ _ (lt-ltb 0 _ some) all)
 
 -- the first digits of a field, and one more
-module _ (field : List ℕ) (i : ℕ) (below : i < length field) (digit : is_ascii_digit (get_or field i 0) ≡ true) where
-  pub digits-more : list_all is_ascii_digit (take i field) ≡ true → list_all is_ascii_digit (take (i + 1) field) ≡ true
-  digits-more before = list_all_more is_ascii_digit field i 0 below ∙ and_from _ _ before digit
+pub record MoreDigits (field : List ℕ) (i : ℕ) : Type 0 where
+  pub digits : list_all is_ascii_digit (take i field) ≡ true → list_all is_ascii_digit (take (i + 1) field) ≡ true
+  pub value : digits_value 10 (take i field) * 10 + (get_or field i 0 - 48) ≡ digits_value 10 (take (i + 1) field)
 
-  pub value-more : digits_value 10 (take i field) * 10 + (get_or field i 0 - 48) ≡ digits_value 10 (take (i + 1) field)
-  value-more =
-      let parts = and_parts _ _ digit in
-      let range : IsInRange 48 57 (get_or field i 0) = (leb-true _ _ parts.0, leb-true _ _ parts.1) in
-      let value = digit_value_digit (get_or field i 0) range in
-      let more = digits_value_more 10 field i below in
-      omega arith
-
-  pub within-more : within (digits_value 10 (take i field) * 10 + (get_or field i 0 - 48)) ≡ within (digits_value 10 (take (i + 1) field))
-  within-more = ap within value-more
+pub more-digits : (field : List ℕ) (i : ℕ) → i < length field → true ≡ is_ascii_digit (get_or field i 0) → MoreDigits field i
+more-digits field i below digit =
+    let parts = and_parts _ _ (sym digit) in
+    let range : IsInRange 48 57 (get_or field i 0) = (leb-true _ _ parts.0, leb-true _ _ parts.1) in
+    let value = digit_value_digit (get_or field i 0) range in
+    let more = digits_value_more 10 field i below in
+    record {
+      digits = λ before. list_all_more is_ascii_digit field i 0 below ∙ and_from _ _ before (sym digit);
+      value = omega arith;
+    }
 
 -- all of them
 pub number_of-all : (field : List ℕ) (i : ℕ) (value : Option ℕ) → 0 < length field → length field ≤ i → list_all is_ascii_digit (take i field) ≡ true

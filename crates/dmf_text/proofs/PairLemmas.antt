@@ -2,7 +2,7 @@
 use Rattle.std.proofs.Common.{◌≡◌, ℕ, zero, suc, ◌+◌, ◌-◌, ◌<◌, ◌≤◌, ◌^◌, ◌⊎◌, min, List, [], ◌∷◌, ◌++◌, length, take, drop, get_or, map, replicate, true}
 use Rattle.std.proofs.Common.{false, ◌||◌, if◌then◌else◌, Option, Some, None, is_some, Ok, Err, refl, sym, ap, ◌∙◌, subst, ⊎_elim, arith, drop-cons}
 use Rattle.std.proofs.lemmas.Bool.{cases_Bool, cond-true, cond-false, le-leb, lt-leb, or_left, or_right, true≢false}
-use Rattle.std.proofs.lemmas.List.{take_more, length-replicate}
+use Rattle.std.proofs.lemmas.List.{take_more}
 use Rattle.std.proofs.lemmas.List.Elements.{All-weaker}
 use Rattle.std.proofs.lemmas.List.Sorted.{list_any-IsPermutation}
 use Rattle.std.proofs.lemmas.List.Sums.{sum_by-append, sum_by-cons, sum_by_more_le_part}
@@ -14,10 +14,10 @@ use Rattle.dmf_state.specs.Flow.{AreWithinCapacities}
 use Rattle.dmf_text.specs.declared.fault.SolutionFaultKind.{SolutionFaultKind}
 use Rattle.dmf_text.specs.declared.pairs.PairFlow.{PairFlow}
 use Rattle.dmf_text.specs.declared.pairs.Pairs.{Pairs}
-use Rattle.dmf_text.specs.PairOrder.{first_place}
+use Rattle.dmf_text.specs.PairOrder.{keeper_of}
 use Rattle.dmf_text.specs.Solution.{Pair, same_pair, ends, has_pair, pair_capacity, pair_flow, Facts, flow_fits, put_behind}
 use Rattle.dmf_text.specs.SolutionReading.{known_of, cap_of, flow_of, HasSmallEnds, KeepsCounted, KeepsPairs, Updates, AddsFlow, CannotAdd}
-use Rattle.dmf_text.proofs.PlaceLemmas.{same-is, same-self, some-first, none-counted}
+use Rattle.dmf_text.proofs.PlaceLemmas.{same-is, same-self, some-kept, none-counted}
 
 -- ---- pairs
 
@@ -99,14 +99,14 @@ some-of (Some known) some = (known, refl)
 pub keeps-none : (arcs : List Arc) (pairs : Pairs) → IsPermutation (map ends arcs) pairs.ends.items
     → pairs.known.items ≡ replicate (length pairs.ends.items) (record { cap = 0; flow = 0 }) → KeepsCounted arcs [] (λ _. 0) pairs
 keeps-none arcs pairs same none =
-    let at : (pair : Pair) → known_of pairs pair ≡ slice_get (replicate (length pairs.ends.items) (record { cap = 0; flow = 0 }))
-    (first_place pairs.ends.items pair)
-    = λ pair. ap (λ l. slice_get l (first_place pairs.ends.items pair)) none in
+    let kept : Pair → ℕ = keeper_of pairs.ends.items pairs.numbers.items in
+    let zeros = replicate (length pairs.ends.items) (record { cap = 0; flow = 0 }) in
+    let at : (pair : Pair) → known_of pairs pair ≡ slice_get zeros (kept pair) = λ pair. ap (λ l. slice_get l (kept pair)) none in
     record {
-      there = λ pair. some-first (λ p. same_pair p pair) pairs.ends.items pairs.known.items (ap length none ∙ length-replicate (length pairs.ends.items) _)
+      there = λ pair. some-kept pairs.arc_ends.items pairs.ends.items pairs.numbers.items pair pairs.known.items pairs.numbered pairs.one_each
           ∙ sym (list_any-IsPermutation (λ p. same_pair p pair) (map ends arcs) pairs.ends.items same) ∙ any-ends arcs pair;
-      caps = λ pair. ap cap_of (at pair) ∙ (none-counted (length pairs.ends.items) (first_place pairs.ends.items pair)).0;
-      flows = λ pair. ap flow_of (at pair) ∙ (none-counted (length pairs.ends.items) (first_place pairs.ends.items pair)).1;
+      caps = λ pair. ap cap_of (at pair) ∙ (none-counted (length pairs.ends.items) (kept pair)).0;
+      flows = λ pair. ap flow_of (at pair) ∙ (none-counted (length pairs.ends.items) (kept pair)).1;
     }
 
 module _ (arcs counted later : List Arc) (flow more : Pair → ℕ) (old new : Pairs) (pair : Pair) (known : PairFlow)

@@ -1,6 +1,6 @@
 -- What the reader of a solution text keeps of the network, and of the lines that it took.
 -- Private: only contracts inside the crate and proofs use this.
-use Rattle.std.specs.Prelude.{ℕ, ◌≡◌, ◌+◌, ◌^◌, ◌<◌, ◌≤◌, All, List, ◌++◌, false, Option, Some, None, is_some, slice_get, Result, Ok, Err, MatchResult}
+use Rattle.std.specs.Prelude.{ℕ, ◌≡◌, ◌+◌, ◌^◌, ◌<◌, ◌≤◌, All, List, ◌++◌, length, false, Option, Some, None, is_some, slice_get, Result, Ok, Err, MatchResult}
 use Rattle.std.specs.Option.{option_or, option_to_list}
 use Rattle.dmf_state.specs.declared.arc.Arc.{Arc}
 use Rattle.dmf_state.specs.declared.fault.FlowFault.{FlowFault}
@@ -11,7 +11,7 @@ use Rattle.dmf_text.specs.declared.pairs.PairFlow.{PairFlow}
 use Rattle.dmf_text.specs.declared.pairs.Pairs.{Pairs}
 use Rattle.dmf_text.specs.declared.solution_reading.SolutionReading.{SolutionReading}
 use Rattle.dmf_text.specs.Judging.{Line}
-use Rattle.dmf_text.specs.PairOrder.{first_place}
+use Rattle.dmf_text.specs.PairOrder.{keeper_of}
 use Rattle.dmf_text.specs.Solution.{Pair, same_pair, has_pair, pair_capacity, pair_flow, Facts, value_in, flow_in}
 
 -- the fault of a text whose flows are not taken
@@ -21,9 +21,15 @@ flow_kind (flow.NotConserved node) = NotConserved node
 flow_kind flow.Negative = ValueDiffers
 flow_kind flow.NoMemory = NoMemory
 
--- what is known of a pair: it is kept at the pair's first place
+-- what is known of a pair: it is kept at the pair's keeper
 abbrev pub known_of : Pairs → Pair → Option PairFlow
-known_of pairs pair = slice_get pairs.known.items (first_place pairs.ends.items pair)
+known_of pairs pair = slice_get pairs.known.items (keeper_of pairs.ends.items pairs.numbers.items pair)
+
+-- This is known of the pair, and it is kept at this number.
+pub record IsKnownAt (pairs : Pairs) (pair : Pair) (found : ℕ × PairFlow) : Type 0 where
+  pub keeper : found.0 ≡ keeper_of pairs.ends.items pairs.numbers.items pair
+  pub within : found.0 < length pairs.known.items
+  pub known : known_of pairs pair ≡ Some found.1
 
 -- a capacity and a flow of a pair, 0 where nothing is known of it
 abbrev pub cap_of : Option PairFlow → ℕ

@@ -15,10 +15,10 @@ pub enum NumberFault {
     TooLarge,
 }
 
-// With any one more digit a number up to this one is still below 2^64.
+// A number up to this one stays below 2^64 with any one more digit.
 const MAX_FRONT: u64 = (u64::MAX - 9) / 10;
 
-/// The number that a field spells in decimal digits, of which there may be any number. It takes no memory.
+/// The number that a field spells in decimal digits, however many there are. Takes no memory.
 pub fn number(field: &[u8]) -> Result<u64, NumberFault>
     ensures { result ≡ number_of field.now }
 {

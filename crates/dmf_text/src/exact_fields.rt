@@ -1,13 +1,13 @@
-//! The fields of a line that come behind its first.
+//! The fields of a line behind its first.
 ghost use Rattle.std.specs.Prelude.{◌≡◌, ◌≢◌, ◌∷◌, [], length, MatchResult};
 
 use crate::field::Fields;
 
-/// The fields are too few or too many.
+/// There are too few fields, or too many.
 #[derive(Clone, Copy)]
 pub(crate) struct WrongFieldCount;
 
-/// The field, which is to be one.
+/// The field, if there is just one.
 pub(crate) fn one_field<'a>(mut behind: Fields<'a>) -> Result<&'a [u8], WrongFieldCount>
     ensures { MatchResult result (λ one. behind.entry ≡ one.now ∷ []) (λ _. length behind.entry ≢ 1) }
 {
@@ -17,7 +17,7 @@ pub(crate) fn one_field<'a>(mut behind: Fields<'a>) -> Result<&'a [u8], WrongFie
     }
 }
 
-/// The fields, which are to be two.
+/// The fields, if there are just two.
 pub(crate) fn two_fields<'a>(
     mut behind: Fields<'a>,
 ) -> Result<(&'a [u8], &'a [u8]), WrongFieldCount>
@@ -31,7 +31,7 @@ pub(crate) fn two_fields<'a>(
     }
 }
 
-/// The fields, which are to be three.
+/// The fields, if there are just three.
 pub(crate) fn three_fields<'a>(
     mut behind: Fields<'a>,
 ) -> Result<(&'a [u8], &'a [u8], &'a [u8]), WrongFieldCount>

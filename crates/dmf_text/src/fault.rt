@@ -1,4 +1,12 @@
 //! Why a text is no problem text, or no solution text.
+ghost use Rattle.std.specs.Prelude.{◌≡◌};
+ghost use Rattle.dmf_text.specs.declared.fault.ProblemFaultKind.TheVariants as problem_kind;
+ghost use Rattle.dmf_text.specs.declared.fault.SolutionFaultKind.TheVariants as solution_kind;
+ghost use Rattle.dmf_text.specs.Problem as problem;
+ghost use Rattle.dmf_text.specs.Solution as solution;
+ghost use Rattle.dmf_text.specs.Reading.{arc_kind};
+ghost use Rattle.dmf_text.specs.SolutionReading.{flow_kind};
+
 use crate::digits::NumberFault;
 use crate::exact_fields::WrongFieldCount;
 use dmf_state::{FlowFault, NetFault};
@@ -9,7 +17,7 @@ use thiserror::Error;
 /// What is wrong with a line of a problem text, or with its end.
 #[derive(Clone, Copy, Debug, PartialEq, Eq)]
 pub enum ProblemFaultKind {
-    /// A node or arc line comes before the problem line, or the text has none.
+    /// A node or arc line comes before the problem line, or the text has no problem line.
     ProblemLineExpected = 1,
     /// A problem line comes after the problem line.
     SecondProblemLine = 2,
@@ -19,27 +27,27 @@ pub enum ProblemFaultKind {
     NotMax = 4,
     /// The line has too few or too many fields.
     FieldCount = 5,
-    /// A byte of a number's field is no digit.
+    /// A field that should be a number has a byte that is no digit.
     NotANumber = 6,
     /// A number is past 2^64 - 1.
     TooLarge = 7,
-    /// A count of nodes is not from 2 to [`dmf_state::MAX_NODES`], or one of arcs is past [`dmf_state::MAX_ARCS`].
+    /// The number of nodes is not from 2 to [`dmf_state::MAX_NODES`], or that of arcs is past [`dmf_state::MAX_ARCS`].
     CountOutOfRange = 8,
     /// A node is 0 or past the number of nodes.
     NodeOutOfRange = 9,
     /// The letter of a node line is not `s` or `t`.
     NotSourceOrSink = 10,
-    /// The letter of a node line was named before.
+    /// An earlier node line has the same letter.
     SecondTerminal = 11,
-    /// The node of a node line is the other terminal's.
+    /// The source and the sink are the same node.
     SameTerminals = 12,
-    /// An arc line comes before both terminals are named.
+    /// An arc line comes before the node lines of the source and the sink.
     ArcBeforeTerminals = 13,
-    /// As many arc lines as the problem line says came before.
+    /// There are more arc lines than the problem line says.
     TooManyArcs = 14,
-    /// The text ends before as many arc lines as the problem line says.
+    /// There are fewer arc lines than the problem line says.
     TooFewArcs = 15,
-    /// The text ends before both terminals are named.
+    /// The text ends without a node line of the source or of the sink.
     TerminalMissing = 16,
     /// The sum of the capacities up to this line is past 2^64 - 1.
     SumTooLarge = 17,
@@ -48,7 +56,7 @@ pub enum ProblemFaultKind {
 }
 
 impl ProblemFaultKind {
-    /// What is told of it.
+    /// The text of the fault.
     fn text(self) -> &'static str {
         match self {
             ProblemFaultKind::ProblemLineExpected => "problem line expected",
@@ -82,10 +90,7 @@ impl fmt::Display for ProblemFaultKind {
 impl std::error::Error for ProblemFaultKind {}
 
 impl From<NumberFault> for ProblemFaultKind {
-    ghost use Rattle.std.specs.Prelude.{◌≡◌};
-    ghost use Rattle.dmf_text.specs.Problem.{number_fault};
-
-    ghost from_gives = { λ fault kind. kind ≡ number_fault fault };
+    ghost from_gives = { λ fault kind. kind ≡ problem.number_fault fault };
 
     fn from(fault: NumberFault) -> ProblemFaultKind {
         match fault {
@@ -96,10 +101,7 @@ impl From<NumberFault> for ProblemFaultKind {
 }
 
 impl From<WrongFieldCount> for ProblemFaultKind {
-    ghost use Rattle.std.specs.Prelude.{◌≡◌};
-    ghost use Rattle.dmf_text.specs.declared.fault.ProblemFaultKind.TheVariants.{FieldCount};
-
-    ghost from_gives = { λ _ kind. kind ≡ FieldCount };
+    ghost from_gives = { λ _ kind. kind ≡ problem_kind.FieldCount };
 
     fn from(_count: WrongFieldCount) -> ProblemFaultKind {
         ProblemFaultKind::FieldCount
@@ -107,9 +109,6 @@ impl From<WrongFieldCount> for ProblemFaultKind {
 }
 
 impl From<NetFault> for ProblemFaultKind {
-    ghost use Rattle.std.specs.Prelude.{◌≡◌};
-    ghost use Rattle.dmf_text.specs.Reading.{arc_kind};
-
     ghost from_gives = { λ fault kind. kind ≡ arc_kind fault };
 
     fn from(fault: NetFault) -> ProblemFaultKind {
@@ -140,19 +139,19 @@ pub enum SolutionFaultKind {
     UnknownLine,
     /// The line has too few or too many fields.
     FieldCount,
-    /// A byte of a number's field is no digit.
+    /// A field that should be a number has a byte that is no digit.
     NotANumber,
     /// A number is past 2^64 - 1.
     TooLarge,
-    /// The network has no arc of this tail and head.
+    /// No arc leads from this tail to this head.
     NoSuchPair,
-    /// The flows from this tail to this head up to this line are more than the capacities of the arcs together.
+    /// The flows from this tail to this head, up to this line, exceed the capacities of the arcs together.
     OverCapacity,
     /// A value line comes after the value line.
     SecondValue,
     /// The text has no value line.
     ValueMissing,
-    /// At this node, neither source nor sink, outflow and inflow differ. It is the least such node.
+    /// This node, neither source nor sink, does not conserve flow. It is the least such node.
     NotConserved(u32),
     /// The value of the flow is not that of the value line.
     ValueDiffers,
@@ -161,7 +160,7 @@ pub enum SolutionFaultKind {
 }
 
 impl SolutionFaultKind {
-    /// What is told of it, without the node.
+    /// The text of the fault, without the node.
     fn text(self) -> &'static str {
         match self {
             SolutionFaultKind::UnknownLine => "unknown line",
@@ -192,10 +191,7 @@ impl fmt::Display for SolutionFaultKind {
 impl std::error::Error for SolutionFaultKind {}
 
 impl From<NumberFault> for SolutionFaultKind {
-    ghost use Rattle.std.specs.Prelude.{◌≡◌};
-    ghost use Rattle.dmf_text.specs.Solution.{number_fault};
-
-    ghost from_gives = { λ fault kind. kind ≡ number_fault fault };
+    ghost from_gives = { λ fault kind. kind ≡ solution.number_fault fault };
 
     fn from(fault: NumberFault) -> SolutionFaultKind {
         match fault {
@@ -206,10 +202,7 @@ impl From<NumberFault> for SolutionFaultKind {
 }
 
 impl From<WrongFieldCount> for SolutionFaultKind {
-    ghost use Rattle.std.specs.Prelude.{◌≡◌};
-    ghost use Rattle.dmf_text.specs.declared.fault.SolutionFaultKind.TheVariants.{FieldCount};
-
-    ghost from_gives = { λ _ kind. kind ≡ FieldCount };
+    ghost from_gives = { λ _ kind. kind ≡ solution_kind.FieldCount };
 
     fn from(_count: WrongFieldCount) -> SolutionFaultKind {
         SolutionFaultKind::FieldCount
@@ -217,9 +210,6 @@ impl From<WrongFieldCount> for SolutionFaultKind {
 }
 
 impl From<FlowFault> for SolutionFaultKind {
-    ghost use Rattle.std.specs.Prelude.{◌≡◌};
-    ghost use Rattle.dmf_text.specs.SolutionReading.{flow_kind};
-
     ghost from_gives = { λ fault kind. kind ≡ flow_kind fault };
 
     fn from(fault: FlowFault) -> SolutionFaultKind {
@@ -233,10 +223,7 @@ impl From<FlowFault> for SolutionFaultKind {
 }
 
 impl From<AllocError> for SolutionFaultKind {
-    ghost use Rattle.std.specs.Prelude.{◌≡◌};
-    ghost use Rattle.dmf_text.specs.declared.fault.SolutionFaultKind.TheVariants.{NoMemory};
-
-    ghost from_gives = { λ _ kind. kind ≡ NoMemory };
+    ghost from_gives = { λ _ kind. kind ≡ solution_kind.NoMemory };
 
     fn from(_error: AllocError) -> SolutionFaultKind {
         SolutionFaultKind::NoMemory

@@ -6,8 +6,8 @@ ghost use Rattle.dmf_text.specs.Fields.{fields, is_blank};
 
 use std::marker::Model;
 
-/// The fields of a line, in order: its longest runs of bytes other than space and tab. Each is a slice of the line.
-/// It takes no memory.
+/// An iterator over the fields of a line: its longest runs of bytes other than space and tab. Each is a slice of the line. Takes no
+/// memory.
 #[derive(Drop)]
 pub struct Fields<'a> {
     rest: &'a [u8],
@@ -52,7 +52,7 @@ fn is_blank(byte: u8) -> bool
     byte == b' ' || byte == b'\t'
 }
 
-// How many blanks the bytes begin with.
+// The number of blanks at the beginning.
 fn leading_blanks(bytes: &[u8]) -> usize
     ensures count { result ≡ prefix_len is_blank bytes.now }
     ensures bound { result ≤ length bytes.now }

@@ -1,4 +1,4 @@
-//! Texts of networks: lines, fields and numbers, what texts are read from and written to, and problem, solution and cut texts.
+//! Texts of networks: lines, fields and numbers; sources and sinks of bytes; and problem, solution and cut texts.
 #![tactic(auto)]
 
 mod digits;

@@ -7,9 +7,9 @@ ghost use Rattle.dmf_text.specs.Lines.{numbered_lines};
 use bstr::ByteSlice;
 use std::marker::Model;
 
-/// The lines of a text, in order, each with its number, from 1. A line ends at a line feed or at the end of the text;
-/// one carriage return directly before the line feed is no part of it, and an empty rest after the last line feed is
-/// no line. Each line is a slice of the text. It takes no memory.
+/// An iterator over the lines of a text, each with its number, counted from 1. A line ends at a line feed or at the end of the text. A
+/// carriage return directly before the line feed is no part of it. An empty rest after the last line feed is no line. Each line is a
+/// slice of the text. Takes no memory.
 #[derive(Drop)]
 pub struct Lines<'a> {
     given: u64,

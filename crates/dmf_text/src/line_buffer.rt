@@ -1,11 +1,11 @@
-//! Lines of written texts, made in place.
+//! Lines of written texts, made on the stack.
 ghost use Rattle.std.specs.Prelude.{◌≡◌, ◌≤◌, ◌<◌, ◌+◌, ◌∷◌, ◌++◌, [], ℕ, List, length, drop, map, decimal};
 ghost use Rattle.dmf_text.specs.Written.{written_line};
 
 use itoa::write_digits;
 use std::marker::Model;
 
-/// A field of a line that is to be written.
+/// A field of a line to write.
 #[derive(Clone, Copy)]
 pub enum LineField<'a> {
     /// These bytes.
@@ -32,7 +32,7 @@ impl Model for LineBuffer {
 impl LineBuffer {
     ghost use Rattle.dmf_text.specs.LineField.{field_bytes, most_bytes};
 
-    // The line feed alone. Fields are added in front of it, the last one first.
+    // Makes a line of the line feed alone. `add` puts fields in front of it, the last one first.
     fn new() -> LineBuffer
         ensures { result ≡ 10 ∷ [] }
     {
@@ -65,7 +65,7 @@ impl LineBuffer {
         self.bytes[self.start..end].copy_from_slice(text);
     }
 
-    // A call of its own keeps the loop of `line_of` small, so that it is unrolled.
+    // A call of its own keeps the loop of `line_of` small, so the compiler unrolls it.
     #[inline(never)]
     fn add_number(&mut self, number: u64)
         requires { 20 + length self.old ≤ 80 }
@@ -85,7 +85,7 @@ impl LineBuffer {
 
 ghost use Rattle.dmf_text.specs.LineField.{field_bytes, most_line_bytes};
 
-/// The line of these fields: one space between each two, and a line feed. It takes no memory.
+/// Makes the line of these fields, with one space between each two, and a line feed. Takes no memory.
 #[inline(always)]
 pub fn line_of(fields: &[LineField<'_>]) -> LineBuffer
     requires { most_line_bytes fields.now < 80 }

@@ -11,8 +11,8 @@ use std::alloc::Global;
 
 /// Reads a problem text, in the format of the First DIMACS Implementation Challenge (1990), maximum flow.
 ///
-/// The arcs are those of the arc lines, in order, with no flow on them. A text with a fault is told by the first one;
-/// want of memory may be told instead, with line 0.
+/// The arcs are those of the arc lines, in order, without flow. Fails with the first fault of the text, or with
+/// [`ProblemFaultKind::NoMemory`] at line 0 if memory is refused.
 pub fn read_problem(alloc: Global, text: &[u8]) -> Result<State, ProblemFault>
     ensures { IsErrOf result out_of_memory ⊎ (result ≡ problem_of text.now) }
 {
@@ -30,7 +30,7 @@ pub fn read_problem(alloc: Global, text: &[u8]) -> Result<State, ProblemFault>
     }
 }
 
-// The fault of a line, or of no line where memory was refused.
+// The fault of this line, or of line 0 if memory was refused.
 fn fault_at(line: u64, kind: ProblemFaultKind) -> ProblemFault
     ensures memory { kind ≡ ProblemFaultKind.NoMemory → result ≡ out_of_memory }
     ensures told { (result ≡ out_of_memory) ⊎ (result ≡ record { line = line; kind = kind }) }

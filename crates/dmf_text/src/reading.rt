@@ -1,5 +1,6 @@
-//! The lines of a problem text, taken one after the other.
-ghost use Rattle.std.specs.Prelude.{◌≡◌, ◌≢◌, ◌≤◌, ◌&&◌, ◌∷◌, [], ℕ, false, true, codes, length, replicate, is_some, IsTrue, MatchResult, Ok, Err, Some, None, ◌^◌};
+//! Taking the lines of a problem text, one after the other.
+ghost use Rattle.std.specs.Prelude.{◌≡◌, ◌≢◌, ◌≤◌, ◌&&◌, ◌∷◌, ◌^◌, [], ℕ, false, true, codes, length, replicate, is_some, IsTrue};
+ghost use Rattle.std.specs.Prelude.{MatchResult, Ok, Err, Some, None};
 ghost use Rattle.std.specs.Option.{ForSome};
 ghost use Rattle.dmf_node.specs.Node.{is_node};
 
@@ -11,7 +12,7 @@ use crate::terminal::{Terminal, named};
 use dmf_state::{MAX_ARCS, MAX_NODES, State};
 use std::alloc::Global;
 
-/// What the problem line says, and the terminals that are named, not yet both.
+/// What the problem line says, and the source or the sink if one of them is named.
 #[derive(Drop)]
 pub(crate) struct Head {
     nodes: u32,
@@ -36,14 +37,14 @@ pub(crate) struct Body {
     ghost idle: { state.flows ≡ replicate (length state.network.arcs) 0 },
 }
 
-/// What the lines of a problem text say that were taken so far.
+/// What the lines of a problem text say so far.
 #[derive(Drop)]
 pub(crate) enum Reading {
-    /// There was no problem line.
+    /// There was no problem line yet.
     Start,
-    /// Not both terminals are named.
+    /// The source or the sink is not named yet.
     Terminals(Head),
-    /// Both terminals are named.
+    /// Source and sink are named.
     Arcs(Body),
 }
 
@@ -74,7 +75,7 @@ impl Reading {
         }
     }
 
-    /// Takes a problem line, of which these are the fields behind the first.
+    /// Takes a problem line with these fields behind its first.
     #[tactic(auto, unfolding(crate::specs::Problem::judged_problem))]
     fn take_problem_line(&mut self, behind: Fields<'_>) -> Result<(), ProblemFaultKind>
         ensures { Takes (facts_in self.old) (codes "p" ∷ behind.entry)
@@ -87,7 +88,7 @@ impl Reading {
         Ok(())
     }
 
-    /// Takes a node line, of which these are the fields behind the first.
+    /// Takes a node line with these fields behind its first.
     #[tactic(auto, unfolding(crate::specs::Problem::judged_node))]
     fn take_node_line(&mut self, alloc: Global, behind: Fields<'_>) -> Result<(), ProblemFaultKind>
         ensures { Takes (facts_in self.old) (codes "n" ∷ behind.entry)
@@ -106,7 +107,7 @@ impl Reading {
         }
     }
 
-    /// Takes an arc line, of which these are the fields behind the first.
+    /// Takes an arc line with these fields behind its first.
     #[tactic(auto, unfolding(crate::specs::Problem::judged_arc))]
     fn take_arc_line(&mut self, behind: Fields<'_>) -> Result<(), ProblemFaultKind>
         ensures { TakesInMemory (facts_in self.old) (codes "a" ∷ behind.entry)
@@ -136,7 +137,7 @@ impl Head {
     ghost use Rattle.dmf_text.specs.Problem.{counts_named, judged_node};
     ghost use Rattle.dmf_text.specs.Reading.{facts_in, facts_in_head, with_line, no_facts, Takes};
 
-    /// What a problem line says, of which these are the fields behind the first.
+    /// What a problem line says that has these fields behind its first.
     #[tactic(auto, unfolding(crate::specs::Problem::counts_named))]
     fn of_problem_line(behind: Fields<'_>) -> Result<Head, ProblemFaultKind>
         ensures { MatchResult result
@@ -161,7 +162,7 @@ impl Head {
         })
     }
 
-    /// Takes a node line, of which these are the fields behind the first. With both terminals there is a network.
+    /// Takes a node line with these fields behind its first. Once source and sink are named, there is a network.
     #[tactic(auto, unfolding(crate::specs::Problem::judged_node))]
     fn with_terminal(&self, alloc: Global, behind: Fields<'_>) -> Result<Reading, ProblemFaultKind>
         ensures { MatchResult result
@@ -198,7 +199,7 @@ impl Body {
     ghost use Rattle.dmf_text.specs.Problem.{judged_arc, ended};
     ghost use Rattle.dmf_text.specs.Reading.{facts_in_body, TakesInMemory};
 
-    /// Takes an arc line, of which these are the fields behind the first.
+    /// Takes an arc line with these fields behind its first.
     #[tactic(auto, unfolding(crate::specs::Problem::judged_arc))]
     fn take_arc_line(&mut self, behind: Fields<'_>) -> Result<(), ProblemFaultKind>
         ensures { TakesInMemory (facts_in_body self.old) (codes "a" ∷ behind.entry)

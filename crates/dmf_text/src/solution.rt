@@ -12,9 +12,8 @@ use std::alloc::Global;
 /// Reads a solution text of a state's network, in the format of the First DIMACS Implementation Challenge (1990), maximum
 /// flow. The flow of the state plays no part.
 ///
-/// The flows of all lines with the same tail and head are added up and put on the arcs from this tail to this head in
-/// order, each as far as its capacity allows. A text with a fault is told by the first one; want of memory may be told
-/// instead, with line 0.
+/// Adds up the flows of all lines with the same tail and head, and fills the arcs from this tail to this head with the sum, one after
+/// the other. Fails with the first fault of the text, or with [`SolutionFaultKind::NoMemory`] at line 0 if memory is refused.
 pub fn read_solution(alloc: Global, text: &[u8], state: &State) -> Result<State, SolutionFault>
     ensures { IsErrOf result solution_out_of_memory ⊎ (result ≡ solution_of state.now text.now) }
 {
@@ -34,7 +33,7 @@ pub fn read_solution(alloc: Global, text: &[u8], state: &State) -> Result<State,
     }
 }
 
-// The fault of a line, or of no line where memory was refused.
+// The fault of this line, or of line 0 if memory was refused.
 fn fault_at(line: u64, kind: SolutionFaultKind) -> SolutionFault
     ensures memory { kind ≡ SolutionFaultKind.NoMemory → result ≡ solution_out_of_memory }
     ensures told { (result ≡ solution_out_of_memory) ⊎ (result ≡ record { line = line; kind = kind }) }

@@ -1,4 +1,4 @@
-//! The lines of a solution text, taken one after the other.
+//! Taking the lines of a solution text, one after the other.
 ghost use Rattle.std.specs.Prelude.{◌≡◌, ◌⊎◌, ◌∷◌, List, codes, Err};
 ghost use Rattle.dmf_state.specs.declared.arc.Arc.{Arc};
 ghost use Rattle.dmf_text.specs.declared.fault.SolutionFaultKind.TheVariants.{NoMemory};
@@ -14,19 +14,19 @@ use crate::pairs::{Pairs, pair_of};
 use dmf_state::State;
 use std::alloc::{AllocError, Global};
 
-/// What the lines of a solution text say that were taken so far.
+/// What the lines of a solution text say so far.
 #[derive(Drop)]
 pub(crate) struct SolutionReading {
     pairs: Pairs,
     value: Option<u64>,
-    /// How many flow lines were taken: the flows mostly come in the order of the arcs.
+    /// The number of flow lines so far. It is the guess of where the next line's arc stands, since lines mostly come in arc order.
     flow_count: usize,
 }
 
 impl SolutionReading {
     ghost use Rattle.std.specs.Prelude.{IfOk, None, []};
 
-    /// No line was taken.
+    /// What no line says.
     pub(crate) fn new(alloc: Global, state: &State) -> Result<SolutionReading, AllocError>
         ensures { IfOk result (Keeps state.now.network.arcs (record { value = None; flows = [] })) }
     {
@@ -58,7 +58,7 @@ impl SolutionReading {
         }
     }
 
-    /// Takes a value line, of which these are the fields behind the first.
+    /// Takes a value line with these fields behind its first.
     #[tactic(auto, unfolding(crate::specs::Solution::judged_value))]
     fn take_value_line(&mut self, behind: Fields<'_>) -> Result<(), SolutionFaultKind>
         ensures { (arcs : List Arc) (facts : Facts) → Keeps arcs facts self.old
@@ -71,7 +71,7 @@ impl SolutionReading {
         Ok(())
     }
 
-    /// Takes a flow line, of which these are the fields behind the first.
+    /// Takes a flow line with these fields behind its first.
     #[tactic(auto, unfolding(crate::specs::Solution::judged_flow))]
     fn take_flow_line(&mut self, behind: Fields<'_>) -> Result<(), SolutionFaultKind>
         ensures { (arcs : List Arc) (facts : Facts) → Keeps arcs facts self.old
@@ -84,12 +84,12 @@ impl SolutionReading {
         let Some(pair) = pair_of(tail, head) else {
             return Err(SolutionFaultKind::NoSuchPair);
         };
-        let guess = self.pairs.guess(self.flow_count);
+        let guess = self.flow_count;
         self.flow_count = self.flow_count.wrapping_add(1);
         self.pairs.add_flow(pair, flow, guess)
     }
 
-    /// The state that the lines stand for, at the end of the text: the network of this one with the flows that they say.
+    /// The state that the lines stand for at the end of the text: the network of `state` with their flows.
     #[tactic(auto, unfolding(crate::specs::Solution::ended))]
     pub(crate) fn finish(self, alloc: Global, state: &State) -> Result<State, SolutionFaultKind>
         ensures { (facts : Facts) → Keeps state.now.network.arcs facts self → (result ≡ Err NoMemory) ⊎ (result ≡ ended state.now facts) }

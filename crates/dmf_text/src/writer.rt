@@ -1,4 +1,4 @@
-//! What texts are written to.
+//! Sinks for bytes.
 ghost use Rattle.std.specs.Prelude.{◌≡◌, ◌≢◌, ◌↔◌, ◌⊎◌, ◌≤◌, ◌<◌, ◌||◌, [], length, false, Ok, IfOk, IsErr, is_err};
 ghost use Rattle.std.specs.Io.KnownBytes.{Keeps, WriteAppends};
 ghost use Rattle.dmf_text.specs.Streams.{Writer};
@@ -9,32 +9,30 @@ use std::io;
 use std::io::Write;
 use thiserror::Error;
 
-/// A put failed, so that only a front of the text was written.
+/// A put failed, so only a front of the text was written.
 #[derive(Clone, Copy, Debug, PartialEq, Eq, Error)]
 #[error("write failed")]
 pub struct WriteFault;
 
 /// A writer of bytes.
 pub trait Sink {
-    // What was written: the bytes that the writer holds, where they are known, and the mark, whether a call has failed.
+    // What was written: the bytes that the writer holds, if they are known; and the mark, whether a call has failed.
     ghost written: { Self → Writer };
 
-    /// Writes a front of the bytes, and answers its length, which is 0 only where there are no bytes.
-    /// `Failed` takes no byte.
+    /// Writes a front of the bytes, and answers its length, which is 0 only if there are no bytes. A failed put writes no byte.
     fn put(&mut self, bytes: &[u8]) -> Result<usize, Failed>
         ensures bound { IfOk result (λ n. n ≤ length bytes.now) }
         ensures some { IfOk result (λ n. 0 < length bytes.now → 0 < n) }
         ensures bytes { WriteAppends (written self.old).contents (written self.new).contents result bytes.now }
         ensures mark { (written self.new).has_failed ≡ (is_err result || (written self.old).has_failed) };
 
-    /// Passes on what was written so far.
+    /// Flushes what was written so far.
     fn flush(&mut self) -> Result<(), Failed>
         ensures bytes { Keeps (written self.old).contents (written self.new).contents }
         ensures mark { (written self.new).has_failed ≡ (is_err result || (written self.old).has_failed) };
 }
 
-/// One of std's writers as a sink. Each of its errors is `Failed`, one of kind `Interrupted` too, and so is a write
-/// of some bytes that takes none.
+/// A writer of std as a sink. Each error is [`Failed`], also one of kind `Interrupted`, and so is a write that takes none of some bytes.
 #[derive(Drop)]
 pub struct StdSink<W> {
     writer: W,
@@ -42,7 +40,7 @@ pub struct StdSink<W> {
 }
 
 impl<W: Write> StdSink<W> {
-    /// A sink into the writer. It takes no memory.
+    /// Makes a sink into the writer. Takes no memory.
     pub fn new(writer: W) -> StdSink<W>
         ensures bytes { (⟦<StdSink<W> as Sink>⟧.written result).contents ≡ W.contents writer }
         ensures mark { (⟦<StdSink<W> as Sink>⟧.written result).has_failed ≡ false }
@@ -70,7 +68,7 @@ impl<W: Write> Sink for StdSink<W> {
     }
 }
 
-/// What a write of the bytes answered, where a count of 0 for some bytes is `Failed` too.
+/// The answer of a write of the bytes, with `Failed` also for a count of 0 of some bytes.
 fn taken(answer: io::Result<usize>, bytes: &[u8]) -> Result<usize, Failed>
     ensures fails { IsErr result ↔ (IsErr answer ⊎ ((answer ≡ Ok 0) × (bytes.now ≢ []))) }
     ensures count { IfOk result (λ n. answer ≡ Ok n) }
@@ -81,7 +79,7 @@ fn taken(answer: io::Result<usize>, bytes: &[u8]) -> Result<usize, Failed>
     }
 }
 
-/// Writes the whole text, by as many puts as it takes. It takes no memory and does not flush.
+/// Writes the whole text, by as many puts as that needs. Takes no memory, and does not flush.
 pub fn put_all<W: Sink>(out: &mut W, text: &[u8]) -> Result<(), WriteFault>
     ensures { Writes (W.written out.old) (W.written out.new) result text.now }
 {

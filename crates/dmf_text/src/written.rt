@@ -1,4 +1,4 @@
-//! Problem, solution and cut texts, written.
+//! Writing problem, solution and cut texts.
 ghost use Rattle.std.specs.Prelude.{◌≡◌, ◌≤◌, ◌<◌, ◌∷◌, [], Ok, not, if◌then◌else◌, codes, decimal, length, map};
 ghost use Rattle.std.specs.List.{zip};
 ghost use Rattle.dmf_state.specs.NetworkState.{IsState};
@@ -12,10 +12,10 @@ use crate::line_buffer::{LineField, line_of};
 use crate::writer::{Sink, WriteFault, put_all};
 use dmf_state::{Arc, Side, SideIds, State};
 
-/// Writes the problem of a state's network: its open arcs in order, with the problem line and the node lines before
-/// them. Each line is put at once. It takes no memory and does not flush.
+/// Writes the problem of a state's network: the problem line, the node lines, and a line for each open arc in order. Puts each line at
+/// once. Takes no memory, and does not flush.
 ///
-/// Read again, the text gives the network of the open arcs, with no flow on it.
+/// Read again, the text gives the network of the open arcs, without flow.
 pub fn write_problem<W: Sink>(state: &State, out: &mut W) -> Result<(), WriteFault>
     ensures written { Writes (W.written out.old) (W.written out.new) result (problem_text state.now.network) }
     ensures stands { problem_of (problem_text state.now.network) ≡ Ok (idle_state (open_network state.now.network)) }
@@ -23,8 +23,8 @@ pub fn write_problem<W: Sink>(state: &State, out: &mut W) -> Result<(), WriteFau
     put_problem(state, out)
 }
 
-/// Writes the solution of a state: the value of its flow, and then the flow on each open arc in order, those without flow
-/// too. Each line is put at once. It takes no memory and does not flush.
+/// Writes the solution of a state: the value of its flow, and then the flow on each open arc in order, those without flow too. Puts
+/// each line at once. Takes no memory, and does not flush.
 pub fn write_solution<W: Sink>(state: &State, out: &mut W) -> Result<(), WriteFault>
     ensures written { Writes (W.written out.old) (W.written out.new) result (solution_text state.now) }
 {
@@ -32,8 +32,7 @@ pub fn write_solution<W: Sink>(state: &State, out: &mut W) -> Result<(), WriteFa
     put_flows(state, out)
 }
 
-/// Writes a cut: its capacity, and then the nodes of its side, ascending. Each line is put at once. It takes no memory and
-/// does not flush.
+/// Writes a cut: its capacity, and then the nodes of its side, ascending. Puts each line at once. Takes no memory, and does not flush.
 pub fn write_cut<W: Sink>(side: &Side, out: &mut W) -> Result<(), WriteFault>
     ensures written { Writes (W.written out.old) (W.written out.new) result (cut_text side.now) }
 {

@@ -1,7 +1,7 @@
 //! Edits that are planned on the present state and applied, one after the other, and then reverted in the opposite order: each
 //! state comes back, and a residual network that is kept follows.
 ghost use Rattle.std.specs.Prelude.{◌≡◌, IfOk, IfSome, OnOk};
-ghost use Rattle.dmf_solver.specs.ResidualNetwork.{IsResidualOf};
+ghost use Rattle.dmf_solver.specs.KeptNetwork.{IsNetworkOf};
 ghost use Rattle.dmf_state.specs.Edit.{applied, Fits};
 ghost use Rattle.dmf_state.specs.Revert.{reverted, Stands};
 
@@ -57,8 +57,8 @@ fn kept_or_new(
     state: &State,
     kept: Option<ResidualNetwork>,
 ) -> Result<ResidualNetwork, NoMemory>
-    requires { IfSome kept (IsResidualOf state.now) }
-    ensures { IfOk result (IsResidualOf state.now) }
+    requires { IfSome kept (IsNetworkOf state.now) }
+    ensures { IfOk result (IsNetworkOf state.now) }
 {
     match kept {
         Some(kept) => Ok(kept),
@@ -73,9 +73,9 @@ fn solve_by(
     state: &mut State,
     kept: ResidualNetwork,
 ) -> Result<ResidualNetwork, Fail>
-    requires { IsResidualOf state.old kept }
+    requires { IsNetworkOf state.old kept }
     ensures same { OnOk result (state.new ≡ state.old) }
-    ensures kept { IfOk result (IsResidualOf state.new) }
+    ensures kept { IfOk result (IsNetworkOf state.new) }
 {
     let wanted = plan_solve(alloc, state)?;
     let (edit, _, solved) = kept.plan_solve(alloc, state, false, &mut Unwatched)?;
@@ -94,9 +94,9 @@ fn try_out(
     kept: ResidualNetwork,
     changes: &[Change],
 ) -> Result<ResidualNetwork, Fail>
-    requires { IsResidualOf state.old kept }
+    requires { IsNetworkOf state.old kept }
     ensures same { OnOk result (state.new ≡ state.old) }
-    ensures kept { IfOk result (IsResidualOf state.new) }
+    ensures kept { IfOk result (IsNetworkOf state.new) }
 {
     let Some((change, rest)) = changes.split_first() else {
         return Ok(kept);

@@ -1,13 +1,13 @@
-//! A search is made of pairs, or of those of them that are there.
-ghost use Rattle.std.specs.Prelude.{◌≡◌, ◌≢◌, ◌^◌, ◌≤◌, IfOk};
+//! A search is made of pairs, or of those of them that are there, or over the links of another search.
+ghost use Rattle.std.specs.Prelude.{◌≡◌, ◌≢◌, ◌^◌, ◌≤◌, length, map, replicate, [], IfOk};
 ghost use Rattle.dmf_node.specs.Node.{IsNode};
-ghost use Rattle.dmf_path.specs.Pair.{ArePairs};
-ghost use Rattle.dmf_path.specs.Links.{AreBuilt};
+ghost use Rattle.dmf_path.specs.Pair.{ArePairs, emptied};
+ghost use Rattle.dmf_path.specs.Links.{AreBuilt, ArePlaces, AreRooms, pairs_at};
 ghost use Rattle.dmf_path.specs.LinkTable.{links_of};
 
 use crate::frontier::Frontier;
 use crate::levels::Levels;
-use crate::links::{build, opposite_flags};
+use crate::links::{build, opposite_flags, put_pair};
 use crate::listed::list_pairs;
 use crate::pair::Pairs;
 use crate::phase::make_fresh;
@@ -17,13 +17,14 @@ use crate::search::Search;
 use crate::table::LinkTable;
 use crate::trail::Trail;
 use std::alloc::{AllocError, Global};
+use std::rc::Rc;
 
 /// Links with their rooms, and the places of the pairs of which they were made.
 #[derive(Drop)]
 struct Linked {
-    table: LinkTable,
+    table: Rc<LinkTable>,
+    places: Rc<Places>,
     rooms: Vec<u64>,
-    places: Places,
 }
 
 impl Search {
@@ -51,11 +52,65 @@ impl Search {
           takes_back = takes_back;
         }) }
     {
+        let linked = link(alloc, nodes, pairs)?;
+        linked.search(alloc, start, goal, takes_back)
+    }
+
+    /// Another search over the same links, with the rooms of these pairs, which have the same ends. Takes memory for a room
+    /// and a flag a link, and for some numbers a node.
+    pub fn twin<P: Pairs>(
+        &self,
+        alloc: Global,
+        pairs: &P,
+        takes_back: bool,
+    ) -> Result<Search, AllocError>
+        requires pairs { ArePairs self.now.nodes (P.pairs pairs.now) }
+        requires same_ends { map emptied (P.pairs pairs.now) ≡ map emptied self.now.pairs }
+        ensures { IfOk result (λ search. search ≡ record {
+          nodes = self.now.nodes;
+          pairs = P.pairs pairs.now;
+          start = self.now.start;
+          goal = self.now.goal;
+          takes_back = takes_back;
+        }) }
+    {
+        let rooms = rooms_of(alloc, &self.links.table, &self.places, pairs)?;
+        let linked = Linked {
+            table: self.links.table.clone()?,
+            places: self.places.clone()?,
+            rooms,
+        };
+        linked.search(alloc, self.trail.start, self.trail.goal, takes_back)
+    }
+}
+
+impl Linked {
+    /// A search over these links. Takes memory for a flag a link, and for some numbers a node.
+    fn search(
+        self,
+        alloc: Global,
+        start: u32,
+        goal: u32,
+        takes_back: bool,
+    ) -> Result<Search, AllocError>
+        requires start { IsNode self.table.value.nodes start }
+        requires goal { IsNode self.table.value.nodes goal }
+        requires apart { start ≢ goal }
+        requires places { ArePlaces (links_of self.table.value) self.places.value }
+        requires rooms { AreRooms (links_of self.table.value) self.rooms.items }
+        ensures { IfOk result (λ search. search ≡ record {
+          nodes = self.table.value.nodes;
+          pairs = pairs_at (links_of self.table.value) self.places.value self.rooms.items;
+          start = start;
+          goal = goal;
+          takes_back = takes_back;
+        }) }
+    {
         let Linked {
             table,
-            rooms,
             places,
-        } = link(alloc, nodes, pairs)?;
+            rooms,
+        } = self;
         let flags = opposite_flags(alloc, &table, &rooms)?;
         let near = Frontier::new(alloc, table.nodes)?;
         let far = Frontier::new(alloc, table.nodes)?;
@@ -87,6 +142,7 @@ impl Search {
         Ok(Search {
             links,
             places,
+            numbers: None,
             levels,
             trail,
             is_fresh: true,
@@ -98,21 +154,64 @@ impl Search {
 fn link<P: Pairs>(alloc: Global, nodes: u32, pairs: &P) -> Result<Linked, AllocError>
     requires nodes { nodes ≤ 2 ^ 24 }
     requires pairs { ArePairs nodes (P.pairs pairs.now) }
-    ensures { IfOk result (λ linked. AreBuilt nodes (P.pairs pairs.now) (links_of linked.table) linked.places linked.rooms.items) }
+    ensures { IfOk result (λ linked. AreBuilt nodes (P.pairs pairs.now) (links_of linked.table.value) linked.places.value linked.rooms.items) }
 {
     if pairs.are_few() {
         let listed = list_pairs(alloc, pairs)?;
         let built = build(alloc, nodes, &listed)?;
-        return Ok(Linked {
-            table: built.table,
-            rooms: built.rooms,
-            places: Places::listed(listed.indices, built.places, pairs.len()),
-        });
+        let places = Places::listed(listed.indices, built.places, pairs.len());
+        return share(alloc, built.table, places, built.rooms);
     }
     let built = build(alloc, nodes, pairs)?;
+    share(alloc, built.table, Places::each(built.places), built.rooms)
+}
+
+/// Puts the links, and the places of the pairs, where several searches can share them. Takes memory for both.
+fn share(
+    alloc: Global,
+    table: LinkTable,
+    places: Places,
+    rooms: Vec<u64>,
+) -> Result<Linked, AllocError>
+    ensures { IfOk result (λ linked. (linked.table.value ≡ table) × (linked.places.value ≡ places) × (linked.rooms ≡ rooms)) }
+{
     Ok(Linked {
-        table: built.table,
-        rooms: built.rooms,
-        places: Places::each(built.places),
+        table: Rc::new(alloc, table)?,
+        places: Rc::new(alloc, places)?,
+        rooms,
     })
+}
+
+/// The rooms of the links at these places, as pairs with the same ends have them. Takes memory for them.
+fn rooms_of<P: Pairs>(
+    alloc: Global,
+    table: &LinkTable,
+    places: &Places,
+    pairs: &P,
+) -> Result<Vec<u64>, AllocError>
+    requires places { ArePlaces (links_of table.now) places.now }
+    requires pairs { ArePairs table.now.nodes (P.pairs pairs.now) }
+    requires same_ends { map emptied (P.pairs pairs.now) ≡ pairs_at (links_of table.now) places.now [] }
+    ensures rooms { IfOk result (λ rooms. AreRooms (links_of table.now) rooms.items) }
+    ensures pairs { IfOk result (λ rooms. pairs_at (links_of table.now) places.now rooms.items ≡ P.pairs pairs.now) }
+{
+    let mut rooms = vec![in alloc; 0u64; table.heads.len()]?;
+    put_pairs(table, places, pairs, &mut rooms);
+    Ok(rooms)
+}
+
+/// Gives the links at these places, which have no room, the rooms of pairs with the same ends.
+fn put_pairs<P: Pairs>(table: &LinkTable, places: &Places, pairs: &P, rooms: &mut [u64])
+    requires places { ArePlaces (links_of table.now) places.now }
+    requires same_ends { map emptied (P.pairs pairs.now) ≡ pairs_at (links_of table.now) places.now [] }
+    requires one_room_each { length rooms.old ≡ length table.now.heads.items }
+    requires zeros { rooms.old ≡ replicate (length rooms.old) 0 }
+    ensures { pairs_at (links_of table.now) places.now rooms.new ≡ P.pairs pairs.now }
+{
+    for k in 0..pairs.len() {
+        if let Some(pair) = pairs.pair(k) {
+            let place = places.place_of(k).unwrap();
+            put_pair(table, place, pair, rooms);
+        }
+    }
 }

@@ -1,4 +1,4 @@
-//! A state is built: arcs are appended, and a flow is put on.
+//! Building a state: appending arcs, and putting a flow on them.
 ghost use Rattle.std.specs.Prelude.{◌≡◌, false, ◌+◌, ◌-◌, ◌<◌, ◌⊎◌, length, Some, Ok, Err, IfOk, OnOk, OnErr, IsErrOf, IsOkUnless, MatchOption};
 ghost use Rattle.std.specs.Result.{result_err};
 ghost use Rattle.dmf_node.specs.Node.{is_node};
@@ -16,12 +16,12 @@ use crate::state::State;
 use std::alloc::Global;
 
 impl State {
-    /// The same network with these flows, one for each arc in the order of their numbers. The state keeps the vector; a fault drops
-    /// it.
+    /// Makes a state of the same network with these flows, one for each arc in the order of their numbers. The new state keeps the
+    /// vector. If there is a fault, the vector is dropped.
     ///
-    /// The answer is the first of these faults that the flows have: [`FlowFault::OverCapacity`], [`FlowFault::NotConserved`],
-    /// [`FlowFault::Negative`]. The call takes memory for a copy of the arcs and, while it lasts, for two numbers a node; where that
-    /// is refused, the answer is [`FlowFault::NoMemory`].
+    /// Answers the first of these faults that the flows have: [`FlowFault::OverCapacity`], [`FlowFault::NotConserved`],
+    /// [`FlowFault::Negative`]. Takes memory for a copy of the arcs and, during the call, for two numbers a node. If that is refused,
+    /// answers [`FlowFault::NoMemory`].
     pub fn with_flows(&self, alloc: Global, flows: Vec<u64>) -> Result<State, FlowFault>
         requires { length flows.items ≡ length self.now.network.arcs }
         ensures refused { IsErrOf result FlowFault.NoMemory ⊎ (result_err result ≡ flow_fault self.now.network flows.items) }
@@ -38,7 +38,7 @@ impl State {
         })
     }
 
-    /// What flows out of the source and into it, or why these flows are no flow of a value from 0 on.
+    /// The outflow and the inflow of the source, or the first fault of these flows.
     fn judge(&self, alloc: Global, flows: &[u64]) -> Result<NodeFlow, FlowFault>
         requires { length flows.now ≡ length self.now.network.arcs }
         ensures refused { IsErrOf result FlowFault.NoMemory ⊎ (result_err result ≡ flow_fault self.now.network flows.now) }
@@ -61,7 +61,7 @@ impl State {
 
     /// Appends an open arc without flow.
     ///
-    /// The answer is the first of these faults that holds, and then the state is as it was: [`NetFault::NoSuchNode`],
+    /// Answers the first of these faults that holds, and then leaves the state as it was: [`NetFault::NoSuchNode`],
     /// [`NetFault::TooManyArcs`], [`NetFault::SumTooLarge`], [`NetFault::NoMemory`].
     pub fn push_arc(&mut self, tail: u64, head: u64, cap: u64) -> Result<(), NetFault>
         ensures refused { MatchOption (arc_fault self.old.network tail head cap)
@@ -75,7 +75,7 @@ impl State {
         Ok(())
     }
 
-    /// The open arc from `tail` to `head`, or the first reason why the network cannot take it.
+    /// The open arc from `tail` to `head`, or the first reason why the network cannot take it. Takes no memory.
     pub fn new_arc(&self, tail: u64, head: u64, cap: u64) -> Result<Arc, ArcFault>
         ensures fault { result_err result ≡ arc_fault self.now.network tail head cap }
         ensures arc { IfOk result (λ arc. arc ≡ open_arc tail head cap) }
@@ -99,7 +99,7 @@ impl State {
         1 <= v && v <= u64::from(self.nodes)
     }
 
-    /// Appends an open arc without flow: both vectors grow before either gets an element.
+    /// Appends an open arc without flow. Both vectors reserve room before either gets an element, so a refused request changes nothing.
     pub(super) fn append(&mut self, arc: Arc) -> Result<(), NoMemory>
         requires open { arc.closed ≡ false }
         requires fits { IsState (with_idle_arc self.old arc) }

@@ -1,4 +1,4 @@
-//! A state is edited.
+//! Applying edits to a state.
 ghost use Rattle.std.specs.Prelude.{◌≡◌, true, ◌+◌, ◌-◌, ◌^◌, ◌<◌, ◌≤◌, Ok, OnOk, OnErr};
 ghost use Rattle.dmf_state.specs.Arc.{capacity_sum};
 ghost use Rattle.dmf_state.specs.Network.{arc_number, has_arc, with_arc};
@@ -16,7 +16,7 @@ use crate::state::State;
 impl State {
     /// Applies an edit that fits the state.
     ///
-    /// Only an edit that adds an arc takes memory; where that is refused, the state is as it was.
+    /// Only an edit that adds an arc takes memory. If that is refused, the state is as it was.
     pub fn apply(&mut self, edit: &Edit) -> Result<(), NoMemory>
         requires { Fits edit.now self.old }
         ensures ok { OnOk result (self.new ≡ applied edit.now self.old) }
@@ -59,7 +59,7 @@ impl State {
         }
     }
 
-    /// The largest capacity that an arc can have in place of this one: with it the capacities still sum to less than 2^64.
+    /// The largest capacity that an arc of capacity `old` can get: the sum of the capacities has to stay below 2^64.
     pub fn largest_cap(&self, old: u64) -> u64
         requires { old ≤ capacity_sum self.now.network.arcs }
         ensures { result + (capacity_sum self.now.network.arcs - old) + 1 ≡ 2 ^ 64 }
@@ -67,7 +67,7 @@ impl State {
         u64::MAX - (self.capacities - old)
     }
 
-    /// Puts an arc with the same ends in the place of arc number `j`, and makes the moves or takes them back.
+    /// Replaces arc number `j` by one with the same ends, and applies or reverts the moves.
     pub(crate) fn change_arc(&mut self, j: u32, arc: Arc, moves: &[Move], direction: Direction)
         requires is_there { has_arc self.old.network j ≡ true }
         requires tail { arc.tail ≡ (arc_number self.old.network j).tail }
@@ -76,7 +76,7 @@ impl State {
         requires state { IsState (record { network = with_arc self.old.network j arc; flows = moved (along direction moves.now) self.old.flows }) }
         ensures { self.new ≡ record { network = with_arc self.old.network j arc; flows = moved (along direction moves.now) self.old.flows } }
     {
-        // In between, the arc has the larger of the two capacities, so that the flow stays within it.
+        // While the flows move, the arc has the larger of the two capacities, so its flow stays within it.
         if arc.cap < self.arc(j).cap {
             self.move_flows(moves, direction);
             self.set_arc(j, arc);
@@ -86,7 +86,7 @@ impl State {
         }
     }
 
-    /// Closes these arcs, on which nothing flows.
+    /// Closes these arcs, which carry no flow.
     fn close_all(&mut self, arcs: &[Shutting])
         requires are_open { AreOpenWith 0 arcs.now self.old.network }
         requires state { IsState (record { network = with_closed arcs.now self.old.network; flows = self.old.flows }) }
@@ -98,7 +98,7 @@ impl State {
         }
     }
 
-    /// Opens these arcs, which were closed together.
+    /// Opens these arcs with their old capacities. They were closed together.
     pub(crate) fn open_all(&mut self, arcs: &[Shutting])
         requires { AreClosed arcs.now self.old }
         ensures { self.new ≡ record { network = with_opened arcs.now self.old.network; flows = self.old.flows } }
@@ -110,7 +110,7 @@ impl State {
         }
     }
 
-    /// Puts an arc with the same ends in the place of arc number `j`.
+    /// Replaces arc number `j` by one with the same ends.
     fn set_arc(&mut self, j: u32, arc: Arc)
         requires is_there { has_arc self.old.network j ≡ true }
         requires tail { arc.tail ≡ (arc_number self.old.network j).tail }
@@ -124,7 +124,7 @@ impl State {
         self.arcs[j as usize - 1] = arc;
     }
 
-    /// Makes the moves, or takes them back.
+    /// Applies or reverts the moves.
     pub(crate) fn move_flows(&mut self, moves: &[Move], direction: Direction)
         requires fit { MovesFit 0 (along direction moves.now) self.old.flows }
         requires state { IsState self.old → IsState (with_flows self.old (moved (along direction moves.now) self.old.flows)) }
@@ -140,7 +140,7 @@ impl State {
         );
     }
 
-    /// Drops the last arc, which is open and without flow. Both vectors keep their capacity.
+    /// Drops the last arc, which is open and carries no flow. Both vectors keep their allocations.
     pub(crate) fn drop_last(&mut self)
         requires { HasIdleLast self.old }
         ensures { self.new ≡ without_last self.old }

@@ -17,15 +17,15 @@ make_fresh-requires c =
     let links = sym c.settle.ensures.links in
     let ready = ready-at (residual_of c.args.links.now).links.nodes c.args.levels.now c.requires.ready c.requires.searching.aimed.one_label_each in
     record {
-      ready = subst (λ (x : Residual). IsReady x.links.nodes c.args.levels.now.near c.args.levels.now.far) links ready;
-      start = subst (λ (x : Residual). IsNode x.links.nodes c.args.start) links c.requires.start;
-      goal = subst (λ (x : Residual). IsNode x.links.nodes c.args.goal) links c.requires.goal;
+      ready = rw c.deref.ensures (subst (λ (x : Residual). IsReady x.links.nodes c.args.levels.now.near c.args.levels.now.far) links ready);
+      start = rw c.deref.ensures (subst (λ (x : Residual). IsNode x.links.nodes c.args.start) links c.requires.start);
+      goal = rw c.deref.ensures (subst (λ (x : Residual). IsNode x.links.nodes c.args.goal) links c.requires.goal);
     }
 
 pub returns : goal.returns
 returns c =
     let e = c.settle.ensures in
-    let m = c.make_fresh.ensures in
+    let m = rw c.deref.ensures at c.make_fresh.ensures in
     let v = labelling_of c.args.levels.now in
     let next = residual_of c.settle.new.links in
     let mid = way_of c.settle.new.self in
@@ -36,7 +36,7 @@ returns c =
     (way_of c.make_fresh.new.trail) is start end c.requires.apart m.labels (ap (λ v. v.items) m.current) m.way in
     record {
       searching = anew.0;
-      ready = (c.settle.new.links.table.nodes, m.ready);
+      ready = (c.settle.new.links.table.value.nodes, m.ready);
       fresh = anew.1;
       same = sought-free next (record mid { start = c.args.start; goal = c.args.goal }) (way_of c.make_fresh.new.trail) [] m.way
           ∙ ap (λ (x : Residual). record { residual = x; start = c.args.start; goal = c.args.goal }) e.links;

@@ -13,8 +13,8 @@ use Rattle.dmf_path.proofs.phase.relabel.Goals as goal
 use Rattle.dmf_path.proofs.phase.relabel.Goals.{Start, After-index-start_label}
 
 -- As many nodes have labels as there are.
-ready : (c : Start) → IsReady c.args.links.now.table.nodes c.args.levels.now.near c.args.levels.now.far
-ready c = ready-at c.args.links.now.table.nodes c.args.levels.now c.requires.ready c.requires.searching.aimed.one_label_each
+ready : (c : Start) → IsReady c.args.links.now.table.value.nodes c.args.levels.now.near c.args.levels.now.far
+ready c = ready-at c.args.links.now.table.value.nodes c.args.levels.now c.requires.ready c.requires.searching.aimed.one_label_each
 
 pub unlabel-requires : goal.unlabel-requires
 unlabel-requires c = record { queued = c.requires.ready.1.queued }
@@ -22,11 +22,8 @@ unlabel-requires c = record { queued = c.requires.ready.1.queued }
 pub label_anew-requires : goal.label_anew-requires
 label_anew-requires c =
     let a = c.requires.searching.aimed in
-    let links = c.args.links.now in
-    let is = ready-at links.table.nodes c.args.levels.now c.requires.ready a.one_label_each in
+    let is = ready-at c.args.links.now.table.value.nodes c.args.levels.now c.requires.ready a.one_label_each in
     record {
-      rooms = rw c.deref.ensures.value links.rooms_are;
-      flags = rw (c.deref.ensures.value, c.deref-2.ensures.value) links.flags_are;
       near = record {
         labels_are = c.unlabel.ensures.labels ∙ ap (λ n. replicate n no_label) is.one_label_each;
         capacity = omega (arith, c.unlabel.ensures.capacity, is.capacity);
@@ -39,25 +36,25 @@ label_anew-requires c =
 
 pub make_fresh-requires : goal.make_fresh-requires
 make_fresh-requires c = record {
-  ready = c.label_anew.ensures.ready;
-  start = c.requires.searching.aimed.start_is;
-  goal = c.requires.searching.aimed.goal_is;
+  ready = rw c.deref.ensures c.label_anew.ensures.ready;
+  start = rw c.deref.ensures c.requires.searching.aimed.start_is;
+  goal = rw c.deref.ensures c.requires.searching.aimed.goal_is;
 }
 
 pub returns-then-not-label_anew : goal.returns-then-not-label_anew
 returns-then-not-label_anew c =
     let a = c.requires.searching.aimed in
-    let m = c.make_fresh.ensures in
+    let m = rw c.deref.ensures at c.make_fresh.ensures in
     let w = way_of c.args.trail.now in
     let anew = searching-anew (residual_of c.args.links.now) (labelling_of c.args.levels.now) w (labelling_of c.make_fresh.new.levels) w.start w.goal
     (way_of c.make_fresh.new.trail) c.requires.searching a.start_is a.goal_is a.apart m.labels
     (ap (λ v. v.items) (m.current ∙ c.label_anew.ensures.current)) m.way in
     record {
       searching = anew.0;
-      ready = (c.args.links.now.table.nodes, m.ready);
+      ready = (c.args.links.now.table.value.nodes, m.ready);
       way = m.way ∙ ap (with_slots w) (sym (ap (λ (u : Way). u.slots) m.way));
       labelled = λ e. absurd (cc);
-      none = λ e. rw c.deref.ensures.value at (c.label_anew.ensures.none c.if-not-label_anew.true);
+      none = λ e. c.label_anew.ensures.none c.if-not-label_anew.true;
     }
 
 pub set_current-requires : goal.set_current-requires
@@ -65,8 +62,9 @@ set_current-requires c =
     let is = c.label_anew.ensures.ready in
     let same = ap (λ v. v.items) c.label_anew.ensures.current in
     record {
-      nodes = rw c.deref-3.ensures.value (λ i before. omega (arith, is.queued.within i before, is.one_label_each));
-      current = subst (AreCurrent (links_of c.args.links.now.table)) (sym (c.deref_mut.ensures.value ∙ same)) c.requires.searching.under_way.walking.current_is;
+      nodes = rw (c.deref-2.ensures, c.deref-3.ensures.value) (λ i before. omega (arith, is.queued.within i before, is.one_label_each));
+      current = rw c.deref-2.ensures (subst (AreCurrent (links_of c.args.links.now.table.value)) (sym (c.deref_mut.ensures.value ∙ same))
+          c.requires.searching.under_way.walking.current_is);
     }
 
 -- the label of the start is read
@@ -85,15 +83,15 @@ pub returns : goal.returns
 returns c =
     let a = c.requires.searching.aimed in
     let links = c.args.links.now in
-    let l = links_of links.table in
+    let l = links_of links.table.value in
     let w = way_of c.args.trail.now in
     let levels = c.label_anew.new.levels in
     let is = c.label_anew.ensures.ready in
-    let labelled = rw c.deref.ensures.value at (c.label_anew.ensures.labelled c.if-not-label_anew.false) in
+    let labelled = c.label_anew.ensures.labelled c.if-not-label_anew.false in
     let slots = c.free.new.self.slots.items in
     let current = with_items_is levels.current c.set_current.new.current (c.set_current.auto.current ∙ c.deref_mut.ensures.len) in
     let first = first-queued l levels.near.labels.items levels.near.queue.items c.set_current.new.current is.one_label_each is.queued
-    (rw c.deref-3.ensures.value at c.set_current.ensures.first) in
+    (rw (c.deref-2.ensures, c.deref-3.ensures.value) at c.set_current.ensures.first) in
     let aimed : IsAimed (plainly (residual_of links) w) levels.near.labels.items w.capacity = record {
       links = a.links;
       one_label_each = is.one_label_each;
@@ -105,12 +103,13 @@ returns c =
       capacity_is = a.capacity_is;
     } in
     let v : Labelling = record { labels = levels.near.labels.items; current = c.set_current.new.current } in
-    let searching = searching-free (residual_of links) v w slots aimed links.rooms_are c.requires.searching.holding.small c.set_current.ensures.current
+    let searching = searching-free (residual_of links) v w slots aimed links.rooms_are c.requires.searching.holding.small
+    (rw c.deref-2.ensures at c.set_current.ensures.current)
     (passed-first l levels.near.labels.items links.rooms.items w.goal c.set_current.new.current a.links labelled.sound.small first)
     (c.free.ensures.count ∙ read (goal.at.returns c).After-index-start_label) labelled.goal_label in
     record {
       searching = rw (current, c.free.ensures.way) searching;
-      ready = (links.table.nodes, is);
+      ready = (links.table.value.nodes, is);
       way = c.free.ensures.way;
       labelled = λ yes. labelled.walk;
       none = λ e. absurd (cc);

@@ -9,11 +9,11 @@ pub returns-then-is_empty : goal.returns-then-is_empty
 returns-then-is_empty c =
     let r = residual_of c.args.links.now in
     rw (rooms_with-empty r.links r.takes_back (way_of c.args.trail.now) r.rooms (c.is_empty.ensures c.if-is_empty.true))
-    (rw c.deref.ensures.value at c.labels_over.ensures)
+    (rw (c.deref.ensures, c.deref-then-is_empty.ensures.value) at c.labels_over.ensures)
 
 pub labels_over-requires-2-clause-one_room_each : goal.labels_over-requires-2-clause-one_room_each
 labels_over-requires-2-clause-one_room_each c =
     let r = residual_of c.args.links.now in
     let w = way_of c.args.trail.now in
-    ap length (c.deref-2.ensures.value ∙ c.in_ok-settled.ensures) ∙ length-settled r.links r.takes_back w.sent
-    (filled_slots w) r.rooms ∙ c.args.links.now.rooms_are.0
+    rw c.deref-2.ensures (ap length (c.deref-3.ensures.value ∙ c.in_ok-settled.ensures) ∙ length-settled r.links r.takes_back w.sent
+    (filled_slots w) r.rooms ∙ c.args.links.now.rooms_are.0)

@@ -19,15 +19,16 @@ pub end_node-node-requires : goal.end_node-node-requires
 end_node-node-requires c =
     let is = c.requires in
     record {
-      last = λ some. last-link_within (residual_of c.args.links.now).links c.args.labels.now
+      last = rw c.deref.ensures (λ some. last-link_within (residual_of c.args.links.now).links c.args.labels.now
           (told (residual_of c.args.links.now) (way_of c.args.trail.now)).rooms c.args.current.now
-          (way_of c.args.trail.now) is.aimed.links is.aimed.start_is is.under_way some;
+          (way_of c.args.trail.now) is.aimed.links is.aimed.start_is is.under_way some);
     }
 
 pub loop-node-init : goal.loop-node-init
 loop-node-init c = record {
   on = on-start (residual_of c.args.links.now) (record { labels = c.args.labels.now; current = c.args.current.now })
-      (way_of c.args.trail.now) c.end_node-node.result c.requires c.end_node-node.ensures.first c.end_node-node.ensures.last;
+      (way_of c.args.trail.now) c.end_node-node.result c.requires c.end_node-node.ensures.first
+      (rw c.deref.ensures at c.end_node-node.ensures.last);
   start = refl;
   goal = refl;
   capacity = refl;
@@ -38,8 +39,8 @@ first_admissible-place-requires-clause-links c =
     let a = c.loop-node.links in
     omega (
       arith,
-      end-within (residual_of a).links c.loop-node.node c.index-end.result.now a.table.are c.loop-node.invariant.on.come.is_node.to_last
-          c.index-end.ensures,
+      end-within (residual_of a).links c.loop-node.node c.index-end.result.now a.table.value.are c.loop-node.invariant.on.come.is_node.to_last
+          (rw c.deref-in-loop-node.ensures at c.index-end.ensures),
     )
 
 pub first_admissible-place-requires-clause-one_label_each : goal.first_admissible-place-requires-clause-one_label_each
@@ -60,12 +61,12 @@ turn c =
       node = c.loop-node.node;
       place = c.first_admissible-place.result;
       end = c.index-end.result.now;
-      links = c.loop-node.links.table.are;
-      start_is = subst (IsNode c.loop-node.links.table.nodes) (sym c.loop-node.invariant.start)
+      links = c.loop-node.links.table.value.are;
+      start_is = subst (IsNode c.loop-node.links.table.value.nodes) (sym c.loop-node.invariant.start)
           (subst (λ (x : Residual). IsNode x.links.nodes c.args.trail.now.start) (sym on.same) c.requires.aimed.start_is);
       on = on;
       other = c.loop-node-test.true;
-      end_read = c.index-end.ensures;
+      end_read = rw c.deref-in-loop-node.ensures at c.index-end.ensures;
       from = found.from;
       to = found.to;
       none = found.first;
@@ -128,7 +129,7 @@ index-node-requires c =
     } in
     let within = subst (λ (l : Links). c.first_admissible-place.result < length l.heads)
     (sym (made-links t.r t.w (residual_of c.make_way.new.links) (way_of c.make_way.new.self) c.make_way.ensures)) (within-found t f) in
-    omega (arith, within, c.make_way.new.links.table.heads.ok.0)
+    rw c.deref-then-place-end.ensures (omega (arith, within, c.make_way.new.links.table.value.heads.ok.0))
 
 pub loop-node-smaller-then-place-end : goal.loop-node-smaller-then-place-end
 loop-node-smaller-then-place-end c =
@@ -141,7 +142,8 @@ loop-node-smaller-then-place-end c =
     } in
     subst (λ s. work_left t.aim.links t.labels s (set t.current t.node t.place) c.index-node.result.now < work_left t.aim.links t.labels s t.current t.node)
     c.loop-node.invariant.start
-    (less-found t (residual_of c.make_way.new.links) (way_of c.make_way.new.self) c.index-node.result.now f c.make_way.ensures c.index-node.ensures)
+    (less-found t (residual_of c.make_way.new.links) (way_of c.make_way.new.self) c.index-node.result.now f c.make_way.ensures
+    (rw c.deref-then-place-end.ensures at c.index-node.ensures))
 
 pub loop-node-preserved-then-place-end : goal.loop-node-preserved-then-place-end
 loop-node-preserved-then-place-end c =
@@ -158,7 +160,8 @@ loop-node-preserved-then-place-end c =
     (sym (made-links t.r t.w (residual_of c.make_way.new.links) (way_of c.make_way.new.self) c.make_way.ensures)) (within-found t f) in
     let room : c.index-room.result.now ≡ get_or new.rooms.items t.place 0 =
     c.index-room.ensures ∙ get_or_default new.rooms.items t.place _ 0 (omega (arith, within, new.rooms_are.0)) in
-    let on = on-found t (residual_of c.make_way.new.links) (way_of c.make_way.new.self) c.index-node.result.now f made new.rooms_are c.index-node.ensures in
+    let on = on-found t (residual_of c.make_way.new.links) (way_of c.make_way.new.self) c.index-node.result.now f made new.rooms_are
+    (rw c.deref-then-place-end.ensures at c.index-node.ensures) in
     record {
       on = rw (c.enter.ensures, room) on;
       start = ap (λ (w : Way). w.start) c.enter.ensures ∙ made-start t.r t.w (residual_of c.make_way.new.links)
@@ -204,8 +207,8 @@ pub tail-node-requires : goal.tail-node-requires
 tail-node-requires c =
     let t = turn (goal.at.tail-node-requires c).After-first_admissible-place in
     let some : 0 < c.loop-node.trail.walked = omega (arith, c.if-trail-eq0.false) in
-    subst (λ (x : Residual). c.step_back-back.result < length x.links.heads) (sym c.step_back-back.ensures.links)
-    (back-within t c.step_back-back.result some c.step_back-back.ensures.place)
+    rw c.deref-else-place-end.ensures (subst (λ (x : Residual). c.step_back-back.result < length x.links.heads) (sym c.step_back-back.ensures.links)
+    (back-within t c.step_back-back.result some c.step_back-back.ensures.place))
 
 pub overflow_add-current : goal.overflow_add-current
 overflow_add-current c =
@@ -218,7 +221,8 @@ bounds-current-node-else-place-end c =
     let t = turn (goal.at.bounds-current-node-else-place-end c).After-first_admissible-place in
     let some : 0 < c.loop-node.trail.walked = omega (arith, c.if-trail-eq0.false) in
     let tail : c.tail-node.result ≡ tail_of t.r.links (slot_at t.w.slots (t.w.walked - 1)).place =
-    c.tail-node.ensures ∙ ap (λ (x : Residual). tail_of x.links c.step_back-back.result) c.step_back-back.ensures.links ∙ ap (tail_of t.r.links)
+    (rw c.deref-else-place-end.ensures at c.tail-node.ensures)
+    ∙ ap (λ (x : Residual). tail_of x.links c.step_back-back.result) c.step_back-back.ensures.links ∙ ap (tail_of t.r.links)
     c.step_back-back.ensures.place in
     back-tail_within t c.tail-node.result some tail
 
@@ -227,7 +231,8 @@ loop-node-smaller c =
     let t = turn (goal.at.loop-node-smaller c).After-first_admissible-place in
     let some : 0 < c.loop-node.trail.walked = omega (arith, c.if-trail-eq0.false) in
     let tail : c.tail-node.result ≡ tail_of t.r.links (slot_at t.w.slots (t.w.walked - 1)).place =
-    c.tail-node.ensures ∙ ap (λ (x : Residual). tail_of x.links c.step_back-back.result) c.step_back-back.ensures.links ∙ ap (tail_of t.r.links)
+    (rw c.deref-else-place-end.ensures at c.tail-node.ensures)
+    ∙ ap (λ (x : Residual). tail_of x.links c.step_back-back.result) c.step_back-back.ensures.links ∙ ap (tail_of t.r.links)
     c.step_back-back.ensures.place in
     subst (λ s. work_left t.aim.links t.labels s (set (set t.current t.node t.place) c.tail-node.result (c.step_back-back.result + 1)) c.tail-node.result
     < work_left t.aim.links t.labels s t.current t.node) c.loop-node.invariant.start
@@ -238,7 +243,8 @@ loop-node-preserved c =
     let t = turn (goal.at.loop-node-preserved c).After-first_admissible-place in
     let some : 0 < c.loop-node.trail.walked = omega (arith, c.if-trail-eq0.false) in
     let tail : c.tail-node.result ≡ tail_of t.r.links (slot_at t.w.slots (t.w.walked - 1)).place =
-    c.tail-node.ensures ∙ ap (λ (x : Residual). tail_of x.links c.step_back-back.result) c.step_back-back.ensures.links ∙ ap (tail_of t.r.links)
+    (rw c.deref-else-place-end.ensures at c.tail-node.ensures)
+    ∙ ap (λ (x : Residual). tail_of x.links c.step_back-back.result) c.step_back-back.ensures.links ∙ ap (tail_of t.r.links)
     c.step_back-back.ensures.place in
     let back = c.step_back-back.ensures in
     let i = c.loop-node.invariant in

@@ -15,4 +15,4 @@ invariant-loop-node l = record {
 }
 
 abbrev pub decreases-loop-node : goal.decreases-loop-node
-decreases-loop-node l = work_left (links_of l.fn.links.table) l.labels l.fn.trail.start l.current l.node
+decreases-loop-node l = work_left (links_of l.fn.links.table.value) l.labels l.fn.trail.start l.current l.node

@@ -7,6 +7,7 @@ use Rattle.dmf_runs.specs.declared.fault.EngineFault.{EngineFault}
 use Rattle.dmf_runs.specs.declared.fault.EngineFault.TheVariants as fault
 use Rattle.dmf_runs.specs.CheckRun.{Checked, CheckAnswered, ReadsSolution, WritesVerdict}
 use Rattle.dmf_runs.specs.Session.{ReadsProblem}
+use Rattle.dmf_runs.proofs.Giving.{given}
 use Rattle.dmf_runs.proofs.check.run_check.Goals as goal
 
 -- a run that stops at the problem
@@ -33,59 +34,28 @@ verdict-told run (Err e) write told = subst (λ e. CheckAnswered run (Err e)) (s
 pub returns-in_err-state : goal.returns-in_err-state
 returns-in_err-state g c =
     let failed = err_from_is_err_and c.from_residual.result c.from_residual.ensures.1 in
-    let problem = c.in_err-state.ensures in
-    rw (failed.1, failed.2) (record {
-      text = problem.text;
-      consumes = problem.consumes;
-      is_so = record { text = []; consumes = Consumes-nil _; is_so = no-problem _ c.in_err-state.field-0.0 problem.is_so refl refl };
-    })
+    rw (failed.1, failed.2) (given c.in_err-state.ensures (λ text problem.
+    record { text = []; consumes = Consumes-nil _; is_so = no-problem _ c.in_err-state.field-0.0 problem refl refl }))
 
 pub returns-in_err-solved : goal.returns-in_err-solved
 returns-in_err-solved g c =
     let failed = err_from_is_err_and c.from_residual-in_err-solved.result c.from_residual-in_err-solved.ensures.1 in
-    let problem = c.in_ok-state.ensures in
-    let solution = c.in_err-solved.ensures in
-    rw (failed.1, failed.2) (record {
-      text = problem.text;
-      consumes = problem.consumes;
-      is_so = record {
-        text = solution.text;
-        consumes = solution.consumes;
-        is_so = no-solution _ c.in_ok-state.state c.in_err-solved.field-0.0 problem.is_so solution.is_so refl;
-      };
-    })
+    rw (failed.1, failed.2) (given c.in_ok-state.ensures (λ text problem. given c.in_err-solved.ensures (λ more solution.
+    no-solution _ c.in_ok-state.state c.in_err-solved.field-0.0 problem solution refl)))
 
 pub returns-in_err-greatest : goal.returns-in_err-greatest
 returns-in_err-greatest g c =
     let failed = err_from_is_err_and c.from_residual-in_err-greatest.result c.from_residual-in_err-greatest.ensures.1 in
-    let problem = c.in_ok-state.ensures in
-    let solution = c.in_ok-solved.ensures in
-    rw (failed.1, failed.2) (record {
-      text = problem.text;
-      consumes = problem.consumes;
-      is_so = record {
-        text = solution.text;
-        consumes = solution.consumes;
-        is_so = record { problem_mark = problem.is_so.0.mark; solution_mark = solution.is_so.0.mark; unwritten = refl };
-      };
-    })
+    rw (failed.1, failed.2) (given c.in_ok-state.ensures (λ text problem. given c.in_ok-solved.ensures (λ more solution.
+    record { problem_mark = problem.0.mark; solution_mark = solution.0.mark; unwritten = refl })))
 
 pub returns : goal.returns
 returns g c =
-    let problem = c.in_ok-state.ensures in
-    let solution = c.in_ok-solved.ensures in
-    record {
-      text = problem.text;
-      consumes = problem.consumes;
-      is_so = record {
-        text = solution.text;
-        consumes = solution.consumes;
-        is_so = verdict-told _ c.tell_verdict.result c.tell_verdict.ensures.write (record {
-          state = c.in_ok-state.state;
-          problem = problem.is_so;
-          solved = c.in_ok-solved.solved;
-          solution = solution.is_so;
-          told = c.tell_verdict.ensures.told;
-        });
-      };
-    }
+    given c.in_ok-state.ensures (λ text problem. given c.in_ok-solved.ensures (λ more solution.
+    verdict-told _ c.tell_verdict.result c.tell_verdict.ensures.write (record {
+      state = c.in_ok-state.state;
+      problem = problem;
+      solved = c.in_ok-solved.solved;
+      solution = solution;
+      told = c.tell_verdict.ensures.told;
+    })))

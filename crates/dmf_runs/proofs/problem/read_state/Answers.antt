@@ -10,6 +10,7 @@ use Rattle.dmf_runs.specs.declared.fault.EngineFault.TheVariants as fault
 use Rattle.dmf_text.specs.Streams.{Reader}
 use Rattle.dmf_runs.specs.Session.{ReadsProblem}
 use Rattle.dmf_runs.specs.WholeText.{ReadsText}
+use Rattle.dmf_runs.proofs.Giving.{given}
 use Rattle.dmf_runs.proofs.problem.read_state.Goals as goal
 
 -- what is read, and not judged
@@ -32,41 +33,21 @@ judged-fault f text other (inr told) = sym told
 pub returns-in_err-text : goal.returns-in_err-text
 returns-in_err-text g c =
     let failed = err_from_is_err_and c.from_residual.result c.from_residual.ensures.1 in
-    let reader = g.P.Source.left in
-    let read = c.in_err-text.ensures in
-    rw (failed.1, failed.2)
-    (record {
-      text = read.text;
-      consumes = read.consumes;
-      is_so = unread (reader c.args.source.now)
-          (reader c.read_all.new.source) read.text c.in_err-text.field-0.0 read.is_so;
-    })
+    rw (failed.1, failed.2) (given c.in_err-text.ensures (λ text read. unread _ _ text c.in_err-text.field-0.0 read))
 
 pub returns-in-Ok : goal.returns-in-Ok
 returns-in-Ok g c =
-    let read = c.in_ok-text.ensures in
-    record {
-      text = read.text;
-      consumes = read.consumes;
-      is_so = (
-        read.is_so.0,
-        ap problem_of (sym (c.deref.ensures.value ∙ read.is_so.1)) ∙ judged-state c.in-Ok.state c.deref.result.now c.in-Ok.ensures,
-      );
-    }
+    given c.in_ok-text.ensures (λ text read. (
+      read.0,
+      ap problem_of (sym (c.deref.ensures.value ∙ read.1)) ∙ judged-state c.in-Ok.state c.deref.result.now c.in-Ok.ensures,
+    ))
 
 pub returns-in-NoMemory : goal.returns-in-NoMemory
-returns-in-NoMemory g c =
-    let read = c.in_ok-text.ensures in
-    record { text = read.text; consumes = read.consumes; is_so = read.is_so.0.mark }
+returns-in-NoMemory g c = given c.in_ok-text.ensures (λ text read. read.0.mark)
 
 pub returns : goal.returns
 returns g c =
-    let read = c.in_ok-text.ensures in
-    record {
-      text = read.text;
-      consumes = read.consumes;
-      is_so = (
-        read.is_so.0,
-        ap problem_of (sym (c.deref.ensures.value ∙ read.is_so.1)) ∙ judged-fault c.in-Err.fault c.deref.result.now c.in_default.not-NoMemory c.in-Err.ensures,
-      );
-    }
+    given c.in_ok-text.ensures (λ text read. (
+      read.0,
+      ap problem_of (sym (c.deref.ensures.value ∙ read.1)) ∙ judged-fault c.in-Err.fault c.deref.result.now c.in_default.not-NoMemory c.in-Err.ensures,
+    ))

@@ -1,7 +1,7 @@
 use Rattle.std.proofs.Common.{refl, Ok, Err, true, false}
 use Rattle.std.proofs.lemmas.Result.{err_from_is_err_and}
 use Rattle.dmf_runs.specs.Run.{reply_text, refused_text}
-use Rattle.dmf_runs.proofs.Replying.{answers-reply}
+use Rattle.dmf_session.proofs.EachCommand.{answers-reply}
 use Rattle.dmf_runs.proofs.session.answer_command.Goals as goal
 
 pub put_reply-requires : goal.put_reply-requires

@@ -1,11 +1,12 @@
-use Rattle.std.proofs.Common.{[], Err, false, refl, sym, ap, ◌∙◌, subst, arith}
+use Rattle.std.proofs.Common.{[], false, refl, sym, subst, arith}
 use Rattle.std.proofs.lemmas.Bool.{false≢true}
 use Rattle.std.proofs.lemmas.Result.{err_from_is_err_and}
 use Rattle.dmf_runs.specs.Input.{input_over}
-use Rattle.dmf_runs.specs.Outcome.{RunsCommandsWith}
-use Rattle.dmf_runs.proofs.Progress.{Progress, Progress-none, Progress-more, streams}
+use Rattle.dmf_runs.proofs.Progress.{Carried, Progress, Progress-none, Progress-more}
 use Rattle.dmf_runs.proofs.Endings.{Carried-told, Broken-told, RunsCommands-end, RunsCommands-refused, RunsCommands-past, RunsCommands-last, RunsCommands-write}
+use Rattle.dmf_runs.proofs.session.run_lines.Given.{Over}
 use Rattle.dmf_runs.proofs.session.run_lines.Goals as goal
+use Rattle.dmf_runs.proofs.session.run_lines.Goals.{After-is_refusal-is_refused}
 
 pub loop-number-init : goal.loop-number-init
 loop-number-init g c =
@@ -19,13 +20,8 @@ loop-number-init g c =
 pub returns-in_err-ended : goal.returns-in_err-ended
 returns-in_err-ended g c =
     let failed = err_from_is_err_and c.from_residual.result c.from_residual.ensures.1 in
-    let then = input_over c.next_line.new.self (g.C.Source.left c.next_line.new.source) in
-    let before = input_over (record { bytes = []; count = 0 }) (g.C.Source.left c.args.commands.now) in
-    let held = g.W.Sink.written c.args.out.now in
-    let holds = g.W.Sink.written c.loop-number.out in
-    subst (λ result. RunsCommandsWith c.args.wanted (g.H.History.timeline c.args.session.now) (streams before held) (streams then holds) result)
-    (sym (failed.1 ∙ ap Err failed.2))
-    (RunsCommands-refused c.args.wanted _ before _ then held holds c.loop-number.number _ _ c.loop-number.invariant c.in_err-ended.field-0.0
+    rw (failed.1, failed.2)
+    (RunsCommands-refused c.args.wanted _ _ _ _ _ _ c.loop-number.number _ _ c.loop-number.invariant c.in_err-ended.field-0.0
     c.next_line.new.line (omega arith) c.in_err-ended.ensures)
 
 pub returns-in_default : goal.returns-in_default
@@ -37,9 +33,6 @@ returns-in_default g c =
 pub returns-in_err-answer : goal.returns-in_err-answer
 returns-in_err-answer g c =
     let failed = err_from_is_err_and c.from_residual-in_err-answer.result c.from_residual-in_err-answer.ensures.1 in
-    let then = input_over c.next_line.new.self (g.C.Source.left c.next_line.new.source) in
-    let before = input_over (record { bytes = []; count = 0 }) (g.C.Source.left c.args.commands.now) in
-    let held = g.W.Sink.written c.args.out.now in
     let holds = g.W.Sink.written c.loop-number.out in
     let next = g.W.Sink.written c.answer.new.out in
     let meaning = c.meaning_of-meaning.result in
@@ -49,54 +42,40 @@ returns-in_err-answer g c =
     let broken = Broken-told c.args.wanted u meaning c.loop-number.number holds next c.in_err-answer.field-0.0 v
     (λ none. false≢true (told.silent none).1) told.line in
     let gave = rw c.in-Line.is at c.in_ok-ended.ensures in
-    subst (λ result. RunsCommandsWith c.args.wanted (g.H.History.timeline c.args.session.now) (streams before held) (streams then next) result)
-    (sym (failed.1 ∙ ap Err failed.2))
-    (RunsCommands-write c.args.wanted _ before _ then held holds c.loop-number.number u _ c.loop-number.invariant next meaning c.next_line.new.line v
+    rw (failed.1, failed.2)
+    (RunsCommands-write c.args.wanted _ _ _ _ _ _ c.loop-number.number u _ c.loop-number.invariant next meaning c.next_line.new.line v
     c.in-Line.ended gave c.meaning_of-meaning.ensures broken)
+
+-- the line was carried out
+carried : (g : Over) (c : After-is_refusal-is_refused g)
+    → Carried c.args.wanted (g.H.History.timeline c.loop-number.session) c.meaning_of-meaning.result c.loop-number.number (g.W.Sink.written c.loop-number.out)
+    (g.W.Sink.written c.answer.new.out) c.is_refusal-is_refused.result (g.H.History.timeline c.answer.new.session)
+carried g c = Carried-told _ _ _ _ _ _ c.in_ok-answer.answer _ _ c.is_refusal-is_refused.ensures c.in_ok-answer.ensures.line
 
 -- a last line was carried out
 pub returns-then-not-ended : goal.returns-then-not-ended
 returns-then-not-ended g c =
     let then = input_over c.next_line.new.self (g.C.Source.left c.next_line.new.source) in
-    let holds = g.W.Sink.written c.loop-number.out in
-    let next = g.W.Sink.written c.answer.new.out in
-    let meaning = c.meaning_of-meaning.result in
-    let refused = c.is_refusal-is_refused.result in
-    let u = g.H.History.timeline c.loop-number.session in
-    let v = g.H.History.timeline c.answer.new.session in
-    let carried = Carried-told c.args.wanted u meaning c.loop-number.number holds next c.in_ok-answer.answer refused v c.is_refusal-is_refused.ensures
-    c.in_ok-answer.ensures.line in
+    let carried = carried g (goal.at.returns-then-not-ended g c).After-is_refusal-is_refused in
     let gave = rw (c.in-Line.is, c.if-not-ended.true) at c.in_ok-ended.ensures in
     let means = rw c.if-not-ended.true at c.meaning_of-meaning.ensures in
-    RunsCommands-last c.args.wanted _ _ _ then _ holds c.loop-number.number u c.loop-number.is_refused c.loop-number.invariant next meaning c.next_line.new.line
-    v refused c.status-then-not-ended.result (omega arith) c.status-then-not-ended.ensures gave means carried
+    RunsCommands-last c.args.wanted _ _ _ then _ _ c.loop-number.number _ c.loop-number.is_refused c.loop-number.invariant _ _ c.next_line.new.line _ _
+    c.status-then-not-ended.result (omega arith) c.status-then-not-ended.ensures gave means carried
 
 pub loop-number-preserved : goal.loop-number-preserved
 loop-number-preserved g c =
     let then = input_over c.next_line.new.self (g.C.Source.left c.next_line.new.source) in
-    let holds = g.W.Sink.written c.loop-number.out in
-    let next = g.W.Sink.written c.answer.new.out in
-    let meaning = c.meaning_of-meaning.result in
-    let refused = c.is_refusal-is_refused.result in
-    let u = g.H.History.timeline c.loop-number.session in
-    let v = g.H.History.timeline c.answer.new.session in
-    let carried = Carried-told c.args.wanted u meaning c.loop-number.number holds next c.in_ok-answer.answer refused v c.is_refusal-is_refused.ensures
-    c.in_ok-answer.ensures.line in
+    let carried = carried g (goal.at.loop-number-preserved g c).After-is_refusal-is_refused in
     let gave = rw (c.in-Line.is, c.if-not-ended.false) at c.in_ok-ended.ensures in
     let means = rw c.if-not-ended.false at c.meaning_of-meaning.ensures in
-    Progress-more c.args.wanted _ _ _ then _ holds next c.loop-number.number u c.loop-number.is_refused meaning c.next_line.new.line refused v
+    Progress-more c.args.wanted _ _ _ then _ _ _ c.loop-number.number _ c.loop-number.is_refused _ c.next_line.new.line _ _
     c.loop-number.invariant gave means carried
 
 pub returns-in_err-expect_end : goal.returns-in_err-expect_end
 returns-in_err-expect_end g c =
     let failed = err_from_is_err_and c.from_residual-in_err-expect_end.result c.from_residual-in_err-expect_end.ensures.1 in
-    let then = input_over c.expect_end.new.self (g.C.Source.left c.expect_end.new.source) in
-    let before = input_over (record { bytes = []; count = 0 }) (g.C.Source.left c.args.commands.now) in
-    let held = g.W.Sink.written c.args.out.now in
-    let holds = g.W.Sink.written c.loop-number.out in
-    subst (λ result. RunsCommandsWith c.args.wanted (g.H.History.timeline c.args.session.now) (streams before held) (streams then holds) result)
-    (sym (failed.1 ∙ ap Err failed.2))
-    (RunsCommands-past c.args.wanted _ before _ then held holds c.loop-number.number _ _ c.loop-number.invariant c.in_err-expect_end.field-0.0
+    rw (failed.1, failed.2)
+    (RunsCommands-past c.args.wanted _ _ _ _ _ _ c.loop-number.number _ _ c.loop-number.invariant c.in_err-expect_end.field-0.0
     (omega arith) c.in_err-expect_end.ensures)
 
 pub returns : goal.returns

@@ -1,8 +1,8 @@
-use Rattle.std.proofs.Common.{IfSome, subst}
-use Rattle.dmf_solver.specs.ResidualNetwork.{IsResidualOf}
+use Rattle.std.proofs.Common.{subst}
+use Rattle.dmf_solver.specs.KeptNetwork.{Keeps}
 use Rattle.dmf_session.proofs.kept.kept_after.Goals as goal
 
-pub follow-requires-clause-residual : goal.follow-requires-clause-residual
-follow-requires-clause-residual g c =
+pub follow-requires-clause-network : goal.follow-requires-clause-network
+follow-requires-clause-network g c =
     let s = c.present.result.now in
-    subst (λ kept. IfSome kept (IsResidualOf s)) c.in_ok-network.was (c.requires s c.present.ensures.state)
+    subst (Keeps s) c.in_ok-network.was (c.requires s c.present.ensures.state)

@@ -1,11 +1,14 @@
-use Rattle.std.proofs.Common.{List, ℕ, ◌-◌, ◌≤◌, ap, sym, ◌∙◌, arith}
+use Rattle.std.proofs.Common.{List, ℕ, ◌-◌, ◌≤◌, length, ap, sym, ◌∙◌, arith}
 use Rattle.std.specs.Option.{unwrap_or}
+use Rattle.dmf_path.specs.Search.{Searched}
 use Rattle.dmf_state.specs.Flow.{flow_on}
 use Rattle.dmf_state.specs.NetworkState.{with_flows}
 use Rattle.dmf_solver.specs.Pairs.{Along, IsCarryingSearch, flows_read}
 use Rattle.dmf_state.proofs.ChangedArc.{has_arc-within}
-use Rattle.dmf_solver.proofs.DrainingSearch.{DrainsOnce, draining-begun, draining-has_path, draining-once, draining-done, carries-along, length-carries}
+use Rattle.dmf_solver.proofs.DrainingSearch.{DrainsOnce, draining-begun, draining-has_path, draining-once, draining-done}
+use Rattle.dmf_solver.proofs.DrainingSearch.{carries-along, length-carries, length-draining}
 use Rattle.dmf_solver.proofs.DrainingWalk.{drained-none, drained-all}
+use Rattle.dmf_solver.proofs.Untouched.{keeps-same, touches-lowered}
 use Rattle.dmf_solver.proofs.drain.drain_along.Goals as goal
 
 pub along-requires : goal.along-requires
@@ -14,19 +17,31 @@ along-requires c =
     let carries = c.requires.carrying.1 in
     let at = has_arc-within s.network c.args.j c.requires.is_there in
     let long = length-carries s c.requires.carrying.0 _ c.args.search.now carries in
-    omega (arith, at.1, carries.no_more.one_each, long)
+    omega (arith, at.1, long)
 
 pub loop-left-init : goal.loop-left-init
-loop-left-init c = λ unpaired carries.
+loop-left-init c =
     let s = c.args.state.now in
     let differ = c.requires.no_loop in
-    let along = carries-along s unpaired _ c.args.search.now c.args.j c.requires.is_there (λ e. differ (sym e)) carries in
-    rw (c.aim.ensures, c.arc-arc.ensures.value) (draining-begun s unpaired
-    (flows_read Along unpaired c.args.search.now.pairs) c.args.j c.args.limit _ c.args.search.now
-    (c.saturating_sub-left.ensures ∙ ap (λ x. x - c.args.limit) (c.unwrap_or.ensures ∙ ap (λ o. unwrap_or o 0) c.along.ensures ∙ along)) carries)
+    record {
+      draining = λ unpaired carries.
+          let along = carries-along s unpaired _ c.args.search.now c.args.j c.requires.is_there (λ e. differ (sym e)) carries in
+          rw (c.aim.ensures, c.arc-arc.ensures.value) (draining-begun s unpaired
+          (flows_read Along unpaired c.args.search.now.pairs) c.args.j c.args.limit _ c.args.search.now
+          (c.saturating_sub-left.ensures ∙ ap (λ x. x - c.args.limit) (c.unwrap_or.ensures ∙ ap (λ o. unwrap_or o 0) c.along.ensures ∙ along)) carries);
+      own = c.add.ensures.touched;
+      touches = record {
+        more = c.add.ensures.more;
+        below = c.add.ensures.below (length c.args.search.now.pairs)
+            (let at = has_arc-within s.network c.args.j c.requires.is_there in
+            let long = length-carries s c.requires.carrying.0 _ c.args.search.now c.requires.carrying.1 in
+            omega (arith, at.0, at.1, long));
+        kept = keeps-same c.add.new.self c.args.search.now.pairs c.aim.new.self.pairs (ap (λ (x : Searched). x.pairs) c.aim.ensures);
+      };
+    }
 
-pub returns-then-left-eq0 : goal.returns-then-left-eq0
-returns-then-left-eq0 c = λ unpaired carries.
+pub returns-then-left-eq0-clause-drains : goal.returns-then-left-eq0-clause-drains
+returns-then-left-eq0-clause-drains c = λ unpaired carries.
     let s = c.args.state.now in
     let differ = c.requires.no_loop in
     let flows = flows_read Along unpaired c.args.search.now.pairs in
@@ -42,13 +57,13 @@ once : (c : goal.After-lower) (unpaired : List ℕ) → IsCarryingSearch c.args.
 once c unpaired carries =
     let differ = c.requires.no_loop in
     draining-once c.args.state.now unpaired _ c.args.j c.args.limit _ c.in-Some.found _ _ c.requires.is_there (λ e. differ (sym e)) c.loop-left-test.true
-    (c.loop-left.invariant unpaired carries) c.in-Some.ensures.found
+    (c.loop-left.invariant.draining unpaired carries) c.in-Some.ensures.found
 
 pub lower-requires : goal.lower-requires
 lower-requires c =
     let differ = c.requires.no_loop in
     (draining-once c.args.state.now c.requires.carrying.0 _ c.args.j c.args.limit _ c.in-Some.found _ _ c.requires.is_there
-    (λ e. differ (sym e)) c.loop-left-test.true (c.loop-left.invariant c.requires.carrying.0 c.requires.carrying.1) c.in-Some.ensures.found).room
+    (λ e. differ (sym e)) c.loop-left-test.true (c.loop-left.invariant.draining c.requires.carrying.0 c.requires.carrying.1) c.in-Some.ensures.found).room
 
 pub overflow_sub-left : goal.overflow_sub-left
 overflow_sub-left c = (once c c.requires.carrying.0 c.requires.carrying.1).within
@@ -59,13 +74,24 @@ loop-left-smaller c =
     omega (arith, told.some, told.within)
 
 pub loop-left-preserved : goal.loop-left-preserved
-loop-left-preserved c = λ unpaired carries. rw c.lower.ensures (once c unpaired carries).draining
+loop-left-preserved c = record {
+  draining = λ unpaired carries. rw c.lower.ensures (once c unpaired carries).draining;
+  own = c.in-Some.ensures.touched.more _ c.loop-left.invariant.own;
+  touches =
+      let s = c.args.state.now in
+      let draining = c.loop-left.invariant.draining c.requires.carrying.0 c.requires.carrying.1 in
+      let begun = length-carries s c.requires.carrying.0 _ c.args.search.now c.requires.carrying.1 in
+      rw c.lower.ensures (touches-lowered c.args.touched.now c.loop-left.touched c.augment.new.touched c.args.search.now.pairs c.loop-left.search.pairs
+      c.augment.new.self.pairs (c.args.j - 1) c.in-Some.found.amount
+      (length-draining s c.requires.carrying.0 _ c.args.j c.args.limit _ c.loop-left.search draining ∙ sym begun)
+      c.loop-left.invariant.own c.loop-left.invariant.touches c.in-Some.ensures.touched);
+}
 
 -- what flows on the arc comes back
 pub unreachable-requires : goal.unreachable-requires
 unreachable-requires c = draining-has_path c.args.state.now c.requires.carrying.0 _ c.args.j c.args.limit _ _ c.requires.is_there c.loop-left-test.true
-    (c.loop-left.invariant c.requires.carrying.0 c.requires.carrying.1) c.in-None.ensures.found.0
+    (c.loop-left.invariant.draining c.requires.carrying.0 c.requires.carrying.1) c.in-None.ensures.found.0
 
-pub returns : goal.returns
-returns c = λ unpaired carries. rw c.settle.ensures (draining-done c.args.state.now unpaired _ c.args.j c.args.limit _ _ c.loop-left-test.false
-    (c.loop-left.invariant unpaired carries))
+pub returns-clause-drains : goal.returns-clause-drains
+returns-clause-drains c = λ unpaired carries. rw c.settle.ensures (draining-done c.args.state.now unpaired _ c.args.j c.args.limit _ _ c.loop-left-test.false
+    (c.loop-left.invariant.draining unpaired carries))

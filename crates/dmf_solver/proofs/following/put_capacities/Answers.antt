@@ -12,7 +12,7 @@ returns-in-Cap c = λ flows same.
     let s = c.args.state.now in
     let has = subst (λ e. HasArcs s.network (recapped_arcs e)) c.in-Cap.is (has-along d c.args.edit.now s c.requires.adds_none c.requires.fits) in
     subst (λ e. c.put_capacity.new.search ≡ residual_search (edited_along d e s).network flows) (sym c.in-Cap.is)
-    (cap-along d s flows c.in-Cap.arc c.in-Cap.old c.in-Cap.new c.in-Cap.moves c.args.search.now c.put_capacity.new.search
+    (cap-along d s flows c.in-Cap.arc c.in-Cap.old c.in-Cap.new c.in-Cap.moves c.args.search.now c.put_capacity.new.search c.requires.one_each
     (has_arc-within s.network c.in-Cap.arc has.0).1 (rw c.cap.ensures at c.put_capacity.ensures) same)
 
 pub returns-in-Close : goal.returns-in-Close
@@ -21,7 +21,7 @@ returns-in-Close c = λ flows same.
     let s = c.args.state.now in
     let has = subst (λ e. HasArcs s.network (recapped_arcs e)) c.in-Close.is (has-along d c.args.edit.now s c.requires.adds_none c.requires.fits) in
     subst (λ e. c.put_capacity-in-Close.new.search ≡ residual_search (edited_along d e s).network flows) (sym c.in-Close.is)
-    (close-along d s flows c.in-Close.arc c.in-Close.old c.in-Close.moves c.args.search.now c.put_capacity-in-Close.new.search
+    (close-along d s flows c.in-Close.arc c.in-Close.old c.in-Close.moves c.args.search.now c.put_capacity-in-Close.new.search c.requires.one_each
     (has_arc-within s.network c.in-Close.arc has.0).1 (rw c.cap-in-Close.ensures at c.put_capacity-in-Close.ensures) same)
 
 pub loop-shutting-init : goal.loop-shutting-init

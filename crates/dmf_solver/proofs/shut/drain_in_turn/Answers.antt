@@ -9,10 +9,10 @@ pub drain_along-requires-clause-carrying : goal.drain_along-requires-clause-carr
 drain_along-requires-clause-carrying c = (c.args.unpaired.now, c.requires.carrying)
 
 pub returns-then-arc-clause-carrying : goal.returns-then-arc-clause-carrying
-returns-then-arc-clause-carrying c = (c.drain_along.ensures c.args.unpaired.now c.requires.carrying).0
+returns-then-arc-clause-carrying c = (c.drain_along.ensures.drains c.args.unpaired.now c.requires.carrying).0
 
 pub returns-then-arc-clause-drains : goal.returns-then-arc-clause-drains
-returns-then-arc-clause-drains c = (c.drain_along.ensures c.args.unpaired.now c.requires.carrying).1
+returns-then-arc-clause-drains c = (c.drain_along.ensures.drains c.args.unpaired.now c.requires.carrying).1
 
 pub returns-then-arc-clause-list_stays : goal.returns-then-arc-clause-list_stays
 returns-then-arc-clause-list_stays c = λ none. refl

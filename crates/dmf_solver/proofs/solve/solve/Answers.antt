@@ -1,11 +1,8 @@
-use Rattle.std.proofs.Common.{◌∙◌, [], refl, ap}
-use Rattle.std.proofs.lemmas.List.{with_items_is}
+use Rattle.std.proofs.Common.{[], refl, ap}
 use Rattle.dmf_path.specs.Search.{Searched}
-use Rattle.dmf_path.specs.Passed.{KeepsUnpassed}
-use Rattle.dmf_solver.specs.ResidualNetwork.{residual_pairs}
 use Rattle.dmf_solver.proofs.Solving.{AreTold-none, AreTold-trans}
 use Rattle.dmf_solver.proofs.SolvingSearch.{solving-more, solving-done, solving-told}
-use Rattle.dmf_solver.proofs.Unpassed.{keeps-same, keeps-next, keeps-unmarked}
+use Rattle.dmf_solver.proofs.Untouched.{keeps-same, keeps-next, keeps-sorted, below-next}
 use Rattle.dmf_solver.proofs.solve.solve.Goals as goal
 
 pub overflow_add-value : goal.overflow_add-value
@@ -19,59 +16,44 @@ loop-found-smaller g c =
     (solving-more c.args.state.now _ c.loop-found.value c.in-Some.found c.loop-found.search c.augment.new.self refl c.loop-found.invariant.solving
     c.in-Some.ensures.found).falls
 
-pub loop-found-smaller-then-left-eq0 : goal.loop-found-smaller-then-left-eq0
-loop-found-smaller-then-left-eq0 g c =
-    (solving-more c.args.state.now _ c.loop-found.value c.in-Some.found c.loop-found.search c.augment.new.self refl c.loop-found.invariant.solving
-    c.in-Some.ensures.found).falls
-
 pub loop-found-init : goal.loop-found-init
 loop-found-init g c = record {
   solving = record {
     flows = c.args.state.now.flows;
     reached = record { state = c.value-value.ensures.state; paths = []; augments = refl };
     kept = λ k h loop. refl;
-    search_is = c.requires;
+    search_is = c.requires.residual;
     value_is = c.value-value.ensures.value;
   };
   told = AreTold-none _;
-  kept = keeps-same _ _ _ (ap (λ (o : Searched). o.pairs) c.requires);
+  kept = keeps-same _ _ _ (ap (λ (o : Searched). o.pairs) c.requires.residual);
+  below = c.requires.below;
 }
 
--- one path more: its nodes are marked,
+-- one path more: its pairs are touched
 pub loop-found-preserved : goal.loop-found-preserved
 loop-found-preserved g c =
-    let more = solving-more c.args.state.now _ c.loop-found.value c.in-Some.found c.loop-found.search c.augment.new.self refl c.loop-found.invariant.solving
-    c.in-Some.ensures.found in
-    let told : KeepsUnpassed c.augment.new.passed (residual_pairs c.args.state.now.network.arcs c.args.state.now.flows) c.augment.new.self.pairs =
-    keeps-next c.loop-found.passed.items c.augment.new.passed _ c.loop-found.search.pairs c.augment.new.self.pairs c.loop-found.invariant.kept
-    (rw c.deref_mut.ensures.value at c.augment.ensures.passed) in
+    let s = c.args.state.now in
+    let is = c.loop-found.invariant in
+    let more = solving-more s _ c.loop-found.value c.in-Some.found c.loop-found.search c.augment.new.self refl is.solving c.in-Some.ensures.found in
+    let touches = c.augment.ensures.touched in
     record {
       solving = more.solving;
-      told = rw more.told (AreTold-trans _ _ _ _ _ c.loop-found.invariant.told c.augmented.ensures);
-      kept = rw (with_items_is c.loop-found.passed c.augment.new.passed (c.augment.auto.passed ∙ c.deref_mut.ensures.len)) told;
-    }
-
--- or all marks are taken away
-pub loop-found-preserved-then-left-eq0 : goal.loop-found-preserved-then-left-eq0
-loop-found-preserved-then-left-eq0 g c =
-    let more = solving-more c.args.state.now _ c.loop-found.value c.in-Some.found c.loop-found.search c.augment.new.self refl c.loop-found.invariant.solving
-    c.in-Some.ensures.found in
-    let told : KeepsUnpassed c.augment.new.passed (residual_pairs c.args.state.now.network.arcs c.args.state.now.flows) c.augment.new.self.pairs =
-    keeps-next c.loop-found.passed.items c.augment.new.passed _ c.loop-found.search.pairs c.augment.new.self.pairs c.loop-found.invariant.kept
-    (rw c.deref_mut.ensures.value at c.augment.ensures.passed) in
-    record {
-      solving = more.solving;
-      told = rw more.told (AreTold-trans _ _ _ _ _ c.loop-found.invariant.told c.augmented.ensures);
-      kept = rw c.clear.ensures.items (keeps-unmarked c.augment.new.passed _ _ told);
+      told = rw more.told (AreTold-trans _ _ _ _ _ is.told c.augmented.ensures);
+      kept = keeps-next c.loop-found.touched c.augment.new.touched _ c.loop-found.search.pairs c.augment.new.self.pairs is.kept touches;
+      below = below-next s c.loop-found.value c.loop-found.search c.loop-found.touched c.augment.new.touched is.solving touches.below is.below;
     }
 
 pub returns-clause-solved : goal.returns-clause-solved
 returns-clause-solved g c =
+    let s = c.args.state.now in
+    let is = c.loop-found.invariant in
     let none = c.in_default.ensures.found in
-    let told = keeps-next c.loop-found.passed.items c.augment.new.passed _ c.loop-found.search.pairs c.augment.new.self.pairs c.loop-found.invariant.kept
-    (rw c.deref_mut.ensures.value at c.augment.ensures.passed) in
-    solving-done c.args.state.now _ c.loop-found.search c.value-value.ensures.state c.loop-found.invariant.solving none.0 none.1
-    (rw (with_items_is c.loop-found.passed c.augment.new.passed (c.augment.auto.passed ∙ c.deref_mut.ensures.len)) told)
+    let touches = c.augment.ensures.touched in
+    let kept = keeps-next c.loop-found.touched c.augment.new.touched _ c.loop-found.search.pairs c.augment.new.self.pairs is.kept touches in
+    let below = below-next s c.loop-found.value c.loop-found.search c.loop-found.touched c.augment.new.touched is.solving touches.below is.below in
+    solving-done s _ c.loop-found.search c.value-value.ensures.state is.solving none.0 none.1
+    (keeps-sorted c.augment.new.touched c.sort.new.self _ _ kept c.sort.ensures.same) (c.sort.ensures.below _ below) c.sort.ensures.sorted
 
 pub returns-clause-told : goal.returns-clause-told
 returns-clause-told g c =

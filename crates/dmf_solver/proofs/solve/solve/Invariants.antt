@@ -1,5 +1,6 @@
-use Rattle.dmf_path.specs.Passed.{KeepsUnpassed}
-use Rattle.dmf_solver.specs.ResidualNetwork.{residual_pairs}
+use Rattle.std.proofs.Common.{◌+◌, length}
+use Rattle.dmf_path.specs.Touched.{AreBelow, KeepsUntouched}
+use Rattle.dmf_solver.specs.ResidualNetwork.{network_pairs}
 use Rattle.dmf_solver.specs.Told.{told_of, AreTold}
 use Rattle.dmf_solver.proofs.SolvingSearch.{IsSolving}
 use Rattle.dmf_solver.proofs.RoomLeaving.{room_leaving}
@@ -9,7 +10,8 @@ abbrev pub invariant-loop-found : goal.invariant-loop-found
 invariant-loop-found g l = record {
   solving : IsSolving l.state l.search l.value;
   told : AreTold (g.W.Watch.told l.initial.watch) (g.W.Watch.told l.watch) (told_of l.state.network l.state.flows solving.reached.paths);
-  kept : KeepsUnpassed l.passed.items (residual_pairs l.state.network.arcs l.state.flows) l.search.pairs;
+  kept : KeepsUntouched l.touched (network_pairs l.state.network l.state.flows) l.search.pairs;
+  below : AreBelow (length l.state.network.arcs + 1) l.touched;
 }
 
 abbrev pub decreases-loop-found : goal.decreases-loop-found

@@ -1,5 +1,5 @@
 use Rattle.std.proofs.Common.{length, ◌≡◌, IfOk, IfSome, OnOk, ℕ, ◌+◌, ◌-◌, ◌*◌, ◌<◌, ◌≤◌}
-use Rattle.dmf_solver.specs.ResidualNetwork.{IsResidualOf}
+use Rattle.dmf_solver.specs.KeptNetwork.{IsNetworkOf}
 use Rattle.dmf_state.specs.Edit.{Fits}
 use Rattle.test_plans.proofs.reverting.+try_out.Given as goal
 

@@ -1,16 +1,25 @@
-use Rattle.std.proofs.Common.{◌≡◌, ◌≢◌, Result, Ok, Err, ◌∙◌, refl, ap, sym, arith}
+use Rattle.std.proofs.Common.{◌≡◌, ◌≢◌, Result, Some, Ok, Err, ◌∙◌, refl, ap, sym, arith}
 use Rattle.std.proofs.lemmas.Option.{slice_get_read}
+use Rattle.std.specs.List.{slice_get}
 use Rattle.std.specs.Result.{IsErrAnd}
 use Rattle.dmf_history.specs.declared.history.RedoFault.{RedoFault}
 use Rattle.dmf_history.specs.declared.history.RedoFault.TheVariants as redo
 use Rattle.dmf_history.specs.Timeline.{future_of}
 use Rattle.dmf_history.proofs.Edits.{future-is, fits, redone, redone-forward, adds-arcs}
 use Rattle.dmf_history.proofs.delta.DeltaHistoryHistory.redo.Goals as goal
+use Rattle.dmf_history.proofs.delta.DeltaHistoryHistory.redo.Goals.{After-index}
 
 -- Want of memory is not the end of the undone changes.
 differs : (result : Result (Unit {0}) RedoFault) → IsErrAnd result (λ fault. fault ≡ redo.NoMemory) → result ≢ Err redo.NothingToRedo
 differs (Ok done) told e = absurd told
 differs (Err fault) told e = cc
+
+-- the edit that is applied again
+next : (c : After-index) → slice_get c.self.inside.edits.items c.self.inside.place ≡ Some c.index.result.now
+next c =
+    let a = c.self.inside in
+    slice_get_read a.edits.items _ a.place c.index.result.now a.edits.ok.0
+    (omega (arith, c.if-self-len.false, c.len.ensures, c.self.invariant.are.within, a.edits.ok.0)) c.index.ensures
 
 pub returns-then-self-len-clause-last : goal.returns-then-self-len-clause-last
 returns-then-self-len-clause-last c =
@@ -20,8 +29,7 @@ returns-then-self-len-clause-last c =
 pub apply-requires : goal.apply-requires
 apply-requires c =
     let a = c.self.inside in
-    let is = slice_get_read a.edits.items _ a.place c.index.result.now a.edits.ok.0
-    (omega (arith, c.if-self-len.false, c.len.ensures, c.self.invariant.are.within, a.edits.ok.0)) c.index.ensures in
+    let is = next (goal.at.apply-requires c).After-index in
     fits a.present a.edits.items a.place a.bound c.self.invariant.are c.index.result.now is
 
 pub returns-in_err-apply-clause-last : goal.returns-in_err-apply-clause-last
@@ -34,15 +42,13 @@ returns-in_err-apply-clause-last c =
 pub returns-in_err-apply-clause-memory : goal.returns-in_err-apply-clause-memory
 returns-in_err-apply-clause-memory c = λ e.
     let a = c.self.inside in
-    let is = slice_get_read a.edits.items _ a.place c.index.result.now a.edits.ok.0
-    (omega (arith, c.if-self-len.false, c.len.ensures, c.self.invariant.are.within, a.edits.ok.0)) c.index.ensures in
+    let is = next (goal.at.returns-in_err-apply-clause-memory c).After-index in
     rw (← c.self.view_is) (adds-arcs a.present a.edits.items a.place a.bound c.self.invariant.are c.index.result.now is c.in_err-apply.ensures.refused)
 
 pub invariant_of-self-2 : goal.invariant_of-self-2
 invariant_of-self-2 c =
     let a = c.self.inside in
-    let is = slice_get_read a.edits.items _ a.place c.index.result.now a.edits.ok.0
-    (omega (arith, c.if-self-len.false, c.len.ensures, c.self.invariant.are.within, a.edits.ok.0)) c.index.ensures in
+    let is = next (goal.at.invariant_of-self-2 c).After-index in
     let are = redone a.present a.edits.items a.place a.bound c.self.invariant.are c.index.result.now is c.reverting_gives_back.ensures in
     rw c.in_ok-apply.ensures.ok (record { are = are; at_most = c.self.invariant.at_most; limit = c.self.invariant.limit })
 
@@ -54,7 +60,6 @@ returns-clause-last c =
 pub returns-clause-ok : goal.returns-clause-ok
 returns-clause-ok c =
     let a = c.self.inside in
-    let is = slice_get_read a.edits.items _ a.place c.index.result.now a.edits.ok.0
-    (omega (arith, c.if-self-len.false, c.len.ensures, c.self.invariant.are.within, a.edits.ok.0)) c.index.ensures in
+    let is = next (goal.at.returns-clause-ok c).After-index in
     rw (← c.self.view_is, c.in_ok-apply.ensures.ok)
     (redone-forward a.present a.edits.items a.place a.bound c.self.invariant.are c.index.result.now is c.reverting_gives_back.ensures)

@@ -8,11 +8,11 @@ use Rattle.dmf_path.proofs.push.Links.put.Goals as goal
 pub renew_flag-requires : goal.renew_flag-requires
 renew_flag-requires c =
     let a = c.args.self.now in
-    let partners = a.table.partners.items in
+    let partners = a.table.value.partners.items in
     let rooms = a.rooms.items in
     let within = c.requires.within in
-    let link = a.table.are.each c.args.place within in
-    let opposite : c.args.opposite < length a.table.heads.items = omega (arith, c.requires.opposite, link.partner) in
+    let link = a.table.value.are.each c.args.place within in
+    let opposite : c.args.opposite < length a.table.value.heads.items = omega (arith, c.requires.opposite, link.partner) in
     let read : c.index-before.result.now ≡ get_or rooms c.args.place 0 =
     c.index-before.ensures ∙ get_or_default rooms c.args.place _ 0 (omega (arith, a.rooms_are.0, within)) in
     record {
@@ -25,11 +25,12 @@ renew_flag-requires c =
 pub invariant_of-self : goal.invariant_of-self
 invariant_of-self c =
     let a = c.args.self.now in
-    let l = links_of a.table in
+    let l = links_of a.table.value in
     let flags = with_items_is a.flags c.renew_flag.new.flags (c.renew_flag.auto.flags ∙ c.deref_mut.ensures.len) in
     let q = c.requires in
     rw (flags, c.renew_flag.ensures, c.deref_mut.ensures.value)
     (record {
-      rooms_are = AreRooms-put l c.args.place c.args.opposite c.args.room a.rooms.items a.table.are a.rooms_are q.within q.opposite q.fits;
-      flags_are = AreFlags-put l c.args.place c.args.opposite c.args.room a.rooms.items a.flags.items a.table.are a.rooms_are.0 a.flags_are q.within q.opposite;
+      rooms_are = AreRooms-put l c.args.place c.args.opposite c.args.room a.rooms.items a.table.value.are a.rooms_are q.within q.opposite q.fits;
+      flags_are = AreFlags-put l c.args.place c.args.opposite c.args.room a.rooms.items a.flags.items a.table.value.are a.rooms_are.0 a.flags_are
+          q.within q.opposite;
     })

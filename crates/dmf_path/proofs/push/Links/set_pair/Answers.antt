@@ -1,4 +1,4 @@
-use Rattle.std.proofs.Common.{ℕ, ◌≡◌, ◌≢◌, List, set, ap, sym, ◌∙◌}
+use Rattle.std.proofs.Common.{ℕ, ◌≡◌, ◌≢◌, List, set, get_or, ap, sym, ◌∙◌}
 use Rattle.std.proofs.lemmas.List.{set-set, set_comm}
 use Rattle.dmf_path.specs.Residual.{Residual, residual_of, roomed, put_at}
 use Rattle.dmf_path.proofs.LinkPlaces.{partner-other}
@@ -13,7 +13,7 @@ returns c =
     let r = residual_of c.args.self.now in
     let p = c.args.place in
     let q = c.opposite-opposite.result in
-    let is = c.opposite-opposite.ensures.is in
-    let apart : p ≢ q = λ e. partner-other r.links p c.args.self.now.table.are c.requires.within (sym is ∙ sym e) in
+    let is : q ≡ get_or r.links.partners p 0 = rw c.deref.ensures at c.opposite-opposite.ensures.is in
+    let apart : p ≢ q = λ e. partner-other r.links p c.args.self.now.table.value.are c.requires.within (sym is ∙ sym e) in
     c.put-3.ensures ∙ ap (λ (x : Residual). put_at x p c.args.along) (c.put-2.ensures ∙ ap (λ (x : Residual). put_at x q c.args.against) c.put.ensures)
     ∙ ap (roomed r) (set-again r.rooms p q 0 c.args.against c.args.along apart ∙ ap (λ s. set (set r.rooms p c.args.along) s c.args.against) is)

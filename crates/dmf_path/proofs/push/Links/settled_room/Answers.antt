@@ -10,7 +10,7 @@ pub returns-then-is_empty : goal.returns-then-is_empty
 returns-then-is_empty c =
     let a = c.args.self.now in
     c.index-room.ensures ∙ get_or_default a.rooms.items c.args.place _ 0 (omega (arith, c.requires.place, a.rooms_are.0))
-    ∙ ap (λ rs. get_or rs c.args.place 0) (sym (rooms_with-empty (links_of a.table) a.takes_back (way_of c.args.trail.now) a.rooms.items
+    ∙ ap (λ rs. get_or rs c.args.place 0) (sym (rooms_with-empty (links_of a.table.value) a.takes_back (way_of c.args.trail.now) a.rooms.items
     (c.is_empty.ensures c.if-is_empty.true)))
 
 pub overflow_sub-left : goal.overflow_sub-left
@@ -31,7 +31,7 @@ returns-then-not-self c =
     let room : c.index-room.result.now ≡ get_or a.rooms.items c.args.place 0 =
     c.index-room.ensures ∙ get_or_default a.rooms.items c.args.place _ 0 (omega (arith, c.requires.place, a.rooms_are.0)) in
     rw (room, c.held_for.ensures, c.deref.ensures.value)
-    (sym (room-along (links_of a.table) a.takes_back c.args.trail.now.sent (filled_slots (way_of c.args.trail.now)) a.rooms.items c.args.place
+    (sym (room-along (links_of a.table.value) a.takes_back c.args.trail.now.sent (filled_slots (way_of c.args.trail.now)) a.rooms.items c.args.place
     (omega (arith, c.requires.place, a.rooms_are.0)) c.if-not-self.true))
 
 pub overflow_add-result : goal.overflow_add-result
@@ -44,10 +44,10 @@ overflow_add-result c =
       arith,
       room,
       rw c.deref.ensures.value at c.held_for.ensures,
-      rw (c.deref-2.ensures.value, c.opposite.ensures.is) at c.held_for-2.ensures,
-      room-back (links_of a.table) a.takes_back c.args.trail.now.sent slots a.rooms.items c.args.place
+      rw (c.deref-2.ensures.value, c.opposite.ensures.is, c.deref-3.ensures) at c.held_for-2.ensures,
+      room-back (links_of a.table.value) a.takes_back c.args.trail.now.sent slots a.rooms.items c.args.place
           (omega (arith, c.requires.place, a.rooms_are.0)) c.if-not-self.false,
-      room-fits (links_of a.table) a.takes_back c.args.trail.now.sent slots a.rooms.items c.args.place a.table.are a.rooms_are c.requires.place,
+      room-fits (links_of a.table.value) a.takes_back c.args.trail.now.sent slots a.rooms.items c.args.place a.table.value.are a.rooms_are c.requires.place,
     )
 
 pub returns : goal.returns
@@ -56,6 +56,6 @@ returns c =
     let slots = filled_slots (way_of c.args.trail.now) in
     let room : c.index-room.result.now ≡ get_or a.rooms.items c.args.place 0 =
     c.index-room.ensures ∙ get_or_default a.rooms.items c.args.place _ 0 (omega (arith, c.requires.place, a.rooms_are.0)) in
-    rw (room, c.held_for.ensures, c.held_for-2.ensures, c.deref.ensures.value, c.deref-2.ensures.value, c.opposite.ensures.is)
-    (sym (room-back (links_of a.table) a.takes_back c.args.trail.now.sent slots a.rooms.items c.args.place
+    rw (room, c.held_for.ensures, c.held_for-2.ensures, c.deref.ensures.value, c.deref-2.ensures.value, c.opposite.ensures.is, c.deref-3.ensures)
+    (sym (room-back (links_of a.table.value) a.takes_back c.args.trail.now.sent slots a.rooms.items c.args.place
     (omega (arith, c.requires.place, a.rooms_are.0)) c.if-not-self.false))

@@ -12,22 +12,23 @@ pub place_near-requires : goal.place_near-requires
 place_near-requires c =
     let of = c.self.inside in
     let s = sought (residual_of of.links) (way_of of.trail) in
-    index-within s.residual.links of.places s.residual.rooms c.args.k (rw (← c.self.view_is) at c.requires)
+    rw c.deref.ensures (index-within s.residual.links of.places.value s.residual.rooms c.args.k (rw (← c.self.view_is) at c.requires))
 
 pub returns-in_err-place : goal.returns-in_err-place
 returns-in_err-place c =
     let of = c.self.inside in
     let s = sought (residual_of of.links) (way_of of.trail) in
-    let index = index-within s.residual.links of.places s.residual.rooms c.args.k (rw (← c.self.view_is) at c.requires) in
+    let index = index-within s.residual.links of.places.value s.residual.rooms c.args.k (rw (← c.self.view_is) at c.requires) in
     rw (c.from_residual.ensures, ← c.self.view_is)
-    (sym (ap (option_map (λ (p : Pair). p.along)) (no-pair s.residual.links of.places s.residual.rooms c.args.k index c.in_err-place.ensures)))
+    (sym (ap (option_map (λ (p : Pair). p.along)) (no-pair s.residual.links of.places.value s.residual.rooms c.args.k index
+    (rw c.deref.ensures at c.in_err-place.ensures))))
 
 pub settled_room-requires-clause-place : goal.settled_room-requires-clause-place
 settled_room-requires-clause-place c =
     let of = c.self.inside in
     let s = sought (residual_of of.links) (way_of of.trail) in
-    let index = index-within s.residual.links of.places s.residual.rooms c.args.k (rw (← c.self.view_is) at c.requires) in
-    place-within s.residual.links of.places c.args.k c.in_ok-place.place c.self.invariant.1.places_are index c.in_ok-place.ensures
+    let index = index-within s.residual.links of.places.value s.residual.rooms c.args.k (rw (← c.self.view_is) at c.requires) in
+    place-within s.residual.links of.places.value c.args.k c.in_ok-place.place c.self.invariant.1.places_are index (rw c.deref.ensures at c.in_ok-place.ensures)
 
 pub settled_room-requires-clause-have : goal.settled_room-requires-clause-have
 settled_room-requires-clause-have c = c.self.invariant.1.searching.holding.have
@@ -36,8 +37,8 @@ pub returns : goal.returns
 returns c =
     let of = c.self.inside in
     let s = sought (residual_of of.links) (way_of of.trail) in
-    let index = index-within s.residual.links of.places s.residual.rooms c.args.k (rw (← c.self.view_is) at c.requires) in
+    let index = index-within s.residual.links of.places.value s.residual.rooms c.args.k (rw (← c.self.view_is) at c.requires) in
     rw (← c.self.view_is)
     (ap Some c.settled_room.ensures
-    ∙ sym (ap (option_map (λ (p : Pair). p.along)) (its-pair s.residual.links of.places s.residual.rooms c.args.k c.in_ok-place.place index
-    c.in_ok-place.ensures)))
+    ∙ sym (ap (option_map (λ (p : Pair). p.along)) (its-pair s.residual.links of.places.value s.residual.rooms c.args.k c.in_ok-place.place index
+    (rw c.deref.ensures at c.in_ok-place.ensures))))

@@ -2,11 +2,12 @@
 use Rattle.std.proofs.Common.{◌≡◌, ◌<◌, true, length, refl, ap, sym, ◌∙◌, subst, arith}
 use Rattle.std.proofs.lemmas.List.{length-map}
 use Rattle.dmf_path.specs.declared.search.Search.TheInside.{Inside}
-use Rattle.dmf_path.specs.Links.{Links, pair_at}
+use Rattle.dmf_path.specs.Links.{Links, IsPlaceOf, pair_at}
 use Rattle.dmf_path.specs.Held.{way_of}
 use Rattle.dmf_path.specs.Residual.{Residual, residual_of}
 use Rattle.dmf_path.specs.Search.{Searched, with_pairs, with_rooms}
 use Rattle.dmf_path.specs.Searching.{AreReady, IsSearch, IsMarked, Sought, searched, labelling_of, fresh}
+use Rattle.dmf_path.specs.Touching.{MayBeNumbered}
 use Rattle.dmf_path.proofs.SearchTurns.{search-next, fresh-mark, told-fresh, searching-set}
 use Rattle.dmf_path.proofs.PairRead.{place-within}
 use Rattle.dmf_path.proofs.RoomsSet.{pairs-set, pairs-unset}
@@ -16,14 +17,15 @@ use Rattle.dmf_path.proofs.search.Search.set_rooms.Goals as goal
 pub begin_anew-requires : goal.begin_anew-requires
 begin_anew-requires c =
     let a = c.self.invariant.1.searching.aimed in
-    record { searching = c.self.invariant.1.searching; ready = c.self.invariant.0; start = a.start_is; goal = a.goal_is; apart = a.apart }
+    record { searching = c.self.invariant.1.searching; ready = c.self.invariant.0.0; start = a.start_is; goal = a.goal_is; apart = a.apart }
 
 -- The search has not begun, and callers see of it what they saw before.
 record IsAnew (x : Inside) (before : Searched) : Type 0 where
   ready : AreReady x.levels
-  is : IsSearch (residual_of x.links) x.places (labelling_of x.levels) (way_of x.trail) true
+  numbered : MayBeNumbered (residual_of x.links).links x.places.value x.numbers
+  is : IsSearch (residual_of x.links) x.places.value (labelling_of x.levels) (way_of x.trail) true
   marked : x.is_fresh ≡ true
-  same : searched (record { residual = residual_of x.links; start = x.trail.start; goal = x.trail.goal }) x.places ≡ before
+  same : searched (record { residual = residual_of x.links; start = x.trail.start; goal = x.trail.goal }) x.places.value ≡ before
 
 anew : (c : Joined-not-self) → IsAnew c.if-not-self.self-inside c.args.self.now
 anew c =
@@ -32,43 +34,46 @@ anew c =
     elim c.if-not-self.branch [
       | then-not-self v ↦
           let e = v.begin_anew.ensures in
-          let is = search-next (residual_of of.links) of.places (labelling_of of.levels) (way_of of.trail) (residual_of v.begin_anew.new.links)
+          let is = search-next (residual_of of.links) of.places.value (labelling_of of.levels) (way_of of.trail) (residual_of v.begin_anew.new.links)
           (labelling_of v.begin_anew.new.levels) (way_of v.begin_anew.new.trail) of.is_fresh true i
           (ap (λ (s : Sought). s.residual.links) e.same) e.searching (fresh e.fresh) in
           let none = told-fresh (residual_of v.begin_anew.new.links) (labelling_of v.begin_anew.new.levels) (way_of v.begin_anew.new.trail)
           (residual_of v.begin_anew.new.links) e.searching e.fresh in
           rw v.self-inside-is (record {
             ready = e.ready;
+            numbered = subst (λ l. MayBeNumbered l of.places.value of.numbers) (sym (ap (λ (s : Sought). s.residual.links) e.same)) c.self.invariant.0.1;
             is = is;
             marked = refl;
             same = rw (← c.self.view_is)
-                (ap (λ (x : Residual). searched (record { residual = x; start = v.begin_anew.new.trail.start; goal = v.begin_anew.new.trail.goal }) of.places)
+                (ap (λ (x : Residual). searched (record { residual = x; start = v.begin_anew.new.trail.start; goal = v.begin_anew.new.trail.goal })
+                of.places.value)
                 (sym none)
-                ∙ ap (λ (s : Sought). searched s of.places) e.same);
+                ∙ ap (λ (s : Sought). searched s of.places.value) e.same);
           })
       | else-not-self v ↦
           let is_fresh : of.is_fresh ≡ true = v.if-not-self.false in
-          let is = subst (IsSearch (residual_of of.links) of.places (labelling_of of.levels) (way_of of.trail)) is_fresh i in
+          let is = subst (IsSearch (residual_of of.links) of.places.value (labelling_of of.levels) (way_of of.trail)) is_fresh i in
           let none = told-fresh (residual_of of.links) (labelling_of of.levels) (way_of of.trail) (residual_of of.links) is.searching
           (fresh-mark (residual_of of.links).links (labelling_of of.levels).labels of.trail.start is.marked) in
           rw v.self-inside-is (record {
-            ready = c.self.invariant.0;
+            ready = c.self.invariant.0.0;
+            numbered = c.self.invariant.0.1;
             is = is;
             marked = is_fresh;
             same = rw (← c.self.view_is)
-                (ap (λ (x : Residual). searched (record { residual = x; start = of.trail.start; goal = of.trail.goal }) of.places) (sym none));
+                (ap (λ (x : Residual). searched (record { residual = x; start = of.trail.start; goal = of.trail.goal }) of.places.value) (sym none));
           })
     ]
 
 -- the index is one of the places
-index : (c : Joined-not-self) → c.args.k < length c.if-not-self.self-inside.places
+index : (c : Joined-not-self) → c.args.k < length c.if-not-self.self-inside.places.value
 index c =
     let x = c.if-not-self.self-inside in
     let r = residual_of x.links in
-    omega (arith, c.requires.number, ap (λ (s : Searched). length s.pairs) (anew c).same, length-map x.places (pair_at r.links r.rooms))
+    omega (arith, c.requires.number, ap (λ (s : Searched). length s.pairs) (anew c).same, length-map x.places.value (pair_at r.links r.rooms))
 
 pub invariant_of-self : goal.invariant_of-self
-invariant_of-self c = let a = anew (goal.at.invariant_of-self c).Joined-not-self in rw a.marked (a.ready, a.is)
+invariant_of-self c = let a = anew (goal.at.invariant_of-self c).Joined-not-self in rw a.marked ((a.ready, a.numbered), a.is)
 
 pub returns-in_default : goal.returns-in_default
 returns-in_default c =
@@ -78,16 +83,17 @@ returns-in_default c =
     let r = residual_of x.links in
     let none = told-fresh r (labelling_of x.levels) (way_of x.trail) r a.is.searching
     (fresh-mark r.links (labelling_of x.levels).labels x.trail.start a.is.marked) in
-    let unset = pairs-unset r.links x.places r.rooms c.args.k c.args.along c.args.against (index at) c.in_default.ensures in
-    ap (λ (y : Residual). searched (record { residual = y; start = x.trail.start; goal = x.trail.goal }) x.places) none
-    ∙ ap (with_pairs (searched (record { residual = r; start = x.trail.start; goal = x.trail.goal }) x.places)) (sym unset)
+    let unset = pairs-unset r.links x.places.value r.rooms c.args.k c.args.along c.args.against (index at) (rw c.deref.ensures at c.in_default.ensures) in
+    ap (λ (y : Residual). searched (record { residual = y; start = x.trail.start; goal = x.trail.goal }) x.places.value) none
+    ∙ ap (with_pairs (searched (record { residual = r; start = x.trail.start; goal = x.trail.goal }) x.places.value)) (sym unset)
     ∙ ap (λ (s : Searched). with_pairs s (with_rooms s.pairs c.args.k c.args.along c.args.against)) a.same
 
 pub set_pair-requires-clause-within : goal.set_pair-requires-clause-within
 set_pair-requires-clause-within c =
     let at = (goal.at.set_pair-requires-clause-within c).Joined-not-self in
     let x = c.if-not-self.self-inside in
-    place-within (residual_of x.links).links x.places c.args.k c.in-Some.place (anew at).is.places_are (index at) c.in-Some.ensures
+    place-within (residual_of x.links).links x.places.value c.args.k c.in-Some.place (anew at).is.places_are (index at)
+    (rw c.deref.ensures at c.in-Some.ensures)
 
 pub invariant_of-self-2 : goal.invariant_of-self-2
 invariant_of-self-2 c =
@@ -100,8 +106,8 @@ invariant_of-self-2 c =
     let next = residual_of c.set_pair.new.self in
     let mark = fresh-mark r.links v.labels w.start a.is.marked in
     rw a.marked (
-      a.ready,
-      search-next r x.places v w next v w true true a.is links (searching-set r v w next a.is.searching mark links c.set_pair.new.self.rooms_are)
+      (a.ready, subst (λ l. MayBeNumbered l x.places.value x.numbers) (sym links) a.numbered),
+      search-next r x.places.value v w next v w true true a.is links (searching-set r v w next a.is.searching mark links c.set_pair.new.self.rooms_are)
           (subst (λ (l : Links). IsMarked l (labelling_of c.if-not-self.self-inside.levels).labels c.if-not-self.self-inside.trail.start true)
           (sym links) a.is.marked),
     )
@@ -112,11 +118,12 @@ returns c =
     let a = anew at in
     let x = c.if-not-self.self-inside in
     let r = residual_of x.links in
-    let of = c.in-Some.ensures in
+    let of : IsPlaceOf x.places.value c.args.k c.in-Some.place = rw c.deref.ensures at c.in-Some.ensures in
     let none = told-fresh r (labelling_of x.levels) (way_of x.trail) (residual_of c.set_pair.new.self) a.is.searching
     (fresh-mark r.links (labelling_of x.levels).labels x.trail.start a.is.marked) in
-    let set = pairs-set r.links x.places r.rooms c.args.k c.args.along c.args.against x.links.table.are a.is.places_are x.links.rooms_are.0 (index at)
-    (λ none. of.there (of.is ∙ none)) in
-    ap (λ (y : Residual). searched (record { residual = y; start = x.trail.start; goal = x.trail.goal }) x.places) (none ∙ (rw of.is at c.set_pair.ensures))
-    ∙ ap (with_pairs (searched (record { residual = r; start = x.trail.start; goal = x.trail.goal }) x.places)) set
+    let set = pairs-set r.links x.places.value r.rooms c.args.k c.args.along c.args.against x.links.table.value.are a.is.places_are x.links.rooms_are.0
+    (index at) (λ none. of.there (of.is ∙ none)) in
+    ap (λ (y : Residual). searched (record { residual = y; start = x.trail.start; goal = x.trail.goal }) x.places.value)
+    (none ∙ (rw of.is at c.set_pair.ensures))
+    ∙ ap (with_pairs (searched (record { residual = r; start = x.trail.start; goal = x.trail.goal }) x.places.value)) set
     ∙ ap (λ (s : Searched). with_pairs s (with_rooms s.pairs c.args.k c.args.along c.args.against)) a.same

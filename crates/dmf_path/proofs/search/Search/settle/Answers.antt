@@ -1,9 +1,10 @@
 -- All links leave, and the rooms are told as before.
-use Rattle.std.proofs.Common.{ap}
+use Rattle.std.proofs.Common.{ap, sym, subst}
 use Rattle.dmf_path.specs.Held.{way_of}
-use Rattle.dmf_path.specs.Residual.{residual_of}
+use Rattle.dmf_path.specs.Residual.{Residual, residual_of}
 use Rattle.dmf_path.specs.Searching.{Sought, searched, labelling_of}
 use Rattle.dmf_path.proofs.Settling.{can-settle}
+use Rattle.dmf_path.specs.Touching.{MayBeNumbered}
 use Rattle.dmf_path.proofs.SearchTurns.{search-settled, sought-settled}
 use Rattle.dmf_path.proofs.search.Search.settle.Goals as goal
 
@@ -13,8 +14,11 @@ settle-requires c = record { can = can-settle c.self.invariant.1.searching }
 pub invariant_of-self : goal.invariant_of-self
 invariant_of-self c =
     let of = c.self.inside in (
-      c.self.invariant.0,
-      search-settled (residual_of of.links) of.places (labelling_of of.levels) (way_of of.trail) (residual_of c.settle.new.links)
+      (
+        c.self.invariant.0.0,
+        subst (λ l. MayBeNumbered l of.places.value of.numbers) (sym (ap (λ (x : Residual). x.links) c.settle.ensures.links)) c.self.invariant.0.1,
+      ),
+      search-settled (residual_of of.links) of.places.value (labelling_of of.levels) (way_of of.trail) (residual_of c.settle.new.links)
           (way_of c.settle.new.self) of.is_fresh
           c.self.invariant.1 c.settle.ensures.links c.settle.ensures.way,
     )
@@ -22,6 +26,6 @@ invariant_of-self c =
 pub returns : goal.returns
 returns c =
     let of = c.self.inside in
-    rw (← c.self.view_is) (ap (λ (s : Sought). searched s of.places)
+    rw (← c.self.view_is) (ap (λ (s : Sought). searched s of.places.value)
     (sought-settled (residual_of of.links) (way_of of.trail) (residual_of c.settle.new.links)
     (way_of c.settle.new.self) c.settle.ensures.links c.settle.ensures.way))

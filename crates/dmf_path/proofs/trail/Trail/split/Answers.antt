@@ -25,7 +25,7 @@ returns-then-first-behind c =
     let slot : c.index.result.now ≡ slot_at w.slots (behind - 1) = c.index.ensures ∙ get_or_default w.slots (behind - 1) _ _
     (omega (arith, within, c.if-first-behind.true)) in
     let joint : last ≡ get_or r.links.heads (slot_at w.slots (behind - 1)).place 0 =
-    c.index-then-first-behind.ensures ∙ ap (λ (x : Residual). get_or x.links.heads c.index.result.now.place last) put
+    (rw c.deref-then-first-behind.ensures at c.index-then-first-behind.ensures) ∙ ap (λ (x : Residual). get_or x.links.heads c.index.result.now.place last) put
     ∙ ap (λ (s : Slot). get_or r.links.heads s.place last) slot
     ∙ get_or_default r.links.heads (slot_at w.slots (behind - 1)).place last 0
     (c.requires.places (behind - 1) (omega (arith, within, c.if-first-behind.true))) in

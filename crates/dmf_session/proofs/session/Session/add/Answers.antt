@@ -14,8 +14,8 @@ returns g c want_cut =
     let reply = λ (new : NetworkState). Added (length new.network.arcs) (value_of new) in
     let result = Ok (Added (length c.arcs.result.now) c.value.result) in
     let t = timeline c.args.self.now in
-    let u = timeline c.change.new.self in
-    let changed = IsChanged-added t u s _ c.in_ok-edit.edit addition _ _ c.present.ensures.state c.in_ok-edit.ensures.plan.becomes c.in_ok-change.ensures.ok
+    let u = timeline c.append.new.self in
+    let changed = IsChanged-added t u s _ c.in_ok-edit.edit addition _ _ c.present.ensures.state c.in_ok-edit.ensures.plan.becomes c.in_ok-append.ensures.ok
     c.present-present.ensures.state (ap length c.arcs.ensures.value) c.value.ensures.value in (
       s,
       c.present.ensures.state,

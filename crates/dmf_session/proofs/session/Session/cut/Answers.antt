@@ -1,8 +1,8 @@
-use Rattle.std.proofs.Common.{IfSome, subst}
-use Rattle.dmf_solver.specs.ResidualNetwork.{IsResidualOf}
+use Rattle.std.proofs.Common.{subst}
+use Rattle.dmf_solver.specs.KeptNetwork.{Keeps}
 use Rattle.dmf_session.proofs.session.Session.cut.Goals as goal
 
 pub smallest_side-requires : goal.smallest_side-requires
 smallest_side-requires g c =
     let s = c.present-present.result.now in
-    subst (λ kept. IfSome kept (IsResidualOf s)) c.in-Some.is (c.self.invariant s c.present-present.ensures.state)
+    subst (Keeps s) c.in-Some.is (c.self.invariant s c.present-present.ensures.state)

@@ -7,4 +7,4 @@ pub returns : goal.returns
 returns c =
     let s = c.args.self.now.state.now in
     let long = AllZip-long _ s.network.arcs s.flows c.arcs.ensures.state.flow.within in
-    omega (arith, length-carrying_pairs s.network s.flows s.flows long long, ap length c.arcs.ensures.value)
+    omega (arith, length-carrying_pairs s.network s.flows long, ap length c.arcs.ensures.value)

@@ -1,15 +1,13 @@
-use Rattle.std.proofs.Common.{◌≡◌, ◌∙◌, ◌<◌, ℕ, List, false, length, get_or, ap, sym, subst, arith}
+use Rattle.std.proofs.Common.{◌≡◌, ◌∙◌, ◌<◌, ℕ, List, [], ◌∷◌, length, get_or, ap, sym, subst, arith}
 use Rattle.std.proofs.lemmas.Slice.Zip.{AllZip-long}
-use Rattle.dmf_path.specs.Passed.{is_passed}
 use Rattle.dmf_path.specs.Search.{Searched, along_at}
 use Rattle.dmf_state.specs.Arc.{no_arc}
 use Rattle.dmf_state.specs.NetworkState.{NetworkState, IsState}
 use Rattle.dmf_solver.specs.declared.solve.Solved.{Solved}
 use Rattle.dmf_solver.specs.Pairs.{Against, IsSolved, flow_left, flows_read, reached_flows}
-use Rattle.dmf_solver.specs.ResidualNetwork.{residual_pairs}
+use Rattle.dmf_solver.specs.ResidualNetwork.{closed_return, network_pairs}
 use Rattle.dmf_solver.proofs.FlowsRead.{left-along}
 use Rattle.dmf_solver.proofs.SolvingSearch.{pairs-long, reached-long}
-use Rattle.dmf_solver.proofs.Unpassed.{flow-unpassed}
 use Rattle.dmf_solver.proofs.reached_flows.ReachedFlowsFlows.flow.Goals as goal
 
 -- The index is that of a flow, and of an arc.
@@ -43,8 +41,8 @@ along-requires c =
     let is = c.self.invariant in
     omega (arith, (index _ _ _ c.args.k state is c.self.view_is c.requires).0, pairs-long c.self.inside.state.now _ state is.search_is is.state.flow.within)
 
-pub returns-then-is_passed : goal.returns-then-is_passed
-returns-then-is_passed c =
+pub returns : goal.returns
+returns c =
     let s = c.self.inside.state.now in
     let search = c.self.inside.solved.now.search in
     let arcs = s.network.arcs in
@@ -53,25 +51,10 @@ returns-then-is_passed c =
     let k : ℕ = c.args.k in
     let at = index _ _ _ k state is c.self.view_is c.requires in
     let after : List ℕ = reached_flows s search in
-    let pairs : search.pairs ≡ residual_pairs arcs after = ap (λ (o : Searched). o.pairs) is.search_is in
+    let pairs : search.pairs ≡ network_pairs s.network after = ap (λ (o : Searched). o.pairs) is.search_is in
     c.flow_left.ensures
     ∙ (λ t. flow_left (get_or (c.arcs.ensures.value t) k no_arc) (get_or (c.flows.ensures.value t) k 0) (c.along.ensures t))
     ∙ ap (λ ps. flow_left (get_or arcs k no_arc) (get_or s.flows k 0) (along_at ps k)) pairs
-    ∙ left-along arcs s.flows after k is.state.flow.within (AllZip-long _ arcs s.flows state.flow.within) at.0
+    ∙ left-along arcs s.flows after (closed_return s.network ∷ []) k is.state.flow.within (AllZip-long _ arcs s.flows state.flow.within) at.0
     ∙ ap (λ ps. get_or (flows_read Against s.flows ps) k 0) (sym pairs)
-    ∙ ap (λ (xs : List ℕ). get_or xs k 0) c.self.view_is
-
-pub returns : goal.returns
-returns c =
-    let s = c.self.inside.state.now in
-    let solved = c.self.inside.solved.now in
-    let state = c.arcs.ensures.state in
-    let is = c.self.invariant in
-    let k : ℕ = c.args.k in
-    let at = index _ _ _ k state is c.self.view_is c.requires in
-    let unmarked : is_passed solved.passed.items (get_or s.network.arcs k no_arc).tail ≡ false =
-    (λ t. is_passed (sym c.deref.ensures.value t) (get_or (sym c.arcs.ensures.value t) k no_arc).tail) ∙ sym c.is_passed.ensures ∙ c.if-is_passed.false in
-    ap (λ flows. get_or flows k 0) c.flows.ensures.value
-    ∙ flow-unpassed s solved.search solved.passed.items k state.flow.within
-    (pairs-long s solved.search state is.search_is is.state.flow.within) at.0 at.1 is.kept unmarked
     ∙ ap (λ (xs : List ℕ). get_or xs k 0) c.self.view_is

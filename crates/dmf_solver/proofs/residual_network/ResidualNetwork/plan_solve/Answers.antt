@@ -1,12 +1,16 @@
-use Rattle.dmf_state.proofs.Moving.{flows-long}
-use Rattle.dmf_solver.specs.Pairs.{reached_flows}
-use Rattle.dmf_solver.proofs.SolvedEdit.{PlansSolve-listed, value-listed, told-listed, residual-listed}
+use Rattle.dmf_solver.proofs.SolvedEdit.{PlansSolve-listed, value-listed, told-listed, told-nothing, told-refused, fits-listed, residual-listed}
 use Rattle.dmf_solver.proofs.residual_network.ResidualNetwork.plan_solve.Goals as goal
 
-pub list_all_moves-requires : goal.list_all_moves-requires
-list_all_moves-requires g c =
-    let s = c.args.state.now in
-    flows-long s (reached_flows s c.solve-solved.result.search) c.solve-solved.ensures.state c.solve-solved.ensures.solved.state
+pub returns-in_err-touched-clause-told : goal.returns-in_err-touched-clause-told
+returns-in_err-touched-clause-told g c = told-nothing c.args.state.now c.from_residual.result _ _ c.from_residual.ensures.0
+
+pub returns-in_err-side-clause-told : goal.returns-in_err-side-clause-told
+returns-in_err-side-clause-told g c =
+    told-refused c.args.state.now _ c.from_residual-in_err-side.result _ _ _ c.from_residual-in_err-side.ensures.0 c.solve-solved.ensures.told
+
+pub returns-in_err-moves-clause-told : goal.returns-in_err-moves-clause-told
+returns-in_err-moves-clause-told g c =
+    told-refused c.args.state.now _ c.from_residual-in_err-moves.result _ _ _ c.from_residual-in_err-moves.ensures.0 c.solve-solved.ensures.told
 
 pub returns-clause-edit : goal.returns-clause-edit
 returns-clause-edit g c =
@@ -18,9 +22,17 @@ returns-clause-value g c =
     value-listed c.args.state.now c.solve-solved.result c.in_ok-moves.moves c.solve-solved.ensures.state c.solve-solved.ensures.solved c.in_ok-moves.ensures
     c.in_ok-side.side c.in_ok-side.ensures.value
 
+pub carry_flows-carrying-requires-clause-fit : goal.carry_flows-carrying-requires-clause-fit
+carry_flows-carrying-requires-clause-fit g c =
+    rw c.deref.ensures.value
+    (fits-listed c.args.state.now c.solve-solved.result c.in_ok-moves.moves c.solve-solved.ensures.state c.solve-solved.ensures.solved c.in_ok-moves.ensures)
+
 pub returns-clause-kept : goal.returns-clause-kept
-returns-clause-kept g c =
-    residual-listed c.args.state.now c.solve-solved.result c.in_ok-moves.moves c.solve-solved.ensures.state c.solve-solved.ensures.solved c.in_ok-moves.ensures
+returns-clause-kept g c = record {
+  residual = residual-listed c.args.state.now c.solve-solved.result c.in_ok-moves.moves c.solve-solved.ensures.state c.solve-solved.ensures.solved
+      c.in_ok-moves.ensures;
+  carrying = rw c.deref.ensures.value at c.carry_flows-carrying.ensures;
+}
 
 pub returns-clause-told : goal.returns-clause-told
 returns-clause-told g c =

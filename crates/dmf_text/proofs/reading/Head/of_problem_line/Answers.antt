@@ -7,7 +7,7 @@ use Rattle.dmf_text.specs.Judging.{◌>>◌, expect}
 use Rattle.dmf_text.specs.Problem.{Facts, Counts, counts_named}
 use Rattle.dmf_text.specs.Reading.{no_facts, with_line}
 use Rattle.dmf_text.proofs.reading.Head.of_problem_line.Goals as goal
-use Rattle.dmf_text.proofs.reading.Head.of_problem_line.Goals.{then-nodes-lt2-via-then-nodes-lt2, then-nodes-lt2-via-else-nodes-lt2+then-nodes-from}
+use Rattle.dmf_text.proofs.reading.Head.of_problem_line.Goals.{In_ok-arcs, then-nodes-lt2-via-then-nodes-lt2, then-nodes-lt2-via-else-nodes-lt2+then-nodes-from}
 use Rattle.dmf_text.proofs.reading.Head.of_problem_line.Goals.{then-nodes-lt2-via-else-nodes-lt2+else-nodes-from+then-arcs-from}
 
 -- a problem line of three fields
@@ -15,15 +15,27 @@ other-word : (f g h : List ℕ) → bytes_eq f (codes "max") ≡ false → count
 unfolding counts_named
 other-word f g h no-max = rw no-max refl
 
--- whose word and numbers are these
-module _ (f g h : List ℕ) (nodes arcs : ℕ) (word : bytes_eq f (codes "max") ≡ true) (first : number_of g ≡ Ok nodes) (second : number_of h ≡ Ok arcs) where
+-- the word and the numbers of one that is read
+record Reads (f g h : List ℕ) (nodes arcs : ℕ) : Type 0 where
+  word : bytes_eq f (codes "max") ≡ true
+  first : Ok nodes ≡ number_of g
+  second : Ok arcs ≡ number_of h
+
+reads : (c : In_ok-arcs) → Reads c.in_ok-word.word.now c.in_ok-word.nodes.now c.in_ok-word.arcs.now c.in_ok-nodes.nodes c.in_ok-arcs.arcs
+reads c = record {
+  word = ap (bytes_eq c.in_ok-word.word.now) (sym c.as_slice.ensures) ∙ not-false _ (sym c.ne.ensures ∙ c.if-ne.false);
+  first = c.in_ok-nodes.ensures;
+  second = c.in_ok-arcs.ensures;
+}
+
+module _ (f g h : List ℕ) (nodes arcs : ℕ) (is : Reads f g h nodes arcs) where
   abbrev counts : Counts
   counts = record { nodes = nodes; arcs = arcs }
 
   line-judged : counts_named (f ∷ g ∷ h ∷ []) ≡ (expect (nat_le 2 nodes && nat_le nodes (2 ^ 24)) CountOutOfRange >>
       (expect (nat_le arcs (2 ^ 27)) CountOutOfRange >> Ok counts))
   unfolding counts_named
-  line-judged = rw (word, first, second) refl
+  line-judged = rw (is.word, ← is.first, ← is.second) refl
 
   good-counts : (nat_le 2 nodes && nat_le nodes (2 ^ 24)) ≡ true → nat_le arcs (2 ^ 27) ≡ true → counts_named (f ∷ g ∷ h ∷ []) ≡ Ok counts
   good-counts range few = line-judged ∙ rw (range, few) refl
@@ -35,7 +47,7 @@ module _ (f g h : List ℕ) (nodes arcs : ℕ) (word : bytes_eq f (codes "max") 
   other-arcs range many = line-judged ∙ rw (range, many) refl
 
   line-says : ◌≡◌ {A = Facts} (record { counts = Some counts; source = None; sink = None; arcs = [] }) (with_line no_facts (codes "p" ∷ f ∷ g ∷ h ∷ []))
-  line-says = rw (first, second) refl
+  line-says = rw (← is.first, ← is.second) refl
 
 pub returns-then-ne : goal.returns-then-ne
 returns-then-ne c =
@@ -45,14 +57,11 @@ returns-then-ne c =
 
 pub returns-then-nodes-lt2 : goal.returns-then-nodes-lt2
 returns-then-nodes-lt2 c =
-    let word = c.in_ok-word.word.now in
     let nodes = c.in_ok-nodes.nodes in
     let arcs = c.in_ok-arcs.arcs in
-    let max : bytes_eq word (codes "max") ≡ true = ap (bytes_eq word) (sym c.as_slice.ensures) ∙ not-false _ (sym c.ne.ensures ∙ c.if-ne.false) in
-    let first = sym c.in_ok-nodes.ensures in
-    let second = sym c.in_ok-arcs.ensures in
-    let bad-nodes = other-nodes word c.in_ok-word.nodes.now c.in_ok-word.arcs.now nodes arcs max first second in
-    let bad-arcs = other-arcs word c.in_ok-word.nodes.now c.in_ok-word.arcs.now nodes arcs max first second in
+    let is = reads (goal.at.returns-then-nodes-lt2 c).In_ok-arcs in
+    let bad-nodes = other-nodes _ _ _ _ _ is in
+    let bad-arcs = other-arcs _ _ _ _ _ is in
     rw c.in_ok-word.ensures
     (elim c.then-nodes-lt2.branch [
       | then-nodes-lt2-via-then-nodes-lt2 w ↦ bad-nodes (and_left _ _ (lt-leb 2 nodes w.if-nodes-lt2.true))
@@ -65,17 +74,13 @@ returns-then-nodes-lt2 c =
 
 pub returns : goal.returns
 returns c =
-    let word = c.in_ok-word.word.now in
+    let is = reads (goal.at.returns c).In_ok-arcs in
     let nodes = c.in_ok-nodes.nodes in
     let arcs = c.in_ok-arcs.arcs in
-    let max : bytes_eq word (codes "max") ≡ true = ap (bytes_eq word) (sym c.as_slice.ensures) ∙ not-false _ (sym c.ne.ensures ∙ c.if-ne.false) in
-    let first = sym c.in_ok-nodes.ensures in
-    let second = sym c.in_ok-arcs.ensures in
     let low : 2 ≤ nodes = c.if-nodes-lt2.false in
     let high : nodes ≤ 2 ^ 24 = omega (arith, c.from.ensures, c.if-nodes-from.false) in
     let few : arcs ≤ 2 ^ 27 = omega (arith, c.from-else-nodes-from.ensures, c.if-arcs-from.false) in
     rw c.in_ok-word.ensures (
-      good-counts word c.in_ok-word.nodes.now c.in_ok-word.arcs.now nodes arcs max first second (and_from _ _ (le-leb 2 nodes low) (le-leb nodes (2 ^ 24) high))
-          (le-leb arcs (2 ^ 27) few),
-      line-says word c.in_ok-word.nodes.now c.in_ok-word.arcs.now nodes arcs max first second,
+      good-counts _ _ _ _ _ is (and_from _ _ (le-leb 2 nodes low) (le-leb nodes (2 ^ 24) high)) (le-leb arcs (2 ^ 27) few),
+      line-says _ _ _ _ _ is,
     )

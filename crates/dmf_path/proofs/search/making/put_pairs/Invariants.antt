@@ -1,0 +1,11 @@
+use Rattle.dmf_path.specs.Building.{ArePut}
+use Rattle.dmf_path.specs.LinkTable.{links_of}
+use Rattle.dmf_path.proofs.Filling.{AreClear}
+use Rattle.dmf_path.proofs.Twins.{opposites_of}
+use Rattle.dmf_path.proofs.search.making.put_pairs.Given as goal
+
+abbrev pub invariant-loop-k : goal.invariant-loop-k
+invariant-loop-k g l = record {
+  put : ArePut (g.P.Pairs.pairs l.pairs) l.places (opposites_of (links_of l.table) l.places) (λ k p. p.along) (λ k p. p.against) l.k l.rooms;
+  clear : AreClear (g.P.Pairs.pairs l.pairs) l.places (opposites_of (links_of l.table) l.places) l.k l.rooms;
+}

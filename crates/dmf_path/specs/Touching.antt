@@ -1,0 +1,29 @@
+-- How links of a path are counted: by the numbers of their pairs.
+-- Private: only contracts inside the crate and proofs use this.
+use Rattle.std.specs.Prelude.{ℕ, ◌≡◌, ◌<◌, ◌++◌, List, length, map, slice_index, Option, Some, None, IfSome, Vec, option_map}
+use Rattle.std.specs.declared.alloc.Global.{Global}
+use Rattle.dmf_path.specs.declared.trail.Slot.{Slot}
+use Rattle.dmf_path.specs.Links.{Links, IsOf}
+
+-- the items of a vector, where there is one
+abbrev pub items_of : Option (Vec ℕ Global) → Option (List ℕ)
+items_of indices = option_map (λ vector. vector.items) indices
+
+-- Of each link this is the index of its pair.
+abbrev pub AreNumbers : Links → List ℕ → List ℕ → Type 0
+AreNumbers l places numbers = (length numbers ≡ length l.heads)
+    × ((p : ℕ) → p < length l.heads → IsOf l places p (slice_index numbers p))
+
+-- So they are, where there are numbers.
+abbrev pub MayBeNumbered : Links → List ℕ → Option (Vec ℕ Global) → Type 0
+MayBeNumbered l places numbers = IfSome numbers (λ known. AreNumbers l places known.items)
+
+-- the numbers of the links in slots
+abbrev pub numbers_of : List ℕ → List Slot → List ℕ
+numbers_of numbers slots = map (λ s. slice_index numbers s.place) slots
+
+-- All pairs are touched, or beside those that were, those of the links in slots.
+pub data Lists (numbers : Option (Vec ℕ Global)) (slots : List Slot) (old new : Option (List ℕ)) : Type 0 where
+  all : new ≡ None → Lists numbers slots old new
+  these : (known : Vec ℕ Global) (indices : List ℕ) → numbers ≡ Some known → old ≡ Some indices
+      → new ≡ Some (indices ++ numbers_of known.items slots) → Lists numbers slots old new

@@ -1,0 +1,61 @@
+-- By how much a step lengthens a timeline.
+use Rattle.std.proofs.Common.{ℕ, ◌≡◌, ◌+◌, ◌<◌, ◌≤◌, List, length, take, Bool, true, false, Option, Some, None, Result, ◌⊎◌, inl, inr, ⊎_elim, refl, sym}
+use Rattle.std.proofs.Common.{subst, arith, nat_le}
+use Rattle.std.specs.Bool.{MatchBool}
+use Rattle.std.specs.Option.{MatchOption}
+use Rattle.std.proofs.lemmas.List.{length_push, length-take-le, length-drop}
+use Rattle.std.proofs.lemmas.Bool.{leb-true}
+use Rattle.dmf_state.specs.NetworkState.{NetworkState}
+use Rattle.dmf_solver.specs.declared.fault.PlanFault.{PlanFault}
+use Rattle.dmf_solver.specs.Change.{Change}
+use Rattle.dmf_session.specs.declared.command.Reply.{Reply}
+use Rattle.dmf_session.specs.declared.command.Refusal.{Refusal}
+use Rattle.dmf_session.specs.declared.command.Refusal.TheVariants.{NothingToUndo, NothingToRedo}
+use Rattle.dmf_history.specs.Timeline.{Timeline, extended, appended, back, forward, future_of}
+use Rattle.dmf_session.specs.Step.{IsChanged, IsRefused, IsMoved, refusal_of}
+use Rattle.dmf_history.proofs.Appending.{within_bound-keeps}
+
+-- The place is in the list, which has at most one state more than there were, and the bound is the same.
+pub record Grows (t u : Timeline) : Type 0 where
+  pub place : u.place < length u.states
+  pub at_most : length u.states ≤ length t.states + 1
+  pub bound : u.bound ≡ t.bound
+
+pub same : (t u : Timeline) → t.place < length t.states → u ≡ t → Grows t u
+same t u within e = subst (λ v. Grows t v) (sym e) (record { place = within; at_most = omega arith; bound = refl })
+
+pub appended-grows : (t u : Timeline) (s : NetworkState) → t.place < length t.states → u ≡ appended t s → Grows t u
+appended-grows t u s within e =
+    let front : List NetworkState = take (t.place + 1) t.states in
+    let long : length front ≡ t.place + 1 = length-take-le (t.place + 1) t.states (omega arith) in
+    let fewer = length-drop 1 (extended t s).states in
+    subst (λ v. Grows t v) (sym e)
+    (within_bound-keeps (λ v. Grows t v) (extended t s)
+    (record { place = omega (arith, length_push front s, long); at_most = omega (arith, length_push front s, long); bound = refl })
+    (λ past. record { place = omega (arith, length_push front s, long, fewer); at_most = omega (arith, length_push front s, long, fewer); bound = refl }))
+
+pub change-grows : (t u : Timeline) (s : NetworkState) (made : Change) (reply : NetworkState → Reply) (result : Result Reply Refusal)
+    (fault : Option PlanFault) → t.place < length t.states
+    → MatchOption fault (IsChanged t s made reply result u) (λ f. IsRefused t (refusal_of f) result u) → Grows t u
+change-grows t u s made reply result None within m = appended-grows t u m.new within m.appends
+change-grows t u s made reply result (Some f) within m = same t u within m.unchanged
+
+pub undo-grows : (t u : Timeline) (steps : ℕ) (result : Result Reply Refusal) (b : Bool) → t.place < length t.states
+    → MatchBool b (IsMoved (back t steps) result u) (IsRefused t NothingToUndo result u) → Grows t u
+undo-grows t u steps result true within m = subst (λ v. Grows t v) (sym m.moves) (record { place = omega arith; at_most = omega arith; bound = refl })
+undo-grows t u steps result false within m = same t u within m.unchanged
+
+test-cases : (m n : ℕ) → ((nat_le m n ≡ true) × (m ≤ n)) ⊎ (nat_le m n ≡ false)
+test-cases m n = elim (nat_le m n) as (λ b. (nat_le m n ≡ b → (b ≡ true → m ≤ n) → ((b ≡ true) × (m ≤ n)) ⊎ (b ≡ false)))
+    [ true ↦ λ e f. inl (refl, f refl) | false ↦ λ e f. inr refl ] refl (leb-true m n)
+
+pub redo-grows : (t u : Timeline) (steps : ℕ) (result : Result Reply Refusal) → t.place < length t.states
+    → MatchBool (nat_le steps (future_of t)) (IsMoved (forward t steps) result u) (IsRefused t NothingToRedo result u) → Grows t u
+redo-grows t u steps result within m = ⊎_elim
+    (λ (yes : (nat_le steps (future_of t) ≡ true) × (steps ≤ future_of t)).
+    let moved = subst (λ b. MatchBool b (IsMoved (forward t steps) result u) (IsRefused t NothingToRedo result u)) yes.0 m in
+    subst (λ v. Grows t v) (sym moved.moves) (record { place = omega (arith, yes.1); at_most = omega arith; bound = refl }))
+    (λ (no : nat_le steps (future_of t) ≡ false).
+    let refused = subst (λ b. MatchBool b (IsMoved (forward t steps) result u) (IsRefused t NothingToRedo result u)) no m in
+    same t u within refused.unchanged)
+    (test-cases steps (future_of t))

@@ -1,0 +1,83 @@
+-- The edits of drains: they fit the state, and make of it what was asked for.
+use Rattle.std.proofs.Common.{ℕ, ◌≡◌, ◌-◌, ◌<◌, ◌^◌, arith, refl, subst, sym, Vec, Global}
+use Rattle.dmf_state.specs.declared.edit.Edit.TheVariants as edit
+use Rattle.dmf_state.specs.declared.edit.Move.{Move}
+use Rattle.dmf_state.specs.declared.edit.Shutting.{Shutting}
+use Rattle.dmf_state.specs.Arc.{open_arcs_at}
+use Rattle.dmf_state.specs.Edit.{applied, moved, numbers, AreOpenWith, Fits, IsOpenWith}
+use Rattle.dmf_state.specs.Flow.{flow_on}
+use Rattle.dmf_state.specs.Network.{sum_with}
+use Rattle.dmf_state.specs.NetworkState.{NetworkState, IsState, with_flows}
+use Rattle.dmf_state.proofs.ChangedState.{IsState-with_cap, IsState-closed}
+use Rattle.dmf_state.proofs.ClosedArcs.{HasArcs-open, IsState-all_closed}
+use Rattle.dmf_solver.specs.Change as change
+use Rattle.dmf_solver.specs.Change.{Becomes, Closes, ClosesArc}
+use Rattle.dmf_solver.specs.Drain.{TakesOff}
+use Rattle.dmf_solver.specs.Moves.{AreDrainingMoves, AreShuttingMoves}
+use Rattle.dmf_solver.specs.Planning.{Plans}
+use Rattle.dmf_solver.proofs.ClosedInTurn.{closes-in_turn}
+use Rattle.dmf_solver.proofs.DrainedInTurn.{left-in_turn}
+
+module _ (s : NetworkState) (arc old j : ℕ) (moves : Vec Move Global) (same : arc ≡ j) (asked : IsOpenWith s.network j old) where
+  -- the arc, by the other number
+  pub found : IsOpenWith s.network arc old
+  found = subst (λ k. IsOpenWith s.network k old) (sym same) asked
+
+  pub cap-fits : (cap : ℕ) → sum_with s.network arc cap < 2 ^ 64 → AreDrainingMoves s arc cap moves.items → Fits (edit.Cap arc old cap moves) s
+  cap-fits cap small drained = record {
+    arc = found;
+    moves = drained.fit;
+    applied = IsState-with_cap (with_flows s (moved moves.items s.flows)) arc cap drained.state found.is_there found.is_open drained.drains.within small;
+  }
+
+  pub cap-plans : (cap : ℕ) → sum_with s.network arc cap < 2 ^ 64 → AreDrainingMoves s arc cap moves.items
+      → Plans s (change.Cap j cap) (edit.Cap arc old cap moves)
+  cap-plans cap small drained = record {
+    kind = (same, refl);
+    fits = cap-fits cap small drained;
+    becomes = subst (λ k. Becomes s (change.Cap k cap) (applied (edit.Cap arc old cap moves) s)) same (refl, drained.drains);
+    moves = drained.differ;
+  }
+
+  pub close-fits : AreDrainingMoves s arc 0 moves.items → Fits (edit.Close arc old moves) s
+  close-fits drained = record {
+    arc = found;
+    moves = drained.fit;
+    applied = IsState-closed (with_flows s (moved moves.items s.flows)) arc drained.state found.is_there drained.drains.within;
+  }
+
+  pub close-plans : AreDrainingMoves s arc 0 moves.items → Plans s (change.Close j) (edit.Close arc old moves)
+  close-plans drained = record {
+    kind = same;
+    fits = close-fits drained;
+    becomes = subst (λ k. ClosesArc s k (applied (edit.Close arc old moves) s)) same (refl, drained.drains);
+    moves = drained.differ;
+  }
+
+  -- What is taken off is what was on the arc above the limit.
+  pub takes-off : (limit : ℕ) → AreDrainingMoves s arc limit moves.items
+      → TakesOff s.network (flow_on s.flows j - limit) s.flows (moved moves.items s.flows)
+  takes-off limit drained = subst (λ k. TakesOff s.network (flow_on s.flows k - limit) s.flows (moved moves.items s.flows)) same drained.takes_off
+
+  pub takes-all_off : AreDrainingMoves s arc 0 moves.items → TakesOff s.network (flow_on s.flows j) s.flows (moved moves.items s.flows)
+  takes-all_off drained =
+      let all : flow_on s.flows j - 0 ≡ flow_on s.flows j = omega arith in
+      subst (λ amount. TakesOff s.network amount s.flows (moved moves.items s.flows)) all (takes-off 0 drained)
+
+module _ (s : NetworkState) (arcs : Vec Shutting Global) (moves : Vec Move Global) (state : IsState s) (are : AreOpenWith 0 arcs.items s.network)
+    (drained : AreShuttingMoves s (numbers arcs.items) moves.items) where
+  pub shut-fits : Fits (edit.Shut arcs moves) s
+  shut-fits =
+      let last = moved moves.items s.flows in
+      let left = left-in_turn s.network (numbers arcs.items) s.flows last state.network state.flow state.value_from_zero
+      (HasArcs-open 0 arcs.items s.network are) drained.drains in
+      record { arc = are; moves = drained.fit; applied = IsState-all_closed 0 arcs.items s.network last drained.state are left.without_flow }
+
+  pub shut-plans : (v : ℕ) → numbers arcs.items ≡ open_arcs_at v 1 s.network.arcs → Plans s (change.Shut v) (edit.Shut arcs moves)
+  shut-plans v all = record {
+    kind = tt;
+    fits = shut-fits;
+    becomes = subst (λ js. Closes js s (applied (edit.Shut arcs moves) s)) all
+        (closes-in_turn s.network arcs.items s.flows (moved moves.items s.flows) drained.drains);
+    moves = drained.differ;
+  }

@@ -1,0 +1,73 @@
+use Rattle.std.proofs.Common.{◌+◌, ◌≡◌, ◌∙◌, length, sym, subst, arith}
+use Rattle.std.proofs.lemmas.Slice.Zip.{AllZip-long}
+use Rattle.dmf_path.specs.Search.{indices_of}
+use Rattle.dmf_path.specs.Touched.{AreBelow}
+use Rattle.dmf_solver.specs.Pairs.{Along, IsCarryingSearch, flows_read}
+use Rattle.dmf_solver.proofs.DrainingSearch.{carrying-first, carries-moved, length-carries, one_each}
+use Rattle.dmf_solver.proofs.DrainingWalk.{draining-moves}
+use Rattle.dmf_solver.proofs.Untouched.{drained-cover, keeps-sorted}
+use Rattle.dmf_solver.proofs.drain.drain_by.Goals as goal
+use Rattle.dmf_solver.proofs.drain.drain_by.Goals.{In_ok-touched}
+
+-- The search carries the state's flow.
+begun : (c : In_ok-touched) → IsCarryingSearch c.args.state.now c.args.state.now.flows c.none_touched.new.search
+    × (flows_read Along c.args.state.now.flows c.none_touched.new.search.pairs ≡ c.args.state.now.flows)
+begun c =
+    let s = c.args.state.now in
+    carrying-first s c.none_touched.new.search c.flows-before.ensures.state (rw c.none_touched.ensures.search c.requires.carrying)
+
+pub drain_along-requires-clause-carrying : goal.drain_along-requires-clause-carrying
+drain_along-requires-clause-carrying c = (c.args.state.now.flows, (begun (goal.at.drain_along-requires-clause-carrying c).In_ok-touched).0)
+
+pub invariant_of-drained : goal.invariant_of-drained
+invariant_of-drained c =
+    let s = c.args.state.now in
+    rw c.flows-before.ensures.value (c.drain_along.ensures.drains s.flows (begun (goal.at.invariant_of-drained c).In_ok-touched).0).0
+
+pub indices-requires-clause-below : goal.indices-requires-clause-below
+indices-requires-clause-below c =
+    let s = c.args.state.now in
+    let here = begun (goal.at.indices-requires-clause-below c).In_ok-touched in
+    let pairs = length-carries s s.flows _ c.none_touched.new.search here.0 in
+    let flows = AllZip-long _ s.network.arcs s.flows c.flows-before.ensures.state.flow.within in
+    let first = c.in_ok-touched.ensures.below (length c.none_touched.new.search.pairs) in
+    rw c.flows-before.ensures.value
+    (subst (λ count. AreBelow count c.sort.new.self) (omega (arith, pairs, flows))
+    (c.sort.ensures.below _ (c.drain_along.ensures.touched.below first)))
+
+pub list_moves-requires-clause-one_each : goal.list_moves-requires-clause-one_each
+list_moves-requires-clause-one_each c =
+    let s = c.args.state.now in
+    let state = c.flows-before.ensures.state in
+    let carries = (c.drain_along.ensures.drains s.flows (begun (goal.at.list_moves-requires-clause-one_each c).In_ok-touched).0).0 in
+    rw c.flows-before.ensures.value (one_each s s.flows _ c.drain_along.new.search carries ∙ sym (AllZip-long _ s.network.arcs s.flows state.flow.within))
+
+pub list_moves-requires-clause-others_stay : goal.list_moves-requires-clause-others_stay
+list_moves-requires-clause-others_stay c =
+    let s = c.args.state.now in
+    let here = begun (goal.at.list_moves-requires-clause-others_stay c).In_ok-touched in
+    let flows = AllZip-long _ s.network.arcs s.flows c.flows-before.ensures.state.flow.within in
+    let carries = (c.drain_along.ensures.drains s.flows here.0).0 in
+    let old = length-carries s s.flows _ c.none_touched.new.search here.0 in
+    let new = length-carries s s.flows _ c.drain_along.new.search carries in
+    let keeps = keeps-sorted c.drain_along.new.touched c.sort.new.self c.none_touched.new.search.pairs c.drain_along.new.search.pairs
+    c.drain_along.ensures.touched.kept c.sort.ensures.same in
+    rw c.flows-before.ensures.value
+    (drained-cover s c.none_touched.new.search.pairs c.drain_along.new.search.pairs c.sort.new.self (indices_of c.indices.result) (length s.flows + 1)
+    (omega (arith, old, flows)) (omega (arith, new, flows)) (omega arith) here.1 keeps (rw c.flows-before.ensures.value at c.indices.ensures))
+
+pub returns-clause-moves : goal.returns-clause-moves
+returns-clause-moves c =
+    let s = c.args.state.now in
+    let listed = rw c.flows-before.ensures.value at c.in_ok-moves.ensures in
+    let here = begun (goal.at.returns-clause-moves c).In_ok-touched in
+    let drains = rw here.1 at (c.drain_along.ensures.drains s.flows here.0).1 in
+    draining-moves s c.args.j c.args.limit (flows_read Along s.flows c.drain_along.new.search.pairs) c.in_ok-moves.moves.items c.flows-before.ensures.state
+    c.requires.is_there drains listed
+
+pub returns-clause-carrying : goal.returns-clause-carrying
+returns-clause-carrying c =
+    let s = c.args.state.now in
+    let listed = rw c.flows-before.ensures.value at c.in_ok-moves.ensures in
+    let here = begun (goal.at.returns-clause-carrying c).In_ok-touched in
+    carries-moved s s.flows c.in_ok-moves.moves.items c.drain_along.new.search c.flows-before.ensures.state (c.drain_along.ensures.drains s.flows here.0).0 listed

@@ -1,0 +1,17 @@
+use Rattle.dmf_solver.proofs.DrainedEdits.{close-fits, close-plans, takes-all_off}
+use Rattle.dmf_solver.proofs.plan.plan_close_with.Goals as goal
+
+pub follow_drained-requires-clause-fits : goal.follow_drained-requires-clause-fits
+follow_drained-requires-clause-fits c =
+    close-fits c.args.state.now c.in_ok-arc.arc c.in_ok-arc.old c.args.j c.in_ok-drained.drained.moves c.in_ok-arc.ensures.arc.0 c.in_ok-arc.ensures.arc.1
+    c.in_ok-drained.ensures.moves
+
+pub returns-clause-plan : goal.returns-clause-plan
+returns-clause-plan c =
+    close-plans c.args.state.now c.in_ok-arc.arc c.in_ok-arc.old c.args.j c.in_ok-drained.drained.moves c.in_ok-arc.ensures.arc.0 c.in_ok-arc.ensures.arc.1
+    c.in_ok-drained.ensures.moves
+
+pub returns-clause-takes_off : goal.returns-clause-takes_off
+returns-clause-takes_off c =
+    takes-all_off c.args.state.now c.in_ok-arc.arc c.in_ok-arc.old c.args.j c.in_ok-drained.drained.moves c.in_ok-arc.ensures.arc.0
+    c.in_ok-arc.ensures.arc.1 c.in_ok-drained.ensures.moves

@@ -1,0 +1,28 @@
+use Rattle.std.proofs.Common.{ℕ, ap, map, subst, sym, ◌∙◌}
+use Rattle.std.proofs.lemmas.Result.{IfOk-weaker}
+use Rattle.dmf_path.specs.Pair.{emptied, ArePairs}
+use Rattle.dmf_path.specs.Search.{Searched}
+use Rattle.dmf_solver.specs.CarryingNetwork.{carrying_pairs}
+use Rattle.dmf_solver.proofs.CarryingPairs.{ArePairs-carrying}
+use Rattle.dmf_solver.proofs.NetworkPairs.{carrying-ends}
+use Rattle.dmf_solver.proofs.residual_network.carrying_twin.Goals as goal
+
+pub twin-requires-clause-pairs : goal.twin-requires-clause-pairs
+twin-requires-clause-pairs c =
+    let s = c.args.state.now in
+    subst (λ (nodes : ℕ). ArePairs nodes (carrying_pairs s.network s.flows)) (sym (ap (λ (x : Searched). x.nodes) c.requires.residual))
+    (ArePairs-carrying s.network s.flows c.requires.state.network c.requires.state.flow.within)
+
+pub twin-requires-clause-same_ends : goal.twin-requires-clause-same_ends
+twin-requires-clause-same_ends c =
+    let s = c.args.state.now in
+    carrying-ends s.network s.flows ∙ sym (ap (λ (x : Searched). map emptied x.pairs) c.requires.residual)
+
+pub returns : goal.returns
+returns c =
+    IfOk-weaker c.twin.result _ _ (λ (search : Searched) is. record {
+      nodes_are = ap (λ (x : Searched). x.nodes) is ∙ ap (λ (x : Searched). x.nodes) c.requires.residual;
+      pairs_are = ap (λ (x : Searched). x.pairs) is;
+      takes_none_back = ap (λ (x : Searched). x.takes_back) is;
+    })
+    c.twin.ensures
