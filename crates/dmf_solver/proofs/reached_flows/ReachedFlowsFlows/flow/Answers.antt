@@ -1,4 +1,4 @@
-use Rattle.std.proofs.Common.{◌≡◌, ◌∙◌, ◌<◌, ℕ, List, [], ◌∷◌, length, get_or, ap, sym, subst, arith}
+use Rattle.std.proofs.Common.{◌≡◌, ◌∙◌, ◌<◌, ◌^◌, ℕ, List, [], ◌∷◌, length, get_or, ap, sym, subst, arith}
 use Rattle.std.proofs.lemmas.Slice.Zip.{AllZip-long}
 use Rattle.dmf_path.specs.Search.{Searched, along_at}
 use Rattle.dmf_state.specs.Arc.{no_arc}
@@ -19,21 +19,21 @@ index s solved flows k state is same h =
     let within : k < length (reached_flows s solved.search) = subst (λ (xs : List ℕ). k < length xs) (sym same) h in
     (omega (arith, within, reached), omega (arith, within, reached, long))
 
+small : (s : NetworkState) (solved : Solved) (flows : List ℕ) (k : ℕ) → IsState s → IsSolved s solved → reached_flows s solved.search ≡ flows
+    → k < length flows → k < 2 ^ 27
+small s solved flows k state is same h = omega (arith, (index s solved flows k state is same h).1, state.network.at_most_arcs)
+
 pub bounds-arcs-k : goal.bounds-arcs-k
 bounds-arcs-k c = rw c.arcs.ensures.value (index _ _ _ c.args.k c.arcs.ensures.state c.self.invariant c.self.view_is c.requires).1
 
 pub offset_bounds-arcs-k : goal.offset_bounds-arcs-k
-offset_bounds-arcs-k c =
-    let state = c.arcs.ensures.state in
-    omega (arith, (index _ _ _ c.args.k state c.self.invariant c.self.view_is c.requires).1, state.network.at_most_arcs)
+offset_bounds-arcs-k c = omega (arith, small _ _ _ c.args.k c.arcs.ensures.state c.self.invariant c.self.view_is c.requires)
 
 pub bounds-flows-k : goal.bounds-flows-k
 bounds-flows-k c = rw c.flows.ensures.value (index _ _ _ c.args.k c.arcs.ensures.state c.self.invariant c.self.view_is c.requires).0
 
 pub offset_bounds-flows-k : goal.offset_bounds-flows-k
-offset_bounds-flows-k c =
-    let state = c.arcs.ensures.state in
-    omega (arith, (index _ _ _ c.args.k state c.self.invariant c.self.view_is c.requires).1, state.network.at_most_arcs)
+offset_bounds-flows-k c = omega (arith, small _ _ _ c.args.k c.arcs.ensures.state c.self.invariant c.self.view_is c.requires)
 
 pub along-requires : goal.along-requires
 along-requires c =
