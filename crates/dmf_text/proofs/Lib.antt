@@ -3,6 +3,7 @@ pub mod FieldLemmas
 pub mod JudgingLemmas
 pub mod LineLemmas
 pub mod NumberLemmas
+pub mod NumbersLemmas
 pub mod PairLemmas
 pub mod PlaceLemmas
 pub mod PassedJudgements

@@ -2,6 +2,7 @@
 ghost use Rattle.std.specs.Prelude.{◌≡◌, ◌⊎◌, if◌then◌else◌};
 ghost use Rattle.dmf_text.specs.declared.fault.ProblemFaultKind.TheVariants as problem_kind;
 ghost use Rattle.dmf_text.specs.declared.fault.SolutionFaultKind.TheVariants as solution_kind;
+ghost use Rattle.dmf_text.specs.Numbers.{numbers_kind};
 ghost use Rattle.dmf_text.specs.Problem as problem;
 ghost use Rattle.dmf_text.specs.Solution as solution;
 ghost use Rattle.dmf_text.specs.Reading.{arc_kind};
@@ -9,6 +10,7 @@ ghost use Rattle.dmf_text.specs.SolutionReading.{flow_kind};
 
 use crate::digits::NumberFault;
 use crate::exact_fields::WrongFieldCount;
+use crate::numbers::NumbersFault;
 use dmf_state::{FlowFault, NetFault};
 use std::alloc::AllocError;
 use std::fmt;
@@ -105,6 +107,17 @@ impl From<WrongFieldCount> for ProblemFaultKind {
 
     fn from(_count: WrongFieldCount) -> ProblemFaultKind {
         ProblemFaultKind::FieldCount
+    }
+}
+
+impl From<NumbersFault> for ProblemFaultKind {
+    ghost from_gives = { λ fault kind. kind ≡ numbers_kind problem_kind.FieldCount problem.number_fault fault };
+
+    fn from(fault: NumbersFault) -> ProblemFaultKind {
+        match fault {
+            NumbersFault::FieldCount => ProblemFaultKind::FieldCount,
+            NumbersFault::Number(fault) => ProblemFaultKind::from(fault),
+        }
     }
 }
 
@@ -217,6 +230,17 @@ impl From<WrongFieldCount> for SolutionFaultKind {
 
     fn from(_count: WrongFieldCount) -> SolutionFaultKind {
         SolutionFaultKind::FieldCount
+    }
+}
+
+impl From<NumbersFault> for SolutionFaultKind {
+    ghost from_gives = { λ fault kind. kind ≡ numbers_kind solution_kind.FieldCount solution.number_fault fault };
+
+    fn from(fault: NumbersFault) -> SolutionFaultKind {
+        match fault {
+            NumbersFault::FieldCount => SolutionFaultKind::FieldCount,
+            NumbersFault::Number(fault) => SolutionFaultKind::from(fault),
+        }
     }
 }
 

@@ -26,6 +26,13 @@ impl<'a> Fields<'a> {
     {
         Fields { rest: line }
     }
+
+    /// A line of the fields that are left.
+    pub(crate) fn rest(&self) -> &'a [u8]
+        ensures { fields result.now ≡ self.now }
+    {
+        self.rest
+    }
 }
 
 impl<'a> Iterator for Fields<'a> {
@@ -46,14 +53,14 @@ impl<'a> Iterator for Fields<'a> {
     }
 }
 
-fn is_blank(byte: u8) -> bool
+pub(crate) fn is_blank(byte: u8) -> bool
     ensures { result ≡ is_blank byte }
 {
     byte == b' ' || byte == b'\t'
 }
 
-// The number of blanks at the beginning.
-fn leading_blanks(bytes: &[u8]) -> usize
+/// The number of blanks at the beginning.
+pub(crate) fn leading_blanks(bytes: &[u8]) -> usize
     ensures count { result ≡ prefix_len is_blank bytes.now }
     ensures bound { result ≤ length bytes.now }
 {

@@ -8,6 +8,7 @@ mod field;
 mod laws;
 mod line;
 mod line_buffer;
+mod numbers;
 mod pairs;
 mod problem;
 mod reader;

@@ -8,6 +8,7 @@ use crate::digits::number;
 use crate::exact_fields::three_fields;
 use crate::fault::ProblemFaultKind;
 use crate::field::Fields;
+use crate::numbers::three_numbers;
 use crate::terminal::{Terminal, named};
 use dmf_state::{MAX_ARCS, MAX_NODES, State};
 use std::alloc::Global;
@@ -208,10 +209,7 @@ impl Body {
         if self.state.arcs().len() >= self.arcs as usize {
             return Err(ProblemFaultKind::TooManyArcs);
         }
-        let (tail, head, cap) = three_fields(behind)?;
-        let tail = number(tail)?;
-        let head = number(head)?;
-        let cap = number(cap)?;
+        let (tail, head, cap) = three_numbers(behind)?;
         self.state.push_arc(tail, head, cap)?;
         Ok(())
     }

@@ -7,9 +7,10 @@ ghost use Rattle.dmf_text.specs.Solution.{Facts, judged, judged_value, judged_fl
 ghost use Rattle.dmf_text.specs.SolutionReading.{Keeps, TakesLine};
 
 use crate::digits::number;
-use crate::exact_fields::{one_field, three_fields};
+use crate::exact_fields::one_field;
 use crate::fault::SolutionFaultKind;
 use crate::field::Fields;
+use crate::numbers::three_numbers;
 use crate::pairs::{Pairs, pair_of};
 use dmf_state::State;
 use std::alloc::{AllocError, Global};
@@ -77,10 +78,7 @@ impl SolutionReading {
         ensures { (arcs : List Arc) (facts : Facts) → Keeps arcs facts self.old
             → TakesLine arcs facts (codes "f" ∷ behind.entry) (judged_flow arcs facts behind.entry) self.new result }
     {
-        let (tail, head, flow) = three_fields(behind)?;
-        let tail = number(tail)?;
-        let head = number(head)?;
-        let flow = number(flow)?;
+        let (tail, head, flow) = three_numbers(behind)?;
         let Some(pair) = pair_of(tail, head) else {
             return Err(SolutionFaultKind::NoSuchPair);
         };

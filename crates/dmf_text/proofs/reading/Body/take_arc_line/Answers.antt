@@ -1,4 +1,5 @@
-use Rattle.std.proofs.Common.{◌≡◌, ◌<◌, ◌+◌, ◌^◌, ◌&&◌, ◌⊎◌, ◌∷◌, ◌++◌, [], ℕ, List, Bool, true, false, Some, None, Result, Ok, Err, MatchOption, MatchResult}
+use Rattle.std.proofs.Common.{◌≡◌, ◌<◌, ◌+◌, ◌^◌, ◌&&◌, ◌==◌, ◌⊎◌, ◌∷◌, ◌++◌, [], ℕ}
+use Rattle.std.proofs.Common.{List, Bool, true, false, Some, None, Result, Ok, Err, MatchOption, MatchResult}
 use Rattle.std.proofs.Common.{IsOkUnless, arith, codes, length, refl, sym, ap, ◌∙◌, subst, inl, inr, if◌then◌else◌, nat_lt}
 use Rattle.std.proofs.lemmas.Bool.{lt-ltb}
 use Rattle.std.proofs.lemmas.Result.{err_from_is_err_and}
@@ -10,12 +11,15 @@ use Rattle.dmf_state.specs.Arc.{open_arc, capacity_sum}
 use Rattle.dmf_state.specs.ArcFault.{arc_fault, net_fault}
 use Rattle.dmf_state.specs.NetworkState.{NetworkState}
 use Rattle.dmf_text.specs.declared.fault.ProblemFaultKind.{ProblemFaultKind}
-use Rattle.dmf_text.specs.declared.fault.ProblemFaultKind.TheVariants.{NodeOutOfRange, SumTooLarge, NoMemory}
+use Rattle.dmf_text.specs.declared.fault.ProblemFaultKind.TheVariants.{FieldCount, NodeOutOfRange, SumTooLarge, NoMemory}
+use Rattle.dmf_text.specs.declared.numbers.NumbersFault.{NumbersFault}
 use Rattle.dmf_text.specs.declared.reading.Body.{Body}
 use Rattle.dmf_text.specs.Number.{number_of}
-use Rattle.dmf_text.specs.Judging.{◌>>◌, expect}
-use Rattle.dmf_text.specs.Problem.{Facts, judged_arc}
+use Rattle.dmf_text.specs.Judging.{◌>>◌, expect, field}
+use Rattle.dmf_text.specs.Numbers.{numbers_in, numbers_kind}
+use Rattle.dmf_text.specs.Problem.{Facts, judged_arc, number_fault}
 use Rattle.dmf_text.specs.Reading.{arc_kind, facts_in_body, with_line}
+use Rattle.dmf_text.proofs.NumbersLemmas.{numbers-bad}
 use Rattle.dmf_text.proofs.reading.Body.take_arc_line.Goals as goal
 
 -- whether the ends of an arc are nodes, and its capacity fits
@@ -73,31 +77,46 @@ module _ (body : Body) (f g h : List ℕ) (tail head cap : ℕ) (fewer : length 
       (same-told (is_node body.state.network.nodes tail) (is_node body.state.network.nodes head)
       (nat_lt (capacity_sum body.state.network.arcs + cap) (2 ^ 64)) outcome (rw few at told))
 
+-- an arc line whose numbers have a fault
+line-faulty : (body : Body) (behind : List (List ℕ)) (fault : NumbersFault) → length body.state.network.arcs < body.arcs → numbers_in behind ≡ Err fault
+    → judged_arc (facts_in_body body) behind ≡ Err (numbers_kind FieldCount number_fault fault)
+unfolding judged_arc
+line-faulty body behind fault fewer is =
+    rw (lt-ltb _ _ fewer)
+    (numbers-bad FieldCount number_fault (length behind == 3) (number_of (field 0 behind)) (number_of (field 1 behind)) (number_of (field 2 behind))
+    (λ tail head cap. judgement (is_node body.state.network.nodes tail) (is_node body.state.network.nodes head)
+    (nat_lt (capacity_sum body.state.network.arcs + cap) (2 ^ 64))) fault is)
+
+pub returns-in_err-tail : goal.returns-in_err-tail
+returns-in_err-tail c =
+    let body = c.args.self.now in
+    let fewer : length body.state.network.arcs < body.arcs = omega (arith, ap length c.arcs.ensures.value) in
+    let failed = err_from_is_err_and c.from_residual.result c.from_residual.ensures.1 in
+    rw (failed.1, failed.2) (inr (line-faulty body c.args.behind c.in_err-tail.field-0.0 fewer c.in_err-tail.ensures.fault))
+
 pub returns-in_err-push_arc : goal.returns-in_err-push_arc
 returns-in_err-push_arc c =
     let body = c.args.self.now in
-    let three = c.in_ok-tail in
+    let three = c.in_ok-tail.ensures.spelled in
     let fewer : length body.state.network.arcs < body.arcs = omega (arith, ap length c.arcs.ensures.value) in
     let failed = err_from_is_err_and c.from_residual-in_err-push_arc.result c.from_residual-in_err-push_arc.ensures.1 in
-    let told = line-told body three.tail.now three.head.now three.cap.now c.in_ok-tail-2.tail c.in_ok-head.head c.in_ok-cap.cap fewer
-    (sym c.in_ok-tail-2.ensures) (sym c.in_ok-head.ensures) (sym c.in_ok-cap.ensures) (Err c.in_err-push_arc.field-0.0) c.in_err-push_arc.ensures.refused in
+    let told = line-told body three.first three.second three.third c.in_ok-tail.tail c.in_ok-tail.head c.in_ok-tail.cap fewer
+    three.first_is three.second_is three.third_is (Err c.in_err-push_arc.field-0.0) c.in_err-push_arc.ensures.refused in
     rw (failed.1, failed.2)
     (subst (λ behind. (arc_kind c.in_err-push_arc.field-0.0 ≡ NoMemory) ⊎ (judged_arc (facts_in_body body) behind ≡ Err (arc_kind c.in_err-push_arc.field-0.0)))
-    (sym three.ensures) told)
+    (sym three.are) told)
 
 pub returns : goal.returns
 returns c =
     let body = c.args.self.now in
-    let three = c.in_ok-tail in
+    let three = c.in_ok-tail.ensures.spelled in
+    let tail = c.in_ok-tail.tail in
+    let head = c.in_ok-tail.head in
+    let cap = c.in_ok-tail.cap in
     let fewer : length body.state.network.arcs < body.arcs = omega (arith, ap length c.arcs.ensures.value) in
-    let first = sym c.in_ok-tail-2.ensures in
-    let second = sym c.in_ok-head.ensures in
-    let third = sym c.in_ok-cap.ensures in
-    let tail = c.in_ok-tail-2.tail in
-    let head = c.in_ok-head.head in
-    let cap = c.in_ok-cap.cap in
-    let told = line-told body three.tail.now three.head.now three.cap.now tail head cap fewer first second third (Ok tt) c.in_ok-push_arc.ensures.refused in
-    let says = line-says body three.tail.now three.head.now three.cap.now tail head cap fewer first second third in
+    let told = line-told body three.first three.second three.third tail head cap fewer three.first_is three.second_is three.third_is
+    (Ok tt) c.in_ok-push_arc.ensures.refused in
+    let says = line-says body three.first three.second three.third tail head cap fewer three.first_is three.second_is three.third_is in
     subst (λ behind. (judged_arc (facts_in_body body) behind ≡ Ok tt) ×
-    (facts_at body.arcs c.push_arc.new.self ≡ with_line (facts_in_body body) (codes "a" ∷ behind))) (sym three.ensures)
+    (facts_at body.arcs c.push_arc.new.self ≡ with_line (facts_in_body body) (codes "a" ∷ behind))) (sym three.are)
     (told, ap (facts_at body.arcs) c.in_ok-push_arc.ensures.ok ∙ sym says)

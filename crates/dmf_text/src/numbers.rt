@@ -1,0 +1,103 @@
+//! The three numbers of a line behind its first field.
+ghost use Rattle.std.specs.Prelude.{◌≡◌, ◌<◌, true, IfErr, IfOk, IfSome, Err};
+ghost use Rattle.dmf_text.specs.Fields.{fields, is_blank};
+ghost use Rattle.dmf_text.specs.Numbers.{numbers_in, AreSpelled, IsAhead, IsNumberInFront};
+ghost use Rattle.dmf_text.specs.declared.numbers.NumbersFault.TheVariants as numbers_fault;
+
+use crate::digits::{MAX_FRONT, NumberFault, number};
+use crate::exact_fields::{WrongFieldCount, three_fields};
+use crate::field::{Fields, is_blank, leading_blanks};
+
+/// Why fields are no three numbers.
+#[derive(Clone, Copy)]
+pub(crate) enum NumbersFault {
+    /// There are too few fields, or too many.
+    FieldCount,
+    /// One of them is no number.
+    Number(NumberFault),
+}
+
+impl From<WrongFieldCount> for NumbersFault {
+    ghost from_gives = { λ _ fault. fault ≡ numbers_fault.FieldCount };
+
+    fn from(_count: WrongFieldCount) -> NumbersFault {
+        NumbersFault::FieldCount
+    }
+}
+
+impl From<NumberFault> for NumbersFault {
+    ghost from_gives = { λ fault of_all. of_all ≡ numbers_fault.Number fault };
+
+    fn from(fault: NumberFault) -> NumbersFault {
+        NumbersFault::Number(fault)
+    }
+}
+
+/// The numbers that the fields spell, if there are just three. Where each is short, its bytes are read once.
+pub(crate) fn three_numbers(behind: Fields<'_>) -> Result<(u64, u64, u64), NumbersFault>
+    ensures spelled { IfOk result (λ three. AreSpelled behind.entry three.0 three.1 three.2) }
+    ensures fault { IfErr result (λ fault. numbers_in behind.entry ≡ Err fault) }
+{
+    if let Some(three) = short_numbers(behind.rest()) {
+        return Ok(three);
+    }
+    let (first, second, third) = three_fields(behind)?;
+    let first = number(first)?;
+    let second = number(second)?;
+    let third = number(third)?;
+    Ok((first, second, third))
+}
+
+/// The three numbers that the fields of a line spell. Nothing where they spell other things, or one of the numbers is long.
+fn short_numbers(line: &[u8]) -> Option<(u64, u64, u64)>
+    ensures { IfSome result (λ three. AreSpelled (fields line.now) three.0 three.1 three.2) }
+{
+    let (first, line) = short_number(line)?;
+    let (second, line) = short_number(line)?;
+    let (third, line) = short_number(line)?;
+    if !line.is_empty() {
+        return None;
+    }
+    Some((first, second, third))
+}
+
+/// The number that the first field of a line spells, and the bytes behind it.
+fn short_number(line: &[u8]) -> Option<(u64, &[u8])>
+    ensures { IfSome result (λ ahead. IsAhead line.now ahead.0 ahead.1.now) }
+{
+    let (_, rest) = line.split_at(leading_blanks(line));
+    let (value, count) = number_in_front(rest)?;
+    let (_, behind) = rest.split_at(count);
+    Some((value, behind))
+}
+
+/// The number that the bytes before the first blank spell, and how many these are.
+fn number_in_front(bytes: &[u8]) -> Option<(u64, usize)>
+    ensures { IfSome result (λ front. IsNumberInFront bytes.now front.0 front.1) }
+{
+    let mut value = 0u64;
+    for (i, byte) in bytes.iter().enumerate() {
+        let byte = *byte;
+        if !byte.is_ascii_digit() {
+            return ended(value, i, byte);
+        }
+        if value > MAX_FRONT {
+            return None;
+        }
+        value = value * 10 + u64::from(byte - b'0');
+    }
+    if bytes.is_empty() {
+        return None;
+    }
+    Some((value, bytes.len()))
+}
+
+/// A number of so many digits, if there are some, and the byte behind them is a blank.
+fn ended(value: u64, count: usize, behind: u8) -> Option<(u64, usize)>
+    ensures { IfSome result (λ front. (front ≡ (value, count)) × (0 < count) × (is_blank behind ≡ true)) }
+{
+    if count > 0 && is_blank(behind) {
+        return Some((value, count));
+    }
+    None
+}
