@@ -1,4 +1,4 @@
-use Rattle.std.proofs.Common.{◌≡◌, ◌+◌, ◌||◌, Bool, true, false, length, refl, sym, ◌∙◌, arith, get_or, drop, true≢false, List, ℕ, subst}
+use Rattle.std.proofs.Common.{◌≡◌, ◌+◌, sym, ◌∙◌, get_or, drop, List, ℕ, subst}
 use Rattle.std.proofs.lemmas.List.{with_items_is}
 use Rattle.std.proofs.lemmas.Slice.Zip.{AllZip-long}
 use Rattle.dmf_state.specs.Edit.{numbers}
@@ -46,7 +46,7 @@ list_all_moves-requires c =
     let s = c.args.state.now in
     let state = c.flows.ensures.state in
     rw c.deref.ensures.value
-    (one_each s c.loop-shutting.unpaired.items _ c.loop-shutting.search c.loop-shutting.invariant
+    (one_each s c.loop-shutting.unpaired.items _ c.loop-shutting.search c.loop-shutting.invariant.carrying
     ∙ sym (AllZip-long _ s.network.arcs s.flows state.flow.within))
 
 pub returns-clause-moves : goal.returns-clause-moves
