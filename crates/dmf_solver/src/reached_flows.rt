@@ -28,7 +28,7 @@ impl<'a> Model for ReachedFlows<'a> {
 impl Flows for ReachedFlows<'_> {
     ghost flows = { λ flows. flows };
 
-    fn flow(&self, k: usize, _i: usize) -> u64 {
+    fn flow(&self, k: usize) -> u64 {
         let arc = self.state.arcs()[k];
         let before = self.state.flows()[k];
         flow_left(arc, before, self.solved.search.along(k))

@@ -61,7 +61,7 @@ pub fn solved_flows(alloc: Global, state: &State, solved: Solved) -> Result<Vec<
     let count = state.flows().len();
     let mut flows = Vec::with_capacity(alloc, count)?;
     for k in 0..count {
-        flows.push(reached.flow(k, k))?;
+        flows.push(reached.flow(k))?;
     }
     Ok(flows)
 }
