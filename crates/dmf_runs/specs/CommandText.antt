@@ -59,6 +59,15 @@ abbrev pub command_by : {X : Type 0} → (X → Command) → Result X Refusal �
 command_by command (Ok x) = Ok (Some (command x))
 command_by command (Err refusal) = Err refusal
 
+-- What a line means that asks for no change: by its first field, which is neither `c` nor the word of a change, and those behind.
+abbrev pub meaning_of_other : List ℕ → List (List ℕ) → Result (Option Command) Refusal
+meaning_of_other word behind =
+    if bytes_eq word (codes "solve") then command_by (λ command. command) (solving behind)
+    else if bytes_eq word (codes "undo") then command_by Undo (steps behind)
+    else if bytes_eq word (codes "redo") then command_by Redo (steps behind)
+    else if bytes_eq word (codes "print") then command_by (λ command. command) (printing behind)
+    else Err UnknownCommand
+
 -- A line without fields is blank, and one whose first field is `c` is a comment: they mean nothing.
 abbrev pub meaning_of : List (List ℕ) → Result (Option Command) Refusal
 meaning_of [] = Ok None
@@ -68,11 +77,7 @@ meaning_of (word ∷ behind) =
     else if bytes_eq word (codes "add") then command_by (λ command. command) (addition behind)
     else if bytes_eq word (codes "close") then command_by Close (one_number behind)
     else if bytes_eq word (codes "shut") then command_by Shut (one_number behind)
-    else if bytes_eq word (codes "solve") then command_by (λ command. command) (solving behind)
-    else if bytes_eq word (codes "undo") then command_by Undo (steps behind)
-    else if bytes_eq word (codes "redo") then command_by Redo (steps behind)
-    else if bytes_eq word (codes "print") then command_by (λ command. command) (printing behind)
-    else Err UnknownCommand
+    else meaning_of_other word behind
 
 -- what a line without its end means: nothing, a command, or why it is refused
 abbrev pub command_of : List ℕ → Result (Option Command) Refusal

@@ -4,7 +4,8 @@ ghost use Rattle.std.specs.Str.{bytes_eq};
 ghost use Rattle.std.specs.Str.Lines.{strip_carriage_return};
 ghost use Rattle.dmf_text.specs.Number.{number_of};
 ghost use Rattle.dmf_runs.specs.CommandText as text;
-ghost use Rattle.dmf_runs.specs.CommandText.{command_of, meaning_of, command_by, capping, addition, one_number, solving, steps, printing, with_number};
+ghost use Rattle.dmf_runs.specs.CommandText.{command_of, command_by, meaning_of, meaning_of_other};
+ghost use Rattle.dmf_runs.specs.CommandText.{capping, addition, one_number, solving, steps, printing, with_number};
 ghost use Rattle.dmf_runs.specs.KeptLine.{Means};
 
 use crate::kept_line::KeptLine;
@@ -74,7 +75,16 @@ fn read_named(word: &[u8], fields: Fields<'_>) -> Result<Command, Refusal>
         Ok(Command::Shut {
             node: read_one_number(fields)?,
         })
-    } else if word == b"solve".as_slice() {
+    } else {
+        read_other(word, fields)
+    }
+}
+
+/// The command with this first field, which is neither `c` nor the word of a change.
+fn read_other(word: &[u8], fields: Fields<'_>) -> Result<Command, Refusal>
+    ensures { command_by (λ command. command) result ≡ meaning_of_other word.now fields.entry }
+{
+    if word == b"solve".as_slice() {
         read_solving(fields)
     } else if word == b"undo".as_slice() {
         Ok(Command::Undo(read_steps(fields)?))

@@ -1,5 +1,5 @@
 //! Sessions, from bytes to bytes.
-ghost use Rattle.std.specs.Prelude.{◌≡◌, ◌≤◌, IsOk, None, Ok, Some, length};
+ghost use Rattle.std.specs.Prelude.{◌≡◌, ◌≤◌, IsOk, None, Ok, length};
 ghost use Rattle.dmf_runs.specs.Streams.{streams_of};
 ghost use Rattle.dmf_runs.specs.Outcome.{RunsCommands, RunsCommandsWith, solutions, status_if};
 ghost use Rattle.dmf_runs.specs.Session.{RunsSession, RunsSessionWith};
@@ -66,39 +66,81 @@ pub fn run_commands_watched<H: History + Drop, C: Source, W: Sink, V: Watch>(
         (streams_of (C.left commands.old) (W.written out.old)) (streams_of (C.left commands.new) (W.written out.new)) result }
 {
     let mut session = session;
-    run_lines(alloc, &mut session, commands, out, wanted, watch)
+    SessionRun { alloc, wanted }.run_lines(&mut session, commands, out, watch)
 }
 
-/// Carries out the command lines on the caller's session.
-fn run_lines<H: History, C: Source, W: Sink, V: Watch>(
+/// What all command lines of a run are carried out with.
+#[derive(Clone, Copy)]
+struct SessionRun {
     alloc: Global,
-    session: &mut Session<H>,
-    commands: &mut C,
-    out: &mut W,
     wanted: SolveReply,
-    watch: &mut V,
-) -> Result<Status, EngineFault>
-    requires at_first { (H.timeline session.old).place ≡ 0 }
-    requires one_state { length (H.timeline session.old).states ≡ 1 }
-    ensures { RunsCommandsWith wanted (H.timeline session.old)
-        (streams_of (C.left commands.old) (W.written out.old)) (streams_of (C.left commands.new) (W.written out.new)) result }
-{
-    let mut input = Input::new();
-    let mut line = KeptLine::new();
-    let mut is_refused = false;
-    for number in 1..MAX_LINES + 1 {
-        let Next::Line { ended } = input.next_line(commands, &mut line)? else {
-            return Ok(status(is_refused));
+}
+
+/// A command line: its number, from 1, and what it means.
+#[derive(Clone, Copy)]
+struct CommandLine {
+    number: u32,
+    meaning: Meaning,
+}
+
+impl SessionRun {
+    /// Carries out the command lines on the caller's session.
+    fn run_lines<H: History, C: Source, W: Sink, V: Watch>(
+        self,
+        session: &mut Session<H>,
+        commands: &mut C,
+        out: &mut W,
+        watch: &mut V,
+    ) -> Result<Status, EngineFault>
+        requires at_first { (H.timeline session.old).place ≡ 0 }
+        requires one_state { length (H.timeline session.old).states ≡ 1 }
+        ensures { RunsCommandsWith self.wanted (H.timeline session.old)
+            (streams_of (C.left commands.old) (W.written out.old)) (streams_of (C.left commands.new) (W.written out.new)) result }
+    {
+        let mut input = Input::new();
+        let mut kept = KeptLine::new();
+        let mut is_refused = false;
+        for number in 1..MAX_LINES + 1 {
+            let Next::Line { ended } = input.next_line(commands, &mut kept)? else {
+                return Ok(status(is_refused));
+            };
+            let meaning = meaning_of(&kept, ended);
+            let answer = self.answer(session, CommandLine { number, meaning }, out, watch)?;
+            is_refused |= answer.is_refusal();
+            if !ended {
+                return Ok(status(is_refused));
+            }
+        }
+        input.expect_end(commands)?;
+        Ok(status(is_refused))
+    }
+
+    /// Carries out a line, writes its reply and flushes. A line without a reply leaves the writer as it was.
+    fn answer<H: History, W: Sink, V: Watch>(
+        self,
+        session: &mut Session<H>,
+        line: CommandLine,
+        out: &mut W,
+        watch: &mut V,
+    ) -> Result<Answer, WriteFault>
+        ensures line { WritesLine self.wanted (W.written out.old) (W.written out.new) line.number
+            (H.timeline session.old) line.meaning (H.timeline session.new) result }
+        ensures silent { line.meaning ≡ Ok None → (out.new ≡ out.old) × IsOk result }
+    {
+        let command = match line.meaning {
+            Ok(None) => return Ok(Answer::Accepted),
+            Ok(Some(command)) => command,
+            Err(refusal) => return refuse(line.number, &refusal, out),
         };
-        let meaning = meaning_of(&line, ended);
-        let answer = answer(alloc, session, number, meaning, out, wanted, watch)?;
-        is_refused |= answer.is_refusal();
-        if !ended {
-            return Ok(status(is_refused));
+        tell_solve(session, command, watch);
+        match session.step_watched(self.alloc, command, self.wanted.cut, watch) {
+            Ok(reply) => {
+                put_reply(command, &reply, session.present(), self.wanted.brief, out)?;
+                Ok(Answer::Accepted)
+            }
+            Err(refusal) => refuse(line.number, &refusal, out),
         }
     }
-    input.expect_end(commands)?;
-    Ok(status(is_refused))
 }
 
 /// As [`run_session_bounded`], with the largest bound, [`MAX_BOUND`]. A session has no more lines than that, so it never forgets a
@@ -181,49 +223,6 @@ fn status(is_refused: bool) -> Status
         Status::SomeRefused
     } else {
         Status::Well
-    }
-}
-
-/// Carries out a line, writes its reply and flushes. A line without a reply leaves the writer as it was.
-fn answer<H: History, W: Sink, V: Watch>(
-    alloc: Global,
-    session: &mut Session<H>,
-    number: u32,
-    meaning: Meaning,
-    out: &mut W,
-    wanted: SolveReply,
-    watch: &mut V,
-) -> Result<Answer, WriteFault>
-    ensures line { WritesLine wanted (W.written out.old) (W.written out.new) number
-        (H.timeline session.old) meaning (H.timeline session.new) result }
-    ensures silent { meaning ≡ Ok None → (out.new ≡ out.old) × IsOk result }
-{
-    match meaning {
-        Ok(None) => Ok(Answer::Accepted),
-        Ok(Some(command)) => answer_command(alloc, session, number, command, out, wanted, watch),
-        Err(refusal) => refuse(number, &refusal, out),
-    }
-}
-
-fn answer_command<H: History, W: Sink, V: Watch>(
-    alloc: Global,
-    session: &mut Session<H>,
-    number: u32,
-    command: Command,
-    out: &mut W,
-    wanted: SolveReply,
-    watch: &mut V,
-) -> Result<Answer, WriteFault>
-    ensures { WritesLine wanted (W.written out.old) (W.written out.new) number
-        (H.timeline session.old) (Ok (Some command)) (H.timeline session.new) result }
-{
-    tell_solve(session, command, watch);
-    match session.step_watched(alloc, command, wanted.cut, watch) {
-        Ok(reply) => {
-            put_reply(command, &reply, session.present(), wanted.brief, out)?;
-            Ok(Answer::Accepted)
-        }
-        Err(refusal) => refuse(number, &refusal, out),
     }
 }
 

@@ -1,5 +1,5 @@
 -- The present state of a timeline that has states, and that it is what a change appended.
-use Rattle.std.proofs.Common.{ℕ, ◌≡◌, length, Option, Some, None, Result, Ok, Err, MatchOption, IsOkUnless, pos, nat_abs, arith, ap, ◌∙◌, subst, ⊎_elim}
+use Rattle.std.proofs.Common.{ℕ, ◌≡◌, length, Option, Some, None, Result, Ok, Err, MatchOption, IsOkUnless, pos, nat_abs, arith, refl, ap, ◌∙◌, subst, ⊎_elim}
 use Rattle.std.proofs.lemmas.List.Elements.{All-get_or}
 use Rattle.std.proofs.lemmas.Option.{slice_get_cases}
 use Rattle.dmf_state.specs.declared.edit.Edit.{Edit}
@@ -11,9 +11,11 @@ use Rattle.dmf_solver.specs.Change.{Change, change_fault, Becomes}
 use Rattle.dmf_state.specs.Edit.{applied}
 use Rattle.dmf_session.specs.declared.command.Reply.{Reply}
 use Rattle.dmf_session.specs.declared.command.Reply.TheVariants.{Value, Added}
+use Rattle.dmf_session.specs.AppendedEdit.{AnswersAppended}
 use Rattle.dmf_session.specs.declared.command.Refusal.{Refusal}
+use Rattle.dmf_session.specs.declared.command.Refusal.TheVariants as refusal
 use Rattle.dmf_history.specs.Timeline.{Timeline, IsPresent, Appends}
-use Rattle.dmf_session.specs.Step.{Changes, IsChanged, IsRefused, refusal_of, value_of}
+use Rattle.dmf_session.specs.Step.{Changes, IsAccepted, IsChanged, IsRefused, refusal_of, value_of}
 use Rattle.dmf_session.specs.Laws.{HasStates}
 use Rattle.dmf_history.proofs.Appending.{one-present, now-present, appends-applied}
 
@@ -54,16 +56,44 @@ IsChanged-added t u s p edit change count value present becomes appends shown co
     (ap (λ n. Added n value) counts ∙ ap (λ n. Added (length p.network.arcs) n) (ap nat_abs valued))
 
 -- where a plan was made, nothing refuses the change
+no-fault : (edit : Edit) (fault : Option PlanFault) → MatchOption fault (IsOkUnless (Ok edit) NoMemory) (λ f. Ok edit ≡ Err f) → fault ≡ None
+no-fault edit None planned = refl
+no-fault edit (Some f) planned = absurd (cc)
+
 planned-changes : (t u : Timeline) (s : NetworkState) (edit : Edit) (change : Change) (reply : NetworkState → Reply) (result : Result Reply Refusal)
     (fault : Option PlanFault) → MatchOption fault (IsOkUnless (Ok edit) NoMemory) (λ f. Ok edit ≡ Err f) → IsChanged t s change reply result u
     → MatchOption fault (IsChanged t s change reply result u) (λ f. IsRefused t (refusal_of f) result u)
 planned-changes t u s edit change reply result None planned changed = changed
 planned-changes t u s edit change reply result (Some f) planned changed = absurd (cc)
 
--- a change that was planned on the present state, unless memory was refused, and appended; the reply tells the value
-pub Changes-valued : (t u : Timeline) (s p : NetworkState) (edit : Edit) (change : Change) (value : ℕ) → IsPresent t s → MatchOption (change_fault s change)
-    (IsOkUnless (Ok edit) NoMemory) (λ f. Ok edit ≡ Err f) → Becomes s change (applied edit s) → Appends edit t u → IsPresent u p
-    → pos value ≡ flow_value p.network p.flows → Changes t s change (λ new. Value (value_of new)) (Ok (Value value)) u
-Changes-valued t u s p edit change value present planned becomes appends shown valued =
-    planned-changes t u s edit change (λ new. Value (value_of new)) (Ok (Value value)) (change_fault s change) planned
-    (IsChanged-told t u s p edit change (λ new. Value (value_of new)) (Value value) present becomes appends shown (ap (λ n. Value n) (ap nat_abs valued)))
+-- A change that was planned on the present state, unless memory was refused, and whose edit was appended: it is answered as a command
+-- that asks for it is to be.
+answers-at : (t u : Timeline) (s : NetworkState) (edit : Edit) (change : Change) (IsAnswer : Result Reply Refusal → Type 0) (result : Result Reply Refusal)
+    → IsPresent t s → MatchOption (change_fault s change) (IsOkUnless (Ok edit) NoMemory) (λ f. Ok edit ≡ Err f) → Becomes s change (applied edit s)
+    → AnswersAppended edit t result u
+    → ((value : ℕ) → (s : NetworkState) × IsPresent t s × Changes t s change (λ new. Value (value_of new)) (Ok (Value value)) u → IsAnswer (Ok (Value value)))
+    → (IsAccepted t change × (u ≡ t) → IsAnswer (Err refusal.NoMemory)) → IsAnswer result
+answers-at t u s edit change IsAnswer (Ok (Value value)) present planned becomes a answered refused =
+    answered value (
+      s,
+      present,
+      planned-changes t u s edit change (λ new. Value (value_of new)) (Ok (Value value)) (change_fault s change) planned
+          (IsChanged-told t u s a.state edit change (λ new. Value (value_of new)) (Value value) present becomes a.appends a.present
+          (ap (λ n. Value n) (ap nat_abs a.value_is))),
+    )
+answers-at t u s edit change IsAnswer (Err refusal.NoMemory) present planned becomes a answered refused =
+    refused ((s, present, no-fault edit (change_fault s change) planned), a)
+answers-at t u s edit change IsAnswer result present planned becomes a answered refused = absurd a
+
+-- The same of a history, under both its names.
+pub answers-appended : {X : Type 0} (timeline : X → Timeline) (inside seen : X) → inside ≡ seen → (u : Timeline) (s : NetworkState) (edit : Edit)
+    (change : Change) (IsAnswer : Timeline → Result Reply Refusal → Type 0) (result : Result Reply Refusal) → IsPresent (timeline inside) s
+    → MatchOption (change_fault s change) (IsOkUnless (Ok edit) NoMemory) (λ f. Ok edit ≡ Err f) → Becomes s change (applied edit s)
+    → AnswersAppended edit (timeline inside) result u
+    → ((t : Timeline) (value : ℕ) → (s : NetworkState) × IsPresent t s × Changes t s change (λ new. Value (value_of new)) (Ok (Value value)) u
+    → IsAnswer t (Ok (Value value)))
+    → ((t : Timeline) → IsAccepted t change × (u ≡ t) → IsAnswer t (Err refusal.NoMemory)) → IsAnswer (timeline seen) result
+answers-appended timeline inside seen same u s edit change IsAnswer result present planned becomes appended answered refused =
+    subst (λ h. IsAnswer (timeline h) result) same
+    (answers-at (timeline inside) u s edit change (IsAnswer (timeline inside)) result present planned becomes appended
+    (answered (timeline inside)) (refused (timeline inside)))

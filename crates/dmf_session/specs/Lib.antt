@@ -1,3 +1,4 @@
+pub mod AppendedEdit
 pub mod Kept
 pub mod Optimal
 pub mod RefusalText

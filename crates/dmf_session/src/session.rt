@@ -3,6 +3,7 @@ ghost use Rattle.dmf_session.specs.declared.command.Command.TheVariants.{Cap, Ad
 ghost use Rattle.dmf_history.specs.declared.history.RedoFault.TheVariants as redo;
 ghost use Rattle.dmf_history.specs.Timeline.{IsTimeline, IsPresent, future_of, back, forward, FitsPresent, Appends, AddsArcs};
 ghost use Rattle.dmf_session.specs.Step.{Answers};
+ghost use Rattle.dmf_session.specs.AppendedEdit.{AnswersAppended};
 ghost use Rattle.dmf_session.specs.Kept.{KeepsPresent, KeepsApplied};
 ghost use Rattle.dmf_session.specs.Optimal.{HasOptimalPresent};
 ghost use Rattle.dmf_session.specs.Telling.{TellsStep};
@@ -147,8 +148,7 @@ impl<H: History> Session<H> {
     {
         let edit = plan_cap_with(alloc, self.history.present(), arc, cap, &mut self.kept)?;
         let kept = self.kept.take();
-        self.append(edit, kept)?;
-        Ok(Reply::Value(self.present().value()))
+        self.change(edit, kept)
     }
 
     fn add(&mut self, tail: u64, head: u64, cap: u64) -> Result<Reply, Refusal>
@@ -165,8 +165,7 @@ impl<H: History> Session<H> {
     {
         let edit = plan_close_with(alloc, self.history.present(), arc, &mut self.kept)?;
         let kept = self.kept.take();
-        self.append(edit, kept)?;
-        Ok(Reply::Value(self.present().value()))
+        self.change(edit, kept)
     }
 
     fn shut(&mut self, alloc: Global, node: u64) -> Result<Reply, Refusal>
@@ -174,8 +173,7 @@ impl<H: History> Session<H> {
     {
         let edit = plan_shut_with(alloc, self.history.present(), node, &mut self.kept)?;
         let kept = self.kept.take();
-        self.append(edit, kept)?;
-        Ok(Reply::Value(self.present().value()))
+        self.change(edit, kept)
     }
 
     // Finds the side, if one is wanted, before the history takes the solve. So if memory is refused for it, nothing has changed.
@@ -229,6 +227,16 @@ impl<H: History> Session<H> {
                 return Err(Refusal::NoMemory);
             }
         }
+        Ok(Reply::Value(self.present().value()))
+    }
+
+    /// Appends the state that the edit makes of the present one, keeps this network as [`Session::append`] does, and tells the value.
+    fn change(&mut self, edit: Edit, kept: Option<ResidualNetwork>) -> Result<Reply, Refusal>
+        requires fits { FitsPresent edit (H.timeline self.old) }
+        requires kept { KeepsApplied edit (H.timeline self.old) kept }
+        ensures { AnswersAppended edit (H.timeline self.old) result (H.timeline self.new) }
+    {
+        self.append(edit, kept)?;
         Ok(Reply::Value(self.present().value()))
     }
 
