@@ -21,20 +21,25 @@ last-link_within l labels after current w links start way some =
     let before = IsTrail-pop l labels after current w.start front p trail in
     lies-within l (end_of l w.start front) p links (end-node l labels after current w.start front links start before.0) before.1.lies
 
+-- where the walk leads: to its start, or to where its last link leads
+pub walk-end : (l : Links) (w : Way) (node : ℕ) → w.walked ≤ length w.slots → (w.walked ≡ 0 → node ≡ w.start)
+    → (0 < w.walked → node ≡ get_or l.heads (slot_at w.slots (w.walked - 1)).place 0) → end_of l w.start (places_of (walked_slots w)) ≡ node
+walk-end l w node within first last = ⊎_elim
+    (λ (some : 0 < w.walked).
+    ap (λ ps. end_of l w.start ps) (last-places w some within)
+    ∙ end_of-push l w.start (places_of (take (w.walked - 1) w.slots)) (slot_at w.slots (w.walked - 1)).place ∙ sym (last some))
+    (λ (none : w.walked ≤ 0).
+    let empty : w.walked ≡ 0 = omega (arith, none) in
+    ap (λ n. end_of l w.start (places_of (take n w.slots))) empty ∙ sym (first empty))
+    (cases_lt 0 w.walked)
+
 -- The walk has come to this node.
 pub on-start : (r : Residual) (v : Labelling) (w : Way) (node : ℕ) → IsSearching r v w → (w.walked ≡ 0 → node ≡ w.start)
     → (0 < w.walked → node ≡ get_or r.links.heads (slot_at w.slots (w.walked - 1)).place 0) → IsOnWay r v.labels v.current (told r w) w node
 on-start r v w node is first last =
     let l : Links = r.links in
     let way = is.under_way in
-    let arrives : end_of l w.start (places_of (walked_slots w)) ≡ node = ⊎_elim
-    (λ (some : 0 < w.walked).
-    ap (λ ps. end_of l w.start ps) (last-places w some (omega (arith, way.order, way.within)))
-    ∙ end_of-push l w.start (places_of (take (w.walked - 1) w.slots)) (slot_at w.slots (w.walked - 1)).place ∙ sym (last some))
-    (λ (none : w.walked ≤ 0).
-    let empty : w.walked ≡ 0 = omega (arith, none) in
-    ap (λ n. end_of l w.start (places_of (take n w.slots))) empty ∙ sym (first empty))
-    (cases_lt 0 w.walked) in
+    let arrives : end_of l w.start (places_of (walked_slots w)) ≡ node = walk-end l w node (omega (arith, way.order, way.within)) first last in
     record {
       come = record {
         walking = way.walking;

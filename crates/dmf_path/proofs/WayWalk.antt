@@ -10,6 +10,7 @@ use Rattle.dmf_path.proofs.Walking.{end_of-push, IsTrail-pop, come-next, end-nod
 use Rattle.dmf_path.proofs.WalkingTurn.{WalkTurn, walk-turn, node-within, come-moved, found-within, none-found, come-popped, tail-within, work_left, work-found}
 use Rattle.dmf_path.proofs.WalkingTurn.{work-popped}
 use Rattle.dmf_path.proofs.UnderWay.{goal-joint, is-free, free-room}
+use Rattle.dmf_path.proofs.WayStart.{walk-end, last-link_within}
 use Rattle.dmf_path.proofs.WayTurn.{IsOnWay, on-moved, slots-left, first-leaves, IsMade, way-made, on-entered, last-places, last-leaves, on-back}
 
 -- The room of a link that falls from the node to which the walk has come is as it is told.
@@ -172,6 +173,20 @@ slot-last t some = (last-leaves t.r t.labels t.current t.aim t.w t.node t.links 
 pub back-within : (t : Turn) (back : ℕ) → 0 < t.w.walked → back ≡ (slot_at t.w.slots (t.w.walked - 1)).place → back < length t.r.links.heads
 back-within t back some is = omega (arith, is, (slot-last t some).within)
 
+-- Once it has left, the walk leads to the node from which it led.
+pub back-tail : (t : Turn) (new : Way) (tail : ℕ) → 0 < t.w.walked → new ≡ stepped_back t.w → (new.walked ≡ 0 → tail ≡ new.start)
+    → (0 < new.walked → tail ≡ get_or t.r.links.heads (slot_at new.slots (new.walked - 1)).place 0)
+    → tail ≡ tail_of t.r.links (slot_at t.w.slots (t.w.walked - 1)).place
+back-tail t new tail some step first last =
+    let l : Links = t.r.links in
+    let p : ℕ = (slot_at t.w.slots (t.w.walked - 1)).place in
+    let front : List ℕ = places_of (take (t.w.walked - 1) t.w.slots) in
+    let before = IsTrail-pop l t.labels t.aim.rooms t.current t.w.start front p
+    (subst (IsTrail l t.labels t.aim.rooms t.current t.w.start) (popped t some) t.on.come.walking.trail_is) in
+    let node = end-node l t.labels t.aim.rooms t.current t.w.start front t.links t.start_is before.0 in
+    let fits : t.w.walked - 1 ≤ length t.w.slots = omega (arith, t.on.way.order, t.on.way.within) in
+    sym (walk-end l (stepped_back t.w) tail fits (rw step at first) (rw step at last)) ∙ sym (t.links.at_tail (end_of l t.w.start front) p node before.1.lies)
+
 pub back-tail_within : (t : Turn) (tail : ℕ) → 0 < t.w.walked → tail ≡ tail_of t.r.links (slot_at t.w.slots (t.w.walked - 1)).place
     → tail < length (set t.current t.node t.place)
 back-tail_within t tail some is = tail-within (walk_of t) (places_of (take (t.w.walked - 1) t.w.slots)) (slot_at t.w.slots (t.w.walked - 1)).place tail
@@ -206,3 +221,16 @@ on-stepped t next new back tail none some put step sums at is =
     (on-back t.r t.labels (set t.current t.node t.place) t.aim t.w t.node (p + 1) tail t.links t.start_is (on-turned t) some
     (omega (arith, falls, ap (λ u. get_or t.labels u 0) head, ap (λ u. get_or t.labels u 0) is)) come
     (subst (λ (x : Residual). AreRooms x.links x.rooms) put sums))
+
+-- A link that is then the last one of the walk is there.
+pub back-last : (t : Turn) (next : Residual) (new : Way) → t.end ≤ t.place → 0 < t.w.walked
+    → next ≡ put_on t.r t.w.sent (slot_at t.w.slots (t.w.walked - 1)) → new ≡ stepped_back t.w → AreRooms next.links next.rooms
+    → 0 < new.walked → (slot_at new.slots (new.walked - 1)).place < length t.r.links.heads
+back-last t next new none some put step sums more =
+    let p : ℕ = (slot_at t.w.slots (t.w.walked - 1)).place in
+    let on = on-stepped t next new p (tail_of t.r.links p) none some put step sums refl refl in
+    let same : next.links ≡ t.r.links = ap (λ (x : Residual). x.links) put in
+    let start : IsNode next.links.nodes new.start =
+    subst (λ (l : Links). IsNode l.nodes new.start) (sym same) (subst (IsNode t.r.links.nodes) (sym (ap (λ (w : Way). w.start) step)) t.start_is) in
+    subst (λ (l : Links). (slot_at new.slots (new.walked - 1)).place < length l.heads) same
+    (last-link_within next.links t.labels t.aim.rooms _ new (subst AreLinks (sym same) t.links) start on.way more)

@@ -24,6 +24,19 @@ impl Links {
         }
         left + held_for(&self.rooms, trail, self.table.opposite(place))
     }
+
+    /// The room of the link that is opposite to the one at a place, with the held pushes applied. Where nothing is held and the flag tells
+    /// that there is no room, the opposite link is not looked at.
+    pub fn opposite_room(&self, trail: &Trail, place: u32) -> u64
+        requires place { place < length self.now.table.value.heads.items }
+        requires have { HaveLeft trail.now.sent self.now.rooms.items (filled_slots (way_of trail.now)) }
+        ensures { result ≡ slice_index (told (residual_of self.now) (way_of trail.now)).rooms (slice_index self.now.table.value.partners.items place) }
+    {
+        if self.flags[place as usize] == 0 && trail.is_empty() {
+            return 0;
+        }
+        self.settled_room(trail, self.table.opposite(place))
+    }
 }
 
 /// The amount held for a link.

@@ -105,8 +105,7 @@ impl Search {
         ensures { result ≡ against_at self.now.pairs k }
     {
         let place = self.places.place_of(k)?;
-        let opposite = self.links.table.opposite(place);
-        Some(self.links.settled_room(&self.trail, opposite))
+        Some(self.links.opposite_room(&self.trail, place))
     }
 
     /// The room of the link along the pair at index `k`, and nothing where there is no pair. Takes no memory.

@@ -59,13 +59,16 @@ impl Links {
         }
     }
 
-    /// Applies the pushes that a slot holds to the rooms of its link.
+    /// Applies the pushes that a slot holds to the rooms of its link. Where it holds none, the opposite link is not looked at: so a walk
+    /// that steps back from a dead end reads less memory.
     fn put_on(&mut self, slot: Slot, sent: u64)
         requires slot { IsSlot (links_of self.old.table.value) sent self.old.rooms.items slot }
         ensures { residual_of self.new ≡ put_on (residual_of self.old) sent slot }
     {
         let held = self.rooms[slot.place as usize] - slot.room_left(sent);
-        self.push(slot.place, held);
+        if held > 0 {
+            self.push(slot.place, held);
+        }
     }
 }
 

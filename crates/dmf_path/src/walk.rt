@@ -36,7 +36,7 @@ pub fn walk(links: &mut Links, labels: &[u32], current: &mut [u32], trail: &mut 
                 return false;
             }
             let back = trail.step_back(links);
-            node = links.table.tail(back);
+            node = end_node(&links.table, trail);
             current[node as usize] = back + 1;
         }
     }

@@ -1,9 +1,9 @@
 -- Where the walk begins, a turn that goes on, one that steps back, and what the work is each time.
-use Rattle.std.proofs.Common.{◌≡◌, ◌+◌, ◌-◌, ◌<◌, set, get_or, refl, ap, sym, subst, ◌∙◌, arith, length}
+use Rattle.std.proofs.Common.{◌≡◌, ◌+◌, ◌<◌, set, get_or, refl, ap, sym, subst, ◌∙◌, arith, length}
 use Rattle.std.proofs.lemmas.List.{get_or_default}
 use Rattle.dmf_node.specs.Node.{IsNode}
-use Rattle.dmf_path.specs.Links.{Links, tail_of}
-use Rattle.dmf_path.specs.Held.{Way, way_of, slot_at}
+use Rattle.dmf_path.specs.Links.{Links}
+use Rattle.dmf_path.specs.Held.{Way, way_of}
 use Rattle.dmf_path.specs.Residual.{Residual, residual_of, told}
 use Rattle.dmf_path.specs.Walk.{IsWalk}
 use Rattle.dmf_path.specs.Searching.{IsUnderWay}
@@ -11,7 +11,7 @@ use Rattle.dmf_path.proofs.LinkPlaces.{end-within}
 use Rattle.dmf_path.proofs.WalkingTurn.{work_left}
 use Rattle.dmf_path.proofs.WayStart.{last-link_within, on-start, searching-on, same-sought}
 use Rattle.dmf_path.proofs.WayWalk.{Turn, IsFound, on-turned, within-found, slot-found, slot-first, made-start, made-goal, made-capacity, made-links, is-made}
-use Rattle.dmf_path.proofs.WayWalk.{on-found, less-found, no-walk, slot-last, back-within, back-tail_within, less-back, on-stepped}
+use Rattle.dmf_path.proofs.WayWalk.{on-found, less-found, no-walk, slot-last, back-within, back-tail, back-tail_within, less-back, on-stepped, back-last}
 use Rattle.dmf_path.proofs.walk.walk.Goals as goal
 use Rattle.dmf_path.proofs.walk.walk.Goals.{After-first_admissible-place}
 
@@ -203,12 +203,16 @@ step_back-back-requires-clause-slot c =
     let some : 0 < c.loop-node.trail.walked = omega (arith, c.if-trail-eq0.false) in
     slot-last t some
 
-pub tail-node-requires : goal.tail-node-requires
-tail-node-requires c =
-    let t = turn (goal.at.tail-node-requires c).After-first_admissible-place in
+pub end_node-node-requires-else-place-end : goal.end_node-node-requires-else-place-end
+end_node-node-requires-else-place-end c =
+    let t = turn (goal.at.end_node-node-requires-else-place-end c).After-first_admissible-place in
     let some : 0 < c.loop-node.trail.walked = omega (arith, c.if-trail-eq0.false) in
-    rw c.deref-else-place-end.ensures (subst (λ (x : Residual). c.step_back-back.result < length x.links.heads) (sym c.step_back-back.ensures.links)
-    (back-within t c.step_back-back.result some c.step_back-back.ensures.place))
+    let back = c.step_back-back.ensures in
+    record {
+      last = rw (c.deref-else-place-end.ensures, ap (λ (x : Residual). x.links.heads) back.links)
+          (back-last t (residual_of c.step_back-back.new.links) (way_of c.step_back-back.new.self) c.if-place-end.false some back.links back.way
+          c.step_back-back.new.links.rooms_are);
+    }
 
 pub overflow_add-current : goal.overflow_add-current
 overflow_add-current c =
@@ -220,36 +224,33 @@ pub bounds-current-node-else-place-end : goal.bounds-current-node-else-place-end
 bounds-current-node-else-place-end c =
     let t = turn (goal.at.bounds-current-node-else-place-end c).After-first_admissible-place in
     let some : 0 < c.loop-node.trail.walked = omega (arith, c.if-trail-eq0.false) in
-    let tail : c.tail-node.result ≡ tail_of t.r.links (slot_at t.w.slots (t.w.walked - 1)).place =
-    (rw c.deref-else-place-end.ensures at c.tail-node.ensures)
-    ∙ ap (λ (x : Residual). tail_of x.links c.step_back-back.result) c.step_back-back.ensures.links ∙ ap (tail_of t.r.links)
-    c.step_back-back.ensures.place in
-    back-tail_within t c.tail-node.result some tail
+    let led = rw (c.deref-else-place-end.ensures, ap (λ (x : Residual). x.links.heads) c.step_back-back.ensures.links)
+    at c.end_node-node-else-place-end.ensures in
+    let tail = back-tail t (way_of c.step_back-back.new.self) c.end_node-node-else-place-end.result some c.step_back-back.ensures.way led.first led.last in
+    back-tail_within t c.end_node-node-else-place-end.result some tail
 
 pub loop-node-smaller : goal.loop-node-smaller
 loop-node-smaller c =
     let t = turn (goal.at.loop-node-smaller c).After-first_admissible-place in
     let some : 0 < c.loop-node.trail.walked = omega (arith, c.if-trail-eq0.false) in
-    let tail : c.tail-node.result ≡ tail_of t.r.links (slot_at t.w.slots (t.w.walked - 1)).place =
-    (rw c.deref-else-place-end.ensures at c.tail-node.ensures)
-    ∙ ap (λ (x : Residual). tail_of x.links c.step_back-back.result) c.step_back-back.ensures.links ∙ ap (tail_of t.r.links)
-    c.step_back-back.ensures.place in
-    subst (λ s. work_left t.aim.links t.labels s (set (set t.current t.node t.place) c.tail-node.result (c.step_back-back.result + 1)) c.tail-node.result
+    let led = rw (c.deref-else-place-end.ensures, ap (λ (x : Residual). x.links.heads) c.step_back-back.ensures.links)
+    at c.end_node-node-else-place-end.ensures in
+    let tail = back-tail t (way_of c.step_back-back.new.self) c.end_node-node-else-place-end.result some c.step_back-back.ensures.way led.first led.last in
+    subst (λ s. work_left t.aim.links t.labels s (set (set t.current t.node t.place) c.end_node-node-else-place-end.result (c.step_back-back.result + 1)) c.end_node-node-else-place-end.result
     < work_left t.aim.links t.labels s t.current t.node) c.loop-node.invariant.start
-    (less-back t c.step_back-back.result c.tail-node.result some c.step_back-back.ensures.place tail)
+    (less-back t c.step_back-back.result c.end_node-node-else-place-end.result some c.step_back-back.ensures.place tail)
 
 pub loop-node-preserved : goal.loop-node-preserved
 loop-node-preserved c =
     let t = turn (goal.at.loop-node-preserved c).After-first_admissible-place in
     let some : 0 < c.loop-node.trail.walked = omega (arith, c.if-trail-eq0.false) in
-    let tail : c.tail-node.result ≡ tail_of t.r.links (slot_at t.w.slots (t.w.walked - 1)).place =
-    (rw c.deref-else-place-end.ensures at c.tail-node.ensures)
-    ∙ ap (λ (x : Residual). tail_of x.links c.step_back-back.result) c.step_back-back.ensures.links ∙ ap (tail_of t.r.links)
-    c.step_back-back.ensures.place in
+    let led = rw (c.deref-else-place-end.ensures, ap (λ (x : Residual). x.links.heads) c.step_back-back.ensures.links)
+    at c.end_node-node-else-place-end.ensures in
+    let tail = back-tail t (way_of c.step_back-back.new.self) c.end_node-node-else-place-end.result some c.step_back-back.ensures.way led.first led.last in
     let back = c.step_back-back.ensures in
     let i = c.loop-node.invariant in
     record {
-      on = on-stepped t (residual_of c.step_back-back.new.links) (way_of c.step_back-back.new.self) c.step_back-back.result c.tail-node.result
+      on = on-stepped t (residual_of c.step_back-back.new.links) (way_of c.step_back-back.new.self) c.step_back-back.result c.end_node-node-else-place-end.result
           c.if-place-end.false some back.links back.way c.step_back-back.new.links.rooms_are back.place tail;
       start = ap (λ (w : Way). w.start) back.way ∙ i.start;
       goal = ap (λ (w : Way). w.goal) back.way ∙ i.goal;

@@ -1,5 +1,5 @@
 -- The pair's place, and the room of the opposite link.
-use Rattle.std.proofs.Common.{get_or, ap, sym, ◌∙◌, Some}
+use Rattle.std.proofs.Common.{ap, sym, ◌∙◌, Some}
 use Rattle.std.specs.Option.{option_map}
 use Rattle.dmf_path.specs.declared.pair.Pair.{Pair}
 use Rattle.dmf_path.specs.Held.{way_of}
@@ -23,16 +23,15 @@ returns-in_err-place c =
     (sym (ap (option_map (λ (p : Pair). p.against)) (no-pair s.residual.links of.places.value s.residual.rooms c.args.k index
     (rw c.deref.ensures at c.in_err-place.ensures))))
 
-pub opposite-opposite-requires : goal.opposite-opposite-requires
-opposite-opposite-requires c =
+pub opposite_room-requires-clause-place : goal.opposite_room-requires-clause-place
+opposite_room-requires-clause-place c =
     let of = c.self.inside in
     let s = sought (residual_of of.links) (way_of of.trail) in
     let index = index-within s.residual.links of.places.value s.residual.rooms c.args.k (rw (← c.self.view_is) at c.requires) in
-    rw c.deref-2.ensures (place-within s.residual.links of.places.value c.args.k c.in_ok-place.place c.self.invariant.1.places_are index
-    (rw c.deref.ensures at c.in_ok-place.ensures))
+    place-within s.residual.links of.places.value c.args.k c.in_ok-place.place c.self.invariant.1.places_are index (rw c.deref.ensures at c.in_ok-place.ensures)
 
-pub settled_room-requires-clause-have : goal.settled_room-requires-clause-have
-settled_room-requires-clause-have c = c.self.invariant.1.searching.holding.have
+pub opposite_room-requires-clause-have : goal.opposite_room-requires-clause-have
+opposite_room-requires-clause-have c = c.self.invariant.1.searching.holding.have
 
 pub returns : goal.returns
 returns c =
@@ -40,6 +39,6 @@ returns c =
     let s = sought (residual_of of.links) (way_of of.trail) in
     let index = index-within s.residual.links of.places.value s.residual.rooms c.args.k (rw (← c.self.view_is) at c.requires) in
     rw (← c.self.view_is)
-    (ap Some (c.settled_room.ensures ∙ ap (λ p. get_or s.residual.rooms p 0) (rw c.deref-2.ensures at c.opposite-opposite.ensures.is))
+    (ap Some c.opposite_room.ensures
     ∙ sym (ap (option_map (λ (p : Pair). p.against)) (its-pair s.residual.links of.places.value s.residual.rooms c.args.k c.in_ok-place.place index
     (rw c.deref.ensures at c.in_ok-place.ensures))))
