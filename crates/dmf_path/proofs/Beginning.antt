@@ -5,19 +5,19 @@ use Rattle.dmf_node.specs.Node.{IsNode}
 use Rattle.dmf_path.specs.Links.{Links, AreLinks}
 use Rattle.dmf_path.specs.Labels.{no_label, AreQueued}
 use Rattle.dmf_path.specs.declared.levels.Levels.{Levels}
-use Rattle.dmf_path.specs.Walk.{ArePassed}
+use Rattle.dmf_path.specs.Walk.{ArePassed, AreSkipped}
 use Rattle.dmf_path.specs.BothEnds.{AreSmall, AreSound}
 use Rattle.dmf_path.specs.Searching.{AreReady, IsFresh, IsReady, fresh_labels}
 use Rattle.dmf_path.proofs.LinkPlaces.{lies-within}
 use Rattle.dmf_path.proofs.Spreading.{cases-set}
 
--- Nothing is passed where the current link of each node with a label is its first one: from a node without one nothing falls.
-pub passed-first : (l : Links) (labels rooms : List ℕ) (goal : ℕ) (current : List ℕ) → AreLinks l → AreSmall l.nodes labels
-    → ((v : ℕ) → IsNode l.nodes v → get_or labels v 0 ≢ no_label → get_or current v 0 ≡ get_or l.first v 0) → ArePassed l labels rooms goal current
-passed-first l labels rooms goal current links small first v p ps node lies before walk = elim (small.1 v node) [
+-- No admissible link is passed where the current link of each node with a label is its first one: from a node without one nothing falls.
+pub skipped-first : (l : Links) (labels rooms current : List ℕ) → AreLinks l → AreSmall l.nodes labels
+    → ((v : ℕ) → IsNode l.nodes v → get_or labels v 0 ≢ no_label → get_or current v 0 ≡ get_or l.first v 0) → AreSkipped l labels rooms current
+skipped-first l labels rooms current links small first v p node lies before admissible = elim (small.1 v node) [
   | inl none ↦ elim (small.1 (get_or l.heads p 0) (links.each p (lies-within l v p links node lies)).head) [
-    | inl same ↦ omega (arith, walk.0.falls, none, same)
-    | inr least ↦ omega (arith, walk.0.falls, none, least, links.at_most_nodes)
+    | inl same ↦ omega (arith, admissible.falls, none, same)
+    | inr least ↦ omega (arith, admissible.falls, none, least, links.at_most_nodes)
   ]
   | inr least ↦ omega (arith, first v node (λ none. omega (arith, none, least, links.at_most_nodes)), lies.from, before)
 ]

@@ -1,14 +1,14 @@
 -- What labels found backwards from the goal tell of links with room: no link falls by more than one, and from each node with
 -- a label a walk leads to the goal.
-use Rattle.std.proofs.Common.{ℕ, ◌≡◌, ◌≢◌, ◌<◌, inl, inr, ⊎_elim, List, [], ◌∷◌, length, slice_index, zero, suc, ap, sym, refl, subst, ◌∙◌, arith, true, false}
-use Rattle.std.proofs.Common.{◌==◌}
+use Rattle.std.proofs.Common.{ℕ, ◌≡◌, ◌≢◌, ◌<◌, ◌≤◌, inl, inr, ⊎_elim, List, [], ◌∷◌, length, slice_index, zero, suc, ap, sym, refl, subst, ◌∙◌, arith}
+use Rattle.std.proofs.Common.{◌==◌, true, false}
 use Rattle.std.proofs.lemmas.Bool.Decides.{eqb_tells}
 use Rattle.std.proofs.lemmas.List.{ext_get_or, get_or-map, length-map}
 use Rattle.dmf_node.specs.Node.{IsNode}
 use Rattle.dmf_path.specs.Links.{Links, LiesAt, AreLinks, AreFlags, open_flag, tail_of}
 use Rattle.dmf_path.specs.Labels.{no_label, AreLabels}
 use Rattle.dmf_path.specs.Walk.{IsWalk, AreValid}
-use Rattle.dmf_path.specs.BothEnds.{IsLabelled, filled, filled_label}
+use Rattle.dmf_path.specs.BothEnds.{AreSound, IsLabelled, filled, filled_label}
 use Rattle.dmf_path.proofs.LinkPlaces.{lies-within, lies-partner}
 use Rattle.dmf_path.proofs.Flags.{room-of_flag, flag-of_room}
 
@@ -68,30 +68,45 @@ filled-none labels =
     (λ v within. get_or-map (filled_label no_label) labels v 0 0 (omega (arith, within, length-map labels (filled_label no_label))) ∙ filled_label-none
     (slice_index labels v))
 
+-- So labels found backwards from the goal are sound below that of the node `stop`.
+pub sound-labelled : (l : Links) (rooms flags labels : List ℕ) (stop goal : ℕ) → AreLinks l → AreFlags l rooms flags → AreLabels l flags goal stop labels
+    → AreSound l labels rooms (slice_index labels stop)
+sound-labelled l rooms flags labels stop goal are flagged labelled = record {
+  beyond = no_label;
+  small = (
+    labelled.one_each,
+    λ v is. elim (labelled.small v is) [
+      | inl none ↦ inl none
+      | inr below ↦ inr (omega (arith, below))
+    ],
+  );
+  valid = subst (λ ls. AreValid l ls rooms (slice_index labels stop)) (sym (filled-none labels))
+      (valid-labelled l rooms flags labels stop goal are flagged labelled);
+  gated = λ v p is lies room label none. elim (labelled.small v is) [
+    | inl same ↦ omega (arith, label, same)
+    | inr below ↦ omega (arith, label, below, are.at_most_nodes)
+  ];
+}
+
+-- Labels that are sound are so below a label that is less.
+pub sound-below : (l : Links) (labels rooms : List ℕ) (low top : ℕ) → low ≤ top → AreSound l labels rooms top → AreSound l labels rooms low
+sound-below l labels rooms low top less sound = record {
+  beyond = sound.beyond;
+  small = sound.small;
+  valid = λ v p node lies room below. sound.valid v p node lies room (omega (arith, below, less));
+  gated = sound.gated;
+}
+
 -- A start that has a label found backwards from the goal is labelled.
-pub labelled-one : (l : Links) (rooms flags labels : List ℕ) (start goal : ℕ) → AreLinks l → AreFlags l rooms flags → AreLabels l flags goal start labels
-    → IsNode l.nodes start → slice_index labels start ≢ no_label → IsLabelled l rooms labels start goal
-labelled-one l rooms flags labels start goal are flagged labelled node has = record {
-  sound = record {
-    beyond = no_label;
-    small = (
-      labelled.one_each,
-      λ v is. elim (labelled.small v is) [
-        | inl none ↦ inl none
-        | inr below ↦ inr (omega (arith, below))
-      ],
-    );
-    valid = subst (λ ls. AreValid l ls rooms (slice_index labels start)) (sym (filled-none labels))
-        (valid-labelled l rooms flags labels start goal are flagged labelled);
-    gated = λ v p is lies room label none. elim (labelled.small v is) [
-      | inl same ↦ omega (arith, label, same)
-      | inr below ↦ omega (arith, label, below, are.at_most_nodes)
-    ];
-  };
+pub labelled-one : (l : Links) (rooms flags labels : List ℕ) (start goal stop : ℕ) → AreLinks l → AreFlags l rooms flags → AreLabels l flags goal stop labels
+    → IsNode l.nodes start → slice_index labels start ≢ no_label → slice_index labels start ≤ slice_index labels stop → IsLabelled l rooms labels start goal
+labelled-one l rooms flags labels start goal stop are flagged labelled node has low = record {
+  sound = sound-below l labels rooms (slice_index labels start) (slice_index labels stop) low
+      (sound-labelled l rooms flags labels stop goal are flagged labelled);
   start_label = elim (labelled.small start node) [
     | inl none ↦ absurd (has none)
     | inr below ↦ omega (arith, below)
   ];
   goal_label = labelled.root_is;
-  walk = walk-labelled l rooms flags labels start goal are flagged labelled start node has;
+  walk = walk-labelled l rooms flags labels stop goal are flagged labelled start node has;
 }

@@ -12,7 +12,8 @@ pub mod RoomLeft
 pub mod Descending
 pub mod Settled
 pub mod SettledSent
-pub mod Leaving
+pub mod Lasting
+mod Leaving
 pub mod PairRead
 pub mod Pushing
 pub mod Pushed

@@ -218,7 +218,7 @@ goal-used_up l rooms flags opens start goal g queue done s queue_s done_s are fl
       | inl none ↦ none
       | inr none ↦ absurd (omega (arith, none, other.root_is))
     ] in
-    separated-unlabelled l rooms flags g start goal are flagged labels unset
+    separated-unlabelled l rooms flags g start goal start are flagged labels unset unset
 
 -- All that the start leads to is labelled, and the goal is not.
 pub start-used_up : (l : Links) (rooms flags opens : List ℕ) (start goal : ℕ) (g queue_g : List ℕ) (done_g : ℕ) (s queue : List ℕ) (done : ℕ) → AreLinks l

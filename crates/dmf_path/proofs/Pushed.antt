@@ -77,7 +77,7 @@ AreValid-opens l labels old new top opens valid v p node lies room below =
     (opens v p node lies room)
 
 -- An admissible link was one before
-admissible-before : (l : Links) (labels old new : List ℕ) (v p : ℕ) → IsNode l.nodes v → OpensUpwards l labels old new → IsAdmissible l labels new v p
+pub admissible-before : (l : Links) (labels old new : List ℕ) (v p : ℕ) → IsNode l.nodes v → OpensUpwards l labels old new → IsAdmissible l labels new v p
     → IsAdmissible l labels old v p
 admissible-before l labels old new v p node opens can = record {
   lies = can.lies;

@@ -44,12 +44,12 @@ no_path-separated l places rooms start goal links places_are node separated path
 
 -- ---- the search backwards from the goal
 
--- Where the start has no label, the nodes without one are such a set.
-pub separated-unlabelled : (l : Links) (rooms flags labels : List ℕ) (start goal : ℕ) → AreLinks l → AreFlags l rooms flags
-    → AreLabels l flags goal start labels → get_or labels start 0 ≡ no_label → IsSeparated l rooms start goal
-separated-unlabelled l rooms flags labels start goal links told are unlabelled = record {
+-- Where neither the start nor the node `stop` has a label, the nodes without one are such a set.
+pub separated-unlabelled : (l : Links) (rooms flags labels : List ℕ) (start goal stop : ℕ) → AreLinks l → AreFlags l rooms flags
+    → AreLabels l flags goal stop labels → get_or labels stop 0 ≡ no_label → get_or labels start 0 ≡ no_label → IsSeparated l rooms start goal
+separated-unlabelled l rooms flags labels start goal stop links told are unlabelled outside = record {
   inside = λ v. get_or labels v 0 == no_label;
-  start_in = eq-eqb (get_or labels start 0) no_label unlabelled;
+  start_in = eq-eqb (get_or labels start 0) no_label outside;
   goal_out = ne_eqb (get_or labels goal 0) no_label (omega (arith, are.root_is));
   closed = λ v p node lies room within.
       let link = links.each p (lies-within l v p links node lies) in
@@ -57,7 +57,7 @@ separated-unlabelled l rooms flags labels start goal links told are unlabelled =
       ⊎_elim
       (λ (out : get_or labels (get_or l.heads p 0) 0 ≡ no_label). eq-eqb (get_or labels (get_or l.heads p 0) 0) no_label out)
       (λ (small : get_or labels (get_or l.heads p 0) 0 < l.nodes).
-      let valid = valid-labelled l rooms flags labels start goal links told are v p node lies room (omega (arith, small, unlabelled, links.at_most_nodes)) in
+      let valid = valid-labelled l rooms flags labels stop goal links told are v p node lies room (omega (arith, small, unlabelled, links.at_most_nodes)) in
       absurd (omega (arith, valid, small, none, links.at_most_nodes)))
       (are.small (get_or l.heads p 0) link.head);
 }

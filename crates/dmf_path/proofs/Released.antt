@@ -152,6 +152,9 @@ pub record IsLowered (r : Residual) (places : List ℕ) (v : Labelling) (w : Way
   pub searching : IsSearching next v w
   pub gives : searched (sought next w) places
       ≡ with_pairs (searched (sought r w) places) (lowered_along (pairs_at r.links places (told r w).rooms) k amount)
+  pub rooms : List ℕ
+  pub told_is : told next w ≡ roomed (told r w) rooms
+  pub opens : OpensUpwards r.links v.labels (told r w).rooms rooms
 
 pub is-lowered : (r : Residual) (places : List ℕ) (v : Labelling) (w : Way) (k p amount : ℕ) (next : Residual) → IsSearching r v w → ArePlaces r.links places
     → HasPlace r.links places (told r w).rooms k amount → p ≡ get_or places k 0 → IsOff p (places_of (filled_slots w))
@@ -168,4 +171,7 @@ is-lowered r places v w k p amount next is are has at off room made sums =
       gives = ap (λ (x : Residual). searched (record { residual = x; start = w.start; goal = w.goal }) places) low.1
           ∙ ap (with_pairs (searched (sought r w) places)) (ap (λ q. pairs_at r.links places (pushed_once r.links false amount q before)) at
           ∙ pairs-lowered r.links places before k amount is.aimed.links are long has);
+      rooms = pushed_once r.links false amount p before;
+      told_is = low.1;
+      opens = opens-lowered r.links v.labels before p amount long within;
     }

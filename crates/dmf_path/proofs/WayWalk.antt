@@ -1,11 +1,13 @@
 -- The walk, turn by turn: what it needs of the rooms as they are told, and what becomes of the trail and of what is held.
-use Rattle.std.proofs.Common.{ℕ, ◌≡◌, ◌≢◌, ◌+◌, ◌-◌, ◌<◌, ◌≤◌, List, [], ◌∷◌, ◌++◌, length, set, take, get_or, refl, ap, sym, ◌∙◌, subst, arith}
+use Rattle.std.proofs.Common.{ℕ, ◌≡◌, ◌≢◌, ◌+◌, ◌-◌, ◌<◌, ◌≤◌, List, [], ◌∷◌, ◌++◌, length, set, take, get_or, refl, ap, sym, ◌∙◌, subst, arith, inl, inr}
 use Rattle.std.proofs.lemmas.List.{get_or_default, get_or-set_same}
 use Rattle.dmf_node.specs.Node.{IsNode}
 use Rattle.dmf_path.specs.Links.{Links, LiesAt, AreLinks, AreRooms, tail_of}
-use Rattle.dmf_path.specs.Walk.{IsWalk, IsTrail, end_of}
+use Rattle.dmf_path.specs.Walk.{AreSkipped, IsWalk, IsTrail, end_of}
 use Rattle.dmf_path.specs.Held.{Way, places_of, walked_slots, IsSlot, slot_at, entered, stepped_back}
 use Rattle.dmf_path.specs.Residual.{Residual, put_on, MakesWay, free, leaves}
+use Rattle.std.proofs.lemmas.Bool.{cases_lt}
+use Rattle.dmf_path.proofs.Spreading.{cases-set}
 use Rattle.dmf_path.proofs.Walking.{end_of-push, IsTrail-pop, come-next, end-node}
 use Rattle.dmf_path.proofs.WalkingTurn.{WalkTurn, walk-turn, node-within, come-moved, found-within, none-found, come-popped, tail-within, work_left, work-found}
 use Rattle.dmf_path.proofs.WalkingTurn.{work-popped}
@@ -73,6 +75,21 @@ walk_of t =
 
 pub on-turned : (t : Turn) → IsOnWay t.r t.labels (set t.current t.node t.place) t.aim t.w t.node
 on-turned t = on-moved t.r t.labels t.current t.aim t.w t.node t.place t.on t.other (come-moved (walk_of t))
+
+-- No link that is passed so is admissible.
+pub skipped-turned : (t : Turn) → AreSkipped t.aim.links t.labels t.aim.rooms t.current
+    → AreSkipped t.aim.links t.labels t.aim.rooms (set t.current t.node t.place)
+skipped-turned t skipped v p node lies before admissible = elim (cases-set t.current t.node v t.place (node-within (walk_of t))) [
+  | inr other ↦ skipped v p node lies (omega (arith, before, other.1)) admissible
+  | inl here ↦ elim (cases_lt p (get_or t.current t.node 0)) [
+    | inl passed ↦ skipped v p node lies (omega (arith, passed, ap (λ u. get_or t.current u 0) here.0)) admissible
+    | inr later ↦
+        let same : t.r.links ≡ t.aim.links = ap (λ (x : Residual). x.links) t.on.same in
+        none-told t p later (omega (arith, before, here.1)) admissible.room
+        (subst (λ (l : Links). get_or t.labels (get_or l.heads p 0) 0 + 1 ≡ get_or t.labels t.node 0) (sym same)
+        (admissible.falls ∙ ap (λ u. get_or t.labels u 0) here.0))
+  ]
+]
 
 -- A link was found: it lies at the node, and falls.
 pub record IsFound (t : Turn) : Type 0 where

@@ -8,7 +8,7 @@ use Rattle.dmf_path.specs.Frontier.{IsClean}
 use Rattle.dmf_path.specs.BothEnds.{AreSound}
 use Rattle.dmf_node.specs.Node.{IsNode}
 use Rattle.dmf_path.specs.Links.{Links, LiesAt, AreLinks, ArePlaces, AreRooms, pairs_at}
-use Rattle.dmf_path.specs.Walk.{IsTrail, IsWalking, end_of}
+use Rattle.dmf_path.specs.Walk.{AreSkipped, IsTrail, IsWalking, end_of}
 use Rattle.dmf_path.specs.Held.{Way, places_of, walked_slots, rest_slots, filled_slots, HaveLeft}
 use Rattle.dmf_path.specs.Residual.{Residual, told}
 use Rattle.dmf_path.specs.Search.{Searched}
@@ -67,6 +67,23 @@ pub record IsSearching (r : Residual) (v : Labelling) (w : Way) : Type 0 where
   pub aimed : IsAimed (sought r w) v.labels w.capacity
   pub holding : IsHolding r.links w r.rooms
   pub under_way : IsUnderWay r.links v.labels (told r w).rooms v.current w
+
+-- No link before a current one is admissible, if no walk has stepped back.
+abbrev pub MaySkip : Bool → Residual → List ℕ → List ℕ → Type 0
+MaySkip stepped_back r labels current = stepped_back ≡ false → AreSkipped r.links labels r.rooms current
+
+-- Labels that another search may keep: they are sound whatever its start is, and it knows which links are passed.
+pub record AreLasting (v : Labelling) (stepped_back : Bool) (r : Residual) : Type 0 where
+  pub sound : AreSound r.links v.labels r.rooms no_label
+  pub skipped : MaySkip stepped_back r v.labels v.current
+
+-- They are so, if all nodes from which paths lead to the goal have one.
+abbrev pub MayLast : Levels → Residual → Type 0
+MayLast levels r = levels.all ≡ true → AreLasting (labelling_of levels) levels.stepped_back r
+
+-- So they are, and a fresh search has no such labels.
+abbrev pub AreKept : Levels → Bool → Residual → Type 0
+AreKept levels is_fresh r = levels.all ≡ true → (is_fresh ≡ false) × AreLasting (labelling_of levels) levels.stepped_back r
 
 -- The walk has come to where the end of the last path begins: a path from the start to the goal.
 abbrev pub IsFound : Residual → Way → Type 0

@@ -30,6 +30,11 @@ ArePassed l labels rooms goal current =
     (v p : ℕ) (ps : List ℕ) → IsNode l.nodes v → LiesAt l v p → p < slice_index current v
     → ¬ IsWalk l labels rooms goal v (p ∷ ps)
 
+-- No link of a node that lies before its current one is admissible.
+abbrev pub AreSkipped : Links → List ℕ → List ℕ → List ℕ → Type 0
+AreSkipped l labels rooms current =
+    (v p : ℕ) → IsNode l.nodes v → LiesAt l v p → p < slice_index current v → ¬ IsAdmissible l labels rooms v p
+
 -- The current link of each node is one of its links, or stands behind them.
 pub record AreCurrent (l : Links) (current : List ℕ) : Type 0 where
   pub one_each : length current ≡ l.nodes + 1

@@ -22,6 +22,8 @@ pub struct Frontier {
     pub queue: Vec<u32>,
     /// The links of so many of them were looked at.
     pub done: usize,
+    /// How many links these are.
+    pub looked: u64,
 }
 
 impl Frontier {
@@ -36,6 +38,7 @@ impl Frontier {
             labels: vec![in alloc; NO_LABEL; nodes as usize + 1]?,
             queue: Vec::with_capacity(alloc, nodes as usize + 1)?,
             done: 0,
+            looked: 0,
         })
     }
 }
@@ -52,6 +55,7 @@ pub fn begin(frontier: &mut Frontier, root: u32)
 {
     frontier.root = root;
     frontier.done = 0;
+    frontier.looked = 0;
     frontier.labels[root as usize] = 0;
     frontier.queue.clear();
     frontier.queue.push_reserved(root);
@@ -97,6 +101,7 @@ pub fn expand<O: OpenLinks>(table: &LinkTable, opens: &O, frontier: &mut Frontie
         &mut frontier.queue,
     );
     frontier.done += 1;
+    frontier.looked = frontier.looked.wrapping_add(u64::from(end - from));
 }
 
 /// Looks at the links of the nodes on the next level, until one of the nodes that they lead to has a label of the other search

@@ -19,6 +19,14 @@ pub struct Levels {
     pub both: bool,
     /// How many links were looked at when nodes were labelled from the goal alone the last time.
     pub looked: u64,
+    /// Whether all nodes from which paths lead to the goal got a label, so that a search from another start may keep the labels.
+    pub all: bool,
+    /// Whether the walk has stepped back since the current links were set: only then is an admissible link before one of them.
+    pub stepped_back: bool,
+    /// Whether the search was aimed at its goal twice in turn.
+    pub again: bool,
+    /// How many links labelling from both ends has looked at for this goal since all nodes got a label.
+    pub spent: u64,
 }
 
 /// Makes the first link of each of these nodes its current one.

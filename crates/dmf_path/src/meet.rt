@@ -1,5 +1,5 @@
 //! Two breadth-first searches meet: one from the goal, against the links, and one from the start, along them.
-ghost use Rattle.std.specs.Prelude.{◌≡◌, ℕ, ◌+◌, ◌≤◌, ◌<◌, None, Some, length, map, vec_capacity};
+ghost use Rattle.std.specs.Prelude.{◌≡◌, ℕ, ◌+◌, ◌≤◌, ◌<◌, None, Some, length, map, slice_index, vec_capacity};
 ghost use Rattle.dmf_node.specs.Node.{IsNode};
 ghost use Rattle.dmf_path.specs.Links.{AreRooms, AreFlags, open_flag};
 ghost use Rattle.dmf_path.specs.LinkTable.{links_of};
@@ -52,7 +52,7 @@ pub fn meet(
     None
 }
 
-/// Expands the next level of the search on whose side fewer nodes wait.
+/// Expands the next level of the search on whose side the waiting nodes have fewer links.
 fn expand_one(
     table: &LinkTable,
     rooms: &[u64],
@@ -90,10 +90,27 @@ fn expand_one(
     ensures goal_capacity { vec_capacity to_goal.new.queue ≡ vec_capacity to_goal.old.queue }
     ensures start_capacity { vec_capacity from_start.new.queue ≡ vec_capacity from_start.old.queue }
 {
-    let goal_waits = to_goal.queue.len() - to_goal.done;
-    let start_waits = from_start.queue.len() - from_start.done;
-    if start_waits < goal_waits {
+    if waiting_links(table, from_start) < waiting_links(table, to_goal) {
         return expand_level(table, &Roomy(rooms), from_start, &to_goal.labels);
     }
     expand_level(table, &Flagged(flags), to_goal, &from_start.labels)
+}
+
+/// How many links the waiting nodes have. If many wait, each counts as many as a node has on average.
+fn waiting_links(table: &LinkTable, frontier: &Frontier) -> u64
+    requires nodes { (k : ℕ) → k < length frontier.now.queue.items → slice_index frontier.now.queue.items k ≤ table.now.nodes }
+    requires come { frontier.now.done ≤ length frontier.now.queue.items }
+{
+    let waiting = &frontier.queue[frontier.done..];
+    if waiting.len() > 64 {
+        let average = table.heads.len() as u64 / (u64::from(table.nodes) + 1) + 1;
+        return average.saturating_mul(waiting.len() as u64);
+    }
+    let mut links = 0u64;
+    for node in waiting {
+        let from = table.first[*node as usize];
+        let end = table.first[*node as usize + 1];
+        links = links.wrapping_add(u64::from(end - from));
+    }
+    links
 }

@@ -1,11 +1,13 @@
 //! The search for the next path: the walk goes on, or the nodes are labelled anew and it begins again.
-ghost use Rattle.std.specs.Prelude.{◌≡◌, ◌≢◌, ℕ, List, true, false, []};
+ghost use Rattle.std.specs.Prelude.{◌≡◌, ◌≢◌, ℕ, List, true, false, [], slice_index};
 ghost use Rattle.dmf_node.specs.Node.{IsNode};
 ghost use Rattle.dmf_path.specs.LinkTable.{links_of};
 ghost use Rattle.dmf_path.specs.Walk.{IsWalk};
 ghost use Rattle.dmf_path.specs.Held.{way_of, with_slots};
 ghost use Rattle.dmf_path.specs.Residual.{residual_of, told};
 ghost use Rattle.dmf_path.specs.Searching.{labelling_of, sought, AreReady, IsSearching, IsFound, IsFresh, IsReady, IsSeparated, fresh_labels};
+ghost use Rattle.dmf_path.specs.Searching.{AreLasting, MayLast};
+ghost use Rattle.dmf_path.specs.Labels.{no_label};
 
 use crate::frontier::unlabel;
 use crate::levels::{Levels, set_current};
@@ -20,18 +22,33 @@ use crate::walk::walk;
 pub fn find(links: &mut Links, levels: &mut Levels, trail: &mut Trail) -> bool
     requires searching { IsSearching (residual_of links.old) (labelling_of levels.old) (way_of trail.old) }
     requires ready { AreReady levels.old }
+    requires lasting { MayLast levels.old (told (residual_of links.old) (way_of trail.old)) }
     ensures searching { IsSearching (residual_of links.new) (labelling_of levels.new) (way_of trail.new) }
     ensures ready { AreReady levels.new }
+    ensures lasting { MayLast levels.new (told (residual_of links.new) (way_of trail.new)) }
     ensures same { sought (residual_of links.new) (way_of trail.new) ≡ sought (residual_of links.old) (way_of trail.old) }
     ensures found { result ≡ true → IsFound (residual_of links.new) (way_of trail.new) }
     ensures none { result ≡ false → IsSeparated (links_of links.old.table.value)
         (told (residual_of links.old) (way_of trail.old)).rooms trail.old.start trail.old.goal }
 {
-    if walk(links, &levels.near.labels, &mut levels.current, trail) {
+    if walk(
+        links,
+        &levels.near.labels,
+        &mut levels.current,
+        trail,
+        &mut levels.stepped_back,
+    ) {
         return true;
     }
     trail.settle(links);
-    relabel(links, levels, trail) && walk(links, &levels.near.labels, &mut levels.current, trail)
+    relabel(links, levels, trail)
+        && walk(
+            links,
+            &levels.near.labels,
+            &mut levels.current,
+            trail,
+            &mut levels.stepped_back,
+        )
 }
 
 /// Labels the nodes anew, and frees the slots; no push is held. Returns whether the start has a label, so that a path is left.
@@ -40,6 +57,7 @@ fn relabel(links: &Links, levels: &mut Levels, trail: &mut Trail) -> bool
     requires ready { AreReady levels.old }
     ensures searching { IsSearching (residual_of links.now) (labelling_of levels.new) (way_of trail.new) }
     ensures ready { AreReady levels.new }
+    ensures lasting { MayLast levels.new (residual_of links.now) }
     ensures way { way_of trail.new ≡ with_slots (way_of trail.old) trail.new.slots.items }
     ensures labelled { result ≡ true → (ps : List ℕ) × IsWalk (links_of links.now.table.value) levels.new.near.labels.items links.now.rooms.items
         trail.old.goal trail.old.start ps }
@@ -51,6 +69,7 @@ fn relabel(links: &Links, levels: &mut Levels, trail: &mut Trail) -> bool
         return false;
     }
     set_current(&links.table, &levels.near.queue, &mut levels.current);
+    levels.stepped_back = false;
     let start_label = levels.near.labels[trail.start as usize];
     trail.free(start_label);
     true
@@ -67,6 +86,7 @@ pub fn begin_anew(links: &mut Links, levels: &mut Levels, trail: &mut Trail, sta
     ensures searching { IsSearching (residual_of links.new) (labelling_of levels.new) (way_of trail.new) }
     ensures ready { AreReady levels.new }
     ensures fresh { IsFresh (links_of links.new.table.value) levels.new.near.labels.items trail.new.start }
+    ensures all { levels.new.all ≡ false }
     ensures same { sought (residual_of links.new) (way_of trail.new)
         ≡ record { residual = told (residual_of links.old) (way_of trail.old); start = start; goal = goal } }
 {
@@ -77,12 +97,31 @@ pub fn begin_anew(links: &mut Links, levels: &mut Levels, trail: &mut Trail, sta
     levels.both = true;
 }
 
+/// Restarts the search at another node from which paths lead to the goal, where all such nodes have labels: the labels stay, and the
+/// current links too. Applies the held pushes.
+pub fn restart(links: &mut Links, levels: &Levels, trail: &mut Trail, start: u32)
+    requires searching { IsSearching (residual_of links.old) (labelling_of levels.now) (way_of trail.old) }
+    requires lasting { AreLasting (labelling_of levels.now) levels.now.stepped_back (told (residual_of links.old) (way_of trail.old)) }
+    requires start { IsNode links.old.table.value.nodes start }
+    requires apart { start ≢ trail.old.goal }
+    requires labelled { slice_index levels.now.near.labels.items start ≢ no_label }
+    ensures searching { IsSearching (residual_of links.new) (labelling_of levels.now) (way_of trail.new) }
+    ensures lasting { MayLast levels.now (told (residual_of links.new) (way_of trail.new)) }
+    ensures same { sought (residual_of links.new) (way_of trail.new)
+        ≡ record { residual = told (residual_of links.old) (way_of trail.old); start = start; goal = trail.old.goal } }
+{
+    trail.settle(links);
+    trail.start = start;
+    trail.free(levels.near.labels[start as usize]);
+}
+
 /// Takes off all labels, and gives both ends the label 0. No link falls then, so the next walk ends at once.
 pub fn make_fresh(table: &LinkTable, levels: &mut Levels, trail: &mut Trail)
     requires ready { IsReady table.now.nodes levels.old.near levels.old.far }
     requires start { IsNode table.now.nodes trail.old.start }
     requires goal { IsNode table.now.nodes trail.old.goal }
     ensures ready { IsReady table.now.nodes levels.new.near levels.new.far }
+    ensures all { levels.new.all ≡ false }
     ensures labels { levels.new.near.labels.items ≡ fresh_labels table.now.nodes trail.old.start trail.old.goal }
     ensures current { levels.new.current ≡ levels.old.current }
     ensures way { way_of trail.new ≡ with_slots (way_of trail.old) [] }
@@ -92,5 +131,6 @@ pub fn make_fresh(table: &LinkTable, levels: &mut Levels, trail: &mut Trail)
     levels.near.labels[trail.goal as usize] = 0;
     levels.near.queue.push_reserved(trail.start);
     levels.near.queue.push_reserved(trail.goal);
+    levels.all = false;
     trail.free(0);
 }

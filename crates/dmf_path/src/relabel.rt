@@ -3,7 +3,7 @@ ghost use Rattle.std.specs.Prelude.{◌≡◌, ◌≢◌, ℕ, ◌+◌, ◌≤�
 ghost use Rattle.dmf_node.specs.Node.{IsNode};
 ghost use Rattle.dmf_path.specs.LinkTable.{links_of};
 ghost use Rattle.dmf_path.specs.Labels.{AreQueued, no_label, unlabelled_count};
-ghost use Rattle.dmf_path.specs.BothEnds.{AreJoined, IsLabelled};
+ghost use Rattle.dmf_path.specs.BothEnds.{AreJoined, AreSound, IsLabelled};
 ghost use Rattle.dmf_path.specs.Frontier.{IsClean};
 ghost use Rattle.dmf_path.specs.Searching.{IsReady, IsSeparated};
 
@@ -15,6 +15,9 @@ use crate::open::{Flagged, Roomy};
 use crate::push::Links;
 
 /// Labels the nodes, of which none has a label. Whether the start has one then: else no path is left.
+///
+/// If a search looks for paths from several starts in turn, all nodes get a label once labelling them from both ends has looked at more
+/// links than there are.
 pub fn label_anew(links: &Links, levels: &mut Levels, start: u32, goal: u32) -> bool
     requires near { IsClean links.now.table.value.nodes levels.old.near }
     requires far { IsClean links.now.table.value.nodes levels.old.far }
@@ -24,9 +27,16 @@ pub fn label_anew(links: &Links, levels: &mut Levels, start: u32, goal: u32) -> 
     ensures ready { IsReady links.now.table.value.nodes levels.new.near levels.new.far }
     ensures labelled { result ≡ true → IsLabelled (links_of links.now.table.value) links.now.rooms.items levels.new.near.labels.items start goal }
     ensures none { result ≡ false → IsSeparated (links_of links.now.table.value) links.now.rooms.items start goal }
+    ensures lasting { levels.new.all ≡ true → AreSound (links_of links.now.table.value) levels.new.near.labels.items links.now.rooms.items no_label }
     ensures current { levels.new.current ≡ levels.old.current }
     ensures capacity { vec_capacity levels.new.near.queue ≡ vec_capacity levels.old.near.queue }
 {
+    levels.all = levels.again && levels.spent > links.table.heads.len() as u64;
+    if levels.all {
+        levels.spent = 0;
+        label_all(links, &mut levels.near, start, goal);
+        return levels.near.labels[start as usize] != NO_LABEL;
+    }
     if levels.both {
         return label_from_both(links, levels, start, goal);
     }
@@ -51,6 +61,22 @@ fn label_from_goal(links: &Links, near: &mut Frontier, start: u32, goal: u32) ->
     ensures capacity { vec_capacity near.new.queue ≡ vec_capacity near.old.queue }
 {
     label_nodes(&links.table, &Flagged(&links.flags), goal, start, near)
+}
+
+/// Labels all nodes from which paths lead to the goal.
+fn label_all(links: &Links, near: &mut Frontier, start: u32, goal: u32)
+    requires near { IsClean links.now.table.value.nodes near.old }
+    requires start { IsNode links.now.table.value.nodes start }
+    requires goal { IsNode links.now.table.value.nodes goal }
+    ensures long { length near.new.labels.items ≡ links.now.table.value.nodes + 1 }
+    ensures queued { AreQueued near.new.labels.items near.new.queue.items }
+    ensures sound { AreSound (links_of links.now.table.value) near.new.labels.items links.now.rooms.items no_label }
+    ensures labelled { slice_index near.new.labels.items start ≢ no_label →
+        IsLabelled (links_of links.now.table.value) links.now.rooms.items near.new.labels.items start goal }
+    ensures none { slice_index near.new.labels.items start ≡ no_label → IsSeparated (links_of links.now.table.value) links.now.rooms.items start goal }
+    ensures capacity { vec_capacity near.new.queue ≡ vec_capacity near.old.queue }
+{
+    let _looked = label_nodes(&links.table, &Flagged(&links.flags), goal, 0, near);
 }
 
 /// Whether few links are enough to see that those with room lead from the start nowhere near the goal. Else no node has a label.
@@ -93,6 +119,7 @@ fn label_from_both(links: &Links, levels: &mut Levels, start: u32, goal: u32) ->
     ensures ready { IsReady links.now.table.value.nodes levels.new.near levels.new.far }
     ensures labelled { result ≡ true → IsLabelled (links_of links.now.table.value) links.now.rooms.items levels.new.near.labels.items start goal }
     ensures none { result ≡ false → IsSeparated (links_of links.now.table.value) links.now.rooms.items start goal }
+    ensures all { levels.new.all ≡ levels.old.all }
     ensures current { levels.new.current ≡ levels.old.current }
     ensures capacity { vec_capacity levels.new.near.queue ≡ vec_capacity levels.old.near.queue }
 {
@@ -105,6 +132,7 @@ fn label_from_both(links: &Links, levels: &mut Levels, start: u32, goal: u32) ->
         return false;
     };
     let long = near.labels[node as usize] + far.labels[node as usize];
+    let looked = near.looked.saturating_add(far.looked);
     join(
         &far.labels,
         &far.queue,
@@ -113,6 +141,8 @@ fn label_from_both(links: &Links, levels: &mut Levels, start: u32, goal: u32) ->
         &mut near.queue,
     );
     unlabel(far);
+    let before = if levels.again { levels.spent } else { 0 };
+    levels.spent = before.saturating_add(looked);
     true
 }
 

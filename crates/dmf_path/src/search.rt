@@ -7,9 +7,10 @@ ghost use Rattle.dmf_path.specs.Search.{Augments, HasAlong, along_at, against_at
 ghost use Rattle.dmf_path.specs.Search.{aimed, lowered_along, with_rooms, with_pairs};
 ghost use Rattle.dmf_path.specs.Touched.{Touches};
 
+use crate::label::NO_LABEL;
 use crate::levels::Levels;
 use crate::numbers::number_links;
-use crate::phase::{begin_anew, find};
+use crate::phase::{begin_anew, find, restart};
 use crate::places::Places;
 use crate::push::Links;
 use crate::reach::{labelled, labels_from_start};
@@ -52,16 +53,17 @@ pub struct Search {
 impl Model for Search {
     ghost use Rattle.dmf_path.specs.Held.{way_of};
     ghost use Rattle.dmf_path.specs.LinkTable.{links_of};
-    ghost use Rattle.dmf_path.specs.Residual.{residual_of};
+    ghost use Rattle.dmf_path.specs.Residual.{residual_of, told};
     ghost use Rattle.dmf_path.specs.Search.{Searched};
-    ghost use Rattle.dmf_path.specs.Searching.{labelling_of, sought, searched, AreReady, IsSearch};
+    ghost use Rattle.dmf_path.specs.Searching.{labelling_of, sought, searched, AreKept, AreReady, IsSearch};
     ghost use Rattle.dmf_path.specs.Touching.{MayBeNumbered};
 
     ghost Value = { Searched };
 
     ghost view = { λ a. searched (sought (residual_of a.links) (way_of a.trail)) a.places.value };
 
-    ghost invariant = { λ a. (AreReady a.levels × MayBeNumbered (links_of a.links.table.value) a.places.value a.numbers)
+    ghost invariant = { λ a. (AreReady a.levels × MayBeNumbered (links_of a.links.table.value) a.places.value a.numbers
+        × AreKept a.levels a.is_fresh (told (residual_of a.links) (way_of a.trail)))
         × IsSearch (residual_of a.links) a.places.value (labelling_of a.levels) (way_of a.trail) a.is_fresh };
 }
 
@@ -135,13 +137,20 @@ impl Search {
         self.trail.settle(&mut self.links);
     }
 
-    /// Makes it a search from another start to another goal, over the same links with their present rooms. Takes no memory.
+    /// Makes it a search from another start to another goal, over the same links with their present rooms. Takes no memory. If all
+    /// nodes have labels, and the goal stays, so do the labels.
     pub fn aim(&mut self, start: u32, goal: u32)
         requires start { IsNode self.old.nodes start }
         requires goal { IsNode self.old.nodes goal }
         requires apart { start ≢ goal }
         ensures { self.new ≡ aimed self.old start goal }
     {
+        let again = goal == self.trail.goal;
+        if again && self.levels.all && self.levels.near.labels[start as usize] != NO_LABEL {
+            restart(&mut self.links, &self.levels, &mut self.trail, start);
+            self.is_fresh = false;
+            return;
+        }
         begin_anew(
             &mut self.links,
             &mut self.levels,
@@ -150,6 +159,7 @@ impl Search {
             goal,
         );
         self.is_fresh = true;
+        self.levels.again = again;
     }
 
     /// Gives both links of the pair at index `k` these rooms, where there is one. Takes no memory. The first call after a path was

@@ -3,7 +3,7 @@ ghost use Rattle.std.specs.Prelude.{◌≡◌, ◌≢◌, ℕ, true, false, List
 ghost use Rattle.dmf_path.specs.Walk.{IsWalk};
 ghost use Rattle.dmf_path.specs.Held.{way_of, slot_at};
 ghost use Rattle.dmf_path.specs.Residual.{residual_of, told};
-ghost use Rattle.dmf_path.specs.Searching.{sought, IsSearching, IsFound};
+ghost use Rattle.dmf_path.specs.Searching.{sought, IsSearching, IsFound, MaySkip};
 
 use crate::push::Links;
 use crate::table::LinkTable;
@@ -11,11 +11,19 @@ use crate::trail::Trail;
 
 /// Goes on from where the trail ends, until it leads from the start to where the end of the last path begins, or no walk
 /// leads to the goal. At each node the walk takes the first link from the current one on that is admissible, and steps back
-/// where there is none.
-pub fn walk(links: &mut Links, labels: &[u32], current: &mut [u32], trail: &mut Trail) -> bool
+/// where there is none: then it has stepped back.
+pub fn walk(
+    links: &mut Links,
+    labels: &[u32],
+    current: &mut [u32],
+    trail: &mut Trail,
+    stepped_back: &mut bool,
+) -> bool
     requires { IsSearching (residual_of links.old) (record { labels = labels.now; current = current.old }) (way_of trail.old) }
     ensures searching { IsSearching (residual_of links.new) (record { labels = labels.now; current = current.new }) (way_of trail.new) }
     ensures same { sought (residual_of links.new) (way_of trail.new) ≡ sought (residual_of links.old) (way_of trail.old) }
+    ensures skipped { MaySkip stepped_back.old (told (residual_of links.old) (way_of trail.old)) labels.now current.old
+        → MaySkip stepped_back.new (told (residual_of links.old) (way_of trail.old)) labels.now current.new }
     ensures found { result ≡ true → IsFound (residual_of links.new) (way_of trail.new) }
     ensures none { result ≡ false → (ps : List ℕ) → ¬ IsWalk (residual_of links.old).links labels.now
         (told (residual_of links.old) (way_of trail.old)).rooms trail.old.goal trail.old.start ps }
@@ -38,6 +46,7 @@ pub fn walk(links: &mut Links, labels: &[u32], current: &mut [u32], trail: &mut 
             let back = trail.step_back(links);
             node = end_node(&links.table, trail);
             current[node as usize] = back + 1;
+            *stepped_back = true;
         }
     }
     true

@@ -120,6 +120,10 @@ impl Linked {
             current,
             both: false,
             looked: 0,
+            all: false,
+            stepped_back: false,
+            again: false,
+            spent: 0,
         };
         let mut trail = Trail {
             slots,

@@ -6,8 +6,8 @@ use Rattle.dmf_path.proofs.Reaching.{AreOpen-map}
 use Rattle.dmf_path.proofs.Meeting.{has-met_goal, has-met_start}
 use Rattle.dmf_path.proofs.meet.expand_one.Goals as goal
 
-pub returns-then-start_waits-goal_waits-clause-met : goal.returns-then-start_waits-goal_waits-clause-met
-returns-then-start_waits-goal_waits-clause-met c v is =
+pub returns-then-waiting_links-clause-met : goal.returns-then-waiting_links-clause-met
+returns-then-waiting_links-clause-met c v is =
     let met = c.expand_level.ensures.met v is in
     has-met_start (links_of c.args.table.now) c.args.rooms.now c.args.flags.now (map open_flag c.args.rooms.now) c.args.from_start.now.root
     c.args.to_goal.now.root v c.args.to_goal.now.labels.items c.args.to_goal.now.queue.items c.args.to_goal.now.done c.args.from_start.now.labels.items

@@ -38,6 +38,7 @@ returns c =
       searching = anew.0;
       ready = (c.settle.new.links.table.value.nodes, m.ready);
       fresh = anew.1;
+      all = m.all;
       same = sought-free next (record mid { start = c.args.start; goal = c.args.goal }) (way_of c.make_fresh.new.trail) [] m.way
           ∙ ap (λ (x : Residual). record { residual = x; start = c.args.start; goal = c.args.goal }) e.links;
     }

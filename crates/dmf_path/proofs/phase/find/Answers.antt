@@ -6,6 +6,7 @@ use Rattle.dmf_path.specs.Held.{way_of}
 use Rattle.dmf_path.specs.Residual.{residual_of}
 use Rattle.dmf_path.specs.Searching.{Sought, sought, IsSeparated}
 use Rattle.dmf_path.proofs.Settling.{can-settle}
+use Rattle.dmf_path.proofs.Lasting.{lasting}
 use Rattle.dmf_path.proofs.SearchTurns.{plainly, searching-settled, plainly-settled, sought-free}
 use Rattle.dmf_path.proofs.phase.find.Goals as goal
 use Rattle.dmf_path.proofs.phase.find.Goals.{After-relabel}
@@ -17,6 +18,13 @@ pub returns-then-walk-clause-searching : goal.returns-then-walk-clause-searching
 returns-then-walk-clause-searching c =
     let current = with_items_is c.args.levels.now.current c.walk.new.current (c.walk.auto.current ∙ c.deref_mut.ensures.len) in
     rw current (rw c.deref.ensures.value at c.walk.ensures.searching)
+
+pub returns-then-walk-clause-lasting : goal.returns-then-walk-clause-lasting
+returns-then-walk-clause-lasting c all =
+    let was = c.requires.lasting all in
+    let current = with_items_is c.args.levels.now.current c.walk.new.current (c.walk.auto.current ∙ c.deref_mut.ensures.len) in
+    let skipped = rw (c.deref.ensures.value, c.deref_mut.ensures.value) at c.walk.ensures.skipped in
+    lasting _ _ _ _ c.walk.ensures.same (record { sound = was.sound; skipped = rw current (skipped was.skipped) })
 
 pub settle-requires : goal.settle-requires
 settle-requires c = record { can = can-settle c.walk.ensures.searching }
@@ -49,6 +57,15 @@ returns-then-relabel-clause-searching c =
     (c.walk-then-relabel.auto.current ∙ c.deref_mut-then-relabel.ensures.len) in
     rw current (rw c.deref-then-relabel.ensures.value at c.walk-then-relabel.ensures.searching)
 
+pub returns-then-relabel-clause-lasting : goal.returns-then-relabel-clause-lasting
+returns-then-relabel-clause-lasting c all =
+    let at = (goal.at.returns-then-relabel-clause-lasting c).After-relabel in
+    let was = lasting _ _ _ _ (free at) (c.relabel.ensures.lasting all) in
+    let current = with_items_is c.relabel.new.levels.current c.walk-then-relabel.new.current
+    (c.walk-then-relabel.auto.current ∙ c.deref_mut-then-relabel.ensures.len) in
+    let skipped = rw (c.deref-then-relabel.ensures.value, c.deref_mut-then-relabel.ensures.value) at c.walk-then-relabel.ensures.skipped in
+    lasting _ _ _ _ c.walk-then-relabel.ensures.same (record { sound = was.sound; skipped = rw current (skipped was.skipped) })
+
 pub returns-then-relabel-clause-same : goal.returns-then-relabel-clause-same
 returns-then-relabel-clause-same c =
     let at = (goal.at.returns-then-relabel-clause-same c).After-relabel in
@@ -61,6 +78,10 @@ returns-then-relabel-clause-none c =
     let walk = subst (λ (s : Sought). IsWalk s.residual.links c.relabel.new.levels.near.labels.items s.residual.rooms s.goal s.start found.0)
     (sym (free at)) found.1 in
     λ no. absurd ((rw c.deref-then-relabel.ensures.value at (c.walk-then-relabel.ensures.none no)) found.0 walk)
+
+pub returns-else-relabel-clause-lasting : goal.returns-else-relabel-clause-lasting
+returns-else-relabel-clause-lasting c all =
+    lasting _ _ _ _ (free (goal.at.returns-else-relabel-clause-lasting c).After-relabel) (c.relabel.ensures.lasting all)
 
 pub returns-else-relabel-clause-same : goal.returns-else-relabel-clause-same
 returns-else-relabel-clause-same c = let at = (goal.at.returns-else-relabel-clause-same c).After-relabel in free at ∙ plain at

@@ -7,7 +7,7 @@ use Rattle.dmf_path.specs.Walk.{AreCurrent}
 use Rattle.dmf_path.specs.Held.{Way, way_of, with_slots}
 use Rattle.dmf_path.specs.Residual.{residual_of}
 use Rattle.dmf_path.specs.Searching.{Labelling, labelling_of, IsAimed, IsReady}
-use Rattle.dmf_path.proofs.Beginning.{first-queued, passed-first, ready-at}
+use Rattle.dmf_path.proofs.Beginning.{first-queued, skipped-first, ready-at}
 use Rattle.dmf_path.proofs.SearchTurns.{plainly, searching-free, searching-anew}
 use Rattle.dmf_path.proofs.phase.relabel.Goals as goal
 use Rattle.dmf_path.proofs.phase.relabel.Goals.{Start, After-index-start_label}
@@ -52,6 +52,7 @@ returns-then-not-label_anew c =
     record {
       searching = anew.0;
       ready = (c.args.links.now.table.value.nodes, m.ready);
+      lasting = λ e. let no = m.all in absurd (cc);
       way = m.way ∙ ap (with_slots w) (sym (ap (λ (u : Way). u.slots) m.way));
       labelled = λ e. absurd (cc);
       none = λ e. c.label_anew.ensures.none c.if-not-label_anew.true;
@@ -92,6 +93,7 @@ returns c =
     let current = with_items_is levels.current c.set_current.new.current (c.set_current.auto.current ∙ c.deref_mut.ensures.len) in
     let first = first-queued l levels.near.labels.items levels.near.queue.items c.set_current.new.current is.one_label_each is.queued
     (rw (c.deref-2.ensures, c.deref-3.ensures.value) at c.set_current.ensures.first) in
+    let skipped = skipped-first l levels.near.labels.items links.rooms.items c.set_current.new.current a.links labelled.sound.small first in
     let aimed : IsAimed (plainly (residual_of links) w) levels.near.labels.items w.capacity = record {
       links = a.links;
       one_label_each = is.one_label_each;
@@ -105,11 +107,12 @@ returns c =
     let v : Labelling = record { labels = levels.near.labels.items; current = c.set_current.new.current } in
     let searching = searching-free (residual_of links) v w slots aimed links.rooms_are c.requires.searching.holding.small
     (rw c.deref-2.ensures at c.set_current.ensures.current)
-    (passed-first l levels.near.labels.items links.rooms.items w.goal c.set_current.new.current a.links labelled.sound.small first)
+    (λ v p ps node lies before walk. skipped v p node lies before walk.0)
     (c.free.ensures.count ∙ read (goal.at.returns c).After-index-start_label) labelled.goal_label in
     record {
       searching = rw (current, c.free.ensures.way) searching;
       ready = (links.table.value.nodes, is);
+      lasting = λ all. record { sound = c.label_anew.ensures.lasting all; skipped = λ none. rw current skipped };
       way = c.free.ensures.way;
       labelled = λ yes. labelled.walk;
       none = λ e. absurd (cc);

@@ -10,7 +10,8 @@ use Rattle.dmf_path.specs.Searching.{IsUnderWay}
 use Rattle.dmf_path.proofs.LinkPlaces.{end-within}
 use Rattle.dmf_path.proofs.WalkingTurn.{work_left}
 use Rattle.dmf_path.proofs.WayStart.{last-link_within, on-start, searching-on, same-sought}
-use Rattle.dmf_path.proofs.WayWalk.{Turn, IsFound, on-turned, within-found, slot-found, slot-first, made-start, made-goal, made-capacity, made-links, is-made}
+use Rattle.dmf_path.proofs.WayWalk.{Turn, IsFound, on-turned, skipped-turned, within-found, slot-found, slot-first, made-start, made-goal, made-capacity}
+use Rattle.dmf_path.proofs.WayWalk.{made-links, is-made}
 use Rattle.dmf_path.proofs.WayWalk.{on-found, less-found, no-walk, slot-last, back-within, back-tail, back-tail_within, less-back, on-stepped, back-last}
 use Rattle.dmf_path.proofs.walk.walk.Goals as goal
 use Rattle.dmf_path.proofs.walk.walk.Goals.{After-first_admissible-place}
@@ -29,6 +30,7 @@ loop-node-init c = record {
   on = on-start (residual_of c.args.links.now) (record { labels = c.args.labels.now; current = c.args.current.now })
       (way_of c.args.trail.now) c.end_node-node.result c.requires c.end_node-node.ensures.first
       (rw c.deref.ensures at c.end_node-node.ensures.last);
+  skipped = λ was. was;
   start = refl;
   goal = refl;
   capacity = refl;
@@ -164,6 +166,7 @@ loop-node-preserved-then-place-end c =
     (rw c.deref-then-place-end.ensures at c.index-node.ensures) in
     record {
       on = rw (c.enter.ensures, room) on;
+      skipped = λ was none. skipped-turned t (c.loop-node.invariant.skipped was none);
       start = ap (λ (w : Way). w.start) c.enter.ensures ∙ made-start t.r t.w (residual_of c.make_way.new.links)
           (way_of c.make_way.new.self) made ∙ c.loop-node.invariant.start;
       goal = ap (λ (w : Way). w.goal) c.enter.ensures ∙ made-goal t.r t.w (residual_of c.make_way.new.links)
@@ -196,6 +199,10 @@ returns-then-trail-eq0-clause-none c =
     (no-walk t c.if-place-end.false c.if-trail-eq0.true ps) in
     subst (λ s. ¬ IsWalk t.aim.links t.labels t.aim.rooms c.args.trail.now.goal s ps) i.start
     (subst (λ g. ¬ IsWalk t.aim.links t.labels t.aim.rooms g t.w.start ps) i.goal none)
+
+pub returns-then-trail-eq0-clause-skipped : goal.returns-then-trail-eq0-clause-skipped
+returns-then-trail-eq0-clause-skipped c was none =
+    skipped-turned (turn (goal.at.returns-then-trail-eq0-clause-skipped c).After-first_admissible-place) (c.loop-node.invariant.skipped was none)
 
 pub step_back-back-requires-clause-slot : goal.step_back-back-requires-clause-slot
 step_back-back-requires-clause-slot c =
@@ -252,6 +259,7 @@ loop-node-preserved c =
     record {
       on = on-stepped t (residual_of c.step_back-back.new.links) (way_of c.step_back-back.new.self) c.step_back-back.result c.end_node-node-else-place-end.result
           c.if-place-end.false some back.links back.way c.step_back-back.new.links.rooms_are back.place tail;
+      skipped = λ was none. absurd (cc);
       start = ap (λ (w : Way). w.start) back.way ∙ i.start;
       goal = ap (λ (w : Way). w.goal) back.way ∙ i.goal;
       capacity = ap (λ (w : Way). w.capacity) back.way ∙ i.capacity;
@@ -273,3 +281,6 @@ returns-clause-same c = same-sought (residual_of c.args.links.now) (way_of c.arg
 
 pub returns-clause-found : goal.returns-clause-found
 returns-clause-found c = λ yes. c.loop-node.invariant.on.come.arrives ∙ c.loop-node-test.false
+
+pub returns-clause-skipped : goal.returns-clause-skipped
+returns-clause-skipped c = c.loop-node.invariant.skipped

@@ -5,14 +5,15 @@ use Rattle.std.proofs.lemmas.Option.{IfSome_then}
 use Rattle.dmf_path.specs.declared.search.AugmentingPath.{AugmentingPath}
 use Rattle.dmf_path.specs.Links.{ArePlaces, pair_at, pairs_at}
 use Rattle.dmf_path.specs.Held.{way_of, settled}
-use Rattle.dmf_path.specs.Residual.{residual_of}
+use Rattle.dmf_path.specs.Residual.{residual_of, told}
 use Rattle.dmf_path.specs.Search.{Searched, Augments, pair_number}
 use Rattle.dmf_path.specs.Touched.{AreBelow, KeepsUntouched}
 use Rattle.dmf_path.specs.Touching.{MayBeNumbered, Lists}
-use Rattle.dmf_path.specs.Searching.{Sought, sought, searched, labelling_of, begun}
+use Rattle.dmf_path.specs.Searching.{Sought, sought, searched, labelling_of, AreKept, AreLasting, begun}
 use Rattle.dmf_path.proofs.UnderWayWhole.{slot-within}
 use Rattle.dmf_path.proofs.Splitting.{sent_along, middle-leaves}
 use Rattle.dmf_path.proofs.SettledSent.{HaveLeft-sent}
+use Rattle.dmf_path.proofs.Lasting.{lasting-opens}
 use Rattle.dmf_path.proofs.Searching.{sent_on, CanAugment, can-augment, IsOn, split-on}
 use Rattle.dmf_path.proofs.Reaching.{no_path-separated}
 use Rattle.dmf_path.proofs.SearchTurns.{search-next}
@@ -21,13 +22,17 @@ use Rattle.dmf_path.proofs.search.Search.augment.Goals as goal
 use Rattle.dmf_path.proofs.search.Search.augment.Goals.{After-bottleneck-amount, After-split}
 
 pub find-requires : goal.find-requires
-find-requires c = record { searching = c.self.invariant.1.searching; ready = c.self.invariant.0.0 }
+find-requires c = record { searching = c.self.invariant.1.searching; ready = c.self.invariant.0.0; lasting = λ e. (c.self.invariant.0.2 e).1 }
 
 pub invariant_of-self : goal.invariant_of-self
 invariant_of-self c =
     let of = c.self.inside in
     let e = c.find.ensures in (
-      (e.ready, subst (λ l. MayBeNumbered l of.places.value of.numbers) (sym (ap (λ (s : Sought). s.residual.links) e.same)) c.self.invariant.0.1),
+      (
+        e.ready,
+        subst (λ l. MayBeNumbered l of.places.value of.numbers) (sym (ap (λ (s : Sought). s.residual.links) e.same)) c.self.invariant.0.1,
+        λ all. (refl, e.lasting all),
+      ),
       search-next (residual_of of.links) of.places.value (labelling_of of.levels) (way_of of.trail) (residual_of c.find.new.links)
           (labelling_of c.find.new.levels) (way_of c.find.new.trail) of.is_fresh false c.self.invariant.1
           (ap (λ (s : Sought). s.residual.links) e.same) e.searching (begun refl),
@@ -106,8 +111,18 @@ pub invariant_of-self-2 : goal.invariant_of-self-2
 invariant_of-self-2 c =
     let on = split (goal.at.invariant_of-self-2 c).After-split in
     let links = ap (λ (s : Sought). s.residual.links) on.same ∙ ap (λ (s : Sought). s.residual.links) c.find.ensures.same in
+    let levels = c.find.new.levels in
+    let v = labelling_of levels in
+    let sent = sent_along (residual_of c.find.new.links) (sent_on (way_of c.find.new.trail) c.bottleneck-amount.result) in
+    let opens = (can (goal.at.After-split (goal.at.invariant_of-self-2 c).After-split).After-bottleneck-amount).opens in
+    let kept : AreKept levels false (told (residual_of c.split.new.links) (way_of c.split.new.self)) = λ all. (
+      refl,
+      subst (λ (s : Sought). AreLasting v levels.stepped_back s.residual) (sym on.same)
+          (lasting-opens v levels.stepped_back (told (residual_of c.find.new.links) (way_of c.find.new.trail)) sent.rooms
+          c.find.ensures.searching.aimed.links opens (c.find.ensures.lasting all)),
+    ) in
     let of = c.self.inside in (
-      (c.find.ensures.ready, subst (λ l. MayBeNumbered l of.places.value of.numbers) (sym links) c.self.invariant.0.1),
+      (c.find.ensures.ready, subst (λ l. MayBeNumbered l of.places.value of.numbers) (sym links) c.self.invariant.0.1, kept),
       search-next (residual_of of.links) of.places.value (labelling_of of.levels) (way_of of.trail) (residual_of c.split.new.links)
           (labelling_of c.find.new.levels) (way_of c.split.new.self) of.is_fresh false c.self.invariant.1 links on.searching (begun refl),
     )

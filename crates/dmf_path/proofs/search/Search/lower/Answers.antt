@@ -1,10 +1,11 @@
 -- The link is released, and its room lowered.
 use Rattle.std.proofs.Common.{◌≡◌, get_or, ap, sym, ◌∙◌, subst, arith}
 use Rattle.dmf_path.specs.Held.{way_of}
-use Rattle.dmf_path.specs.Residual.{Residual, residual_of}
+use Rattle.dmf_path.specs.Residual.{Residual, residual_of, told}
 use Rattle.dmf_path.specs.Links.{Links, pairs_at, ArePlaces}
 use Rattle.dmf_path.specs.Search.{with_pairs, lowered_along}
-use Rattle.dmf_path.specs.Searching.{Sought, sought, searched, labelling_of, IsMarked}
+use Rattle.dmf_path.specs.Searching.{Sought, sought, searched, labelling_of, AreKept, AreLasting, IsMarked}
+use Rattle.dmf_path.proofs.Lasting.{lasting, lasting-opens}
 use Rattle.dmf_path.proofs.Lowered.{HasPlace, HasPlace-along}
 use Rattle.dmf_path.proofs.PairRead.{has-place}
 use Rattle.dmf_path.proofs.Released.{IsLowered, is-lowered}
@@ -84,9 +85,18 @@ invariant_of-self c =
     let low = lowered (goal.at.invariant_of-self c).After-lower in
     let same : (residual_of c.lower.new.self).links ≡ (residual_of c.release.new.links).links = ap (λ (x : Residual). x.links) c.lower.ensures in
     let links = same ∙ ap (λ (s : Sought). s.residual.links) c.release.ensures.same in
+    let kept : AreKept of.levels of.is_fresh (told (residual_of c.lower.new.self) (way_of c.release.new.trail)) = λ all.
+    let was = c.self.invariant.0.2 all in (
+      was.0,
+      subst (AreLasting (labelling_of of.levels) of.levels.stepped_back) (sym low.told_is)
+          (lasting-opens (labelling_of of.levels) of.levels.stepped_back (told (residual_of c.release.new.links) (way_of c.release.new.trail))
+          low.rooms c.release.ensures.searching.aimed.links
+          low.opens (lasting (labelling_of of.levels) of.levels.stepped_back (sought (residual_of c.release.new.links) (way_of c.release.new.trail))
+          (sought (residual_of of.links) (way_of of.trail)) c.release.ensures.same was.1)),
+    ) in
     let marked = same-mark (residual_of of.links) (labelling_of of.levels) (way_of of.trail) (residual_of c.release.new.links)
     (way_of c.release.new.trail) of.is_fresh i.marked c.release.ensures.same in (
-      (c.self.invariant.0.0, subst (λ l. MayBeNumbered l c.self.inside.places.value c.self.inside.numbers) (sym links) c.self.invariant.0.1),
+      (c.self.invariant.0.0, subst (λ l. MayBeNumbered l c.self.inside.places.value c.self.inside.numbers) (sym links) c.self.invariant.0.1, kept),
       search-next (residual_of of.links) of.places.value (labelling_of of.levels) (way_of of.trail) (residual_of c.lower.new.self)
           (labelling_of of.levels) (way_of c.release.new.trail) of.is_fresh of.is_fresh i links low.searching
           (subst (λ (l : Links). IsMarked l (labelling_of c.self.inside.levels).labels c.release.new.trail.start c.self.inside.is_fresh) (sym same) marked),

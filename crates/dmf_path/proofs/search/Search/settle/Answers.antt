@@ -2,7 +2,8 @@
 use Rattle.std.proofs.Common.{ap, sym, subst}
 use Rattle.dmf_path.specs.Held.{way_of}
 use Rattle.dmf_path.specs.Residual.{Residual, residual_of}
-use Rattle.dmf_path.specs.Searching.{Sought, searched, labelling_of}
+use Rattle.dmf_path.specs.Searching.{Sought, sought, searched, labelling_of}
+use Rattle.dmf_path.proofs.Lasting.{lasting}
 use Rattle.dmf_path.proofs.Settling.{can-settle}
 use Rattle.dmf_path.specs.Touching.{MayBeNumbered}
 use Rattle.dmf_path.proofs.SearchTurns.{search-settled, sought-settled}
@@ -17,6 +18,14 @@ invariant_of-self c =
       (
         c.self.invariant.0.0,
         subst (λ l. MayBeNumbered l of.places.value of.numbers) (sym (ap (λ (x : Residual). x.links) c.settle.ensures.links)) c.self.invariant.0.1,
+        λ all.
+            let was = c.self.invariant.0.2 all in (
+              was.0,
+              lasting (labelling_of of.levels) of.levels.stepped_back (sought (residual_of c.settle.new.links) (way_of c.settle.new.self))
+                  (sought (residual_of of.links) (way_of of.trail))
+                  (sought-settled (residual_of of.links) (way_of of.trail) (residual_of c.settle.new.links)
+                  (way_of c.settle.new.self) c.settle.ensures.links c.settle.ensures.way) was.1,
+            ),
       ),
       search-settled (residual_of of.links) of.places.value (labelling_of of.levels) (way_of of.trail) (residual_of c.settle.new.links)
           (way_of c.settle.new.self) of.is_fresh
