@@ -13,6 +13,7 @@ pub mod Descending
 pub mod Settled
 pub mod SettledSent
 pub mod Lasting
+pub mod Redirected
 mod Leaving
 pub mod PairRead
 pub mod Pushing

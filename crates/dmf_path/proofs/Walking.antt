@@ -57,7 +57,7 @@ IsTrail-set l labels rooms current v (p ∷ ps) x y trail low =
     (trail.0, get_or-set_other current x v y 0 other ∙ trail.1, IsTrail-set l labels rooms current (slice_index l.heads p) ps x y trail.2 low)
 
 -- Another current link of a node that is one of its own, or behind them.
-AreCurrent-set : (l : Links) (current : List ℕ) (x y : ℕ) → AreCurrent l current → IsNode l.nodes x → slice_index l.first x ≤ y
+pub AreCurrent-set : (l : Links) (current : List ℕ) (x y : ℕ) → AreCurrent l current → IsNode l.nodes x → slice_index l.first x ≤ y
     → y ≤ slice_index l.first (x + 1) → AreCurrent l (set current x y)
 AreCurrent-set l current x y are node from to =
     let at : (v : ℕ) → ((v ≡ x) × (slice_index (set current x y) v ≡ y))

@@ -8,7 +8,7 @@ use Rattle.dmf_path.specs.Frontier.{IsClean}
 use Rattle.dmf_path.specs.BothEnds.{AreSound}
 use Rattle.dmf_node.specs.Node.{IsNode}
 use Rattle.dmf_path.specs.Links.{Links, LiesAt, AreLinks, ArePlaces, AreRooms, pairs_at}
-use Rattle.dmf_path.specs.Walk.{AreSkipped, IsTrail, IsWalking, end_of}
+use Rattle.dmf_path.specs.Walk.{AreCurrent, ArePassed, AreSkipped, IsTrail, IsWalking, end_of}
 use Rattle.dmf_path.specs.Held.{Way, places_of, walked_slots, rest_slots, filled_slots, HaveLeft}
 use Rattle.dmf_path.specs.Residual.{Residual, told}
 use Rattle.dmf_path.specs.Search.{Searched}
@@ -77,7 +77,14 @@ pub record AreLasting (v : Labelling) (stepped_back : Bool) (r : Residual) : Typ
   pub sound : AreSound r.links v.labels r.rooms no_label
   pub skipped : MaySkip stepped_back r v.labels v.current
 
--- They are so, if all nodes from which paths lead to the goal have one.
+-- They lead to this goal, so that a search from any node with a label may take them up.
+pub record AreKeptFor (v : Labelling) (stepped_back : Bool) (r : Residual) (goal : ℕ) : Type 0 where
+  pub lasting : AreLasting v stepped_back r
+  pub goal_label : slice_index v.labels goal ≡ 0
+  pub current_is : AreCurrent r.links v.current
+  pub passed : ArePassed r.links v.labels r.rooms goal v.current
+
+-- They are lasting, if all nodes from which paths lead to the goal have one.
 abbrev pub MayLast : Levels → Residual → Type 0
 MayLast levels r = levels.all ≡ true → AreLasting (labelling_of levels) levels.stepped_back r
 

@@ -18,6 +18,7 @@ mod phase;
 mod places;
 mod push;
 mod reach;
+mod redirect;
 mod relabel;
 mod release;
 mod room;

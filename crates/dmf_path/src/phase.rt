@@ -1,17 +1,17 @@
 //! The search for the next path: the walk goes on, or the nodes are labelled anew and it begins again.
-ghost use Rattle.std.specs.Prelude.{◌≡◌, ◌≢◌, ℕ, List, true, false, [], slice_index};
+ghost use Rattle.std.specs.Prelude.{◌≡◌, ◌≢◌, ℕ, List, true, false, []};
 ghost use Rattle.dmf_node.specs.Node.{IsNode};
 ghost use Rattle.dmf_path.specs.LinkTable.{links_of};
 ghost use Rattle.dmf_path.specs.Walk.{IsWalk};
 ghost use Rattle.dmf_path.specs.Held.{way_of, with_slots};
 ghost use Rattle.dmf_path.specs.Residual.{residual_of, told};
 ghost use Rattle.dmf_path.specs.Searching.{labelling_of, sought, AreReady, IsSearching, IsFound, IsFresh, IsReady, IsSeparated, fresh_labels};
-ghost use Rattle.dmf_path.specs.Searching.{AreLasting, MayLast};
-ghost use Rattle.dmf_path.specs.Labels.{no_label};
+ghost use Rattle.dmf_path.specs.Searching.{AreKept, IsMarked, MayLast};
 
 use crate::frontier::unlabel;
 use crate::levels::{Levels, set_current};
 use crate::push::Links;
+use crate::redirect::redirect;
 use crate::relabel::label_anew;
 use crate::table::LinkTable;
 use crate::trail::Trail;
@@ -75,44 +75,49 @@ fn relabel(links: &Links, levels: &mut Levels, trail: &mut Trail) -> bool
     true
 }
 
-/// Restarts the search between these nodes: applies the held pushes and takes off all labels, so that the next walk ends at once.
+/// Restarts the search between its two nodes: applies the held pushes and takes off all labels, so that the next walk ends at once.
 /// From then on nodes are labelled from both ends.
-pub fn begin_anew(links: &mut Links, levels: &mut Levels, trail: &mut Trail, start: u32, goal: u32)
+pub fn begin_anew(links: &mut Links, levels: &mut Levels, trail: &mut Trail)
     requires searching { IsSearching (residual_of links.old) (labelling_of levels.old) (way_of trail.old) }
     requires ready { AreReady levels.old }
+    ensures searching { IsSearching (residual_of links.new) (labelling_of levels.new) (way_of trail.new) }
+    ensures ready { AreReady levels.new }
+    ensures fresh { IsFresh (links_of links.new.table.value) levels.new.near.labels.items trail.new.start }
+    ensures all { levels.new.all ≡ false }
+    ensures same { sought (residual_of links.new) (way_of trail.new) ≡ sought (residual_of links.old) (way_of trail.old) }
+{
+    trail.settle(links);
+    make_fresh(&links.table, levels, trail);
+    levels.both = true;
+}
+
+/// Restarts the search between other nodes: applies the held pushes, and keeps the labels if they can be made to lead to the goal. Else
+/// it takes off all labels, and is fresh. Whether it is.
+pub fn aim(links: &mut Links, levels: &mut Levels, trail: &mut Trail, start: u32, goal: u32) -> bool
+    requires searching { IsSearching (residual_of links.old) (labelling_of levels.old) (way_of trail.old) }
+    requires ready { AreReady levels.old }
+    requires lasting { MayLast levels.old (told (residual_of links.old) (way_of trail.old)) }
     requires start { IsNode links.old.table.value.nodes start }
     requires goal { IsNode links.old.table.value.nodes goal }
     requires apart { start ≢ goal }
     ensures searching { IsSearching (residual_of links.new) (labelling_of levels.new) (way_of trail.new) }
     ensures ready { AreReady levels.new }
-    ensures fresh { IsFresh (links_of links.new.table.value) levels.new.near.labels.items trail.new.start }
-    ensures all { levels.new.all ≡ false }
+    ensures kept { AreKept levels.new result (told (residual_of links.new) (way_of trail.new)) }
+    ensures marked { IsMarked (links_of links.new.table.value) levels.new.near.labels.items trail.new.start result }
     ensures same { sought (residual_of links.new) (way_of trail.new)
         ≡ record { residual = told (residual_of links.old) (way_of trail.old); start = start; goal = goal } }
 {
     trail.settle(links);
+    let from = trail.goal;
     trail.start = start;
     trail.goal = goal;
+    if redirect(links, levels, from, start, goal) {
+        trail.free(levels.near.labels[start as usize]);
+        return false;
+    }
     make_fresh(&links.table, levels, trail);
     levels.both = true;
-}
-
-/// Restarts the search at another node from which paths lead to the goal, where all such nodes have labels: the labels stay, and the
-/// current links too. Applies the held pushes.
-pub fn restart(links: &mut Links, levels: &Levels, trail: &mut Trail, start: u32)
-    requires searching { IsSearching (residual_of links.old) (labelling_of levels.now) (way_of trail.old) }
-    requires lasting { AreLasting (labelling_of levels.now) levels.now.stepped_back (told (residual_of links.old) (way_of trail.old)) }
-    requires start { IsNode links.old.table.value.nodes start }
-    requires apart { start ≢ trail.old.goal }
-    requires labelled { slice_index levels.now.near.labels.items start ≢ no_label }
-    ensures searching { IsSearching (residual_of links.new) (labelling_of levels.now) (way_of trail.new) }
-    ensures lasting { MayLast levels.now (told (residual_of links.new) (way_of trail.new)) }
-    ensures same { sought (residual_of links.new) (way_of trail.new)
-        ≡ record { residual = told (residual_of links.old) (way_of trail.old); start = start; goal = trail.old.goal } }
-{
-    trail.settle(links);
-    trail.start = start;
-    trail.free(levels.near.labels[start as usize]);
+    true
 }
 
 /// Takes off all labels, and gives both ends the label 0. No link falls then, so the next walk ends at once.

@@ -7,10 +7,9 @@ ghost use Rattle.dmf_path.specs.Search.{Augments, HasAlong, along_at, against_at
 ghost use Rattle.dmf_path.specs.Search.{aimed, lowered_along, with_rooms, with_pairs};
 ghost use Rattle.dmf_path.specs.Touched.{Touches};
 
-use crate::label::NO_LABEL;
 use crate::levels::Levels;
 use crate::numbers::number_links;
-use crate::phase::{begin_anew, find, restart};
+use crate::phase::{aim, begin_anew, find};
 use crate::places::Places;
 use crate::push::Links;
 use crate::reach::{labelled, labels_from_start};
@@ -138,28 +137,21 @@ impl Search {
     }
 
     /// Makes it a search from another start to another goal, over the same links with their present rooms. Takes no memory. If all
-    /// nodes have labels, and the goal stays, so do the labels.
+    /// nodes have labels, and these lead to the goal, they stay.
     pub fn aim(&mut self, start: u32, goal: u32)
         requires start { IsNode self.old.nodes start }
         requires goal { IsNode self.old.nodes goal }
         requires apart { start ≢ goal }
         ensures { self.new ≡ aimed self.old start goal }
     {
-        let again = goal == self.trail.goal;
-        if again && self.levels.all && self.levels.near.labels[start as usize] != NO_LABEL {
-            restart(&mut self.links, &self.levels, &mut self.trail, start);
-            self.is_fresh = false;
-            return;
-        }
-        begin_anew(
+        self.levels.again = (goal == self.trail.goal) | (start == self.trail.start);
+        self.is_fresh = aim(
             &mut self.links,
             &mut self.levels,
             &mut self.trail,
             start,
             goal,
         );
-        self.is_fresh = true;
-        self.levels.again = again;
     }
 
     /// Gives both links of the pair at index `k` these rooms, where there is one. Takes no memory. The first call after a path was
@@ -170,14 +162,7 @@ impl Search {
         ensures { self.new ≡ with_pairs self.old (with_rooms self.old.pairs k along against) }
     {
         if !self.is_fresh {
-            let (start, goal) = (self.trail.start, self.trail.goal);
-            begin_anew(
-                &mut self.links,
-                &mut self.levels,
-                &mut self.trail,
-                start,
-                goal,
-            );
+            begin_anew(&mut self.links, &mut self.levels, &mut self.trail);
             self.is_fresh = true;
         }
         let Some(place) = self.places.place_of(k) else {

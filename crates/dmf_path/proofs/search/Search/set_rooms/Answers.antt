@@ -15,9 +15,7 @@ use Rattle.dmf_path.proofs.search.Search.set_rooms.Goals.{Joined-not-self, then-
 use Rattle.dmf_path.proofs.search.Search.set_rooms.Goals as goal
 
 pub begin_anew-requires : goal.begin_anew-requires
-begin_anew-requires c =
-    let a = c.self.invariant.1.searching.aimed in
-    record { searching = c.self.invariant.1.searching; ready = c.self.invariant.0.0; start = a.start_is; goal = a.goal_is; apart = a.apart }
+begin_anew-requires c = record { searching = c.self.invariant.1.searching; ready = c.self.invariant.0.0 }
 
 -- The search has not begun, and callers see of it what they saw before.
 record IsAnew (x : Inside) (before : Searched) : Type 0 where
