@@ -155,7 +155,10 @@ pub fn text_of(rt: &HostRuntime, origin: Origin<'_>, most: u64) -> Option<Vec<u8
 fn has_fault(rt: &HostRuntime, text: &[u8], fault: ProblemFault) -> bool
     ensures { IsTrue result → fault ≢ out_of_memory → problem_of text.now ≡ Err fault }
 {
-    matches!(read_problem(rt.alloc(), text), Err(found) if found == fault)
+    match read_problem(rt.alloc(), text) {
+        Ok(_) => false,
+        Err(found) => found == fault,
+    }
 }
 
 /// Whether the solution text has this fault as its first, as one of the problem that comes from there.
@@ -169,9 +172,10 @@ fn has_solution_fault(
         return false;
     };
     match read_problem(rt.alloc(), &problem) {
-        Ok(state) => {
-            matches!(read_solution(rt.alloc(), text, &state), Err(found) if found == fault)
-        }
+        Ok(state) => match read_solution(rt.alloc(), text, &state) {
+            Ok(_) => false,
+            Err(found) => found == fault,
+        },
         Err(_) => false,
     }
 }

@@ -44,11 +44,7 @@ fn also(found: Option<Named>, number: u64) -> Named {
 /// The number of the thing that this line calls so, if it is a comment that names such a thing.
 fn numbered_as(line: &[u8], thing: Thing, name: &[u8]) -> Option<u64> {
     let mut fields = Fields::new(line);
-    let word = match thing {
-        Thing::Node => b"node".as_slice(),
-        Thing::Arc => b"arc".as_slice(),
-    };
-    if fields.next() != Some(b"c".as_slice()) || fields.next() != Some(word) {
+    if !names(&mut fields, thing) {
         return None;
     }
     let number = number(fields.next()?).ok()?;
@@ -56,6 +52,21 @@ fn numbered_as(line: &[u8], thing: Thing, name: &[u8]) -> Option<u64> {
         Some(number)
     } else {
         None
+    }
+}
+
+/// Takes the first two fields of a line, and tells whether they begin a comment that names such a thing.
+fn names(fields: &mut Fields<'_>, thing: Thing) -> bool {
+    fields.next() == Some(b"c".as_slice()) && fields.next() == Some(thing.word())
+}
+
+impl Thing {
+    /// The word for it in comments.
+    fn word(self) -> &'static [u8] {
+        match self {
+            Thing::Node => b"node",
+            Thing::Arc => b"arc",
+        }
     }
 }
 

@@ -64,17 +64,17 @@ impl fmt::Display for Part<'_> {
     fn fmt<W: fmt::Write>(&self, f: &mut fmt::Formatter<W>) -> fmt::Result {
         match self {
             Part::Words(text) => f.write_str(text),
-            Part::Quoted(bytes) => {
-                let shown = Shown(bytes);
-                write!(f, "'{shown}'")
-            }
-            Part::Shown(bytes) => {
-                let shown = Shown(bytes);
-                write!(f, "{shown}")
-            }
-            Part::Number(number) => write!(f, "{number}"),
+            Part::Quoted(bytes) => quote(bytes, f),
+            Part::Shown(bytes) => fmt::Display::fmt(&Shown(bytes), f),
+            Part::Number(number) => fmt::Display::fmt(number, f),
         }
     }
+}
+
+/// Writes what somebody else wrote, between quotes.
+fn quote<W: fmt::Write>(bytes: &[u8], f: &mut fmt::Formatter<W>) -> fmt::Result {
+    let shown = Shown(bytes);
+    write!(f, "'{shown}'")
 }
 
 /// The pieces, one behind the other.
@@ -83,8 +83,10 @@ pub struct Said<'a>(pub Parts<'a>);
 
 impl fmt::Display for Said<'_> {
     fn fmt<W: fmt::Write>(&self, f: &mut fmt::Formatter<W>) -> fmt::Result {
-        let [first, second, third, fourth, fifth] = self.0;
-        write!(f, "{first}{second}{third}{fourth}{fifth}")
+        for part in &self.0 {
+            fmt::Display::fmt(part, f)?;
+        }
+        Ok(())
     }
 }
 
