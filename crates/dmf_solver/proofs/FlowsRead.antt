@@ -36,20 +36,3 @@ stays-unpaired link firsts pairs k long none =
     (λ (within : k < length firsts). sym (get_or-flows_read link firsts pairs k long within ∙ ap (flow_read link (get_or firsts k 0)) none))
     (λ (past : length firsts ≤ k). stays-past firsts (flows_read link firsts pairs) (length-flows_read link firsts pairs long) k past)
     (cases_lt k (length firsts))
-
--- On an arc flows its capacity less the room along its pair.
-left-here : (arc : Arc) (first flow : ℕ) (loop : Bool) → (arc.tail == arc.head) ≡ loop → flow ≤ arc.cap
-    → flow_left arc first (option_map (λ (p : Pair). p.along) (residual_pair arc flow)) ≡ flow_read Against first (residual_pair arc flow)
-left-here arc first flow true e within = rw e refl
-left-here arc first flow false e within = rw e (omega (arith, within))
-
-pub left-along : (arcs : List Arc) (firsts flows : List ℕ) (rest : List (Option Pair)) (k : ℕ) → AreWithinCapacities arcs flows
-    → length firsts ≡ length arcs → k < length firsts
-    → flow_left (get_or arcs k no_arc) (get_or firsts k 0) (along_at (residual_pairs arcs flows ++ rest) k) ≡ get_or
-    (flows_read Against firsts (residual_pairs arcs flows ++ rest)) k 0
-left-along [] firsts flows rest k within long h = absurd (omega (arith, long, h))
-left-along (arc ∷ arcs) [] flows rest k within long h = absurd (omega (arith, h))
-left-along (arc ∷ arcs) (first ∷ firsts) [] rest k within long h = absurd within
-left-along (arc ∷ arcs) (first ∷ firsts) (flow ∷ flows) rest zero within long h = left-here arc first flow (arc.tail == arc.head) refl within.0
-left-along (arc ∷ arcs) (first ∷ firsts) (flow ∷ flows) rest (suc k) within long h =
-    left-along arcs firsts flows rest k within.1 (omega (arith, long)) (omega (arith, h))

@@ -59,11 +59,6 @@ pub record Carries (s : NetworkState) (unpaired flows : List ℕ) (search : Sear
 abbrev pub IsCarryingSearch : NetworkState → List ℕ → Searched → Type 0
 IsCarryingSearch s unpaired search = Carries s unpaired (flows_read Along unpaired search.pairs) search
 
--- the flow on an arc by the room along its pair, and where it has none what flowed at first
-abbrev pub flow_left : Arc → ℕ → Option ℕ → ℕ
-flow_left arc first None = first
-flow_left arc first (Some room) = arc.cap - room
-
 -- the flows that a search for augmenting paths has reached from those of the state
 abbrev pub reached_flows : NetworkState → Searched → List ℕ
 reached_flows s search = flows_read Against s.flows search.pairs

@@ -22,31 +22,8 @@ pub trait Flows {
         ensures { result ≡ slice_index (flows self.now) k };
 }
 
-/// The flows of a list.
-#[derive(Clone, Copy, Drop)]
-pub struct ListedFlows<'a>(pub &'a [u64]);
-
-impl Flows for ListedFlows<'_> {
-    ghost flows = { λ listed. listed.0.now };
-
-    fn flow(&self, k: usize, _i: usize) -> u64 {
-        self.0[k]
-    }
-}
-
-/// The moves of all arcs on which another flow comes after that of the state, in the order of their numbers.
-pub fn list_all_moves<F: Flows>(
-    alloc: Global,
-    state: &State,
-    after: &F,
-) -> Result<Vec<Move>, AllocError>
-    requires { length (F.flows after.now) ≡ length state.now.flows }
-    ensures { IfOk result (λ moves. moves.items ≡ differences 1 state.now.flows (F.flows after.now)) }
-{
-    list_moves(alloc, state, after, Indices::Below(state.flows().len()))
-}
-
-/// The same, where only the flows on the arcs at these indices may differ: no other arc is looked at.
+/// The moves of all arcs on which another flow comes after that of the state, in the order of their numbers. Only the flows on the arcs
+/// at these indices may differ: no other arc is looked at.
 pub fn list_moves<F: Flows>(
     alloc: Global,
     state: &State,
