@@ -19,6 +19,7 @@ from desk_shared import ODD, PIPES, ROOT, SCRIPT, SECONDS, STORY, greatest, run,
 from dmf.desk import Desk, DeskFault, Place
 from dmf.desk_file import Subject
 from dmf.errors import SessionEnded
+from tool_runs import wait_until_asleep
 
 WATER = subprocess.run(
     [ROOT / "tools/dmf-problem", "Reservoir", "Harbour"], stdin=open(ROOT / PIPES), capture_output=True, check=True, timeout=SECONDS
@@ -314,7 +315,10 @@ def test_typed() -> None:
         terminal.type("close Bri\t\n")
         told = terminal.wait("155, greatest> ")
         assert '"Bridge pipe"' in told, f"a name is completed: {told!r}"
-        terminal.type("close rubbish\x03")
+        terminal.type("close rubbish")
+        terminal.wait("close rubbish")
+        wait_until_asleep(terminal.pid)
+        terminal.type("\x03")
         terminal.wait("155, greatest> ")
         terminal.type("try\n")
         terminal.wait("try, 155, greatest> ")

@@ -43,12 +43,21 @@ def put(path: Path, content: Text) -> None:
     path.write_bytes(content if isinstance(content, bytes) else content.encode())
 
 
+def wait_until_asleep(process: int) -> None:
+    """Waits until a process sleeps, as in a call that reads, or has ended. Python takes note of a signal that comes just before such a
+    call, and heeds it when the call ends: an interrupt that a test sends has to come within the call."""
+    while Path(f"/proc/{process}/stat").read_bytes().rpartition(b") ")[2][:1] not in b"SZX":
+        time.sleep(0.001)
+
+
 def wait_until_read(tool: subprocess.Popen[bytes]) -> None:
-    """Waits until a tool has read all that its standard input has."""
+    """Waits until a tool has read all that its standard input has, and reads on or has ended."""
     assert tool.stdin
     unread = bytearray(4)
     while tool.poll() is None and (fcntl.ioctl(tool.stdin, termios.FIONREAD, unread) or any(unread)):
         time.sleep(0.01)
+    if tool.poll() is None:
+        wait_until_asleep(tool.pid)
 
 
 class Tools:

@@ -71,9 +71,10 @@ class Crate:
 
     @property
     def command(self) -> list[str]:
-        """What builds it. `rt run` also runs the program, so it is given a session without commands, which ends with 0."""
+        """What builds it. `rt run` also runs the program, so it is given a session without commands, which ends with 0. The program is
+        built alone, when all crates below it are built, so it gets all processors; `rt` would take one for so small a crate."""
         if self.name == PROGRAM:
-            return ["rt", "run", "--", "session", str(ROOT / "examples/a.max")]
+            return ["rt", "run", "--jobs", str(at_once()), "--", "session", str(ROOT / "examples/a.max")]
         return ["rt", "lib"]
 
 

@@ -33,11 +33,7 @@ TURNS = [
     ("print flow", ANSWER, TOLD),
     ("add 1 3 7", "c add 4 value 6", "c add 4 value 6"),
     ("solve", "s 13 / f 1 2 4 / f 2 3 4 / f 1 3 2 / f 1 3 7", TOLD.replace("6", "13", 1) + " /   4 Quarry -> Site: 7 of 7"),
-    (
-        "print cut",
-        "c cut 13 / c side 1 / c side 2",
-        LIMIT.replace("6", "13", 1) + " /   4 Quarry -> Site: 7",
-    ),
+    ("print cut", "c cut 13 / c side 1 / c side 2", LIMIT.replace("6", "13", 1) + " /   4 Quarry -> Site: 7"),
     ("close 9", "c refused 11 no such arc", "c refused 11 no such arc"),
     ("shut 2", "c shut value 9", "c shut value 9"),
     (

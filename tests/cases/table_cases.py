@@ -276,7 +276,7 @@ WARNINGS: list[tuple[Case, list[str]]] = [
     ),
 ]
 
-TERMINALS = "a source and a sink are two words, or stand behind options such as --source and --sink"
+TERMINALS = "name a source and a sink, as two words or by options such as --source and --sink"
 # Words that are refused, and the last line of what is told.
 WRONG_WORDS: list[tuple[tuple[str, ...], str]] = [
     (("A",), TERMINALS),

@@ -80,11 +80,7 @@ REFUSED = [
     ("cap 1 99999999999999999999", "number too large", "the largest number is 18446744073709551615"),
     ("cap 1 18446744073709551615", "capacities past 64 bits", "the sum of all capacities would pass 2^64 - 1: give a smaller number"),
     ("undo", "nothing to undo", "there are not so many changes to undo; undo K takes back all K or none"),
-    (
-        "redo 3",
-        "nothing to redo",
-        "there are not so many undone changes; a new change drops them, and redo K makes all K or none",
-    ),
+    ("redo 3", "nothing to redo", "there are not so many undone changes; a new change drops them, and redo K makes all K or none"),
     ("print cut", "flow is not greatest", "solve first: a cut is told of a greatest flow alone"),
     ("c close Tunnel", None, ""),
     ("add 1 4 2", None, "c add 6 value 0"),

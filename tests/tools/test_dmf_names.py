@@ -20,7 +20,7 @@ import pytest
 from built import heed_interrupts
 from conftest import BUILT, ROOT
 from names_rows import FAULTS, LATER, NO_TABLES, ROADS, TABLES, TITLES, TOLD_OF, TOWN_CHANGES, TOWN_DRAWN, TOWN_PLAN, TOWN_TOLD, UNKNOWN, WARNED
-from tool_runs import Ran, Text, Tools, put, text
+from tool_runs import Ran, Text, Tools, put, text, wait_until_asleep
 
 TOOL = str(ROOT / "tools" / "dmf-names")
 TOWN = str(ROOT / "examples" / "town.max")
@@ -182,6 +182,7 @@ def test_interrupt(tmp_path: Path) -> None:
     with running(tmp_path) as tool:
         tool.input.write(b"hello\n")
         tool.read_until(b"hello\n")
+        wait_until_asleep(tool.tool.pid)
         tool.tool.send_signal(signal.SIGINT)
         assert tool.end() == (130, b"")
 

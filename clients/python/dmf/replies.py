@@ -5,7 +5,7 @@ from __future__ import annotations
 from collections import Counter, defaultdict
 from collections.abc import Sequence
 from dataclasses import dataclass
-from enum import Enum, auto
+from enum import Enum
 from typing import Union
 
 from .commands import CHANGES, FIELD_COUNTS, Command
@@ -13,21 +13,8 @@ from .text import MOST_ARCS, Fault, Problem, TextFault, number, read_problem
 from .timeline import Arc
 
 
-class Kind(Enum):
-    """What a line may be, by its form alone."""
-
-    VALUE = auto()
-    FLOW = auto()
-    CUT = auto()
-    SIDE = auto()
-    PROBLEM = auto()
-    TERMINAL = auto()
-    ARC = auto()
-    CHANGED = auto()
-    SOLVED = auto()
-    REFUSED = auto()
-    COMMAND = auto()
-    OTHER = auto()
+# What a line may be, by its form alone.
+Kind = Enum("Kind", "VALUE FLOW CUT SIDE PROBLEM TERMINAL ARC CHANGED SOLVED REFUSED COMMAND OTHER")
 
 
 _BY_FIRST_FIELD = {b"s": Kind.VALUE, b"f": Kind.FLOW, b"p": Kind.PROBLEM, b"n": Kind.TERMINAL, b"a": Kind.ARC}

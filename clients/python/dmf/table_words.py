@@ -58,7 +58,7 @@ def parsed(parser: argparse.ArgumentParser, given: list[str], fixed: int = 0) ->
     places = [*words.places, *given[end + 1 :]]
     words.fixed, words.places = places[:fixed], places[fixed:]
     if words.places and names_terminals(words) or len(words.places) not in (0, 2):
-        parser.error("a source and a sink are two words, or stand behind options such as --source and --sink")
+        parser.error("name a source and a sink, as two words or by options such as --source and --sink")
     if words.places:
         words.source, words.sink = words.places[:1], words.places[1:]
     titles = {column: getattr(words, column) for column in COLUMNS}

@@ -46,8 +46,6 @@ pub mod Marks
 pub mod Counting
 pub mod CountingLinks
 pub mod Covering
-pub mod Listing
-pub mod Spread
 pub mod Sums
 pub mod Starts
 pub mod Putting

@@ -5,7 +5,6 @@ pub mod Pair
 pub mod Links
 pub mod LinkTable
 pub mod Building
-pub mod Listed
 pub mod Labels
 pub mod Walk
 pub mod Held

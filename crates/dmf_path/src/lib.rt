@@ -10,7 +10,6 @@ mod frontier;
 mod label;
 mod levels;
 mod links;
-mod listed;
 mod meet;
 mod numbers;
 mod open;

@@ -13,7 +13,7 @@ pub struct Pair {
 
 /// Pairs of links, numbered from 1; a number may stand for none.
 pub trait Pairs {
-    ghost use Rattle.std.specs.Prelude.{◌≡◌, ◌<◌, false, List, Option, Some, None, length, slice_get};
+    ghost use Rattle.std.specs.Prelude.{◌≡◌, ◌<◌, List, Option, Some, length, slice_get};
     ghost use Rattle.dmf_path.specs.declared.pair.Pair.{Pair};
 
     // The pairs in the order of their numbers.
@@ -27,17 +27,4 @@ pub trait Pairs {
     fn pair(&self, k: usize) -> Option<Pair>
         requires { k < length (pairs self.now) }
         ensures { slice_get (pairs self.now) k ≡ Some result };
-
-    /// Whether there may be a pair at index `k`, as far as that is told without looking at the pair.
-    fn may_be_there(&self, k: usize) -> bool
-        requires { k < length (pairs self.now) }
-        ensures { result ≡ false → slice_get (pairs self.now) k ≡ Some None }
-    {
-        true
-    }
-
-    /// Whether so few pairs are there that it is worth while to list them first.
-    fn are_few(&self) -> bool {
-        false
-    }
 }

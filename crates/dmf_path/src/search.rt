@@ -1,16 +1,16 @@
 //! The search for least paths, one after the other, from one node to another.
-ghost use Rattle.std.specs.Prelude.{◌≡◌, ◌≢◌, ℕ, ◌+◌, ◌-◌, ◌^◌, ◌<◌, ◌↔◌, false, IsTrue, length, slice_index_or, IfOk, MatchOption, None};
+ghost use Rattle.std.specs.Prelude.{◌≡◌, ◌≢◌, ℕ, ◌+◌, ◌-◌, ◌^◌, ◌<◌, ◌↔◌, false, IsTrue, length, slice_index_or, IfOk, MatchOption};
 ghost use Rattle.dmf_node.specs.Node.{IsNode};
 ghost use Rattle.dmf_path.specs.Path.{HasNoPath, IsReachable};
 ghost use Rattle.dmf_path.specs.Pair.{steps_of};
-ghost use Rattle.dmf_path.specs.Search.{Augments, Covers, HasAlong, indices_of, pair_number, along_at, against_at};
+ghost use Rattle.dmf_path.specs.Search.{Augments, HasAlong, along_at, against_at};
 ghost use Rattle.dmf_path.specs.Search.{aimed, lowered_along, with_rooms, with_pairs};
 ghost use Rattle.dmf_path.specs.Touched.{Touches};
 
 use crate::levels::Levels;
 use crate::numbers::number_links;
 use crate::phase::{begin_anew, find};
-use crate::places::{Indices, Places};
+use crate::places::Places;
 use crate::push::Links;
 use crate::reach::{labelled, labels_from_start};
 use crate::release::release;
@@ -113,24 +113,8 @@ impl Search {
         requires { k < length self.now.pairs }
         ensures { result ≡ along_at self.now.pairs k }
     {
-        self.along_near(k, k)
-    }
-
-    /// The same, for a caller that goes over the indices: where `k` is number `i` of these, counted from 0, it is not looked for
-    /// among them. Takes no memory.
-    pub fn along_near(&self, k: usize, i: usize) -> Option<u64>
-        requires { k < length self.now.pairs }
-        ensures { result ≡ along_at self.now.pairs k }
-    {
-        let place = self.places.place_near(k, i)?;
+        let place = self.places.place_of(k)?;
         Some(self.links.settled_room(&self.trail, place))
-    }
-
-    /// The indices of all pairs that are there; where pairs were listed, of these alone. Takes no memory.
-    pub fn indices(&self) -> Indices<'_>
-        ensures { Covers (length self.now.pairs) (λ k. pair_number self.now.pairs k ≡ None) (indices_of result) }
-    {
-        self.places.indices()
     }
 
     /// Takes an amount off the room of the link along the pair at index `k`. Takes no memory.

@@ -17,7 +17,7 @@ use Rattle.dmf_state.specs.Edit.{moved, moves_of, with_closed, AddsArc}
 use Rattle.dmf_state.specs.Network.{Network, arc_number, with_arc}
 use Rattle.dmf_state.specs.NetworkState.{NetworkState, with_flows}
 use Rattle.dmf_state.specs.Revert.{with_opened}
-use Rattle.dmf_state.proofs.Moving.{no_move}
+use Rattle.dmf_state.proofs.Moving.{no_move, IsMoveAt}
 use Rattle.dmf_solver.specs.CarryingNetwork.{carrying_pair, carrying_from, return_of, CarriesWith, MayCarry}
 use Rattle.dmf_solver.proofs.CarryingPairs.{length-carrying_with}
 use Rattle.dmf_solver.proofs.Followed.{ArePut, put-more, put-all, index-put, flows-along}
@@ -69,25 +69,25 @@ pub record AreCarried (n : Network) (moves : List Move) (last : List ℕ) (i : �
   pub is : MayCarry (record { network = n; flows = flows }) search
 
 -- the pair of the next one is there
-pub carried-within : (n : Network) (moves : List Move) (last : List ℕ) (i : ℕ) (m : Move) (search : Searched) → i < length moves → get_or moves i no_move ≡ m
+pub carried-within : (n : Network) (moves : List Move) (last : List ℕ) (i : ℕ) (m : Move) (search : Searched) → IsMoveAt moves i m
     → AreCarried n moves last i search → (1 ≤ m.arc) × (m.arc - 1 < length n.arcs) × (m.arc - 1 < length search.pairs)
-carried-within n moves last i m search h is are =
-    let at = index-put moves last i are.flows h are.put in
-    let arc : (get_or moves i no_move).arc ≡ m.arc = ap (λ (x : Move). x.arc) is in
+carried-within n moves last i m search move are =
+    let at = index-put moves last i are.flows move.within are.put in
+    let arc : (get_or moves i no_move).arc ≡ m.arc = ap (λ (x : Move). x.arc) move.is in
     let long = length-carrying_with n are.flows are.is.0 are.one_each in
     let pairs = ap (λ (ps : List (Option Pair)). length ps) are.is.1.pairs_are in
     (omega (arith, at.0, arc), omega (arith, at.1, are.one_each, arc), omega (arith, at.1, arc, are.one_each, long, pairs))
 
 -- it is followed
-pub carried-next : (n : Network) (moves : List Move) (last : List ℕ) (i : ℕ) (m : Move) (old new : Searched) → i < length moves → get_or moves i no_move ≡ m
+pub carried-next : (n : Network) (moves : List Move) (last : List ℕ) (i : ℕ) (m : Move) (old new : Searched) → IsMoveAt moves i m
     → AreCarried n moves last i old → new ≡ with_pairs old (with_rooms old.pairs (m.arc - 1) m.to 0) → AreCarried n moves last (i + 1) new
-carried-next n moves last i m old new h same are is =
+carried-next n moves last i m old new move are is =
     let k : ℕ = m.arc - 1 in
-    let within = (carried-within n moves last i m old h same are).1 in
+    let within = (carried-within n moves last i m old move are).1 in
     let rest = return_of n are.is.0 ∷ [] in
     record {
       flows = set are.flows k m.to;
-      put = subst (λ (x : Move). ArePut moves last (i + 1) (set are.flows (x.arc - 1) x.to)) same (put-more moves last i are.flows h are.put);
+      put = subst (λ (x : Move). ArePut moves last (i + 1) (set are.flows (x.arc - 1) x.to)) move.is (put-more moves last i are.flows move.within are.put);
       one_each = length-set are.flows k m.to ∙ are.one_each;
       is = (
         are.is.0,

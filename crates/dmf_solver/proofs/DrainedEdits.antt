@@ -1,12 +1,11 @@
 -- The edits of drains: they fit the state, and make of it what was asked for.
-use Rattle.std.proofs.Common.{ℕ, ◌≡◌, ◌-◌, ◌<◌, ◌^◌, arith, refl, subst, sym, Vec, Global}
+use Rattle.std.proofs.Common.{ℕ, ◌≡◌, ◌+◌, ◌-◌, ◌≤◌, ◌^◌, arith, refl, subst, sym, Vec, Global}
 use Rattle.dmf_state.specs.declared.edit.Edit.TheVariants as edit
 use Rattle.dmf_state.specs.declared.edit.Move.{Move}
 use Rattle.dmf_state.specs.declared.edit.Shutting.{Shutting}
-use Rattle.dmf_state.specs.Arc.{open_arcs_at}
+use Rattle.dmf_state.specs.Arc.{capacity_sum, open_arcs_at}
 use Rattle.dmf_state.specs.Edit.{applied, moved, numbers, AreOpenWith, Fits, IsOpenWith}
 use Rattle.dmf_state.specs.Flow.{flow_on}
-use Rattle.dmf_state.specs.Network.{sum_with}
 use Rattle.dmf_state.specs.NetworkState.{NetworkState, IsState, with_flows}
 use Rattle.dmf_state.proofs.ChangedState.{IsState-with_cap, IsState-closed}
 use Rattle.dmf_state.proofs.ClosedArcs.{HasArcs-open, IsState-all_closed}
@@ -20,21 +19,23 @@ use Rattle.dmf_solver.proofs.DrainedInTurn.{left-in_turn}
 
 module _ (s : NetworkState) (arc old j : ℕ) (moves : Vec Move Global) (same : arc ≡ j) (asked : IsOpenWith s.network j old) where
   -- the arc, by the other number
-  pub found : IsOpenWith s.network arc old
+  found : IsOpenWith s.network arc old
   found = subst (λ k. IsOpenWith s.network k old) (sym same) asked
 
-  pub cap-fits : (cap : ℕ) → sum_with s.network arc cap < 2 ^ 64 → AreDrainingMoves s arc cap moves.items → Fits (edit.Cap arc old cap moves) s
-  cap-fits cap small drained = record {
+  pub cap-fits : (cap largest : ℕ) → largest + (capacity_sum s.network.arcs - old) + 1 ≡ 2 ^ 64 → cap ≤ largest → AreDrainingMoves s arc cap moves.items
+      → Fits (edit.Cap arc old cap moves) s
+  cap-fits cap largest is_largest at_most drained = record {
     arc = found;
     moves = drained.fit;
-    applied = IsState-with_cap (with_flows s (moved moves.items s.flows)) arc cap drained.state found.is_there found.is_open drained.drains.within small;
+    applied = IsState-with_cap (with_flows s (moved moves.items s.flows)) arc cap drained.state found.is_there found.is_open drained.drains.within
+        (omega (arith, is_largest, at_most, found.has_cap));
   }
 
-  pub cap-plans : (cap : ℕ) → sum_with s.network arc cap < 2 ^ 64 → AreDrainingMoves s arc cap moves.items
+  pub cap-plans : (cap largest : ℕ) → largest + (capacity_sum s.network.arcs - old) + 1 ≡ 2 ^ 64 → cap ≤ largest → AreDrainingMoves s arc cap moves.items
       → Plans s (change.Cap j cap) (edit.Cap arc old cap moves)
-  cap-plans cap small drained = record {
+  cap-plans cap largest is_largest at_most drained = record {
     kind = (same, refl);
-    fits = cap-fits cap small drained;
+    fits = cap-fits cap largest is_largest at_most drained;
     becomes = subst (λ k. Becomes s (change.Cap k cap) (applied (edit.Cap arc old cap moves) s)) same (refl, drained.drains);
     moves = drained.differ;
   }

@@ -11,8 +11,7 @@ use Rattle.dmf_path.specs.Step.{Step}
 use Rattle.dmf_path.specs.Path.{IsPath, HasNoPath, IsLeastPath, has_rank, bottleneck_up_to}
 use Rattle.dmf_path.specs.Pair.{steps_of, pushed_pair, pushed_from, pushed_pairs}
 use Rattle.dmf_path.specs.declared.search.AugmentingPath.{AugmentingPath}
-use Rattle.dmf_path.specs.Search.{Searched, aimed, along_at, with_pairs, Augments, Covers, HasAlong, lowered_along, pair_number}
-use Rattle.dmf_path.proofs.Covering.{Covers-weaker}
+use Rattle.dmf_path.specs.Search.{Searched, aimed, along_at, with_pairs, Augments, HasAlong, lowered_along}
 use Rattle.dmf_path.proofs.Loops.{least-without_loops, no_path-without_loops}
 use Rattle.dmf_path.proofs.ShortestPaths.{IsShortestPath, IsShortestPath-least, IsShortestPath-tail}
 use Rattle.dmf_state.specs.declared.arc.Arc.{Arc}
@@ -26,8 +25,6 @@ use Rattle.dmf_solver.specs.Drain.{carrying_steps, lowered, value_or_zero, Drain
 use Rattle.dmf_state.specs.NetworkState.{NetworkState, IsState, with_flows}
 use Rattle.dmf_solver.specs.CarryingNetwork.{IsCarryingOf, MayCarry, carrying_pair, carrying_from, return_pair, carrying_pairs}
 use Rattle.dmf_solver.specs.Pairs.{Along, KeepLoops, Carries, IsCarryingSearch, flows_read}
-use Rattle.dmf_solver.specs.Moves.{CoverDifferences, Stays}
-use Rattle.dmf_solver.proofs.FlowsRead.{stays-unpaired}
 use Rattle.dmf_solver.proofs.CarryingPairs.{length-carrying_pairs, carrying-without_loops, pair-of_arc}
 use Rattle.dmf_solver.proofs.CarryingSteps.{IsCarrying, along, returns, carrying-contained, carrying-path}
 use Rattle.dmf_state.proofs.ChangedArc.{has_arc-within}
@@ -187,24 +184,6 @@ carries-moved s unpaired moves search state carries listed =
     let same = one_each s unpaired last search carries ∙ sym (AllZip-long _ s.network.arcs s.flows state.flow.within) in
     subst (λ flows. MayCarry (with_flows s flows) search) (sym (moves-between moves s.flows last same listed).makes)
     (value_or_zero s.network last, carries.search_is)
-
--- Where the list has the flows before, only those on arcs whose pairs are there may differ.
-pub differences-covered : (s : NetworkState) (unpaired indices : List ℕ) (search : Searched) → IsState s
-    → IsCarryingSearch s unpaired search → unpaired ≡ s.flows
-    → Covers (length search.pairs) (λ k. pair_number search.pairs k ≡ None) indices → CoverDifferences s.flows (flows_read Along unpaired search.pairs) indices
-differences-covered s unpaired indices search state carries same covers =
-    let paired : length s.flows ≤ length search.pairs = omega (
-      arith,
-      length-carries s unpaired _ search carries,
-      AllZip-long _ s.network.arcs s.flows state.flow.within,
-    ) in
-    record {
-      count = length search.pairs;
-      most = paired;
-      covers = Covers-weaker (length search.pairs) (λ k. pair_number search.pairs k ≡ None) _ indices
-          (λ k _ none. subst (λ firsts. Stays s.flows (flows_read Along firsts search.pairs) k) (sym same)
-          (stays-unpaired Along s.flows search.pairs k paired none)) covers;
-    }
 
 -- What the search tells of an arc that leads to another node is what flows there.
 pub carries-along : (s : NetworkState) (unpaired flows : List ℕ) (search : Searched) (j : ℕ) → has_arc s.network j ≡ true

@@ -26,7 +26,7 @@ use Rattle.dmf_state.specs.Revert.{with_opened}
 use Rattle.dmf_state.proofs.ChangedArc.{has_arc-within}
 use Rattle.dmf_state.proofs.ClosedArcs.{HasArcs-open, HasArcs}
 use Rattle.dmf_state.proofs.ClosedTogether.{HasArcs-long, length-closed}
-use Rattle.dmf_state.proofs.Moving.{no_move, MovesFit-made}
+use Rattle.dmf_state.proofs.Moving.{no_move, IsMoveAt, MovesFit-made}
 use Rattle.dmf_solver.proofs.NetworkPairs.{length-network_pairs}
 use Rattle.dmf_state.proofs.Reverting.{fit-back}
 
@@ -152,25 +152,25 @@ pub long-followed : (n : Network) (moves : List Move) (last : List ℕ) (i : ℕ
 long-followed n moves last i search are = ap (λ (o : Searched). length o.pairs) are.is ∙ length-network_pairs n are.flows are.one_each
 
 -- the arc of the next one is there
-pub move-within : (n : Network) (moves : List Move) (last : List ℕ) (i : ℕ) (m : Move) (search : Searched) → i < length moves → get_or moves i no_move ≡ m
+pub move-within : (n : Network) (moves : List Move) (last : List ℕ) (i : ℕ) (m : Move) (search : Searched) → IsMoveAt moves i m
     → AreFollowed n moves last i search
     → (1 ≤ m.arc) × (m.arc - 1 < length n.arcs) × (m.arc - 1 < length search.pairs)
-move-within n moves last i m search h is are =
-    let at = index-put moves last i are.flows h are.put in
-    let arc : (get_or moves i no_move).arc ≡ m.arc = ap (λ (x : Move). x.arc) is in
+move-within n moves last i m search move are =
+    let at = index-put moves last i are.flows move.within are.put in
+    let arc : (get_or moves i no_move).arc ≡ m.arc = ap (λ (x : Move). x.arc) move.is in
     (omega (arith, at.0, arc), omega (arith, at.1, are.one_each, arc), omega (arith, at.1, arc, are.one_each, long-followed n moves last i search are))
 
 -- it is followed
-pub followed-next : (n : Network) (moves : List Move) (last : List ℕ) (i : ℕ) (m : Move) (old new : Searched) → i < length moves → get_or moves i no_move ≡ m
+pub followed-next : (n : Network) (moves : List Move) (last : List ℕ) (i : ℕ) (m : Move) (old new : Searched) → IsMoveAt moves i m
     → AreFollowed n moves last i old
     → new ≡ with_pairs old (with_rooms old.pairs (m.arc - 1) ((get_or n.arcs (m.arc - 1) no_arc).cap - m.to) m.to)
     → AreFollowed n moves last (i + 1) new
-followed-next n moves last i m old new h same are is =
+followed-next n moves last i m old new move are is =
     let k : ℕ = m.arc - 1 in
-    let within = (move-within n moves last i m old h same are).1 in
+    let within = (move-within n moves last i m old move are).1 in
     record {
       flows = set are.flows k m.to;
-      put = subst (λ (x : Move). ArePut moves last (i + 1) (set are.flows (x.arc - 1) x.to)) same (put-more moves last i are.flows h are.put);
+      put = subst (λ (x : Move). ArePut moves last (i + 1) (set are.flows (x.arc - 1) x.to)) move.is (put-more moves last i are.flows move.within are.put);
       one_each = length-set are.flows k m.to ∙ are.one_each;
       is = is ∙ ap (λ (o : Searched). with_pairs o (with_rooms o.pairs k ((get_or n.arcs k no_arc).cap - m.to) m.to)) are.is ∙ sym
           (flow-followed n are.flows k m.to are.one_each within);

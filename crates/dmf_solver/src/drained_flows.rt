@@ -26,7 +26,7 @@ impl<'a> Model for DrainedFlows<'a> {
 impl Flows for DrainedFlows<'_> {
     ghost flows = { λ flows. flows };
 
-    fn flow(&self, k: usize, i: usize) -> u64 {
-        self.search.along_near(k, i).unwrap_or(self.unpaired[k])
+    fn flow(&self, k: usize) -> u64 {
+        self.search.along(k).unwrap_or(self.unpaired[k])
     }
 }

@@ -15,15 +15,25 @@ pub trait Flows {
     // The flows in the order of the arcs' numbers.
     ghost flows: { Self → List ℕ };
 
-    /// The flow on the arc at index `k`. A caller that goes over indices says which of them `k` is, number `i`, so that it may be
-    /// found sooner.
-    fn flow(&self, k: usize, i: usize) -> u64
+    /// The flow on the arc at index `k`.
+    fn flow(&self, k: usize) -> u64
         requires { k < length (flows self.now) }
         ensures { result ≡ slice_index (flows self.now) k };
 }
 
-/// The moves of all arcs on which another flow comes after that of the state, in the order of their numbers. Only the flows on the arcs
-/// at these indices may differ: no other arc is looked at.
+/// The moves of all arcs on which another flow comes after that of the state, in the order of their numbers.
+pub fn list_all_moves<F: Flows>(
+    alloc: Global,
+    state: &State,
+    after: &F,
+) -> Result<Vec<Move>, AllocError>
+    requires { length (F.flows after.now) ≡ length state.now.flows }
+    ensures { IfOk result (λ moves. moves.items ≡ differences 1 state.now.flows (F.flows after.now)) }
+{
+    list_moves(alloc, state, after, Indices::Below(state.flows().len()))
+}
+
+/// The same, where only the flows on the arcs at these indices may differ: no other arc is looked at.
 pub fn list_moves<F: Flows>(
     alloc: Global,
     state: &State,
@@ -37,16 +47,15 @@ pub fn list_moves<F: Flows>(
     let mut moves = Vec::new(alloc);
     for i in 0..indices.len() {
         let k = indices.at(i);
-        if let Some(m) = move_at(state, after, k, i) {
+        if let Some(m) = move_at(state, after, k) {
             moves.push(m)?;
         }
     }
     Ok(moves)
 }
 
-/// The move of the arc at index `k`, which is number `i` of the indices that are gone over: none where there is no such arc, or
-/// its flow does not differ.
-fn move_at<F: Flows>(state: &State, after: &F, k: usize, i: usize) -> Option<Move>
+/// The move of the arc at index `k`: none where there is no such arc, or its flow does not differ.
+fn move_at<F: Flows>(state: &State, after: &F, k: usize) -> Option<Move>
     requires { length (F.flows after.now) ≡ length state.now.flows }
     ensures { MatchOption result
         (Stays state.now.flows (F.flows after.now) k)
@@ -57,7 +66,7 @@ fn move_at<F: Flows>(state: &State, after: &F, k: usize, i: usize) -> Option<Mov
         return None;
     }
     let from = before[k];
-    let to = after.flow(k, i);
+    let to = after.flow(k);
     if from == to {
         return None;
     }

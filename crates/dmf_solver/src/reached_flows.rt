@@ -25,7 +25,7 @@ impl<'a> Model for ReachedFlows<'a> {
 impl Flows for ReachedFlows<'_> {
     ghost flows = { λ flows. flows };
 
-    fn flow(&self, k: usize, _i: usize) -> u64 {
+    fn flow(&self, k: usize) -> u64 {
         let before = self.state.flows()[k];
         self.solved.search.against(k).unwrap_or(before)
     }

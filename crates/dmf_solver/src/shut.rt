@@ -1,5 +1,5 @@
 //! Every open arc at a node is closed.
-ghost use Rattle.std.specs.Prelude.{◌≡◌, ◌≤◌, ℕ, true, false, length, map, IfOk};
+ghost use Rattle.std.specs.Prelude.{◌≡◌, ◌≤◌, ℕ, true, length, map, IfOk};
 ghost use Rattle.dmf_state.specs.Arc.{open_arcs_at};
 ghost use Rattle.dmf_solver.specs.CarryingNetwork.{IsCarryingOf};
 ghost use Rattle.dmf_solver.specs.Drain.{Drains};
@@ -13,9 +13,9 @@ ghost use Rattle.dmf_solver.specs.Pairs.{Along, IsCarryingSearch, flows_read};
 
 use crate::drain::{Drained, drain_along, take_carrying};
 use crate::drained_flows::DrainedFlows;
-use crate::moves::list_moves;
+use crate::moves::list_all_moves;
 use crate::residual_network::ResidualNetwork;
-use dmf_path::{Indices, Search, Touched};
+use dmf_path::{Search, Touched};
 use dmf_state::{Shutting, State};
 use std::alloc::{AllocError, Global};
 
@@ -73,24 +73,16 @@ fn drain_all_by(
     ensures moves { IfOk result (λ drained. AreShuttingMoves state.now (numbers arcs.now) drained.moves.items) }
     ensures carrying { IfOk result (CarriesMoved state.now) }
 {
-    let before = state.flows();
-    let mut unpaired = Vec::from_slice(alloc, before)?;
-    let mut are_loops_drained = false;
+    let mut unpaired = Vec::from_slice(alloc, state.flows())?;
     for shutting in arcs {
-        are_loops_drained |= drain_in_turn(state, shutting.arc, &mut search, &mut unpaired);
+        drain_in_turn(state, shutting.arc, &mut search, &mut unpaired);
     }
-    // The search lists no arc that comes back to its tail.
-    let indices = if are_loops_drained {
-        Indices::Below(before.len())
-    } else {
-        search.indices()
-    };
     let drained = DrainedFlows {
         state,
         unpaired: &unpaired,
         search: &search,
     };
-    let moves = list_moves(alloc, state, &drained, indices)?;
+    let moves = list_all_moves(alloc, state, &drained)?;
     Ok(Drained {
         moves,
         carrying: Some(search),
@@ -111,21 +103,17 @@ fn are_without_flow(state: &State, arcs: &[Shutting]) -> bool
 }
 
 /// Drains arc number `j`, where the search and the list tell the flows. The search drains an arc that leads to another node. One that
-/// comes back to its tail has no pair: its flow in the list becomes 0. The answer is whether the list changed so.
-fn drain_in_turn(state: &State, j: u32, search: &mut Search, unpaired: &mut [u64]) -> bool
+/// comes back to its tail has no pair: its flow in the list becomes 0.
+fn drain_in_turn(state: &State, j: u32, search: &mut Search, unpaired: &mut [u64])
     requires is_there { has_arc state.now.network j ≡ true }
     requires carrying { IsCarryingSearch state.now unpaired.old search.old }
     ensures carrying { IsCarryingSearch state.now unpaired.new search.new }
     ensures drains { Drains state.now.network j 0 (flows_read Along unpaired.old search.old.pairs) (flows_read Along unpaired.new search.new.pairs) }
-    ensures list_stays { result ≡ false → unpaired.new ≡ unpaired.old }
 {
     let arc = state.arc(j);
-    if arc.tail != arc.head {
+    if arc.tail == arc.head {
+        unpaired[j as usize - 1] = 0;
+    } else {
         drain_along(state, j, 0, search, &mut Touched::all());
-        return false;
     }
-    let i = j as usize - 1;
-    let flow = unpaired[i];
-    unpaired[i] = 0;
-    flow > 0
 }

@@ -82,6 +82,11 @@ pub moved-none : (arcs : List Arc) (moves : List Move) (v : ℕ) (flows : List �
 moved-none arcs moves v flows sums fit within at_node = record { last = 0; fit = fit; rest = refl; within = within; at_node = at_node }
 
 -- The next move is of an arc of the network, and gives its flow as it is and as it will be.
+-- The move that stands at this index.
+pub record IsMoveAt (moves : List Move) (i : ℕ) (m : Move) : Type 0 where
+  pub within : i < length moves
+  pub is : get_or moves i no_move ≡ m
+
 pub record IsNextMove (arcs : List Arc) (last_flows flows : List ℕ) (m : Move) : Type 0 where
   pub from_one : 1 ≤ m.arc
   pub in_flows : m.arc - 1 < length flows
@@ -90,12 +95,12 @@ pub record IsNextMove (arcs : List Arc) (last_flows flows : List ℕ) (m : Move)
   pub was : get_or flows (m.arc - 1) 0 ≡ m.from
   pub will_be : get_or last_flows (m.arc - 1) 0 ≡ m.to
 
-module _ (arcs : List Arc) (moves : List Move) (last_flows : List ℕ) (v i : ℕ) (flows : List ℕ) (sums : NodeFlow) (m : Move) (h : i < length moves)
-    (is : get_or moves i no_move ≡ m) (a : AreMoved arcs moves last_flows v i flows sums) where
+module _ (arcs : List Arc) (moves : List Move) (last_flows : List ℕ) (v i : ℕ) (flows : List ℕ) (sums : NodeFlow) (m : Move)
+    (next : IsMoveAt moves i m) (a : AreMoved arcs moves last_flows v i flows sums) where
   split : drop i moves ≡ m ∷ drop (i + 1) moves
   split =
-      let next : suc i ≡ i + 1 = omega arith in
-      subst (λ k. drop i moves ≡ m ∷ drop k moves) next (drop-cons moves i no_move h ∙ ap (λ n. n ∷ drop (suc i) moves) is)
+      let one : suc i ≡ i + 1 = omega arith in
+      subst (λ k. drop i moves ≡ m ∷ drop k moves) one (drop-cons moves i no_move next.within ∙ ap (λ n. n ∷ drop (suc i) moves) next.is)
 
   fit : MovesFit a.last (m ∷ drop (i + 1) moves) flows
   fit = subst (λ ms. MovesFit a.last ms flows) split a.fit

@@ -1,5 +1,5 @@
 -- Moves taken back: they fit the flows after the moves, and make the flows before them.
-use Rattle.std.proofs.Common.{ℕ, ◌≡◌, ◌≢◌, ◌-◌, ◌<◌, List, [], ◌∷◌, length, get_or, set, map, refl, ap, ◌∙◌, sym, arith, Some}
+use Rattle.std.proofs.Common.{ℕ, ◌≡◌, ◌≢◌, ◌-◌, ◌<◌, ◌≤◌, List, [], ◌∷◌, length, get_or, set, map, refl, ap, ◌∙◌, sym, arith, Some}
 use Rattle.std.specs.List.{slice_get}
 use Rattle.std.proofs.lemmas.List.{set_comm, length-set, length-map, get_or-map}
 use Rattle.std.proofs.lemmas.Option.{slice_get-get_or, slice_get_within}
@@ -9,7 +9,7 @@ use Rattle.dmf_state.specs.declared.moves.Direction.TheVariants.{Forward, Back}
 use Rattle.dmf_state.specs.Edit.{moved, MovesFit}
 use Rattle.dmf_state.specs.Revert.{opposite, moved_back}
 use Rattle.dmf_state.specs.Direction.{step_along, along}
-use Rattle.dmf_state.proofs.Moving.{no_move, MovesFit-made, moved-first, unset}
+use Rattle.dmf_state.proofs.Moving.{no_move, IsMoveAt, MovesFit-made, moved-first, unset}
 
 pub length-moved : (moves : List Move) (flows : List ℕ) → length (moved moves flows) ≡ length flows
 length-moved [] flows = refl
@@ -44,15 +44,19 @@ MovesFit-opposite last (m ∷ moves) flows fit =
     (fit.0, read, MovesFit-opposite m.arc moves (set flows (m.arc - 1) m.to) (MovesFit-made last m moves flows fit))
 
 -- The steps along a list of moves are as many as the moves,
-pub length-along : (direction : Direction) (moves : List Move) → length (along direction moves) ≡ length moves
+length-along : (direction : Direction) (moves : List Move) → length (along direction moves) ≡ length moves
 length-along Forward moves = refl
 length-along Back moves = length-map moves opposite
 
-pub within-along : (direction : Direction) (moves : List Move) (i : ℕ) → i < length moves → i < length (along direction moves)
-within-along direction moves i h = omega (arith, length-along direction moves)
+pub long-along : (direction : Direction) (moves : List Move) (i : ℕ) → length moves ≤ i → length (along direction moves) ≤ i
+long-along direction moves i over = omega (arith, length-along direction moves, over)
 
 -- and each is that of the move in its place.
-pub get_or-along : (direction : Direction) (moves : List Move) (i : ℕ) (m : Move) → i < length moves → m ≡ step_along direction (get_or moves i no_move)
+get_or-along : (direction : Direction) (moves : List Move) (i : ℕ) (m : Move) → i < length moves → m ≡ step_along direction (get_or moves i no_move)
     → get_or (along direction moves) i no_move ≡ m
 get_or-along Forward moves i m h is = sym is
 get_or-along Back moves i m h is = get_or-map opposite moves i no_move no_move h ∙ sym is
+
+pub move-along : (direction : Direction) (moves : List Move) (i : ℕ) (m : Move) → i < length moves → m ≡ step_along direction (get_or moves i no_move)
+    → IsMoveAt (along direction moves) i m
+move-along direction moves i m h is = record { within = omega (arith, length-along direction moves, h); is = get_or-along direction moves i m h is }

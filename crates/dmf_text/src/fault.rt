@@ -1,5 +1,5 @@
 //! Why a text is no problem text, or no solution text.
-ghost use Rattle.std.specs.Prelude.{◌≡◌};
+ghost use Rattle.std.specs.Prelude.{◌≡◌, ◌⊎◌, if◌then◌else◌};
 ghost use Rattle.dmf_text.specs.declared.fault.ProblemFaultKind.TheVariants as problem_kind;
 ghost use Rattle.dmf_text.specs.declared.fault.SolutionFaultKind.TheVariants as solution_kind;
 ghost use Rattle.dmf_text.specs.Numbers.{numbers_kind};
@@ -145,6 +145,17 @@ pub struct ProblemFault {
     pub kind: ProblemFaultKind,
 }
 
+impl ProblemFault {
+    /// The fault of this line, or of line 0 if memory was refused.
+    pub(crate) fn at(line: u64, kind: ProblemFaultKind) -> ProblemFault
+        ensures memory { kind ≡ ProblemFaultKind.NoMemory → result ≡ problem.out_of_memory }
+        ensures told { (result ≡ problem.out_of_memory) ⊎ (result ≡ record { line = line; kind = kind }) }
+    {
+        let line = told_line(line, kind == ProblemFaultKind::NoMemory);
+        ProblemFault { line, kind }
+    }
+}
+
 /// What is wrong with a line of a solution text, or with its end.
 #[derive(Clone, Copy, Debug, PartialEq, Eq)]
 pub enum SolutionFaultKind {
@@ -263,4 +274,22 @@ pub struct SolutionFault {
     pub line: u64,
     /// What is wrong with it.
     pub kind: SolutionFaultKind,
+}
+
+impl SolutionFault {
+    /// The fault of this line, or of line 0 if memory was refused.
+    pub(crate) fn at(line: u64, kind: SolutionFaultKind) -> SolutionFault
+        ensures memory { kind ≡ SolutionFaultKind.NoMemory → result ≡ solution.solution_out_of_memory }
+        ensures told { (result ≡ solution.solution_out_of_memory) ⊎ (result ≡ record { line = line; kind = kind }) }
+    {
+        let line = told_line(line, kind == SolutionFaultKind::NoMemory);
+        SolutionFault { line, kind }
+    }
+}
+
+/// The line that a fault of this line is told of: line 0 where memory was refused.
+fn told_line(line: u64, is_memory: bool) -> u64
+    ensures { result ≡ (if is_memory then 0 else line) }
+{
+    if is_memory { 0 } else { line }
 }

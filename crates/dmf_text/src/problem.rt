@@ -3,7 +3,7 @@ ghost use Rattle.std.specs.Prelude.{◌≡◌, ◌⊎◌, IsErrOf};
 ghost use Rattle.dmf_text.specs.Problem.{problem_of};
 ghost use Rattle.dmf_text.specs.Problem.{out_of_memory};
 
-use crate::fault::{ProblemFault, ProblemFaultKind};
+use crate::fault::ProblemFault;
 use crate::line::Lines;
 use crate::reading::Reading;
 use dmf_state::State;
@@ -12,7 +12,7 @@ use std::alloc::Global;
 /// Reads a problem text, in the format of the First DIMACS Implementation Challenge (1990), maximum flow.
 ///
 /// The arcs are those of the arc lines, in order, without flow. Fails with the first fault of the text, or with
-/// [`ProblemFaultKind::NoMemory`] at line 0 if memory is refused.
+/// [`crate::ProblemFaultKind::NoMemory`] at line 0 if memory is refused.
 pub fn read_problem(alloc: Global, text: &[u8]) -> Result<State, ProblemFault>
     ensures { IsErrOf result out_of_memory ⊎ (result ≡ problem_of text.now) }
 {
@@ -20,25 +20,12 @@ pub fn read_problem(alloc: Global, text: &[u8]) -> Result<State, ProblemFault>
     let mut last = 0;
     for (number, line) in Lines::new(text) {
         if let Err(kind) = reading.take_line(alloc, line) {
-            return Err(fault_at(number, kind));
+            return Err(ProblemFault::at(number, kind));
         }
         last = number;
     }
     match reading.finish() {
         Ok(state) => Ok(state),
-        Err(kind) => Err(fault_at(last + 1, kind)),
+        Err(kind) => Err(ProblemFault::at(last + 1, kind)),
     }
-}
-
-// The fault of this line, or of line 0 if memory was refused.
-fn fault_at(line: u64, kind: ProblemFaultKind) -> ProblemFault
-    ensures memory { kind ≡ ProblemFaultKind.NoMemory → result ≡ out_of_memory }
-    ensures told { (result ≡ out_of_memory) ⊎ (result ≡ record { line = line; kind = kind }) }
-{
-    let line = if kind == ProblemFaultKind::NoMemory {
-        0
-    } else {
-        line
-    };
-    ProblemFault { line, kind }
 }

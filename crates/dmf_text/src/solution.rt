@@ -18,30 +18,17 @@ pub fn read_solution(alloc: Global, text: &[u8], state: &State) -> Result<State,
     ensures { IsErrOf result solution_out_of_memory ⊎ (result ≡ solution_of state.now text.now) }
 {
     let Ok(mut reading) = SolutionReading::new(alloc, state) else {
-        return Err(fault_at(0, SolutionFaultKind::NoMemory));
+        return Err(SolutionFault::at(0, SolutionFaultKind::NoMemory));
     };
     let mut last = 0;
     for (number, line) in Lines::new(text) {
         if let Err(kind) = reading.take_line(line) {
-            return Err(fault_at(number, kind));
+            return Err(SolutionFault::at(number, kind));
         }
         last = number;
     }
     match reading.finish(alloc, state) {
         Ok(state) => Ok(state),
-        Err(kind) => Err(fault_at(last + 1, kind)),
+        Err(kind) => Err(SolutionFault::at(last + 1, kind)),
     }
-}
-
-// The fault of this line, or of line 0 if memory was refused.
-fn fault_at(line: u64, kind: SolutionFaultKind) -> SolutionFault
-    ensures memory { kind ≡ SolutionFaultKind.NoMemory → result ≡ solution_out_of_memory }
-    ensures told { (result ≡ solution_out_of_memory) ⊎ (result ≡ record { line = line; kind = kind }) }
-{
-    let line = if kind == SolutionFaultKind::NoMemory {
-        0
-    } else {
-        line
-    };
-    SolutionFault { line, kind }
 }

@@ -1,4 +1,4 @@
-//! A search is made of pairs, or of those of them that are there, or over the links of another search.
+//! A search is made of pairs, or over the links of another search.
 ghost use Rattle.std.specs.Prelude.{◌≡◌, ◌≢◌, ◌^◌, ◌≤◌, length, map, replicate, [], IfOk};
 ghost use Rattle.dmf_node.specs.Node.{IsNode};
 ghost use Rattle.dmf_path.specs.Pair.{ArePairs, emptied};
@@ -8,7 +8,6 @@ ghost use Rattle.dmf_path.specs.LinkTable.{links_of};
 use crate::frontier::Frontier;
 use crate::levels::Levels;
 use crate::links::{build, opposite_flags, put_pair};
-use crate::listed::list_pairs;
 use crate::pair::Pairs;
 use crate::phase::make_fresh;
 use crate::places::Places;
@@ -29,8 +28,7 @@ struct Linked {
 
 impl Search {
     /// A search over these pairs, between so many nodes. What is pushed along one link of a pair can be pushed back along
-    /// the other where `takes_back` says so. Takes memory for two links a pair, and for some numbers a node. Where few pairs are
-    /// there, they are listed first, and the others are not asked for again; that takes memory for the list too.
+    /// the other where `takes_back` says so. Takes memory for two links a pair, and for some numbers a node.
     pub fn new<P: Pairs>(
         alloc: Global,
         nodes: u32,
@@ -150,35 +148,17 @@ impl Linked {
     }
 }
 
-/// Makes links of pairs, or of the list of those that are there.
+/// Makes links of pairs, where several searches can share them. Takes memory for two links a pair.
 fn link<P: Pairs>(alloc: Global, nodes: u32, pairs: &P) -> Result<Linked, AllocError>
     requires nodes { nodes ≤ 2 ^ 24 }
     requires pairs { ArePairs nodes (P.pairs pairs.now) }
     ensures { IfOk result (λ linked. AreBuilt nodes (P.pairs pairs.now) (links_of linked.table.value) linked.places.value linked.rooms.items) }
 {
-    if pairs.are_few() {
-        let listed = list_pairs(alloc, pairs)?;
-        let built = build(alloc, nodes, &listed)?;
-        let places = Places::listed(listed.indices, built.places, pairs.len());
-        return share(alloc, built.table, places, built.rooms);
-    }
     let built = build(alloc, nodes, pairs)?;
-    share(alloc, built.table, Places::each(built.places), built.rooms)
-}
-
-/// Puts the links, and the places of the pairs, where several searches can share them. Takes memory for both.
-fn share(
-    alloc: Global,
-    table: LinkTable,
-    places: Places,
-    rooms: Vec<u64>,
-) -> Result<Linked, AllocError>
-    ensures { IfOk result (λ linked. (linked.table.value ≡ table) × (linked.places.value ≡ places) × (linked.rooms ≡ rooms)) }
-{
     Ok(Linked {
-        table: Rc::new(alloc, table)?,
-        places: Rc::new(alloc, places)?,
-        rooms,
+        table: Rc::new(alloc, built.table)?,
+        places: Rc::new(alloc, Places::new(built.places))?,
+        rooms: built.rooms,
     })
 }
 

@@ -1,7 +1,7 @@
-use Rattle.std.proofs.Common.{◌≤◌, IfSome, arith, length, subst}
+use Rattle.std.proofs.Common.{IfSome, subst}
 use Rattle.std.proofs.lemmas.Slice.Zip.{AllZip-long}
 use Rattle.dmf_state.specs.Direction.{along}
-use Rattle.dmf_state.proofs.TakenBack.{length-along, within-along, get_or-along}
+use Rattle.dmf_state.proofs.TakenBack.{long-along, move-along}
 use Rattle.dmf_solver.specs.CarryingNetwork.{MayCarry}
 use Rattle.dmf_solver.proofs.CarryingFollowed.{carried-within, carried-next, carried-all}
 use Rattle.dmf_solver.proofs.Followed.{put-none}
@@ -18,20 +18,17 @@ loop-m-init c =
     }
 
 pub overflow_sub-step : goal.overflow_sub-step
-overflow_sub-step c = (carried-within _ _ _ _ _ _ (within-along c.args.direction c.args.moves.now _ c.loop-m-test.true)
-    (get_or-along c.args.direction c.args.moves.now _ _ c.loop-m-test.true c.step-step.ensures) c.loop-m.invariant).0
+overflow_sub-step c = (carried-within _ _ _ _ _ _
+    (move-along c.args.direction c.args.moves.now _ _ c.loop-m-test.true c.step-step.ensures) c.loop-m.invariant).0
 
 pub set_rooms-requires-clause-number : goal.set_rooms-requires-clause-number
-set_rooms-requires-clause-number c = (carried-within _ _ _ _ _ _ (within-along c.args.direction c.args.moves.now _ c.loop-m-test.true)
-    (get_or-along c.args.direction c.args.moves.now _ _ c.loop-m-test.true c.step-step.ensures) c.loop-m.invariant).2
+set_rooms-requires-clause-number c = (carried-within _ _ _ _ _ _
+    (move-along c.args.direction c.args.moves.now _ _ c.loop-m-test.true c.step-step.ensures) c.loop-m.invariant).2
 
 pub loop-m-preserved : goal.loop-m-preserved
 loop-m-preserved c =
-    carried-next _ _ _ _ _ _ _ (within-along c.args.direction c.args.moves.now _ c.loop-m-test.true)
-    (get_or-along c.args.direction c.args.moves.now _ _ c.loop-m-test.true c.step-step.ensures) c.loop-m.invariant c.set_rooms.ensures
+    carried-next _ _ _ _ _ _ _ (move-along c.args.direction c.args.moves.now _ _ c.loop-m-test.true c.step-step.ensures) c.loop-m.invariant c.set_rooms.ensures
 
 pub returns : goal.returns
 returns c =
-    let long : length (along c.args.direction c.args.moves.now) ≤ c.loop-m.m-index =
-    omega (arith, length-along c.args.direction c.args.moves.now, c.loop-m-test.false) in
-    carried-all _ _ _ _ _ long c.loop-m.invariant
+    carried-all _ _ _ _ _ (long-along c.args.direction c.args.moves.now _ c.loop-m-test.false) c.loop-m.invariant

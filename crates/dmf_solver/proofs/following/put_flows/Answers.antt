@@ -1,8 +1,7 @@
-use Rattle.std.proofs.Common.{◌≤◌, arith, length}
 use Rattle.std.proofs.lemmas.Slice.Zip.{AllZip-long}
 use Rattle.dmf_state.specs.Direction.{along}
 use Rattle.dmf_solver.proofs.Followed.{put-none, long-followed, move-within, followed-next, followed-all}
-use Rattle.dmf_state.proofs.TakenBack.{length-along, within-along, get_or-along}
+use Rattle.dmf_state.proofs.TakenBack.{long-along, move-along}
 use Rattle.dmf_solver.proofs.following.put_flows.Goals as goal
 
 pub loop-m-init : goal.loop-m-init
@@ -16,29 +15,25 @@ loop-m-init c =
     }
 
 pub overflow_sub-k : goal.overflow_sub-k
-overflow_sub-k c = (move-within _ _ _ _ _ _ (within-along c.args.direction c.args.moves.now _ c.loop-m-test.true)
-    (get_or-along c.args.direction c.args.moves.now _ _ c.loop-m-test.true c.step-step.ensures) c.loop-m.invariant).0
+overflow_sub-k c = (move-within _ _ _ _ _ _ (move-along c.args.direction c.args.moves.now _ _ c.loop-m-test.true c.step-step.ensures) c.loop-m.invariant).0
 
 pub bounds-arcs-k : goal.bounds-arcs-k
 bounds-arcs-k c =
-    rw c.arcs-arcs.ensures.value (move-within _ _ _ _ _ _ (within-along c.args.direction c.args.moves.now _ c.loop-m-test.true)
-    (get_or-along c.args.direction c.args.moves.now _ _ c.loop-m-test.true c.step-step.ensures) c.loop-m.invariant).1
+    rw c.arcs-arcs.ensures.value (move-within _ _ _ _ _ _
+    (move-along c.args.direction c.args.moves.now _ _ c.loop-m-test.true c.step-step.ensures) c.loop-m.invariant).1
 
 pub set_rooms-requires-clause-number : goal.set_rooms-requires-clause-number
-set_rooms-requires-clause-number c = (move-within _ _ _ _ _ _ (within-along c.args.direction c.args.moves.now _ c.loop-m-test.true)
-    (get_or-along c.args.direction c.args.moves.now _ _ c.loop-m-test.true c.step-step.ensures) c.loop-m.invariant).2
+set_rooms-requires-clause-number c = (move-within _ _ _ _ _ _
+    (move-along c.args.direction c.args.moves.now _ _ c.loop-m-test.true c.step-step.ensures) c.loop-m.invariant).2
 
 pub loop-m-preserved : goal.loop-m-preserved
 loop-m-preserved c =
-    followed-next _ _ _ _ _ _ _ (within-along c.args.direction c.args.moves.now _ c.loop-m-test.true)
-    (get_or-along c.args.direction c.args.moves.now _ _ c.loop-m-test.true c.step-step.ensures) c.loop-m.invariant
+    followed-next _ _ _ _ _ _ _ (move-along c.args.direction c.args.moves.now _ _ c.loop-m-test.true c.step-step.ensures) c.loop-m.invariant
     (rw (c.saturating_sub.ensures, c.arcs-arcs.ensures.value) at c.set_rooms.ensures)
 
 pub returns-clause-flows : goal.returns-clause-flows
 returns-clause-flows c =
-    let long : length (along c.args.direction c.args.moves.now) ≤ c.loop-m.m-index =
-    omega (arith, length-along c.args.direction c.args.moves.now, c.loop-m-test.false) in
-    followed-all _ _ _ _ _ long c.loop-m.invariant
+    followed-all _ _ _ _ _ (long-along c.args.direction c.args.moves.now _ c.loop-m-test.false) c.loop-m.invariant
 
 pub returns-clause-one_each : goal.returns-clause-one_each
 returns-clause-one_each c = long-followed _ _ _ _ _ c.loop-m.invariant

@@ -18,10 +18,10 @@ loop-number-preserved c =
 pub returns-in-Err : goal.returns-in-Err
 returns-in-Err c =
     ⊎_elim (λ memory. inl (ap (λ fault. Err fault) memory))
-    (λ told. ⊎_elim (λ memory. inl (ap (λ fault. Err fault) (c.fault_at.ensures.memory memory)))
+    (λ told. ⊎_elim (λ memory. inl (ap (λ fault. Err fault) (c.at.ensures.memory memory)))
     (λ bad. inr (ap (λ fault. Err fault) told ∙ sym (walk-bad _ _ _ _ c.loop-number.invariant _ _ _ c.in-Some.ensures.steps _ bad)))
     c.in-Err.ensures)
-    c.fault_at.ensures.told
+    c.at.ensures.told
 
 pub returns-in-Ok : goal.returns-in-Ok
 returns-in-Ok c = inr (sym (walk-end _ _ _ _ c.loop-number.invariant c.in-None.ensures.steps.0 (Ok c.in-Ok.state) c.in-Ok.ensures))
@@ -31,4 +31,4 @@ returns-in-Err-finish c =
     ⊎_elim (λ memory. inl (ap (λ fault. Err fault) memory))
     (λ told. inr (ap (λ fault. Err fault) told
     ∙ sym (walk-end _ _ _ _ c.loop-number.invariant c.in-None.ensures.steps.0 (Err c.in-Err-finish.kind) c.in-Err-finish.ensures)))
-    c.fault_at-in-Err-finish.ensures.told
+    c.at-in-Err-finish.ensures.told

@@ -30,7 +30,7 @@ returns-in-Err c =
     let bad = c.in-Err.ensures c.args.state.now.network.arcs before.0 before.1 in
     ⊎_elim (λ memory. inl (ap (λ fault. Err fault) memory))
     (λ told. inr (ap (λ fault. Err fault) told ∙ sym (walk-bad _ _ _ _ before.2 _ _ _ c.in-Some.ensures.steps _ bad)))
-    c.fault_at-in-Err.ensures.told
+    c.at-in-Err.ensures.told
 
 pub returns-in-Ok-finish : goal.returns-in-Ok-finish
 returns-in-Ok-finish c =
@@ -42,8 +42,8 @@ returns-in-Ok-finish c =
 pub returns-in-Err-finish : goal.returns-in-Err-finish
 returns-in-Err-finish c =
     let before = c.loop-number.invariant in
-    ⊎_elim (λ memory. let kind : c.in-Err-finish.kind ≡ NoMemory = cc in inl (ap (λ fault. Err fault) (c.fault_at-in-Err-finish.ensures.memory kind)))
+    ⊎_elim (λ memory. let kind : c.in-Err-finish.kind ≡ NoMemory = cc in inl (ap (λ fault. Err fault) (c.at-in-Err-finish.ensures.memory kind)))
     (λ end. ⊎_elim (λ memory. inl (ap (λ fault. Err fault) memory))
     (λ told. inr (ap (λ fault. Err fault) told ∙ sym (walk-end _ _ _ _ before.2 c.in-None.ensures.steps.0 (Err c.in-Err-finish.kind) end)))
-    c.fault_at-in-Err-finish.ensures.told)
+    c.at-in-Err-finish.ensures.told)
     (c.in-Err-finish.ensures before.0 before.1)

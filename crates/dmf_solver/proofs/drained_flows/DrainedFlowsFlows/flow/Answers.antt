@@ -18,8 +18,8 @@ index s unpaired search k carries h =
     let long = length-flows_read Along unpaired search.pairs (each s unpaired search carries) in
     (omega (arith, h, long), omega (arith, h, long, each s unpaired search carries))
 
-pub along_near-requires : goal.along_near-requires
-along_near-requires c =
+pub along-requires : goal.along-requires
+along-requires c =
     let a = c.self.inside in
     (index a.state.now a.unpaired.now a.search.now c.args.k c.self.invariant
     (subst (λ (xs : List ℕ). c.args.k < length xs) (sym c.self.view_is) c.requires)).1
@@ -45,6 +45,6 @@ returns c =
     let at = index a.state.now unpaired a.search.now c.args.k c.self.invariant
     (subst (λ (xs : List ℕ). c.args.k < length xs) (sym c.self.view_is) c.requires) in
     c.unwrap_or.ensures
-    ∙ ap (λ o. unwrap_or o (get_or unpaired c.args.k 0)) c.along_near.ensures
+    ∙ ap (λ o. unwrap_or o (get_or unpaired c.args.k 0)) c.along.ensures
     ∙ sym (get_or-flows_read Along unpaired pairs c.args.k (each a.state.now unpaired a.search.now c.self.invariant) at.0)
     ∙ ap (λ (xs : List ℕ). get_or xs c.args.k 0) c.self.view_is

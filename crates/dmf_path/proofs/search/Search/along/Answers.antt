@@ -6,10 +6,10 @@ use Rattle.dmf_path.specs.Held.{way_of}
 use Rattle.dmf_path.specs.Residual.{residual_of}
 use Rattle.dmf_path.specs.Searching.{sought}
 use Rattle.dmf_path.proofs.PairRead.{index-within, place-within, no-pair, its-pair}
-use Rattle.dmf_path.proofs.search.Search.along_near.Goals as goal
+use Rattle.dmf_path.proofs.search.Search.along.Goals as goal
 
-pub place_near-requires : goal.place_near-requires
-place_near-requires c =
+pub place_of-requires : goal.place_of-requires
+place_of-requires c =
     let of = c.self.inside in
     let s = sought (residual_of of.links) (way_of of.trail) in
     rw c.deref.ensures (index-within s.residual.links of.places.value s.residual.rooms c.args.k (rw (← c.self.view_is) at c.requires))
