@@ -1,7 +1,7 @@
 -- The pairs of links among which paths are looked for.
 -- Private: only contracts inside the crate and proofs use this.
 use Rattle.std.specs.Prelude.{ℕ, ◌≡◌, ◌-◌, ◌<◌, ◌↔◌, length, slice_index, slice_index_or, slice_set, List, [], ◌∷◌}
-use Rattle.std.specs.Prelude.{Option, Some, None, option_map, IfSome, IsTrue, pos, ◌+◌}
+use Rattle.std.specs.Prelude.{Option, option_map, IfSome, IsTrue, pos, ◌+◌}
 use Rattle.std.specs.Option.{unwrap_or}
 use Rattle.std.specs.List.Sorted.{IsStrictlyIncreasing}
 use Rattle.dmf_path.specs.declared.pair.Pair.{Pair}
