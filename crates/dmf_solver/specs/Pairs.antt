@@ -1,7 +1,7 @@
 -- The pairs of links among which paths are looked for.
 -- Private: only contracts inside the crate and proofs use this.
 use Rattle.std.specs.Prelude.{ℕ, ◌≡◌, ◌-◌, ◌<◌, ◌↔◌, length, slice_index, slice_index_or, slice_set, List, [], ◌∷◌}
-use Rattle.std.specs.Prelude.{Option, Some, None, option_map, IfSome, IsTrue, pos, ◌+◌}
+use Rattle.std.specs.Prelude.{Option, option_map, IfSome, IsTrue, pos, ◌+◌}
 use Rattle.std.specs.Option.{unwrap_or}
 use Rattle.std.specs.List.Sorted.{IsStrictlyIncreasing}
 use Rattle.dmf_path.specs.declared.pair.Pair.{Pair}
@@ -58,11 +58,6 @@ pub record Carries (s : NetworkState) (unpaired flows : List ℕ) (search : Sear
 -- The same, of the flows that are read off the search and the list.
 abbrev pub IsCarryingSearch : NetworkState → List ℕ → Searched → Type 0
 IsCarryingSearch s unpaired search = Carries s unpaired (flows_read Along unpaired search.pairs) search
-
--- the flow on an arc by the room along its pair, and where it has none what flowed at first
-abbrev pub flow_left : Arc → ℕ → Option ℕ → ℕ
-flow_left arc first None = first
-flow_left arc first (Some room) = arc.cap - room
 
 -- the flows that a search for augmenting paths has reached from those of the state
 abbrev pub reached_flows : NetworkState → Searched → List ℕ

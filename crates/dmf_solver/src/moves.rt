@@ -21,18 +21,6 @@ pub trait Flows {
         ensures { result ≡ slice_index (flows self.now) k };
 }
 
-/// The flows of a list.
-#[derive(Clone, Copy, Drop)]
-pub struct ListedFlows<'a>(pub &'a [u64]);
-
-impl Flows for ListedFlows<'_> {
-    ghost flows = { λ listed. listed.0.now };
-
-    fn flow(&self, k: usize) -> u64 {
-        self.0[k]
-    }
-}
-
 /// The moves of all arcs on which another flow comes after that of the state, in the order of their numbers.
 pub fn list_all_moves<F: Flows>(
     alloc: Global,

@@ -13,12 +13,11 @@ ghost use Rattle.dmf_solver.specs.Told.{TellsSolve, MayTellSolve};
 
 use crate::drain::drain;
 use crate::fault::PlanFault;
-use crate::moves::{ListedFlows, list_all_moves};
 use crate::residual::residual_search;
-use crate::residual_network::ResidualNetwork;
+use crate::residual_network::{ResidualNetwork, touched_moves};
 use crate::shut::{drain_all, open_arcs_at};
 use crate::side::wanted_side;
-use crate::solve::{solve, solved_flows};
+use crate::solve::solve;
 use crate::watch::{Unwatched, Watch};
 use dmf_path::{Search, Touched};
 use dmf_state::{Edit, Side, State};
@@ -204,7 +203,7 @@ pub fn plan_add(state: &State, tail: u64, head: u64, cap: u64) -> Result<Edit, P
 ///
 /// No flow of the network has a larger value, and some cut has that value as its capacity.
 ///
-/// The plan takes memory for the flows, two links an arc and some numbers a node. Where that is refused, the answer is
+/// The plan takes memory for two links an arc, some numbers a node and the moves. Where that is refused, the answer is
 /// [`PlanFault::NoMemory`].
 pub fn plan_solve(alloc: Global, state: &State) -> Result<Edit, PlanFault>
     ensures refused { IsOkUnless result PlanFault.NoMemory }
@@ -247,8 +246,7 @@ pub fn plan_solve_watched<W: Watch>(
     let search = residual_search(alloc, state)?;
     let solved = solve(search, state, Touched::all(), watch);
     let side = wanted_side(alloc, state, &solved, want_side)?;
-    let flows = solved_flows(alloc, state, solved)?;
-    let moves = list_all_moves(alloc, state, &ListedFlows(&flows))?;
+    let moves = touched_moves(alloc, state, &solved)?;
     Ok((Edit::Solve { moves }, side))
 }
 

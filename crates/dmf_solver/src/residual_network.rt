@@ -241,7 +241,7 @@ pub fn none_touched(
 }
 
 /// The moves of a solve: of the arcs whose pairs are not touched none is looked at.
-fn touched_moves(alloc: Global, state: &State, solved: &Solved) -> Result<Vec<Move>, AllocError>
+pub fn touched_moves(alloc: Global, state: &State, solved: &Solved) -> Result<Vec<Move>, AllocError>
     requires { IsSolved state.now solved.now }
     ensures { IfOk result (λ moves. moves.items ≡ differences 1 state.now.flows (reached_flows state.now solved.now.search)) }
 {

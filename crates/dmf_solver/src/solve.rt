@@ -6,13 +6,11 @@ ghost use Rattle.dmf_solver.specs.Pairs.{reached_flows, IsSolved};
 ghost use Rattle.dmf_solver.specs.ResidualNetwork.{IsResidualOf};
 ghost use Rattle.dmf_solver.specs.Told.{TellsSolve};
 
-use crate::moves::Flows;
-use crate::reached_flows::ReachedFlows;
 use crate::residual::residual_search;
 use crate::watch::Watch;
 use dmf_path::{Search, Touched};
 use dmf_state::{NoMemory, State};
-use std::alloc::{AllocError, Global};
+use std::alloc::Global;
 
 /// A search for augmenting paths that has none left, the value of the flow that it has reached, and which pairs its paths led over.
 #[derive(Drop)]
@@ -49,23 +47,6 @@ pub fn solve<W: Watch>(
     }
 }
 
-/// The flows that a solve has reached. The solve is dropped, and with its search most of the memory that a solve takes.
-pub fn solved_flows(alloc: Global, state: &State, solved: Solved) -> Result<Vec<u64>, AllocError>
-    requires { IsSolved state.now solved }
-    ensures { IfOk result (λ flows. flows.items ≡ reached_flows state.now solved.search) }
-{
-    let reached = ReachedFlows {
-        state,
-        solved: &solved,
-    };
-    let count = state.flows().len();
-    let mut flows = Vec::with_capacity(alloc, count)?;
-    for k in 0..count {
-        flows.push(reached.flow(k))?;
-    }
-    Ok(flows)
-}
-
 /// Whether no flow of the state's network has a larger value than the state's flow. The call takes memory for two links an arc and
 /// some numbers a node.
 pub fn is_greatest(alloc: Global, state: &State) -> Result<bool, NoMemory>
@@ -73,5 +54,7 @@ pub fn is_greatest(alloc: Global, state: &State) -> Result<bool, NoMemory>
     ensures surpassed { IfOk result (λ answer. (answer ≡ false) ↔ IsSurpassed state.now.network state.now.flows) }
 {
     let mut search = residual_search(alloc, state)?;
+    // A search that is aimed labels from both ends. Where no path is left, often few nodes can be reached from one of them.
+    search.aim(state.source(), state.sink());
     Ok(search.augment(u64::MAX, &mut Touched::all()).is_none())
 }

@@ -103,7 +103,7 @@ keeps-none arcs pairs same none =
     let zeros = replicate (length pairs.ends.items) (record { cap = 0; flow = 0 }) in
     let at : (pair : Pair) → known_of pairs pair ≡ slice_get zeros (kept pair) = λ pair. ap (λ l. slice_get l (kept pair)) none in
     record {
-      there = λ pair. some-kept pairs.arc_ends.items pairs.ends.items pairs.numbers.items pair pairs.known.items pairs.numbered pairs.one_each
+      there = λ pair. some-kept (map ends pairs.arcs.now) pairs.ends.items pairs.numbers.items pair pairs.known.items pairs.numbered pairs.one_each
           ∙ sym (list_any-IsPermutation (λ p. same_pair p pair) (map ends arcs) pairs.ends.items same) ∙ any-ends arcs pair;
       caps = λ pair. ap cap_of (at pair) ∙ (none-counted (length pairs.ends.items) (kept pair)).0;
       flows = λ pair. ap flow_of (at pair) ∙ (none-counted (length pairs.ends.items) (kept pair)).1;

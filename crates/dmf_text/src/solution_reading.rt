@@ -17,18 +17,18 @@ use std::alloc::{AllocError, Global};
 
 /// What the lines of a solution text say so far.
 #[derive(Drop)]
-pub(crate) struct SolutionReading {
-    pairs: Pairs,
+pub(crate) struct SolutionReading<'a> {
+    pairs: Pairs<'a>,
     value: Option<u64>,
     /// The number of flow lines so far. It is the guess of where the next line's arc stands, since lines mostly come in arc order.
     flow_count: usize,
 }
 
-impl SolutionReading {
+impl<'a> SolutionReading<'a> {
     ghost use Rattle.std.specs.Prelude.{IfOk, None, []};
 
     /// What no line says.
-    pub(crate) fn new(alloc: Global, state: &State) -> Result<SolutionReading, AllocError>
+    pub(crate) fn new(alloc: Global, state: &'a State) -> Result<SolutionReading<'a>, AllocError>
         ensures { IfOk result (Keeps state.now.network.arcs (record { value = None; flows = [] })) }
     {
         let pairs = Pairs::of_arcs(alloc, state.arcs())?;
@@ -90,7 +90,7 @@ impl SolutionReading {
     /// The state that the lines stand for at the end of the text: the network of `state` with their flows.
     #[tactic(auto, unfolding(crate::specs::Solution::ended))]
     pub(crate) fn finish(self, alloc: Global, state: &State) -> Result<State, SolutionFaultKind>
-        ensures { (facts : Facts) → Keeps state.now.network.arcs facts self → (result ≡ Err NoMemory) ⊎ (result ≡ ended state.now facts) }
+        ensures { (facts : Facts) → Keeps state.now.network.arcs facts self.entry → (result ≡ Err NoMemory) ⊎ (result ≡ ended state.now facts) }
     {
         let SolutionReading { pairs, value, .. } = self;
         let Some(value) = value else {

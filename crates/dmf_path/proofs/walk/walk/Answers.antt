@@ -243,7 +243,8 @@ loop-node-smaller c =
     let led = rw (c.deref-else-place-end.ensures, ap (λ (x : Residual). x.links.heads) c.step_back-back.ensures.links)
     at c.end_node-node-else-place-end.ensures in
     let tail = back-tail t (way_of c.step_back-back.new.self) c.end_node-node-else-place-end.result some c.step_back-back.ensures.way led.first led.last in
-    subst (λ s. work_left t.aim.links t.labels s (set (set t.current t.node t.place) c.end_node-node-else-place-end.result (c.step_back-back.result + 1)) c.end_node-node-else-place-end.result
+    let node = c.end_node-node-else-place-end.result in
+    subst (λ s. work_left t.aim.links t.labels s (set (set t.current t.node t.place) node (c.step_back-back.result + 1)) node
     < work_left t.aim.links t.labels s t.current t.node) c.loop-node.invariant.start
     (less-back t c.step_back-back.result c.end_node-node-else-place-end.result some c.step_back-back.ensures.place tail)
 
@@ -257,8 +258,8 @@ loop-node-preserved c =
     let back = c.step_back-back.ensures in
     let i = c.loop-node.invariant in
     record {
-      on = on-stepped t (residual_of c.step_back-back.new.links) (way_of c.step_back-back.new.self) c.step_back-back.result c.end_node-node-else-place-end.result
-          c.if-place-end.false some back.links back.way c.step_back-back.new.links.rooms_are back.place tail;
+      on = on-stepped t (residual_of c.step_back-back.new.links) (way_of c.step_back-back.new.self) c.step_back-back.result
+          c.end_node-node-else-place-end.result c.if-place-end.false some back.links back.way c.step_back-back.new.links.rooms_are back.place tail;
       skipped = λ was none. absurd (cc);
       start = ap (λ (w : Way). w.start) back.way ∙ i.start;
       goal = ap (λ (w : Way). w.goal) back.way ∙ i.goal;

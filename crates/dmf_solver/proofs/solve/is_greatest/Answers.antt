@@ -1,12 +1,33 @@
+use Rattle.std.proofs.Common.{ℕ, ◌≡◌, ◌∙◌}
+use Rattle.dmf_path.specs.Search.{Searched, aimed}
+use Rattle.dmf_state.specs.NetworkState.{NetworkState}
+use Rattle.dmf_solver.specs.ResidualNetwork.{residual_search}
 use Rattle.dmf_solver.proofs.GreatestSearch.{found-answers}
 use Rattle.dmf_solver.proofs.solve.is_greatest.Goals as goal
 
+pub aim-requires : goal.aim-requires
+aim-requires c =
+    let network = c.in_ok-search.ensures.state.network in
+    rw (c.source.ensures.value, c.sink.ensures.value, c.in_ok-search.ensures.search)
+    (record { start = network.source; goal = network.sink; apart = network.two_terminals })
+
+-- Aimed at its own ends, the search is the same.
+aimed-again : (s : NetworkState) (search new : Searched) (start goal : ℕ) → search ≡ residual_search s.network s.flows
+    → start ≡ s.network.source → goal ≡ s.network.sink → new ≡ aimed search start goal → new ≡ residual_search s.network s.flows
+aimed-again s search new start goal is from to aims = aims ∙ (λ i. aimed (is i) (from i) (to i))
+
 pub returns-clause-greatest : goal.returns-clause-greatest
 returns-clause-greatest c =
-    (found-answers c.args.state.now _ c.augment.result c.in_ok-search.search c.augment.new.self c.is_none.result c.in_ok-search.ensures.state
-    c.in_ok-search.ensures.search c.augment.ensures.found c.is_none.ensures).yes
+    let s = c.args.state.now in
+    let search = c.in_ok-search.ensures in
+    let again = aimed-again s c.in_ok-search.search c.aim.new.self c.source.result c.sink.result search.search
+    c.source.ensures.value c.sink.ensures.value c.aim.ensures in
+    (found-answers s _ c.augment.result c.aim.new.self c.augment.new.self c.is_none.result search.state again c.augment.ensures.found c.is_none.ensures).yes
 
 pub returns-clause-surpassed : goal.returns-clause-surpassed
 returns-clause-surpassed c =
-    (found-answers c.args.state.now _ c.augment.result c.in_ok-search.search c.augment.new.self c.is_none.result c.in_ok-search.ensures.state
-    c.in_ok-search.ensures.search c.augment.ensures.found c.is_none.ensures).no
+    let s = c.args.state.now in
+    let search = c.in_ok-search.ensures in
+    let again = aimed-again s c.in_ok-search.search c.aim.new.self c.source.result c.sink.result search.search
+    c.source.ensures.value c.sink.ensures.value c.aim.ensures in
+    (found-answers s _ c.augment.result c.aim.new.self c.augment.new.self c.is_none.result search.state again c.augment.ensures.found c.is_none.ensures).no
