@@ -53,9 +53,10 @@ fn label_from_goal(links: &Links, near: &mut Frontier, start: u32, goal: u32) ->
     label_nodes(&links.table, &Flagged(&links.flags), goal, start, near)
 }
 
-/// Whether few links are enough to see that those with room lead from the start nowhere near the goal. Else no node has a label.
+/// Searches from the start over links with room, and gives up after `few` links. Whether the search ended before that without the goal:
+/// then no path is left. Else all labels are taken off again.
 ///
-/// Few are a part of those that labelling from the goal looked at the last time, which are often nearly all.
+/// If no path is left, labelling from the goal would often look at nearly all links.
 fn is_enclosed(links: &Links, near: &mut Frontier, start: u32, goal: u32, few: u64) -> bool
     requires near { IsClean links.now.table.value.nodes near.old }
     requires start { IsNode links.now.table.value.nodes start }
