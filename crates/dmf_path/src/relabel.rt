@@ -67,15 +67,8 @@ fn is_enclosed(links: &Links, near: &mut Frontier, start: u32, goal: u32, few: u
     ensures clean { result ≡ false → near.new.labels.items ≡ near.old.labels.items }
     ensures capacity { vec_capacity near.new.queue ≡ vec_capacity near.old.queue }
 {
-    let looked = label_most(
-        &links.table,
-        &Roomy(&links.rooms),
-        start,
-        goal,
-        few,
-        &mut near.labels,
-        &mut near.queue,
-    );
+    begin(near, start);
+    let looked = label_most(&links.table, &Roomy(&links.rooms), goal, few, near);
     if looked.is_some() && near.labels[goal as usize] == NO_LABEL {
         return true;
     }
