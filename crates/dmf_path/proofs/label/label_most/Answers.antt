@@ -57,7 +57,9 @@ pub returns-else-index-clause-labels : goal.returns-else-index-clause-labels
 returns-else-index-clause-labels g c ended =
     labels-from (links_of c.args.table.now) (g.O.OpenLinks.flags c.args.opens.now) c.args.frontier.now.root c.loop-frontier.frontier.root c.args.stop
     c.loop-frontier.frontier.labels.items c.loop-frontier.frontier.queue.items c.loop-frontier.frontier.done c.args.table.now.are
-    c.loop-frontier.invariant.root c.loop-frontier.invariant.so_far c.requires.stop (inr c.if-index.false)
+    c.loop-frontier.invariant.root c.loop-frontier.invariant.so_far c.requires.stop (inr (λ none.
+    c.if-index.false (c.index.ensures ∙ sym (get_or_default c.loop-frontier.frontier.labels.items c.args.stop 0 c.index.result.now
+    (omega (arith, c.requires.stop, c.loop-frontier.invariant.so_far.one_each))) ∙ none)))
 
 pub returns-after-loop-frontier-clause-labels : goal.returns-after-loop-frontier-clause-labels
 returns-after-loop-frontier-clause-labels g c ended =

@@ -1,5 +1,3 @@
-use Rattle.std.proofs.Common.{length, length-replicate, ap, ◌∙◌, arith, subst, sym}
-use Rattle.dmf_path.specs.Frontier.{AreSpread}
 use Rattle.dmf_path.specs.LinkTable.{links_of}
 use Rattle.dmf_path.proofs.Labelling.{starts-spread}
 use Rattle.dmf_path.proofs.label.label_nodes.Goals as goal
