@@ -49,6 +49,7 @@ pub fn label_most<O: OpenLinks>(
     requires stop { stop ≤ table.now.nodes }
     ensures labels { result ≢ None → AreLabels (links_of table.now) (O.flags opens.now) frontier.old.root stop frontier.new.labels.items }
     ensures enough { 2 ^ 62 ≤ most → result ≢ None }
+    ensures long { length frontier.new.labels.items ≡ table.now.nodes + 1 }
     ensures queued { AreQueued frontier.new.labels.items frontier.new.queue.items }
     ensures capacity { vec_capacity frontier.new.queue ≡ vec_capacity frontier.old.queue }
 {

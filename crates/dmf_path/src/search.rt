@@ -111,7 +111,9 @@ impl Search {
         let Some(numbers) = &other.numbers else {
             return Ok(());
         };
-        if have_same_numbers(&self.links.table, &self.places, &other.links.table, &other.places) {
+        let links = &self.links;
+        let others = &other.links;
+        if have_same_numbers(&links.table, &self.places, &others.table, &other.places) {
             self.numbers = Some(numbers.clone()?);
         }
         Ok(())

@@ -1,12 +1,13 @@
-use Rattle.std.proofs.Common.{◌≡◌, ◌≢◌, true, None, map, get_or, refl, ap, sym, ◌∙◌, arith}
+use Rattle.std.proofs.Common.{◌≡◌, ◌≢◌, ◌+◌, true, None, map, replicate, length, get_or, refl, ap, sym, ◌∙◌, arith}
 use Rattle.std.specs.Option.{is_some}
-use Rattle.std.proofs.lemmas.List.{get_or_default}
+use Rattle.std.proofs.lemmas.List.{get_or_default, length-replicate}
 use Rattle.dmf_path.specs.Links.{open_flag}
 use Rattle.dmf_path.specs.LinkTable.{links_of}
 use Rattle.dmf_path.specs.Labels.{no_label}
 use Rattle.dmf_path.proofs.Labelling.{starts-spread}
 use Rattle.dmf_path.proofs.Reaching.{AreOpen-map, separated-labelled}
 use Rattle.dmf_path.proofs.relabel.is_enclosed.Goals as goal
+use Rattle.dmf_path.proofs.relabel.is_enclosed.Goals.{After-unlabel}
 
 pub returns-then-index-clause-separated : goal.returns-then-index-clause-separated
 returns-then-index-clause-separated c ended =
@@ -28,3 +29,16 @@ label_most-looked-requires-clause-so_far c =
     (starts-spread (links_of c.args.links.now.table.value) (map open_flag rooms) c.args.start c.args.near.now.labels.items
     c.begin.new.frontier.labels.items c.begin.new.frontier.queue.items c.begin.new.frontier.done c.requires.start c.requires.near.labels_are
     c.begin.ensures.labels c.begin.ensures.queue c.begin.ensures.done)
+
+-- There are as many labels as before.
+long : (c : After-unlabel) → length c.label_most-looked.new.frontier.labels.items ≡ c.args.links.now.table.value.nodes + 1
+long c = rw c.deref.ensures at c.label_most-looked.ensures.long
+
+pub returns-clause-long : goal.returns-clause-long
+returns-clause-long c =
+    ap length c.unlabel.ensures.labels
+    ∙ length-replicate (length c.label_most-looked.new.frontier.labels.items) no_label ∙ long (goal.at.returns-clause-long c).After-unlabel
+
+pub returns-clause-clean : goal.returns-clause-clean
+returns-clause-clean c given =
+    c.unlabel.ensures.labels ∙ ap (λ n. replicate n no_label) (long (goal.at.returns-clause-clean c).After-unlabel) ∙ sym c.requires.near.labels_are
