@@ -71,6 +71,7 @@ pub numbers-same : (l m : Links) (places numbers : List ℕ) → AreLinks l → 
 numbers-same l m places numbers links others same known =
     let long : length l.heads ≡ length m.heads = omega (arith, links.partners_long, others.partners_long, ap (λ (ps : List ℕ). length ps) same) in (
       known.0 ∙ sym long,
-      λ p h. subst (λ (partners : List ℕ). IsOf (record { nodes = l.nodes; first = l.first; heads = l.heads; partners = partners }) places p (get_or numbers p 0))
+      λ p h. subst
+          (λ (ps : List ℕ). IsOf (record { nodes = l.nodes; first = l.first; heads = l.heads; partners = ps }) places p (get_or numbers p 0))
           (sym same) (known.1 p (omega (arith, h, long))),
     )

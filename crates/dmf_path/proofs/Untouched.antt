@@ -93,8 +93,8 @@ numbers-listed known slots i h =
     subst (Contains (numbers_of known slots)) (get_or-map number slots i (record { place = 0; full_at = 0 }) 0 h)
     (Contains-get_or (numbers_of known slots) i 0 (omega (arith, h, length-map slots number)))
 
-pub kept-untouched : (l : Links) (takes_back : Bool) (places : List ℕ) (numbers : Option (Rc (Vec ℕ Global) Global)) (rooms : List ℕ) (sent more : ℕ) (slots : List Slot)
-    (old touched : Option (List ℕ))
+pub kept-untouched : (l : Links) (takes_back : Bool) (places : List ℕ) (numbers : Option (Rc (Vec ℕ Global) Global)) (rooms : List ℕ)
+    (sent more : ℕ) (slots : List Slot) (old touched : Option (List ℕ))
     → AreLinks l → ArePlaces l places → MayBeNumbered l places numbers → length rooms ≡ length l.heads → Lists numbers slots old touched
     → KeepsUntouched touched (pairs_at l places (settled l takes_back sent slots rooms)) (pairs_at l places (settled l takes_back more slots rooms))
 kept-untouched l takes_back places numbers rooms sent more slots old touched links are known long (all none) =

@@ -30,14 +30,16 @@ loop-frontier-init g c = record { so_far = c.requires.so_far; counted = omega ar
 pub overflow_add-looked : goal.overflow_add-looked
 overflow_add-looked g c =
     let next = looked-next (links_of c.args.table.now) (g.O.OpenLinks.flags c.args.opens.now) c.loop-frontier.frontier.root
-    c.loop-frontier.frontier.labels.items c.loop-frontier.frontier.queue.items c.loop-frontier.frontier.done c.index-node.result.now c.index-from.result.now c.index-end.result.now c.loop-frontier.looked c.args.table.now.are
+    c.loop-frontier.frontier.labels.items c.loop-frontier.frontier.queue.items c.loop-frontier.frontier.done c.index-node.result.now
+    c.index-from.result.now c.index-end.result.now c.loop-frontier.looked c.args.table.now.are
     c.loop-frontier.invariant.so_far (omega arith) c.index-node.ensures c.index-end.ensures c.loop-frontier.invariant.counted in
     omega (arith, next.0, next.1, c.from-looked.ensures)
 
 pub returns-then-looked-most-clause-enough : goal.returns-then-looked-most-clause-enough
 returns-then-looked-most-clause-enough g c many =
     let next = looked-next (links_of c.args.table.now) (g.O.OpenLinks.flags c.args.opens.now) c.loop-frontier.frontier.root
-    c.loop-frontier.frontier.labels.items c.loop-frontier.frontier.queue.items c.loop-frontier.frontier.done c.index-node.result.now c.index-from.result.now c.index-end.result.now c.loop-frontier.looked c.args.table.now.are
+    c.loop-frontier.frontier.labels.items c.loop-frontier.frontier.queue.items c.loop-frontier.frontier.done c.index-node.result.now
+    c.index-from.result.now c.index-end.result.now c.loop-frontier.looked c.args.table.now.are
     c.loop-frontier.invariant.so_far (omega arith) c.index-node.ensures c.index-end.ensures c.loop-frontier.invariant.counted in
     absurd (omega (arith, next.0, next.1, c.from-looked.ensures, c.if-looked-most.true, many))
 
@@ -70,18 +72,21 @@ returns-after-loop-frontier-clause-labels g c ended =
 pub index-from-requires : goal.index-from-requires
 index-from-requires g c =
     let read = node-read (links_of c.args.table.now) (g.O.OpenLinks.flags c.args.opens.now) c.loop-frontier.frontier.root
-    c.loop-frontier.frontier.labels.items c.loop-frontier.frontier.queue.items c.loop-frontier.frontier.done c.index-node.result.now c.args.table.now.are c.loop-frontier.invariant.so_far (omega arith) c.index-node.ensures in
+    c.loop-frontier.frontier.labels.items c.loop-frontier.frontier.queue.items c.loop-frontier.frontier.done c.index-node.result.now
+    c.args.table.now.are c.loop-frontier.invariant.so_far (omega arith) c.index-node.ensures in
     omega (arith, read.1.to_last, c.args.table.now.are.first_long, c.args.table.now.first.ok.0)
 
 pub index-end-requires : goal.index-end-requires
 index-end-requires g c =
     let read = node-read (links_of c.args.table.now) (g.O.OpenLinks.flags c.args.opens.now) c.loop-frontier.frontier.root
-    c.loop-frontier.frontier.labels.items c.loop-frontier.frontier.queue.items c.loop-frontier.frontier.done c.index-node.result.now c.args.table.now.are c.loop-frontier.invariant.so_far (omega arith) c.index-node.ensures in
+    c.loop-frontier.frontier.labels.items c.loop-frontier.frontier.queue.items c.loop-frontier.frontier.done c.index-node.result.now
+    c.args.table.now.are c.loop-frontier.invariant.so_far (omega arith) c.index-node.ensures in
     omega (arith, read.1.to_last, c.args.table.now.are.first_long, c.args.table.now.first.ok.0)
 
 pub overflow_sub-end : goal.overflow_sub-end
 overflow_sub-end g c =
     let read = node-read (links_of c.args.table.now) (g.O.OpenLinks.flags c.args.opens.now) c.loop-frontier.frontier.root
-    c.loop-frontier.frontier.labels.items c.loop-frontier.frontier.queue.items c.loop-frontier.frontier.done c.index-node.result.now c.args.table.now.are c.loop-frontier.invariant.so_far (omega arith) c.index-node.ensures in
+    c.loop-frontier.frontier.labels.items c.loop-frontier.frontier.queue.items c.loop-frontier.frontier.done c.index-node.result.now
+    c.args.table.now.are c.loop-frontier.invariant.so_far (omega arith) c.index-node.ensures in
     links-between (links_of c.args.table.now) c.index-node.result.now c.index-from.result.now c.index-end.result.now c.args.table.now.are read.1.to_last
     c.index-from.ensures c.index-end.ensures
