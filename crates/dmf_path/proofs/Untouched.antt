@@ -2,6 +2,7 @@
 use Rattle.std.proofs.Common.{ℕ, ◌≡◌, ◌≢◌, ◌<◌, ◌≤◌, ◌==◌, Bool, true, false, List, [], ◌∷◌, length, get_or, suc, refl, sym, ◌∙◌, subst, arith}
 use Rattle.std.proofs.Common.{⊎_elim, inl, inr, eq-eqb, Option, None, Vec, Global}
 use Rattle.std.specs.List.{Contains}
+use Rattle.std.specs.declared.rc.Rc.{Rc}
 use Rattle.std.proofs.lemmas.Bool.{cases_lt}
 use Rattle.std.proofs.lemmas.List.{get_or-map, get_or_past, length-map}
 use Rattle.std.proofs.lemmas.List.Elements.{Contains-get_or, Contains-append_left, Contains-append_right, Contains-append_cases}
@@ -92,22 +93,22 @@ numbers-listed known slots i h =
     subst (Contains (numbers_of known slots)) (get_or-map number slots i (record { place = 0; full_at = 0 }) 0 h)
     (Contains-get_or (numbers_of known slots) i 0 (omega (arith, h, length-map slots number)))
 
-pub kept-untouched : (l : Links) (takes_back : Bool) (places : List ℕ) (numbers : Option (Vec ℕ Global)) (rooms : List ℕ) (sent more : ℕ) (slots : List Slot)
-    (old touched : Option (List ℕ))
+pub kept-untouched : (l : Links) (takes_back : Bool) (places : List ℕ) (numbers : Option (Rc (Vec ℕ Global) Global)) (rooms : List ℕ)
+    (sent more : ℕ) (slots : List Slot) (old touched : Option (List ℕ))
     → AreLinks l → ArePlaces l places → MayBeNumbered l places numbers → length rooms ≡ length l.heads → Lists numbers slots old touched
     → KeepsUntouched touched (pairs_at l places (settled l takes_back sent slots rooms)) (pairs_at l places (settled l takes_back more slots rooms))
 kept-untouched l takes_back places numbers rooms sent more slots old touched links are known long (all none) =
     λ k untouched. absurd (untouched (rw none tt))
 kept-untouched l takes_back places numbers rooms sent more slots old touched links are known long (these given indices numbered before after) =
-    kept-listed l takes_back places given.items rooms sent more slots touched links are (rw numbered at known) long
-    (λ i h. rw after (Contains-append_right indices (numbers_of given.items slots) _ (numbers-listed given.items slots i h)))
+    kept-listed l takes_back places given.value.items rooms sent more slots touched links are (rw numbered at known) long
+    (λ i h. rw after (Contains-append_right indices (numbers_of given.value.items slots) _ (numbers-listed given.value.items slots i h)))
 
 -- What was touched stays touched,
-pub touched-more : (numbers : Option (Vec ℕ Global)) (slots : List Slot) (old touched : Option (List ℕ)) → Lists numbers slots old touched
+pub touched-more : (numbers : Option (Rc (Vec ℕ Global) Global)) (slots : List Slot) (old touched : Option (List ℕ)) → Lists numbers slots old touched
     → (k : ℕ) → IsTouched old k → IsTouched touched k
 touched-more numbers slots old touched (all none) k is = rw none tt
 touched-more numbers slots old touched (these given indices numbered before after) k is =
-    rw after (Contains-append_left indices (numbers_of given.items slots) k (rw before at is))
+    rw after (Contains-append_left indices (numbers_of given.value.items slots) k (rw before at is))
 
 number-of-slot : (l : Links) (places known : List ℕ) (slots : List Slot) (k : ℕ) → AreNumbers l places known → AreWithin l slots
     → Contains (numbers_of known slots) k → k < length places
@@ -119,14 +120,14 @@ number-of-slot l places known slots k are within has =
     subst (λ j. j < length places) is (are.1 (slot_at slots i).place (within i inside)).0
 
 -- and no index is listed that has no pair.
-pub touched-below : (l : Links) (places : List ℕ) (numbers : Option (Vec ℕ Global)) (slots : List Slot) (old touched : Option (List ℕ))
+pub touched-below : (l : Links) (places : List ℕ) (numbers : Option (Rc (Vec ℕ Global) Global)) (slots : List Slot) (old touched : Option (List ℕ))
     → MayBeNumbered l places numbers → AreWithin l slots → Lists numbers slots old touched
     → AreBelow (length places) old → AreBelow (length places) touched
 touched-below l places numbers slots old touched known within (all none) below = rw none tt
 touched-below l places numbers slots old touched known within (these given indices numbered before after) below =
-    let known_are : AreNumbers l places given.items = rw numbered at known in
+    let known_are : AreNumbers l places given.value.items = rw numbered at known in
     let was : (k : ℕ) → Contains indices k → k < length places = rw before at below in
     rw after (λ k has. ⊎_elim
     (λ (h : Contains indices k). was k h)
-    (λ (h : Contains (numbers_of given.items slots) k). number-of-slot l places given.items slots k known_are within h)
-    (Contains-append_cases indices (numbers_of given.items slots) k has))
+    (λ (h : Contains (numbers_of given.value.items slots) k). number-of-slot l places given.value.items slots k known_are within h)
+    (Contains-append_cases indices (numbers_of given.value.items slots) k has))

@@ -2,6 +2,7 @@
 -- Private: only contracts inside the crate and proofs use this.
 use Rattle.std.specs.Prelude.{ℕ, ◌≡◌, ◌<◌, ◌++◌, List, length, map, slice_index, Option, Some, None, IfSome, Vec, option_map}
 use Rattle.std.specs.declared.alloc.Global.{Global}
+use Rattle.std.specs.declared.rc.Rc.{Rc}
 use Rattle.dmf_path.specs.declared.trail.Slot.{Slot}
 use Rattle.dmf_path.specs.Links.{Links, IsOf}
 
@@ -15,15 +16,15 @@ AreNumbers l places numbers = (length numbers ≡ length l.heads)
     × ((p : ℕ) → p < length l.heads → IsOf l places p (slice_index numbers p))
 
 -- So they are, where there are numbers.
-abbrev pub MayBeNumbered : Links → List ℕ → Option (Vec ℕ Global) → Type 0
-MayBeNumbered l places numbers = IfSome numbers (λ known. AreNumbers l places known.items)
+abbrev pub MayBeNumbered : Links → List ℕ → Option (Rc (Vec ℕ Global) Global) → Type 0
+MayBeNumbered l places numbers = IfSome numbers (λ known. AreNumbers l places known.value.items)
 
 -- the numbers of the links in slots
 abbrev pub numbers_of : List ℕ → List Slot → List ℕ
 numbers_of numbers slots = map (λ s. slice_index numbers s.place) slots
 
 -- All pairs are touched, or beside those that were, those of the links in slots.
-pub data Lists (numbers : Option (Vec ℕ Global)) (slots : List Slot) (old new : Option (List ℕ)) : Type 0 where
+pub data Lists (numbers : Option (Rc (Vec ℕ Global) Global)) (slots : List Slot) (old new : Option (List ℕ)) : Type 0 where
   all : new ≡ None → Lists numbers slots old new
-  these : (known : Vec ℕ Global) (indices : List ℕ) → numbers ≡ Some known → old ≡ Some indices
-      → new ≡ Some (indices ++ numbers_of known.items slots) → Lists numbers slots old new
+  these : (known : Rc (Vec ℕ Global) Global) (indices : List ℕ) → numbers ≡ Some known → old ≡ Some indices
+      → new ≡ Some (indices ++ numbers_of known.value.items slots) → Lists numbers slots old new

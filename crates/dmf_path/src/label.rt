@@ -2,10 +2,10 @@
 ghost use Rattle.std.specs.Prelude.{◌≡◌, ◌≢◌, ℕ, ◌+◌, ◌++◌, ◌≤◌, ◌<◌, ◌^◌, List, None, length, replicate, slice_index, vec_capacity};
 ghost use Rattle.dmf_node.specs.Node.{IsNode};
 ghost use Rattle.dmf_path.specs.LinkTable.{links_of};
-ghost use Rattle.dmf_path.specs.Frontier.{IsClean};
+ghost use Rattle.dmf_path.specs.Frontier.{AreSpread, IsClean};
 ghost use Rattle.dmf_path.specs.Labels.{AreLabels, AreQueued, Spreads, no_label, unlabelled_count};
 
-use crate::frontier::Frontier;
+use crate::frontier::{Frontier, begin, expand};
 use crate::open::OpenLinks;
 use crate::table::LinkTable;
 
@@ -29,46 +29,40 @@ pub fn label_nodes<O: OpenLinks>(
     ensures queued { AreQueued frontier.new.labels.items frontier.new.queue.items }
     ensures queue_capacity { vec_capacity frontier.new.queue ≡ vec_capacity frontier.old.queue }
 {
-    let Frontier { labels, queue, .. } = frontier;
-    label_most(table, opens, root, stop, u64::MAX, labels, queue).unwrap()
+    begin(frontier, root);
+    label_most(table, opens, stop, u64::MAX, frontier).unwrap()
 }
 
-/// Does the same, but looks at `most` links at most; where these are too few, some labels are missing, and it answers nothing.
+/// Goes on like that with a search that has begun, but looks at `most` links at most; where these are too few, some labels are
+/// missing, and it answers nothing.
 pub fn label_most<O: OpenLinks>(
     table: &LinkTable,
     opens: &O,
-    root: u32,
     stop: u32,
     most: u64,
-    labels: &mut [u32],
-    queue: &mut Vec<u32>,
+    frontier: &mut Frontier,
 ) -> Option<u64>
     requires one_flag_each { length (O.flags opens.now) ≡ length table.now.heads.items }
-    requires clean { labels.old ≡ replicate (table.now.nodes + 1) no_label }
-    requires queue_capacity { table.now.nodes + 1 ≤ vec_capacity queue.old }
-    requires root { IsNode table.now.nodes root }
+    requires so_far { AreSpread (links_of table.now) (O.flags opens.now) frontier.old.root
+        frontier.old.labels.items frontier.old.queue.items frontier.old.done }
+    requires capacity { table.now.nodes + 1 ≤ vec_capacity frontier.old.queue }
     requires stop { stop ≤ table.now.nodes }
-    ensures labels { result ≢ None → AreLabels (links_of table.now) (O.flags opens.now) root stop labels.new }
+    ensures labels { result ≢ None → AreLabels (links_of table.now) (O.flags opens.now) frontier.old.root stop frontier.new.labels.items }
     ensures enough { 2 ^ 62 ≤ most → result ≢ None }
-    ensures queued { AreQueued labels.new queue.new.items }
-    ensures queue_capacity { vec_capacity queue.new ≡ vec_capacity queue.old }
+    ensures long { length frontier.new.labels.items ≡ table.now.nodes + 1 }
+    ensures queued { AreQueued frontier.new.labels.items frontier.new.queue.items }
+    ensures capacity { vec_capacity frontier.new.queue ≡ vec_capacity frontier.old.queue }
 {
-    labels[root as usize] = 0;
-    queue.clear();
-    queue.push_reserved(root);
     let mut looked = 0u64;
-    let mut done = 0;
-    while done < queue.len() && labels[stop as usize] == NO_LABEL {
-        let node = queue[done];
+    while frontier.done < frontier.queue.len() && frontier.labels[stop as usize] == NO_LABEL {
+        let node = frontier.queue[frontier.done];
         let from = table.first[node as usize];
         let end = table.first[node as usize + 1];
         looked += u64::from(end - from);
         if looked > most {
             return None;
         }
-        let label = labels[node as usize] + 1;
-        spread(&table.heads, opens, from, end, label, labels, queue);
-        done += 1;
+        expand(table, opens, frontier);
     }
     Some(looked)
 }

@@ -1,5 +1,5 @@
 //! Of each link the index of its pair.
-ghost use Rattle.std.specs.Prelude.{◌≡◌, length, IfOk};
+ghost use Rattle.std.specs.Prelude.{◌≡◌, ℕ, true, List, length, IfOk};
 ghost use Rattle.dmf_path.specs.Links.{ArePlaces};
 ghost use Rattle.dmf_path.specs.LinkTable.{links_of};
 ghost use Rattle.dmf_path.specs.Touching.{AreNumbers};
@@ -20,6 +20,19 @@ pub fn number_links(
     let mut numbers = vec![in alloc; 0u32; table.heads.len()]?;
     put_numbers(table, places, &mut numbers);
     Ok(numbers)
+}
+
+/// Whether the links of two tables have the same numbers: where each pair has its links at the same places.
+pub fn have_same_numbers(
+    table: &LinkTable,
+    places: &Places,
+    other: &LinkTable,
+    other_places: &Places,
+) -> bool
+    ensures { result ≡ true → (numbers : List ℕ) → AreNumbers (links_of other.now) other_places.now numbers
+        → AreNumbers (links_of table.now) places.now numbers }
+{
+    table.partners == other.partners && places.are(other_places)
 }
 
 /// Puts at both links of each pair its index.

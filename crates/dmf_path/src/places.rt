@@ -1,5 +1,5 @@
 //! The places of the links along of pairs, and indices of pairs.
-ghost use Rattle.std.specs.Prelude.{◌≡◌, ◌<◌, length, slice_index, MatchOption};
+ghost use Rattle.std.specs.Prelude.{◌≡◌, ◌<◌, true, length, slice_index, MatchOption};
 ghost use Rattle.dmf_path.specs.Links.{no_place, IsPlaceOf};
 ghost use Rattle.dmf_path.specs.Search.{indices_of};
 
@@ -66,6 +66,13 @@ impl Places {
         ensures { result ≡ places.items }
     {
         Places { places }
+    }
+
+    /// Whether these are the same places.
+    pub fn are(&self, other: &Places) -> bool
+        ensures { result ≡ true → self.now ≡ other.now }
+    {
+        self.places == other.places
     }
 
     /// How many pairs there are.

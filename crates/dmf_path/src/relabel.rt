@@ -79,9 +79,10 @@ fn label_all(links: &Links, near: &mut Frontier, start: u32, goal: u32)
     let _looked = label_nodes(&links.table, &Flagged(&links.flags), goal, 0, near);
 }
 
-/// Whether few links are enough to see that those with room lead from the start nowhere near the goal. Else no node has a label.
+/// Searches from the start over links with room, and gives up after `few` links. Whether the search ended before that without the goal:
+/// then no path is left. Else all labels are taken off again.
 ///
-/// Few are a part of those that labelling from the goal looked at the last time, which are often nearly all.
+/// If no path is left, labelling from the goal would often look at nearly all links.
 fn is_enclosed(links: &Links, near: &mut Frontier, start: u32, goal: u32, few: u64) -> bool
     requires near { IsClean links.now.table.value.nodes near.old }
     requires start { IsNode links.now.table.value.nodes start }
@@ -92,15 +93,8 @@ fn is_enclosed(links: &Links, near: &mut Frontier, start: u32, goal: u32, few: u
     ensures clean { result ≡ false → near.new.labels.items ≡ near.old.labels.items }
     ensures capacity { vec_capacity near.new.queue ≡ vec_capacity near.old.queue }
 {
-    let looked = label_most(
-        &links.table,
-        &Roomy(&links.rooms),
-        start,
-        goal,
-        few,
-        &mut near.labels,
-        &mut near.queue,
-    );
+    begin(near, start);
+    let looked = label_most(&links.table, &Roomy(&links.rooms), goal, few, near);
     if looked.is_some() && near.labels[goal as usize] == NO_LABEL {
         return true;
     }

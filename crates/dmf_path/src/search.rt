@@ -5,10 +5,10 @@ ghost use Rattle.dmf_path.specs.Path.{HasNoPath, IsReachable};
 ghost use Rattle.dmf_path.specs.Pair.{steps_of};
 ghost use Rattle.dmf_path.specs.Search.{Augments, HasAlong, along_at, against_at};
 ghost use Rattle.dmf_path.specs.Search.{aimed, lowered_along, with_rooms, with_pairs};
-ghost use Rattle.dmf_path.specs.Touched.{Touches};
+ghost use Rattle.dmf_path.specs.Touched.{AreBelow, Touches};
 
 use crate::levels::Levels;
-use crate::numbers::number_links;
+use crate::numbers::{have_same_numbers, number_links};
 use crate::phase::{aim, begin_anew, find};
 use crate::places::Places;
 use crate::push::Links;
@@ -41,8 +41,8 @@ pub struct AugmentingPath {
 pub struct Search {
     links: Links,
     places: Rc<Places>,
-    /// Of each link the index of its pair, once the links are numbered.
-    numbers: Option<Vec<u32>>,
+    /// Of each link the index of its pair, once the links are numbered. Searches over the same links share the numbers.
+    numbers: Option<Rc<Vec<u32>>>,
     levels: Levels,
     trail: Trail,
     /// Whether no path was looked for since the search began, or began anew: then nothing is held, and no link is passed.
@@ -95,9 +95,40 @@ impl Search {
     {
         if self.numbers.is_none() {
             let links = &self.links;
-            self.numbers = Some(number_links(alloc, &links.table, &self.places)?);
+            let numbers = number_links(alloc, &links.table, &self.places)?;
+            self.numbers = Some(Rc::new(alloc, numbers)?);
         }
         Ok(())
+    }
+
+    /// Shares the numbers of another search that has the same links, where this one has none. Takes no memory, and time for a look at
+    /// each link: once, since the numbers stay.
+    pub fn share_numbers(&mut self, other: &Search) -> Result<(), AllocError>
+        ensures { self.new ≡ self.old }
+    {
+        if self.numbers.is_some() {
+            return Ok(());
+        }
+        let Some(numbers) = &other.numbers else {
+            return Ok(());
+        };
+        let links = &self.links;
+        let others = &other.links;
+        if have_same_numbers(&links.table, &self.places, &others.table, &other.places) {
+            self.numbers = Some(numbers.clone()?);
+        }
+        Ok(())
+    }
+
+    /// No pair is touched. If the links are numbered, this takes memory for so many indices: once paths have led over more links, all
+    /// pairs count as touched. Else all count so at once, and it takes none.
+    pub fn none_touched(&self, alloc: Global, most: usize) -> Result<Touched, AllocError>
+        ensures { IfOk result (λ touched. (count : ℕ) → AreBelow count touched) }
+    {
+        if self.numbers.is_none() {
+            return Ok(Touched::all());
+        }
+        Touched::new(alloc, most)
     }
 
     /// The room of the link against the pair at index `k`, and nothing where there is no pair. Takes no memory.
@@ -128,8 +159,8 @@ impl Search {
         self.links.lower(place, amount);
     }
 
-    /// Puts on all links what is held for them, so that each room is read at once, and not looked for on the path. Takes no
-    /// memory.
+    /// Applies the held pushes to the rooms. Each room is then read in constant time; before, in time for each link of the path. Takes
+    /// no memory.
     pub fn settle(&mut self)
         ensures { self.new ≡ self.old }
     {

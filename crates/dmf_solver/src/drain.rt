@@ -11,7 +11,7 @@ ghost use Rattle.dmf_solver.specs.Pairs.{Along, IsCarryingSearch, flows_read};
 
 use crate::drained_flows::DrainedFlows;
 use crate::moves::list_moves;
-use crate::residual_network::{ResidualNetwork, kept_or_new, none_touched};
+use crate::residual_network::{ResidualNetwork, kept_or_new};
 use dmf_path::{Search, Touched};
 use dmf_state::{Move, State};
 use std::alloc::{AllocError, Global};
@@ -105,7 +105,7 @@ fn drain_by(
     ensures carrying { IfOk result (CarriesMoved state.now) }
 {
     let before = state.flows();
-    let mut touched = none_touched(alloc, &mut carrying, state.nodes(), true)?;
+    let mut touched = carrying.none_touched(alloc, state.nodes() as usize / 8)?;
     drain_along(state, j, limit, &mut carrying, &mut touched);
     touched.sort();
     let drained = DrainedFlows {

@@ -1,5 +1,4 @@
-ghost use Rattle.std.specs.Prelude.{◌≡◌, ◌↔◌, ℕ, None, pos, IfOk, IfSome, IsOkUnless, MatchResult};
-ghost use Rattle.dmf_path.specs.Touched.{AreBelow};
+ghost use Rattle.std.specs.Prelude.{◌≡◌, ◌↔◌, None, pos, IfOk, IfSome, IsOkUnless, MatchResult};
 ghost use Rattle.dmf_state.specs.Direction.{edited_along, FitsAlong};
 ghost use Rattle.dmf_state.specs.Edit.{applied, differences, AddsArc, Fits};
 ghost use Rattle.dmf_state.specs.Flow.{flow_value};
@@ -22,10 +21,14 @@ use crate::residual::residual_search;
 use crate::side::{side_along, wanted_side};
 use crate::solve::{Solved, solve};
 use crate::watch::Watch;
-use dmf_path::{Search, Touched};
+use dmf_path::Search;
 use dmf_state::{Direction, Edit, Move, NoMemory, Side, State};
 use std::alloc::{AllocError, Global};
 use std::marker::Model;
+
+/// How many solves and drains look at all arcs for their moves before the links are numbered, so that the next ones need not: numbering
+/// takes as long as about so many looks.
+const MOST_LOOKS: u32 = 8;
 
 /// The residual network of a state: the links along which a solve augments. A caller that solves again and again keeps it, and has
 /// it follow each change of the state. So its links need not be made anew for each solve. From the first drain on it has a search over
@@ -36,8 +39,8 @@ pub struct ResidualNetwork {
     search: Search,
     /// The search over carrying steps, where it is made.
     carrying: Option<Search>,
-    /// Whether a solve has run over these links. Only from then on it is worth while to number them, for solves that move few arcs.
-    has_solved: bool,
+    /// How many solves and drains have looked at all arcs for their moves.
+    looks: u32,
 }
 
 impl Model for ResidualNetwork {
@@ -60,12 +63,12 @@ impl ResidualNetwork {
     /// Plans what [`plan_solve_watched`](crate::plan_solve_watched) plans, and gives the residual network of the state that the edit
     /// makes.
     ///
-    /// The first solve looks at all arcs for its moves. Each further one looks at the arcs of its paths alone, unless these have an
-    /// eighth as many links as there are nodes.
+    /// The first solves and drains look at all arcs for their moves. Then the links are numbered, and each further one looks at the
+    /// arcs of its paths alone, unless these have an eighth as many links as there are nodes.
     ///
-    /// The plan takes memory for the moves, and for a side that is wanted, with marks and numbers while it looks for it. A further
-    /// solve also takes memory for an eighth of a number a node, and the second one for a number a link. Where memory is refused,
-    /// the answer is [`PlanFault::NoMemory`].
+    /// The plan takes memory for the moves, and for a side that is wanted, with marks and numbers while it looks for it. One that
+    /// numbers the links takes memory for a number a link, and from then on each for an eighth of a number a node. Where memory is
+    /// refused, the answer is [`PlanFault::NoMemory`].
     pub fn plan_solve<W: Watch>(
         self,
         alloc: Global,
@@ -87,9 +90,10 @@ impl ResidualNetwork {
         let ResidualNetwork {
             mut search,
             carrying,
-            has_solved,
+            looks,
         } = self;
-        let touched = none_touched(alloc, &mut search, state.nodes(), has_solved)?;
+        let looks = look_or_number(alloc, &mut search, looks)?;
+        let touched = search.none_touched(alloc, state.nodes() as usize / 8)?;
         let solved = solve(search, state, touched, watch);
         let side = wanted_side(alloc, state, &solved, want_side)?;
         let moves = touched_moves(alloc, state, &solved)?;
@@ -98,7 +102,7 @@ impl ResidualNetwork {
         let kept = ResidualNetwork {
             search,
             carrying,
-            has_solved: true,
+            looks,
         };
         Ok((Edit::Solve { moves }, side, kept))
     }
@@ -156,7 +160,7 @@ impl ResidualNetwork {
         let ResidualNetwork {
             mut search,
             carrying,
-            has_solved,
+            looks,
         } = self;
         let moves = moves_of(edit);
         put_flows(&mut search, state, moves, direction);
@@ -165,12 +169,13 @@ impl ResidualNetwork {
         Some(ResidualNetwork {
             search,
             carrying,
-            has_solved,
+            looks,
         })
     }
 
     /// Takes the carrying search of the state's flow out of the network, which has none afterwards. Where it had none, the search is
-    /// made over the links of the network: this takes memory for a room and a flag a link, and for some numbers a node.
+    /// made over the links of the network: this takes memory for a room and a flag a link, and for some numbers a node. Once the links
+    /// are numbered, it has their numbers.
     pub(crate) fn take_carrying(
         &mut self,
         alloc: Global,
@@ -181,10 +186,13 @@ impl ResidualNetwork {
         ensures network { IsNetworkOf state.now self.new }
         ensures carrying { IfOk result (IsCarryingOf state.now) }
     {
-        match self.carrying.take() {
-            Some(search) => Ok(with_value(search, state)),
-            None => carrying_twin(alloc, state, &self.search),
-        }
+        self.looks = look_or_number(alloc, &mut self.search, self.looks)?;
+        let mut carrying = match self.carrying.take() {
+            Some(search) => with_value(search, state),
+            None => carrying_twin(alloc, state, &self.search)?,
+        };
+        carrying.share_numbers(&self.search)?;
+        Ok(carrying)
     }
 
     /// The network with this carrying search, where there is one, in place of its own.
@@ -195,7 +203,7 @@ impl ResidualNetwork {
             Some(_) => ResidualNetwork {
                 search: self.search,
                 carrying,
-                has_solved: self.has_solved,
+                looks: self.looks,
             },
             None => self,
         }
@@ -218,26 +226,19 @@ pub fn kept_or_new(
     Ok(ResidualNetwork {
         search,
         carrying: None,
-        has_solved: false,
+        looks: 0,
     })
 }
 
-/// What tells the pairs that the paths of a solve or a drain lead over. Where it is worth while the links are numbered, so that these
-/// pairs are listed: at most an eighth as many as there are nodes.
-pub fn none_touched(
-    alloc: Global,
-    search: &mut Search,
-    nodes: u32,
-    is_worth_while: bool,
-) -> Result<Touched, AllocError>
-    ensures search { search.new ≡ search.old }
-    ensures below { IfOk result (λ touched. (count : ℕ) → AreBelow count touched) }
+/// Counts one look more at all arcs; after enough of them, numbers the links in its place. The answer is how many there were.
+fn look_or_number(alloc: Global, search: &mut Search, looks: u32) -> Result<u32, AllocError>
+    ensures { search.new ≡ search.old }
 {
-    if !is_worth_while {
-        return Ok(Touched::all());
+    if looks < MOST_LOOKS {
+        return Ok(looks + 1);
     }
     search.number_links(alloc)?;
-    Touched::new(alloc, nodes as usize / 8)
+    Ok(looks)
 }
 
 /// The moves of a solve: of the arcs whose pairs are not touched none is looked at.

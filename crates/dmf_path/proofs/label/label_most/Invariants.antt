@@ -3,12 +3,13 @@ use Rattle.dmf_path.specs.LinkTable.{links_of}
 use Rattle.dmf_path.specs.Frontier.{AreSpread}
 use Rattle.dmf_path.proofs.label.label_most.Given as goal
 
-abbrev pub invariant-loop-done : goal.invariant-loop-done
-invariant-loop-done g l = record {
-  so_far : AreSpread (links_of l.table) (g.O.OpenLinks.flags l.opens) l.root l.labels l.queue.items l.done;
-  counted : l.looked ≤ l.done * 2 ^ 31;
-  queue_capacity : vec_capacity l.queue ≡ vec_capacity l.fn.queue;
+abbrev pub invariant-loop-frontier : goal.invariant-loop-frontier
+invariant-loop-frontier g l = record {
+  so_far : AreSpread (links_of l.table) (g.O.OpenLinks.flags l.opens) l.frontier.root l.frontier.labels.items l.frontier.queue.items l.frontier.done;
+  counted : l.looked ≤ l.frontier.done * 2 ^ 31;
+  root : l.frontier.root ≡ l.fn.frontier.root;
+  capacity : vec_capacity l.frontier.queue ≡ vec_capacity l.fn.frontier.queue;
 }
 
-abbrev pub decreases-loop-done : goal.decreases-loop-done
-decreases-loop-done g l = l.table.nodes + 1 - l.done
+abbrev pub decreases-loop-frontier : goal.decreases-loop-frontier
+decreases-loop-frontier g l = l.table.nodes + 1 - l.frontier.done

@@ -10,11 +10,11 @@ use Rattle.dmf_solver.proofs.drain.drain_by.Goals as goal
 use Rattle.dmf_solver.proofs.drain.drain_by.Goals.{In_ok-touched}
 
 -- The search carries the state's flow.
-begun : (c : In_ok-touched) → IsCarryingSearch c.args.state.now c.args.state.now.flows c.none_touched.new.search
-    × (flows_read Along c.args.state.now.flows c.none_touched.new.search.pairs ≡ c.args.state.now.flows)
+begun : (c : In_ok-touched) → IsCarryingSearch c.args.state.now c.args.state.now.flows c.args.carrying
+    × (flows_read Along c.args.state.now.flows c.args.carrying.pairs ≡ c.args.state.now.flows)
 begun c =
     let s = c.args.state.now in
-    carrying-first s c.none_touched.new.search c.flows-before.ensures.state (rw c.none_touched.ensures.search c.requires.carrying)
+    carrying-first s c.args.carrying c.flows-before.ensures.state c.requires.carrying
 
 pub drain_along-requires-clause-carrying : goal.drain_along-requires-clause-carrying
 drain_along-requires-clause-carrying c = (c.args.state.now.flows, (begun (goal.at.drain_along-requires-clause-carrying c).In_ok-touched).0)
@@ -28,9 +28,9 @@ pub indices-requires-clause-below : goal.indices-requires-clause-below
 indices-requires-clause-below c =
     let s = c.args.state.now in
     let here = begun (goal.at.indices-requires-clause-below c).In_ok-touched in
-    let pairs = length-carries s s.flows _ c.none_touched.new.search here.0 in
+    let pairs = length-carries s s.flows _ c.args.carrying here.0 in
     let flows = AllZip-long _ s.network.arcs s.flows c.flows-before.ensures.state.flow.within in
-    let first = c.in_ok-touched.ensures.below (length c.none_touched.new.search.pairs) in
+    let first = c.in_ok-touched.ensures (length c.args.carrying.pairs) in
     rw c.flows-before.ensures.value
     (subst (λ count. AreBelow count c.sort.new.self) (omega (arith, pairs, flows))
     (c.sort.ensures.below _ (c.drain_along.ensures.touched.below first)))
@@ -48,12 +48,12 @@ list_moves-requires-clause-others_stay c =
     let here = begun (goal.at.list_moves-requires-clause-others_stay c).In_ok-touched in
     let flows = AllZip-long _ s.network.arcs s.flows c.flows-before.ensures.state.flow.within in
     let carries = (c.drain_along.ensures.drains s.flows here.0).0 in
-    let old = length-carries s s.flows _ c.none_touched.new.search here.0 in
+    let old = length-carries s s.flows _ c.args.carrying here.0 in
     let new = length-carries s s.flows _ c.drain_along.new.search carries in
-    let keeps = keeps-sorted c.drain_along.new.touched c.sort.new.self c.none_touched.new.search.pairs c.drain_along.new.search.pairs
+    let keeps = keeps-sorted c.drain_along.new.touched c.sort.new.self c.args.carrying.pairs c.drain_along.new.search.pairs
     c.drain_along.ensures.touched.kept c.sort.ensures.same in
     rw c.flows-before.ensures.value
-    (drained-cover s c.none_touched.new.search.pairs c.drain_along.new.search.pairs c.sort.new.self (indices_of c.indices.result) (length s.flows + 1)
+    (drained-cover s c.args.carrying.pairs c.drain_along.new.search.pairs c.sort.new.self (indices_of c.indices.result) (length s.flows + 1)
     (omega (arith, old, flows)) (omega (arith, new, flows)) (omega arith) here.1 keeps (rw c.flows-before.ensures.value at c.indices.ensures))
 
 pub returns-clause-moves : goal.returns-clause-moves

@@ -1,8 +1,11 @@
 use Rattle.dmf_solver.proofs.SolvedEdit.{PlansSolve-listed, value-listed, told-listed, told-nothing, told-refused, fits-listed, residual-listed}
 use Rattle.dmf_solver.proofs.residual_network.ResidualNetwork.plan_solve.Goals as goal
 
+pub returns-in_err-looks-clause-told : goal.returns-in_err-looks-clause-told
+returns-in_err-looks-clause-told g c = told-nothing c.args.state.now c.from_residual.result _ _ c.from_residual.ensures.0
+
 pub returns-in_err-touched-clause-told : goal.returns-in_err-touched-clause-told
-returns-in_err-touched-clause-told g c = told-nothing c.args.state.now c.from_residual.result _ _ c.from_residual.ensures.0
+returns-in_err-touched-clause-told g c = told-nothing c.args.state.now c.from_residual-in_err-touched.result _ _ c.from_residual-in_err-touched.ensures.0
 
 pub returns-in_err-side-clause-told : goal.returns-in_err-side-clause-told
 returns-in_err-side-clause-told g c =
