@@ -1,10 +1,10 @@
-// LEMON's push-relabel.
+// LEMON's push-relabel. With the numbers of arcs as its words it writes the value without each of them in turn, each solved anew.
 #include "dimacs.hpp"
 
 #include <lemon/preflow.h>
 #include <lemon/smart_graph.h>
 
-int main() {
+int main(int count, char **words) {
     dimacs::Clock clock;
     const dimacs::Network network = dimacs::read_network();
     clock.lap("read");
@@ -21,6 +21,19 @@ int main() {
         graph, capacities, node(network.source), node(network.sink));
     preflow.run();
     clock.lap("solve");
+    if (count > 1) {
+        dimacs::Output values;
+        for (int at = 1; at < count; ++at) {
+            const auto arc = graph.arcFromId(std::atoi(words[at]) - 1);
+            const int64_t capacity = capacities[arc];
+            capacities[arc] = 0;
+            preflow.run();
+            capacities[arc] = capacity;
+            values.line("s", preflow.flowValue());
+        }
+        clock.lap("cases");
+        return 0;
+    }
     dimacs::write_solution(network, preflow.flowValue(), [&](size_t j) { return preflow.flow(graph.arcFromId(j)); });
     clock.lap("write");
 }

@@ -4,6 +4,7 @@ the program is `./dmf --version`."""
 from __future__ import annotations
 
 import os
+import select
 import signal
 import subprocess
 from typing import NamedTuple
@@ -15,6 +16,8 @@ from oracle.session import Refusals
 BUILT = os.path.join(os.path.dirname(os.path.dirname(os.path.abspath(__file__))), "crates", "dmf", "out", "dmf")
 PROBLEM = b"problem.max"
 SECONDS = 60
+# How much a pipe takes that nobody reads, in bytes.
+PIPE_SIZE = 1 << 16
 
 
 class Case(NamedTuple):
@@ -43,18 +46,52 @@ class Call(NamedTuple):
 
 
 def run(case: Case, **environment: str) -> Run:
-    """Runs the program. What the environment has beside the caller's are texts."""
+    """Runs the program. What the environment has beside the caller's are texts. Its input is in the pipe before it begins, where a pipe
+    takes so much: thousands of these runs come one after the other, and `subprocess` takes some 0.3 ms more for each."""
+    words: list[str | bytes] = [BUILT, *case.words]
+    variables = {**os.environ, **environment}
+    if len(case.input) > PIPE_SIZE:
+        ran = subprocess.run(words, input=case.input, capture_output=True, timeout=SECONDS, env=variables)
+        return Run(ran.returncode, ran.stdout, ran.stderr)
+    (stdin, given), (out, stdout), (err, stderr) = pipes = [os.pipe() for _ in range(3)]
     try:
-        ran = subprocess.run(
-            [BUILT, *case.words],
-            input=case.input,
-            capture_output=True,
-            timeout=SECONDS,
-            env={**os.environ, **environment},
-        )
-    except subprocess.TimeoutExpired:
-        return Run(None, b"", f"it has not ended in {SECONDS} s".encode())
-    return Run(ran.returncode, ran.stdout, ran.stderr)
+        os.write(given, case.input)
+        streams = [(os.POSIX_SPAWN_DUP2, end, number) for number, end in enumerate((stdin, stdout, stderr))]
+        # Python ignores what these signals tell, and a program that it begins would too.
+        heeded = [signal.SIGPIPE, signal.SIGXFSZ]
+        process = os.posix_spawn(BUILT, words, variables, file_actions=streams, setsigdef=heeded)
+        for end in stdin, given, stdout, stderr:
+            os.close(end)
+        pipes = [(out, err)]
+        texts = read_to_ends(out, err)
+        if texts is None:
+            os.kill(process, signal.SIGKILL)
+        status = os.waitstatus_to_exitcode(os.waitpid(process, 0)[1])
+    finally:
+        for ends in pipes:
+            os.close(ends[0])
+            os.close(ends[1])
+    return Run(None, b"", f"it has not ended in {SECONDS} s".encode()) if texts is None else Run(status, *texts)
+
+
+def read_to_ends(*files: int) -> list[bytes] | None:
+    """What comes from each of these files until its end, and nothing where one has no end for too long."""
+    texts = {file: b"" for file in files}
+    waiting = select.poll()
+    for file in files:
+        waiting.register(file, select.POLLIN)
+    left = len(files)
+    while left:
+        ready = waiting.poll(1000 * SECONDS)
+        if not ready:
+            return None
+        for file, _ in ready:
+            piece = os.read(file, PIPE_SIZE)
+            texts[file] += piece
+            if not piece:
+                waiting.unregister(file)
+                left -= 1
+    return [*texts.values()]
 
 
 def watch(case: Case, library: str, **fault: str | int) -> tuple[Run, list[Call]]:

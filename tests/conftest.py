@@ -7,10 +7,12 @@ import os
 import re
 import shutil
 import subprocess
+import sys
 from collections.abc import Iterator
 from contextlib import contextmanager
 from itertools import islice
 from pathlib import Path
+from typing import NamedTuple
 
 import pytest
 from _pytest.terminal import TerminalReporter
@@ -37,8 +39,10 @@ settings.register_profile(
 
 
 def pytest_configure(config: pytest.Config) -> None:
-    """Goes to the root, and has the program built once, before the workers begin."""
+    """Goes to the root, and has the program built once, before the workers begin. What is called as `python3`, as the tools are, is
+    the Python that runs the tests."""
     os.chdir(ROOT)
+    os.environ["PATH"] = os.pathsep.join([os.path.dirname(sys.executable), os.environ["PATH"]])
     settings.load_profile("long" if config.getoption("--long") else "gate")
     if hasattr(config, "workerinput") or config.option.collectonly:
         return
@@ -119,6 +123,26 @@ def faults(tmp_path_factory: pytest.TempPathFactory) -> str:
             source = ROOT / "tests" / "faults.c"
             subprocess.run(["gcc", "-shared", "-fPIC", "-O1", "-Wall", "-o", library, source], check=True)
     return str(library)
+
+
+class Types(NamedTuple):
+    """What mypy says of the tests and the package, and the folder of what it has read, which makes each further call of it quick."""
+
+    said: str
+    cache: Path
+
+
+@pytest.fixture(scope="session")
+def types(tmp_path_factory: pytest.TempPathFactory) -> Types:
+    with shared(tmp_path_factory, "types") as cache:
+        said = cache / "said"
+        if not said.exists():
+            files = sorted((ROOT / "tests").rglob("*.py"))
+            words: list[str | Path] = [sys.executable, "-m", "mypy", "--no-error-summary", "--cache-dir", cache]
+            words += [*files, ROOT / "clients/python/dmf"]
+            ran = subprocess.run(words, cwd=ROOT, capture_output=True, text=True)
+            said.write_text(ran.stdout + ran.stderr)
+        return Types(said.read_text(), cache)
 
 
 @pytest.fixture

@@ -10,7 +10,7 @@ from collections.abc import Iterator
 from pathlib import Path
 
 import pytest
-from conftest import ROOT
+from conftest import ROOT, Types
 
 
 def scripts(pattern: bytes, *folders: str) -> Iterator[Path]:
@@ -26,18 +26,14 @@ def judge(*words: object) -> None:
     assert ran.returncode == 0, ran.stdout + ran.stderr
 
 
-def judge_types(cache: Path, *words: object) -> None:
-    judge(sys.executable, "-m", "mypy", "--cache-dir", cache, *words)
-
-
 @pytest.mark.seconds(50)
-def test_types(tmp_path: Path) -> None:
-    """The tests, the package and the tools; and each of those that have the name of what they import, by itself. What mypy read once
-    it keeps in the folder."""
-    judge_types(tmp_path, *sorted((ROOT / "tests").rglob("*.py")), "clients/python/dmf")
-    judge_types(tmp_path, "--scripts-are-modules", *scripts(b"python3", "tools"))
+def test_types(types: Types) -> None:
+    """The tests, the package and the tools; and each of those that have the name of what they import, by itself."""
+    assert types.said == ""
+    again = sys.executable, "-m", "mypy", "--cache-dir", types.cache
+    judge(*again, "--scripts-are-modules", *scripts(b"python3", "tools"))
     for script in scripts(b"python3", "tools/friends"):
-        judge_types(tmp_path, script)
+        judge(*again, script)
 
 
 @pytest.mark.seconds(5)

@@ -6,6 +6,7 @@ import shutil
 import subprocess
 
 from client_shared import CLIENT, ROOT, needs
+from conftest import Types
 
 USER = f"{ROOT}/tests/client/typed_user.py"
 # Each of these is one line of a caller, with the kind of the error that mypy tells of it.
@@ -18,21 +19,21 @@ MISTAKES = {
 }
 
 
-def judge(*words: str) -> str:
+def judge(types: Types, *words: str) -> str:
     """What mypy says."""
-    command = ["mypy", "--strict", "--cache-dir=/dev/null", "--no-error-summary", "--show-error-codes", *words]
+    command = ["mypy", "--strict", f"--cache-dir={types.cache}", "--no-error-summary", "--show-error-codes", *words]
     ran = subprocess.run(command, env={**os.environ, "MYPYPATH": CLIENT}, capture_output=True, text=True, cwd=ROOT)
     return ran.stdout + ran.stderr
 
 
 @needs(shutil.which("mypy"), "mypy", "the types of the client in Python were not checked")
-def test_the_package_and_a_caller() -> None:
-    assert judge(f"{CLIENT}/dmf", f"{CLIENT}/build_wheel.py", USER) == ""
+def test_the_package_and_a_caller(types: Types) -> None:
+    assert judge(types, f"{CLIENT}/dmf", f"{CLIENT}/build_wheel.py", USER) == ""
 
 
 @needs(shutil.which("mypy"), "mypy", "the types of the client in Python were not checked")
-def test_mistakes() -> None:
+def test_mistakes(types: Types) -> None:
     """Each mistake is told in its line, and nothing else."""
-    said = judge("-c", "\n".join(["import dmf", *MISTAKES]))
+    said = judge(types, "-c", "\n".join(["import dmf", *MISTAKES]))
     told = re.findall(r"^(.*?):(\d+): error: .*\[(.*)\]$", said, re.MULTILINE)
     assert told == [("<string>", str(line), code) for line, code in enumerate(MISTAKES.values(), 2)], said

@@ -74,7 +74,7 @@ same() {
 
 # The files and folders below a folder, with their modes and what the files have.
 tree() {
-    (cd "$1" && find . -printf '%p %m ' \( -type f -exec sha256sum -b {} \; -o -print \) | sort)
+    (cd "$1" && { find . -printf '%p %m\n' && find . -type f -exec sha256sum -b {} +; } | sort)
 }
 
 # What stands in a line for each file: the word before it, and the folder.

@@ -20,10 +20,10 @@ from conftest import ROOT, shared
 
 SECONDS = 20
 PROBLEM = "an odd.max"
-# What a shell is told before it is typed to: a listing is shown at once, and whole.
+# What a shell is told before it is typed to: a listing is shown at once, and whole. What zsh has found once stands in a file.
 PREPARE = {
     "bash": "bind 'set show-all-if-ambiguous on' 'set completion-query-items 0' 'set enable-bracketed-paste off'; source {file}",
-    "zsh": "fpath=({folder} $fpath); autoload -U compinit; compinit -u -D; LISTMAX=0; setopt no_auto_menu",
+    "zsh": "fpath=({folder} $fpath); autoload -U compinit; compinit -u -d {folder}/found; LISTMAX=0; setopt no_auto_menu",
 }
 # A line that is typed, with the words that are to be offered at its end, and those that are not.
 Offer = Tuple[str, Set[str], Set[str]]
@@ -128,12 +128,14 @@ def words_shown(shown: str, line: str) -> set[str]:
 
 
 def offered_at_terminal(shell: str, file: str, line: str, wanted: set[str]) -> set[str]:
-    """What is offered where a line is typed, and tab twice."""
+    """What is offered where a line is typed, and tab twice: but once where its last word begins one word alone, since that is then
+    completed, and the second tab would ask for the next word."""
     terminal = Terminal(PLAIN[shell])
     prepare = PREPARE[shell].format(file=shlex.quote(file), folder=shlex.quote(os.path.dirname(file)))
     terminal.type(f"{prepare}; PS1=; echo rea''dy\n")
     terminal.wait(lambda shown: "ready\r\n" in shown)
-    terminal.type(f"{line}\t\t")
+    is_completed = len(wanted) == 1 and line.rpartition(" ")[2].strip("-")
+    terminal.type(f"{line}\t" if is_completed else f"{line}\t\t")
     terminal.wait(lambda shown: bool(wanted) and wanted <= words_shown(shown, line), SECONDS if wanted else 0.5)
     terminal.end()
     return words_shown(terminal.shown, line)

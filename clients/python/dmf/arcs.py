@@ -7,16 +7,15 @@ import weakref
 from array import array
 from bisect import bisect_left
 from collections import defaultdict
-from collections.abc import Callable, Hashable, Iterable, Iterator, Sequence
+from collections.abc import Callable, Hashable, Iterable, Iterator, Mapping, Sequence
 from itertools import compress, count
 from operator import gt
 from typing import Any, Generic, Protocol, TypeVar
 
 from .errors import AmbiguousArc, NoSuchArc, SessionEnded, shown
+from .numbering import NODES, WholeNodes
 
 Node = TypeVar("Node", bound=Hashable)
-# The types of the columns: numbers of nodes, and capacities and flows.
-NODES, AMOUNTS = "I", "Q"
 # How many questions about the arcs at nodes are answered by a look at all arcs, before an index of them is made.
 MOST_MISSED = 20
 
@@ -113,7 +112,7 @@ class Columns(Generic[Node]):
 
     def __init__(
         self,
-        numbers: dict[Node, int],
+        numbers: Mapping[Node, int],
         tails: array[int],
         heads: array[int],
         keys: dict[int, Hashable] | Callable[[], dict[int, Hashable]],
@@ -139,9 +138,10 @@ class Columns(Generic[Node]):
         return self._given
 
     @functools.cached_property
-    def names(self) -> list[Node]:
+    def names(self) -> Sequence[Node]:
         """The nodes in the order of their numbers."""
-        return list(self.numbers)
+        numbers: Any = self.numbers
+        return numbers.names if isinstance(numbers, WholeNodes) else list(numbers)
 
     @functools.cached_property
     def _by_ends(self) -> Index:

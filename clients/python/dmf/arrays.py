@@ -9,15 +9,16 @@ import importlib
 import re
 import sys
 from array import array
-from collections.abc import Hashable, Iterable, Iterator
+from collections.abc import Hashable, Iterable, Iterator, Mapping
 from typing import Any
 
-from .arcs import AMOUNTS, NODES, Columns, Node, OpenArcs
+from .arcs import Columns, Node, OpenArcs
 from .errors import NoCapacity, NotAnArc, NumberTooLarge, shown
-from .kept import columns_of, whole
+from .kept import LARGEST_NODE, columns_of, whole
+from .numbering import AMOUNTS, NODES, WholeNodes
 
-# How many lines of a text are made or read at once.
-PIECE = 1 << 14
+# How many lines of a text are made or read at once, and how many are made without numpy, with an object for each number.
+PIECE, PLAIN_PIECE = 1 << 14, 1 << 11
 # How many arcs are read before numpy is worth loading.
 MOST_PLAIN = 200_000
 # How many letters of a text are read at once.
@@ -41,8 +42,9 @@ def loaded() -> Any:
 def problem_lines(columns: Columns[Any], capacities: array[int]) -> Iterator[bytes]:
     """The arc lines of a problem, many at once. Behind its capacities may stand those of arcs that were added."""
     np, count = loaded(), len(columns)
-    for begin in range(0, count, PIECE):
-        end = min(begin + PIECE, count)
+    size = PLAIN_PIECE if np is None else PIECE
+    for begin in range(0, count, size):
+        end = min(begin + size, count)
         piece = [column[begin:end] for column in (columns.tails, columns.heads, capacities)]
         yield _plain_lines(piece) if np is None else _lines(np, piece)
 
@@ -220,17 +222,23 @@ def _of_numbers(
         if column.dtype.kind == "u" and column.size and int(column.max()) >> 63:
             raise NumberTooLarge(f"the node {int(column.max())} of an array: a node that is a number lies below 2^63")
     ends[0::2], ends[1::2] = tail, head
-    names, numbers = _numbered(np, ends)
-    known: dict[Any, int] = {}
-    for node in nodes:
-        known.setdefault(node, len(known) + 1)
-    place = np.array([0, *(known.setdefault(name, len(known) + 1) for name in names)], np.uint32)
-    numbers = place[numbers]
+    names, places = _numbered(np, ends)
+    known, numbers = _known_nodes(np, list(nodes), names, places)
     tails, heads, capacities = array(NODES), array(NODES), array(AMOUNTS)
     tails.frombytes(numbers[0::2].tobytes())
     heads.frombytes(numbers[1::2].tobytes())
     capacities.frombytes(_amounts(np, tail, head, capacity, infinite).tobytes())
     return Columns(known, tails, heads, {}), capacities
+
+
+def _known_nodes(np: Any, given: list[Any], names: list[int], places: Any) -> tuple[Mapping[Any, int], Any]:
+    """The numbers of the nodes that were given and then of these names; and an array of such numbers, out of places among the names."""
+    if not given and 0 <= min(names, default=0) and max(names, default=0) < LARGEST_NODE * places.size:
+        return WholeNodes.of(names), places.astype(np.uint32)
+    known: dict[Any, int] = {}
+    for node in given:
+        known.setdefault(node, len(known) + 1)
+    return known, np.array([0, *(known.setdefault(name, len(known) + 1) for name in names)], np.uint32)[places]
 
 
 def _numbered(np: Any, ends: Any) -> tuple[list[int], Any]:

@@ -10,14 +10,17 @@ from dataclasses import dataclass, field
 from itertools import count, islice
 from typing import Any, Generic, SupportsIndex, Union
 
-from .arcs import AMOUNTS, NODES, Added, Arc, Columns, Handles, Node, OpenArcs, one_of
+from .arcs import Added, Arc, Columns, Handles, Node, OpenArcs, one_of
 from .errors import ArcIsClosed, HistoryOutOfRange, NoSuchArc, NoSuchNode, NotAnArc, NotANumber, NothingToUndo, NumberTooLarge, shown
+from .numbering import AMOUNTS, NODES, WholeNodes
 from .text import LARGEST
 
 # A whole number, which may also come as a float without a fraction.
 Whole = Union[SupportsIndex, float]
 # How many rows are taken together: so many that what they refer to stays in the processor's cache.
 PIECE = 1 << 8
+# How many rows are expected where nobody says so, and how large nodes that are whole numbers may be for each row.
+USUAL, LARGEST_NODE = 1 << 18, 4
 WANTED = "wanted is (tail, head, capacity) or (tail, head, capacity, key), of which all but the capacity can be hashed"
 
 
@@ -37,26 +40,37 @@ def whole(number: Any, at: object) -> int:
 
 def columns_of(rows: Iterable[Any], nodes: Iterable[Node]) -> tuple[Columns[Node], array[int]]:
     """The columns of rows of arcs, and their capacities. Raises `NotAnArc`, `NotANumber` and `NumberTooLarge`."""
-    taken = _Taken(nodes)
+    taken = _Taken(nodes, operator.length_hint(rows, USUAL))
     left = iter(rows)
     while piece := list(islice(left, PIECE)):
         if not taken.take_together(piece):
             for row in piece:
                 taken.take(row)
-    # From now on a node that is not there is none.
-    taken.numbers.default_factory = None
+    if isinstance(taken.numbers, defaultdict):
+        # From now on a node that is not there is none.
+        taken.numbers.default_factory = None
     return Columns(taken.numbers, taken.tails, taken.heads, taken.keys), taken.capacities
 
 
 class _Taken:
-    """The columns of the rows that were taken. `numbers` gives each node that is new the next number."""
+    """The columns of the rows that were taken, of so many that are expected. `numbers` gives each node that is new the next number. It is
+    a dictionary from the first node on that is no whole number, or so large that a dictionary is smaller."""
 
-    def __init__(self, nodes: Iterable[Hashable]) -> None:
-        self.numbers: defaultdict[Any, int] = defaultdict(count(1).__next__)
+    def __init__(self, nodes: Iterable[Hashable], expected: int) -> None:
+        self.numbers: WholeNodes | defaultdict[Any, int] = WholeNodes()
         self.tails, self.heads, self.capacities = array(NODES), array(NODES), array(AMOUNTS)
         self.keys: dict[int, Hashable] = {}
-        for node in nodes:
-            self.numbers[node]
+        self._most = LARGEST_NODE * expected
+        self._numbers_of(list(nodes))
+
+    def _numbers_of(self, nodes: list[Any]) -> array[int]:
+        """The numbers of nodes. Raises a TypeError where one cannot be hashed."""
+        if isinstance(self.numbers, WholeNodes):
+            numbers = self.numbers.take(nodes, self._most)
+            if numbers is not None:
+                return numbers
+            self.numbers = defaultdict(count(len(self.numbers) + 1).__next__, self.numbers)
+        return array(NODES, map(self.numbers.__getitem__, nodes))
 
     def take_together(self, rows: list[Any]) -> bool:
         """Takes rows of one form column by column, which is several times as quick. Says whether it did so: where
@@ -70,13 +84,13 @@ class _Taken:
         try:
             capacities = array(AMOUNTS, amounts)
             hash(keys)
-            places = array(NODES, map(self.numbers.__getitem__, ends))
+            numbers = self._numbers_of(ends)
         except (TypeError, OverflowError):
             return False
         first = len(self.tails) + 1
         self.keys.update((number, key) for number, key in enumerate(keys, first) if key is not None)
-        self.tails += places[0::2]
-        self.heads += places[1::2]
+        self.tails += numbers[0::2]
+        self.heads += numbers[1::2]
         self.capacities += capacities
         return True
 
@@ -90,10 +104,11 @@ class _Taken:
                 hash(key)
                 if key is not None:
                     self.keys[len(self.tails) + 1] = key
-            self.tails.append(self.numbers[tail])
-            self.heads.append(self.numbers[head])
+            numbers = self._numbers_of([tail, head])
         except (TypeError, ValueError):
             raise NotAnArc(f"not an arc: {shown(row)}: {WANTED}") from None
+        self.tails += numbers[:1]
+        self.heads += numbers[1:]
         try:
             self.capacities.append(capacity)
         except (TypeError, OverflowError):

@@ -8,10 +8,11 @@ from array import array
 from collections import Counter
 from typing import Any
 
-from .arcs import AMOUNTS, NODES, Columns, Node
+from .arcs import Columns, Node
 from .arrays import PIECE, is_missing, no_capacity, numpy_for, read_lines
 from .kept import Kept, Whole
 from .network import Network
+from .numbering import AMOUNTS, NODES
 from .process import Child, FilePath, Program, bound, session_words, start
 from .text import ARC, NODE, names_in, naming_pieces
 
