@@ -5,7 +5,7 @@ ghost use Rattle.dmf_runs.specs.Status.{status_of};
 use dmf_state::NoMemory;
 use dmf_text::{ProblemFault, SolutionFault, WriteFault};
 use std::alloc::AllocError;
-use thiserror::Error;
+use std::fmt;
 
 /// How a run ended that met no fault.
 #[derive(Clone, Copy, Debug, PartialEq, Eq)]
@@ -19,27 +19,36 @@ pub enum Status {
 }
 
 /// The fault that stopped a run.
-#[derive(Clone, Copy, Debug, PartialEq, Eq, Error)]
+#[derive(Clone, Copy, Debug, PartialEq, Eq)]
 pub enum EngineFault {
     /// A read failed.
-    #[error("read failed")]
     Read,
     /// A write or a flush failed, or the writer took none of the bytes that it was given.
-    #[error("write failed")]
     Write,
     /// The problem text has a fault.
-    #[error(transparent)]
     Problem(ProblemFault),
     /// The solution text has a fault.
-    #[error(transparent)]
     Solution(SolutionFault),
     /// A request for memory was refused.
-    #[error("no memory")]
     NoMemory,
     /// A text or the list of commands passes its limit.
-    #[error("too much input")]
     TooMuchInput,
 }
+
+impl fmt::Display for EngineFault {
+    fn fmt<W: fmt::Write>(&self, f: &mut fmt::Formatter<W>) -> fmt::Result {
+        match self {
+            EngineFault::Read => f.write_str("read failed"),
+            EngineFault::Write => f.write_str("write failed"),
+            EngineFault::Problem(fault) => fmt::Display::fmt(fault, f),
+            EngineFault::Solution(fault) => fmt::Display::fmt(fault, f),
+            EngineFault::NoMemory => f.write_str("no memory"),
+            EngineFault::TooMuchInput => f.write_str("too much input"),
+        }
+    }
+}
+
+impl std::error::Error for EngineFault {}
 
 impl From<WriteFault> for EngineFault {
     ghost from_gives = { λ _ fault. fault ≡ engine.Write };

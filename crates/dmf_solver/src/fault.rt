@@ -5,30 +5,46 @@ ghost use Rattle.dmf_solver.specs.Change.{plan_fault};
 
 use dmf_state::{ArcFault, NoMemory};
 use std::alloc::AllocError;
-use thiserror::Error;
+use std::fmt;
 
 /// Why a change cannot be planned.
-#[derive(Clone, Copy, Debug, PartialEq, Eq, Error)]
+#[derive(Clone, Copy, Debug, PartialEq, Eq)]
 pub enum PlanFault {
     /// The arc's number is 0 or past the last arc.
-    #[error("no such arc")]
     NoSuchArc,
     /// The arc is closed.
-    #[error("arc is closed")]
     Closed,
     /// A node's number is 0 or past the last node.
-    #[error("no such node")]
     NoSuchNode,
     /// The network has as many arcs as it may have.
-    #[error("too many arcs")]
     TooManyArcs,
     /// The sum of the capacities would pass 2^64 - 1.
-    #[error("capacities past 64 bits")]
     SumTooLarge,
     /// A request for memory was refused.
-    #[error("no memory")]
     NoMemory,
 }
+
+impl PlanFault {
+    /// The text of the fault.
+    fn text(self) -> &'static str {
+        match self {
+            PlanFault::NoSuchArc => "no such arc",
+            PlanFault::Closed => "arc is closed",
+            PlanFault::NoSuchNode => "no such node",
+            PlanFault::TooManyArcs => "too many arcs",
+            PlanFault::SumTooLarge => "capacities past 64 bits",
+            PlanFault::NoMemory => "no memory",
+        }
+    }
+}
+
+impl fmt::Display for PlanFault {
+    fn fmt<W: fmt::Write>(&self, f: &mut fmt::Formatter<W>) -> fmt::Result {
+        f.write_str(self.text())
+    }
+}
+
+impl std::error::Error for PlanFault {}
 
 impl From<ArcFault> for PlanFault {
     ghost from_gives = { λ fault e. e ≡ plan_fault fault };
@@ -51,15 +67,31 @@ impl From<AllocError> for PlanFault {
 }
 
 /// Why the smallest side of a network is not told.
-#[derive(Clone, Copy, Debug, PartialEq, Eq, Error)]
+#[derive(Clone, Copy, Debug, PartialEq, Eq)]
 pub enum CutFault {
     /// Some flow of the network has a larger value.
-    #[error("flow is not greatest")]
     NotGreatest,
     /// A request for memory was refused.
-    #[error("no memory")]
     NoMemory,
 }
+
+impl CutFault {
+    /// The text of the fault.
+    fn text(self) -> &'static str {
+        match self {
+            CutFault::NotGreatest => "flow is not greatest",
+            CutFault::NoMemory => "no memory",
+        }
+    }
+}
+
+impl fmt::Display for CutFault {
+    fn fmt<W: fmt::Write>(&self, f: &mut fmt::Formatter<W>) -> fmt::Result {
+        f.write_str(self.text())
+    }
+}
+
+impl std::error::Error for CutFault {}
 
 impl From<AllocError> for CutFault {
     ghost from_gives = { λ _ e. e ≡ cut.NoMemory };

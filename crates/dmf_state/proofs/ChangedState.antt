@@ -36,6 +36,13 @@ bool_byte-cond : (b : Bool) → bool_byte b ≡ cond b 1 0
 bool_byte-cond true = refl
 bool_byte-cond false = refl
 
+-- The capacity of an arc is part of the sum of all.
+pub cap-in_sum : (s : NetworkState) (j sum : ℕ) (source : NodeFlow) (count : ℕ) → KeepsTotals s sum source count → has_arc s.network j ≡ true
+    → (arc_number s.network j).cap ≤ sum
+cap-in_sum s j sum source count keeps has =
+    let cap : Arc → ℕ = λ a. a.cap in
+    omega (arith, keeps.sum_is, get_or-le-sum_by cap s.network.arcs (j - 1) no_arc (has_arc-within s.network j has).1)
+
 -- The totals with another arc in the place of arc number `j`, which has the same ends.
 pub KeepsTotals-with_arc : (s : NetworkState) (j : ℕ) (arc : Arc) (sum : ℕ) (source : NodeFlow) (count : ℕ) → KeepsTotals s sum source count
     → has_arc s.network j ≡ true → arc.tail ≡ (arc_number s.network j).tail → arc.head ≡ (arc_number s.network j).head → IsState (with_arc_at s j arc)
@@ -46,7 +53,7 @@ KeepsTotals-with_arc s j arc sum source count keeps has tail head state =
     let within = (has_arc-within s.network j has).1 in
     let cap : Arc → ℕ = λ a. a.cap in
     let caps = sum_by-set cap s.network.arcs k arc no_arc within in
-    let cap_le = get_or-le-sum_by cap s.network.arcs k no_arc within in
+    let cap_le = cap-in_sum s j sum source count keeps has in
     let opens = sum_by-set one_if_open s.network.arcs k arc no_arc within in
     let open_le = get_or-le-sum_by one_if_open s.network.arcs k no_arc within in
     record {

@@ -4,6 +4,7 @@ ghost use Rattle.dmf_state.specs.declared.fault.FlowFault.TheVariants as flow;
 ghost use Rattle.dmf_state.specs.ArcFault.{net_fault};
 
 use std::alloc::AllocError;
+use std::fmt;
 use thiserror::Error;
 
 /// A request for memory was refused.
@@ -18,35 +19,67 @@ impl From<AllocError> for NoMemory {
 }
 
 /// Why a network cannot take an arc. [`NetFault`] and the faults of a plan come from it.
-#[derive(Clone, Copy, Debug, PartialEq, Eq, Error)]
+#[derive(Clone, Copy, Debug, PartialEq, Eq)]
 pub enum ArcFault {
     /// An end is 0 or past the last node.
-    #[error("no such node")]
     NoSuchNode,
     /// The network has as many arcs as it may have.
-    #[error("too many arcs")]
     TooManyArcs,
     /// The sum of the capacities would pass 2^64 - 1.
-    #[error("capacities past 64 bits")]
     SumTooLarge,
 }
 
+impl ArcFault {
+    /// The text of the fault.
+    fn text(self) -> &'static str {
+        match self {
+            ArcFault::NoSuchNode => "no such node",
+            ArcFault::TooManyArcs => "too many arcs",
+            ArcFault::SumTooLarge => "capacities past 64 bits",
+        }
+    }
+}
+
+impl fmt::Display for ArcFault {
+    fn fmt<W: fmt::Write>(&self, f: &mut fmt::Formatter<W>) -> fmt::Result {
+        f.write_str(self.text())
+    }
+}
+
+impl std::error::Error for ArcFault {}
+
 /// Why an arc was not added while a network was built.
-#[derive(Clone, Copy, Debug, PartialEq, Eq, Error)]
+#[derive(Clone, Copy, Debug, PartialEq, Eq)]
 pub enum NetFault {
     /// An end is 0 or past the last node.
-    #[error("no such node")]
     NoSuchNode,
     /// The network has as many arcs as it may have.
-    #[error("too many arcs")]
     TooManyArcs,
     /// The sum of the capacities would pass 2^64 - 1.
-    #[error("capacities past 64 bits")]
     SumTooLarge,
     /// A request for memory was refused.
-    #[error("no memory")]
     NoMemory,
 }
+
+impl NetFault {
+    /// The text of the fault.
+    fn text(self) -> &'static str {
+        match self {
+            NetFault::NoSuchNode => "no such node",
+            NetFault::TooManyArcs => "too many arcs",
+            NetFault::SumTooLarge => "capacities past 64 bits",
+            NetFault::NoMemory => "no memory",
+        }
+    }
+}
+
+impl fmt::Display for NetFault {
+    fn fmt<W: fmt::Write>(&self, f: &mut fmt::Formatter<W>) -> fmt::Result {
+        f.write_str(self.text())
+    }
+}
+
+impl std::error::Error for NetFault {}
 
 impl From<ArcFault> for NetFault {
     ghost from_gives = { λ fault e. e ≡ net_fault fault };
@@ -69,21 +102,43 @@ impl From<NoMemory> for NetFault {
 }
 
 /// Why the numbers on the arcs of a network are no flow, or a flow of negative value.
-#[derive(Clone, Copy, Debug, PartialEq, Eq, Error)]
+#[derive(Clone, Copy, Debug, PartialEq, Eq)]
 pub enum FlowFault {
     /// The flow on this arc exceeds its capacity. It is the first such arc, counted from 1.
-    #[error("over capacity on arc {0}")]
     OverCapacity(u32),
     /// This node, neither source nor sink, does not conserve flow. It is the least such node.
-    #[error("flow not conserved at node {0}")]
     NotConserved(u32),
     /// The value is negative: the inflow of the source exceeds its outflow.
-    #[error("value below 0")]
     Negative,
     /// A request for memory was refused.
-    #[error("no memory")]
     NoMemory,
 }
+
+impl FlowFault {
+    /// The text of the fault, without its number.
+    fn text(self) -> &'static str {
+        match self {
+            FlowFault::OverCapacity(_) => "over capacity on arc",
+            FlowFault::NotConserved(_) => "flow not conserved at node",
+            FlowFault::Negative => "value below 0",
+            FlowFault::NoMemory => "no memory",
+        }
+    }
+}
+
+impl fmt::Display for FlowFault {
+    fn fmt<W: fmt::Write>(&self, f: &mut fmt::Formatter<W>) -> fmt::Result {
+        let text = self.text();
+        match self {
+            FlowFault::OverCapacity(number) | FlowFault::NotConserved(number) => {
+                write!(f, "{text} {number}")
+            }
+            _ => f.write_str(text),
+        }
+    }
+}
+
+impl std::error::Error for FlowFault {}
 
 impl From<AllocError> for FlowFault {
     ghost from_gives = { λ _ e. e ≡ flow.NoMemory };

@@ -1,5 +1,5 @@
 //! Building a state: appending arcs, and putting a flow on them.
-ghost use Rattle.std.specs.Prelude.{◌≡◌, false, ◌+◌, ◌-◌, ◌<◌, ◌⊎◌, length, Some, Ok, Err, IfOk, OnOk, OnErr, IsErrOf, IsOkUnless, MatchOption};
+ghost use Rattle.std.specs.Prelude.{◌≡◌, false, ◌+◌, ◌-◌, ◌<◌, ◌⊎◌, length, vec_len, vec_capacity, Some, Ok, Err, IfOk, OnOk, OnErr, IsErrOf, IsOkUnless, MatchOption};
 ghost use Rattle.std.specs.Result.{result_err};
 ghost use Rattle.dmf_node.specs.Node.{is_node};
 ghost use Rattle.dmf_state.specs.Arc.{open_arc};
@@ -106,12 +106,22 @@ impl State {
         ensures ok { OnOk result (self.new ≡ with_idle_arc self.old arc) }
         ensures err { OnErr result (self.new ≡ self.old) }
     {
-        self.arcs.reserve(1)?;
-        self.flows.reserve(1)?;
+        reserve_one(&mut self.arcs, &mut self.flows)?;
         self.capacities += arc.cap;
         self.open_arcs += 1;
         self.arcs.push_reserved(arc);
         self.flows.push_reserved(0);
         Ok(())
     }
+}
+
+/// Reserves room for one element more in both vectors. A refused request changes neither.
+fn reserve_one(arcs: &mut Vec<Arc>, flows: &mut Vec<u64>) -> Result<(), NoMemory>
+    ensures arcs { arcs.new.items ≡ arcs.old.items }
+    ensures flows { flows.new.items ≡ flows.old.items }
+    ensures room { OnOk result ((vec_len arcs.new < vec_capacity arcs.new) × (vec_len flows.new < vec_capacity flows.new)) }
+{
+    arcs.reserve(1)?;
+    flows.reserve(1)?;
+    Ok(())
 }
