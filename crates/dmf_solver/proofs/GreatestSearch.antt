@@ -28,6 +28,15 @@ no-of : (b : Bool) → true ≡ not b → b ≡ false
 no-of true e = cc
 no-of false e = refl
 
+-- The answer is yes where no residual path leads from the source to the sink.
+pub enclosed-answers : (s : NetworkState) → IsState s → HasNoPath (residual_steps s.network.arcs s.flows) s.network.source s.network.sink → IsAnswer s true
+enclosed-answers s state none =
+    let greatest = greatest-from_no_path s.network s.flows state.network state.flow none in
+    record {
+      yes = (λ told. greatest, λ is. refl);
+      no = (λ told. absurd (let wrong : ⊥ = cc in wrong), λ larger. absurd (not-surpassed s.network s.flows greatest larger));
+    }
+
 -- No path is found where the flow is greatest, and else one.
 pub found-answers : (s : NetworkState) (limit : ℕ) (found : Option AugmentingPath) (old new : Searched) (answer : Bool) → IsState s
     → old ≡ residual_search s.network s.flows

@@ -23,6 +23,7 @@ pub mod ResidualPairs
 pub mod NetworkPairs
 pub mod SmallestSide
 pub mod RoomLeaving
+pub mod Enclosing
 pub mod FlowsRead
 pub mod SolvingSearch
 pub mod SolvedEdit

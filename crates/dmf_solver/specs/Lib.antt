@@ -12,3 +12,4 @@ pub mod Pairs
 pub mod Moves
 pub mod Planning
 pub mod SmallestSide
+pub mod Enclosed

@@ -19,6 +19,7 @@ mod arc_flow;
 mod carrying_pairs;
 mod drain;
 mod drained_flows;
+mod enclosed;
 mod fault;
 mod following;
 mod laws;

@@ -6,6 +6,7 @@ ghost use Rattle.dmf_solver.specs.Pairs.{reached_flows, IsSolved};
 ghost use Rattle.dmf_solver.specs.ResidualNetwork.{IsResidualOf};
 ghost use Rattle.dmf_solver.specs.Told.{TellsSolve};
 
+use crate::enclosed::is_enclosed;
 use crate::residual::residual_search;
 use crate::watch::Watch;
 use dmf_path::{Search, Touched};
@@ -47,12 +48,15 @@ pub fn solve<W: Watch>(
     }
 }
 
-/// Whether no flow of the state's network has a larger value than the state's flow. The call takes memory for two links an arc and
-/// some numbers a node.
+/// Whether no flow of the state's network has a larger value than the state's flow. The call takes memory for a mark a node and, where
+/// a few looks at all arcs do not tell it, for two links an arc and some numbers a node.
 pub fn is_greatest(alloc: Global, state: &State) -> Result<bool, NoMemory>
     ensures greatest { IfOk result (λ answer. IsTrue answer ↔ IsGreatest state.now.network state.now.flows) }
     ensures surpassed { IfOk result (λ answer. (answer ≡ false) ↔ IsSurpassed state.now.network state.now.flows) }
 {
+    if is_enclosed(alloc, state)? {
+        return Ok(true);
+    }
     let mut search = residual_search(alloc, state)?;
     // A search that is aimed labels from both ends. Where no path is left, often few nodes can be reached from one of them.
     search.aim(state.source(), state.sink());

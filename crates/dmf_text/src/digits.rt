@@ -15,8 +15,8 @@ pub enum NumberFault {
     TooLarge,
 }
 
-/// A number up to this one stays below 2^64 with any one more digit.
-pub(crate) const MAX_FRONT: u64 = (u64::MAX - 9) / 10;
+// A number up to this one stays below 2^64 with any one more digit.
+const MAX_FRONT: u64 = (u64::MAX - 9) / 10;
 
 /// The number that a field spells in decimal digits, however many there are. Takes no memory.
 pub fn number(field: &[u8]) -> Result<u64, NumberFault>

@@ -4,9 +4,12 @@ ghost use Rattle.dmf_text.specs.Fields.{fields, is_blank};
 ghost use Rattle.dmf_text.specs.Numbers.{numbers_in, AreSpelled, IsAhead, IsNumberInFront};
 ghost use Rattle.dmf_text.specs.declared.numbers.NumbersFault.TheVariants as numbers_fault;
 
-use crate::digits::{MAX_FRONT, NumberFault, number};
+use crate::digits::{NumberFault, number};
 use crate::exact_fields::{WrongFieldCount, three_fields};
 use crate::field::{Fields, is_blank, leading_blanks};
+
+/// So many digits spell a number below 2^64, whatever they are.
+const SHORT: usize = 19;
 
 /// Why fields are no three numbers.
 #[derive(Clone, Copy)]
@@ -71,25 +74,23 @@ fn short_number(line: &[u8]) -> Option<(u64, &[u8])>
     Some((value, behind))
 }
 
-/// The number that the bytes before the first blank spell, and how many these are.
+/// The number that the bytes before the first blank spell, and how many these are. Nothing where they are more than [`SHORT`].
 fn number_in_front(bytes: &[u8]) -> Option<(u64, usize)>
     ensures { IfSome result (λ front. IsNumberInFront bytes.now front.0 front.1) }
 {
+    let most = bytes.len().min(SHORT);
     let mut value = 0u64;
-    for (i, byte) in bytes.iter().enumerate() {
-        let byte = *byte;
+    for i in 0..most {
+        let byte = bytes[i];
         if !byte.is_ascii_digit() {
             return ended(value, i, byte);
         }
-        if value > MAX_FRONT {
-            return None;
-        }
         value = value * 10 + u64::from(byte - b'0');
     }
-    if bytes.is_empty() {
+    if most == 0 || most < bytes.len() {
         return None;
     }
-    Some((value, bytes.len()))
+    Some((value, most))
 }
 
 /// A number of so many digits, if there are some, and the byte behind them is a blank.

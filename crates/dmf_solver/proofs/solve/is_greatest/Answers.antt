@@ -2,7 +2,7 @@ use Rattle.std.proofs.Common.{ℕ, ◌≡◌, ◌∙◌}
 use Rattle.dmf_path.specs.Search.{Searched, aimed}
 use Rattle.dmf_state.specs.NetworkState.{NetworkState}
 use Rattle.dmf_solver.specs.ResidualNetwork.{residual_search}
-use Rattle.dmf_solver.proofs.GreatestSearch.{found-answers}
+use Rattle.dmf_solver.proofs.GreatestSearch.{found-answers, enclosed-answers}
 use Rattle.dmf_solver.proofs.solve.is_greatest.Goals as goal
 
 pub aim-requires : goal.aim-requires
@@ -31,3 +31,11 @@ returns-clause-surpassed c =
     let again = aimed-again s c.in_ok-search.search c.aim.new.self c.source.result c.sink.result search.search
     c.source.ensures.value c.sink.ensures.value c.aim.ensures in
     (found-answers s _ c.augment.result c.aim.new.self c.augment.new.self c.is_none.result search.state again c.augment.ensures.found c.is_none.ensures).no
+
+pub returns-then-branch-clause-greatest : goal.returns-then-branch-clause-greatest
+returns-then-branch-clause-greatest c =
+    (enclosed-answers c.args.state.now c.is_enclosed.ensures.state (c.in_ok-is_enclosed.ensures.no_path c.if-branch.true)).yes
+
+pub returns-then-branch-clause-surpassed : goal.returns-then-branch-clause-surpassed
+returns-then-branch-clause-surpassed c =
+    (enclosed-answers c.args.state.now c.is_enclosed.ensures.state (c.in_ok-is_enclosed.ensures.no_path c.if-branch.true)).no

@@ -1,6 +1,8 @@
 use Rattle.std.proofs.Common.{◌≡◌, ℕ, ◌+◌, ◌*◌, ◌^◌, ◌<◌, ◌≤◌, List, true, false, Option, Some, None, IfSome, length}
-use Rattle.std.proofs.Common.{take, get_or, rules, arith, refl, sym, ap, subst, ◌∙◌, ⊎_elim}
+use Rattle.std.proofs.Common.{take, get_or, arith, refl, sym, ap, subst, ◌∙◌, ⊎_elim}
 use Rattle.std.proofs.Common.{take_all, length-take-le}
+use Rattle.std.proofs.Math.Nat.{pow-le-pow_right}
+use Rattle.std.proofs.lemmas.Grind.{pow_more}
 use Rattle.std.proofs.lemmas.Bool.{and_parts, leb-true, ne_eqb, cases_lt}
 use Rattle.std.proofs.lemmas.List.Sums.{position_or_len_is}
 use Rattle.std.specs.Char.{is_ascii_digit}
@@ -41,21 +43,29 @@ ended-in_front bytes value i b None none is = tt
 ended-in_front bytes value i b (Some front) some is =
     subst (λ (f : ℕ × ℕ). IsNumberInFront bytes f.0 f.1) (sym some.0) (is some.1 some.2)
 
+-- Few digits fit 64 bits.
+short-more : (value i digit : ℕ) → value < 10 ^ i → digit ≤ 9 → value * 10 + digit < 10 ^ (i + 1)
+short-more value i digit small most = omega (arith, small, most, pow_more 10 i)
+
+short-fits : (n i : ℕ) → n < 10 ^ i → i ≤ 19 → n < 2 ^ 64
+short-fits n i small short = let most : 10 ^ i ≤ 10 ^ 19 = pow-le-pow_right {n = 10} (omega arith) short in omega (arith, small, most)
+
 pub returns-then-not-is_ascii_digit : goal.returns-then-not-is_ascii_digit
 returns-then-not-is_ascii_digit c =
     let bytes = c.args.bytes.now in
     let i = c.loop-i in
+    let within : i.i < length bytes = omega (arith, c.loop-i-test.true, c.min-most.ensures) in
     ended-in_front bytes i.value i.i (get_or bytes i.i 0) c.ended.result c.ended.ensures
-    (λ some blank. in-front bytes i.value i.i (omega arith) some (omega (arith, c.loop-i-test.true)) i.invariant.digits i.invariant.value i.invariant.blanks
-    (λ _. blank))
+    (λ some blank. in-front bytes i.value i.i (omega arith) some (omega (arith, within)) i.invariant.digits i.invariant.value i.invariant.blanks (λ _. blank))
 
 pub loop-i-preserved : goal.loop-i-preserved
 loop-i-preserved c =
     let bytes = c.args.bytes.now in
     let i = c.loop-i.i in
+    let within : i < length bytes = omega (arith, c.loop-i-test.true, c.min-most.ensures) in
     let before = digits_value 10 (take i bytes) in
     let digit = c.if-not-is_ascii_digit.ensures.value in
-    let more = more-digits bytes i c.loop-i-test.true digit in
+    let more = more-digits bytes i within digit in
     record {
       digits = more.digits c.loop-i.invariant.digits;
       value = ap (λ v. v * 10 + c.from.result) c.loop-i.invariant.value ∙ ap (λ d. before * 10 + d) c.from.ensures ∙ more.value;
@@ -65,14 +75,32 @@ loop-i-preserved c =
           let same : k ≡ i = omega (arith, here, below) in
           ap (λ j. is_blank (get_or bytes j 0)) same ∙ digit-no_blank (get_or bytes i 0) (sym digit))
           (cases_lt k i);
+      small = short-more c.loop-i.value i c.from.result c.loop-i.invariant.small (omega (arith, c.from.ensures, c.if-not-is_ascii_digit.ensures.cases));
     }
+
+pub overflow_mul-value : goal.overflow_mul-value
+overflow_mul-value c =
+    let i = c.loop-i in
+    let short : i.i + 1 ≤ 19 = omega (arith, c.loop-i-test.true, c.min-most.ensures) in
+    let fits = short-fits (i.value * 10 + 0) (i.i + 1) (short-more i.value i.i 0 i.invariant.small (omega arith)) short in
+    omega (arith, fits)
+
+pub overflow_add-value : goal.overflow_add-value
+overflow_add-value c =
+    let i = c.loop-i in
+    let short : i.i + 1 ≤ 19 = omega (arith, c.loop-i-test.true, c.min-most.ensures) in
+    let digit : c.from.result ≤ 9 = omega (arith, c.from.ensures, c.if-not-is_ascii_digit.ensures.cases) in
+    let fits = short-fits (i.value * 10 + c.from.result) (i.i + 1) (short-more i.value i.i c.from.result i.invariant.small digit) short in
+    omega (arith, fits)
 
 pub returns : goal.returns
 returns c =
     let bytes = c.args.bytes.now in
     let i = c.loop-i in
-    let some : 0 < length bytes = search rules in
-    let all : i.i ≡ length bytes = omega (arith, c.loop-i-test.false, i.auto.i-end) in
+    let most = c.min-most.result in
+    let all : i.i ≡ most = omega (arith, c.loop-i-test.false, i.auto.i-end) in
+    let within : most ≤ length bytes = omega (arith, c.min-most.ensures) in
+    let some : 0 < most = ⊎_elim (λ (h : 0 < most). h) (λ (none : most ≤ 0). absurd (c.if-most-eq0.false (omega (arith, none)))) (cases_lt 0 most) in
     subst (IsNumberInFront bytes i.value) all
-    (in-front bytes i.value i.i (omega arith) (omega (arith, all, some)) i.auto.i-end i.invariant.digits i.invariant.value i.invariant.blanks
-    (λ below. absurd (omega (arith, below, c.loop-i-test.false))))
+    (in-front bytes i.value i.i (omega arith) (omega (arith, all, some)) (omega (arith, all, within)) i.invariant.digits i.invariant.value i.invariant.blanks
+    (λ below. absurd (omega (arith, below, all, c.if-most-bytes.false))))
