@@ -1,12 +1,12 @@
 -- With two more links, and a place more, the places are those of pairs still.
-use Rattle.std.proofs.Common.{ℕ, ◌≡◌, ◌≢◌, ◌+◌, ◌-◌, ◌*◌, ◌^◌, ◌<◌, ◌≤◌, ◌⊎◌, List, length, get_or, cond, ltb, refl, ap, sym, ◌∙◌, subst, arith, inl, inr}
+use Rattle.std.proofs.Common.{ℕ, ◌≡◌, ◌≢◌, ◌+◌, ◌-◌, ◌^◌, ◌<◌, ◌≤◌, ◌⊎◌, List, length, get_or, refl, ap, sym, ◌∙◌, subst, arith, inl, inr}
 use Rattle.std.specs.Prelude.{min}
 use Rattle.std.proofs.lemmas.Bool.{cases_lt, cases_eq, lt-ltb, le-ltb, cond-true, cond-false, eq-eqb, ne_eqb}
 use Rattle.dmf_node.specs.Node.{IsNode}
 use Rattle.dmf_path.specs.declared.grown.Gap.{Gap}
 use Rattle.dmf_path.specs.Links.{Links, LiesAt, AreLinks, ArePlaces, IsOf, no_place, tail_of}
-use Rattle.dmf_path.specs.Grown.{shifted, shifted_place, counted, IsGap, IsGrown, IsPlaced}
-use Rattle.dmf_path.proofs.GrownLinks.{old, low, high, some-link, in-order, gap-within, shift-is, each-link, at-tail, old-opposite, low-opposite, high-opposite}
+use Rattle.dmf_path.specs.Grown.{shifted, counted, IsGap, IsGrown, IsPlaced}
+use Rattle.dmf_path.proofs.GrownLinks.{old, low, high, some-link, in-order, gap-within, shift-is, at-tail, old-opposite, low-opposite, high-opposite}
 
 pub counted-sum : (k j : ℕ) → counted k j ≡ j + min 1 (j + 1 - k)
 counted-sum k j = elim (cases_lt j k) [

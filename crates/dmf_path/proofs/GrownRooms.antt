@@ -1,5 +1,5 @@
 -- With two more links, the rooms, the flags and the pairs are those that were there, and those of the new pair.
-use Rattle.std.proofs.Common.{ℕ, ◌≡◌, ◌≢◌, ◌+◌, ◌^◌, ◌<◌, ◌≤◌, ◌⊎◌, List, length, get_or, Option, Some, None, refl, ap, sym, ◌∙◌, subst, arith, inl, inr}
+use Rattle.std.proofs.Common.{ℕ, ◌≡◌, ◌≢◌, ◌+◌, ◌^◌, ◌<◌, ◌≤◌, ◌⊎◌, List, length, get_or, Some, None, ap, sym, ◌∙◌, subst, arith, inl, inr}
 use Rattle.std.specs.Prelude.{insert}
 use Rattle.std.proofs.lemmas.Bool.{cases_lt, cases_eq, lt-ltb, le-ltb, cond-true, cond-false, eq-eqb, ne_eqb}
 use Rattle.std.proofs.lemmas.List.{ext_get_or, get_or-map, length-map}
@@ -9,8 +9,8 @@ use Rattle.dmf_path.specs.declared.grown.NewPair.{NewPair}
 use Rattle.dmf_path.specs.declared.pair.Pair.{Pair}
 use Rattle.dmf_path.specs.Links.{Links, AreLinks, ArePlaces, AreRooms, AreFlags, open_flag, no_place, pair_at, pairs_at, tail_of}
 use Rattle.dmf_path.specs.Grown.{shifted, shifted_place, counted, with_two, IsGap, IsGrown, IsPlaced, IsSpread, IsOfPair, rising, falling}
-use Rattle.dmf_path.proofs.GrownLinks.{old, low, high, shifted-sum, some-link, in-order, gap-within, shift-is}
-use Rattle.dmf_path.proofs.GrownPlaces.{was, new, some-index, place-was, place-none, not-none}
+use Rattle.dmf_path.proofs.GrownLinks.{old, low, high, some-link, in-order, gap-within, shift-is}
+use Rattle.dmf_path.proofs.GrownPlaces.{was, new, some-index}
 
 -- What is put at two places stands there, and all else as it stood.
 module _ {A : Type 0} (g : Gap) (first second : A) (xs : List A) (d : A) (order : g.low ≤ g.high) (within : g.high ≤ length xs) where

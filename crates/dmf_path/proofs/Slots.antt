@@ -1,8 +1,8 @@
 -- Where the link of a new pair goes in among those of a node.
-use Rattle.std.proofs.Common.{ℕ, ◌≡◌, ◌≢◌, ◌+◌, ◌<◌, ◌≤◌, List, length, get_or, ap, sym, ◌∙◌, subst, arith, inl, inr}
+use Rattle.std.proofs.Common.{ℕ, ◌≡◌, ◌≢◌, ◌+◌, ◌<◌, List, length, get_or, ap, sym, ◌∙◌, subst, arith, inl, inr}
 use Rattle.std.proofs.lemmas.Bool.{cases_eq}
 use Rattle.dmf_node.specs.Node.{IsNode}
-use Rattle.dmf_path.specs.Links.{Links, LiesAt, AreLinks, ArePlaces, IsOf, IsPlaceOf, no_place, tail_of}
+use Rattle.dmf_path.specs.Links.{Links, LiesAt, AreLinks, ArePlaces, IsOf, IsPlaceOf, tail_of}
 use Rattle.dmf_path.specs.Grown.{IsSlot}
 
 -- Before the link of the pair at its index, if that has one there;

@@ -159,13 +159,17 @@ impl ResidualNetwork {
         ensures { IfSome result (IsNetworkOf (with_idle_arc state.now arc)) }
     {
         let pair = residual_pair(arc, 0)?;
-        let has_solved = self.has_solved;
-        let search = self.search.insert(alloc, pair).ok()?;
-        Some(ResidualNetwork {
-            search,
-            carrying: None,
-            has_solved,
-        })
+        let ResidualNetwork {
+            search, has_solved, ..
+        } = self;
+        match search.insert(alloc, pair) {
+            Ok(search) => Some(ResidualNetwork {
+                search,
+                carrying: None,
+                has_solved,
+            }),
+            Err(_) => None,
+        }
     }
 
     /// The residual network of the state to which the direction leads, or none where the edit adds an arc.

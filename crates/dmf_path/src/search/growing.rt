@@ -67,7 +67,8 @@ fn grow(alloc: Global, links: Links, places: &Places, pair: Pair) -> Result<Grow
 {
     let new = place_pair(&links.table, places, pair);
     let table = Rc::new(alloc, links.table.grown(alloc, &new.gap)?)?;
-    let places = Rc::new(alloc, Places::each(new.grown_places(alloc, places)?))?;
+    let after = Places::new(new.grown_places(alloc, places)?);
+    let places = Rc::new(alloc, after)?;
     let links = links.grown(table, &new)?;
     Ok(Grown { links, places })
 }

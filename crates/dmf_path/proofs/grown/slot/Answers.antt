@@ -1,8 +1,8 @@
 -- The last pair has a link at the node, or none, and then the slot is where the links of the node end.
-use Rattle.std.proofs.Common.{ℕ, ◌≡◌, ◌+◌, ◌-◌, ◌<◌, length, get_or, refl, ap, sym, ◌∙◌, subst, arith, inl, inr}
+use Rattle.std.proofs.Common.{ℕ, ◌≡◌, ◌+◌, ◌-◌, ◌<◌, length, get_or, ap, sym, ◌∙◌, subst, arith, inl, inr}
 use Rattle.std.proofs.lemmas.List.{get_or_default}
 use Rattle.dmf_path.specs.LinkTable.{links_of}
-use Rattle.dmf_path.specs.Links.{LiesAt, IsOf, IsPlaceOf}
+use Rattle.dmf_path.specs.Links.{LiesAt, IsPlaceOf}
 use Rattle.dmf_path.specs.Grown.{IsSlot}
 use Rattle.dmf_path.proofs.LinkPlaces.{lies-partner}
 use Rattle.dmf_path.proofs.PairRead.{place-within}

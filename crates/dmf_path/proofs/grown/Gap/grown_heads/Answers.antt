@@ -1,4 +1,4 @@
-use Rattle.std.proofs.Common.{refl, ap}
+use Rattle.std.proofs.Common.{refl}
 use Rattle.std.proofs.lemmas.Result.{IfOk-weaker}
 use Rattle.dmf_path.proofs.GrownRooms.{spread-two}
 use Rattle.dmf_path.proofs.grown.Gap.grown_heads.Goals as goal

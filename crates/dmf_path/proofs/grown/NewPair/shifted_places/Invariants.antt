@@ -1,4 +1,4 @@
-use Rattle.std.proofs.Common.{◌≡◌, ◌≤◌, ◌+◌, ◌-◌, ◌<◌, map, take, length}
+use Rattle.std.proofs.Common.{◌≡◌, ◌<◌, map, take, length}
 use Rattle.std.specs.Vec.{vec_capacity}
 use Rattle.dmf_path.specs.Grown.{shifted_place}
 use Rattle.dmf_path.proofs.grown.NewPair.shifted_places.Given as goal

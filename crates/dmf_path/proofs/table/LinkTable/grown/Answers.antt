@@ -1,8 +1,7 @@
 -- The links are those that were there, and the two new ones.
-use Rattle.std.proofs.Common.{◌≡◌, ◌≤◌, refl, subst, sym, ap, arith, length, get_or}
+use Rattle.std.proofs.Common.{refl, subst, sym, ap, arith, length}
 use Rattle.dmf_path.specs.declared.table.LinkTable.{LinkTable}
 use Rattle.dmf_path.specs.LinkTable.{links_of}
-use Rattle.dmf_path.specs.Links.{Links}
 use Rattle.dmf_path.specs.Grown.{IsGrown, IsShort}
 use Rattle.dmf_path.proofs.GrownLinks.{in-order, gap-within, first-short, AreLinks-grown}
 use Rattle.dmf_path.proofs.table.LinkTable.grown.Goals.{In_ok-partners}
