@@ -24,7 +24,8 @@ use std::marker::Model;
 ///
 /// From the first solve or drain on the session also keeps the residual network of the present state, so that the next of these need
 /// not make it anew. The network follows each change, and each step back or forward where the history tells the edit; the first of
-/// these after a solve takes time for each node. The session drops it where an arc is added or taken back, and where memory is refused.
+/// these after a solve takes time for each node, and an added arc takes memory and time for each link. The session drops it where an added arc
+/// is taken back, and where memory is refused.
 #[derive(Drop)]
 pub struct Session<H: History> {
     history: H,
