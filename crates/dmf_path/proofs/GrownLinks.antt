@@ -112,12 +112,23 @@ module _ (l : Links) (places : List ℕ) (k : ℕ) (g : Gap) (links : AreLinks l
     pub lies-shifted : (v p : ℕ) → v ≤ l.nodes → LiesAt l v p → LiesAt n v (shifted g p)
     lies-shifted v p node lies =
         let from : get_or n.first v 0 ≤ shifted g p =
-            omega (arith, shift-is p, first-is v (omega arith), lies.from, slot-from g.low_node g.low v p gap.low node lies.from,
-            slot-from g.high_node g.high v p gap.high node lies.from) in
+        omega (
+          arith,
+          shift-is p,
+          first-is v (omega arith),
+          lies.from,
+          slot-from g.low_node g.low v p gap.low node lies.from,
+          slot-from g.high_node g.high v p gap.high node lies.from,
+        ) in
         let below : shifted g p < get_or n.first (v + 1) 0 =
-            omega (arith, shift-is p, first-is (v + 1) (omega arith), lies.below,
-            slot-to g.low_node g.low v p gap.low gap.low_node.to_last lies.below,
-            slot-to g.high_node g.high v p gap.high gap.high_node.to_last lies.below) in
+        omega (
+          arith,
+          shift-is p,
+          first-is (v + 1) (omega arith),
+          lies.below,
+          slot-to g.low_node g.low v p gap.low gap.low_node.to_last lies.below,
+          slot-to g.high_node g.high v p gap.high gap.high_node.to_last lies.below,
+        ) in
         record { from = from; below = below }
 
     pub lies-low : LiesAt n g.low_node g.low

@@ -68,16 +68,24 @@ module _ (l : Links) (places : List ℕ) (k : ℕ) (g : Gap) (links : AreLinks l
   new-there none = new-some (sym placed.new_is ∙ none)
 
   of-low : IsOf n after g.low k
-  of-low = (new-in, new-there, elim own [
-    | inl same ↦ inl (placed.new_is ∙ same)
-    | inr same ↦ inr (ap (λ q. get_or n.partners q 0) (placed.new_is ∙ same) ∙ grown.partners.at_high)
-  ])
+  of-low = (
+    new-in,
+    new-there,
+    elim own [
+      | inl same ↦ inl (placed.new_is ∙ same)
+      | inr same ↦ inr (ap (λ q. get_or n.partners q 0) (placed.new_is ∙ same) ∙ grown.partners.at_high)
+    ],
+  )
 
   of-high : IsOf n after (g.high + 1) k
-  of-high = (new-in, new-there, elim own [
-    | inl same ↦ inr (ap (λ q. get_or n.partners q 0) (placed.new_is ∙ same) ∙ grown.partners.at_low)
-    | inr same ↦ inl (placed.new_is ∙ same)
-  ])
+  of-high = (
+    new-in,
+    new-there,
+    elim own [
+      | inl same ↦ inr (ap (λ q. get_or n.partners q 0) (placed.new_is ∙ same) ∙ grown.partners.at_low)
+      | inr same ↦ inl (placed.new_is ∙ same)
+    ],
+  )
 
   -- Of which pair a link is.
   data IsOwned (q j : ℕ) : Type 0 where
@@ -120,8 +128,10 @@ module _ (l : Links) (places : List ℕ) (k : ℕ) (g : Gap) (links : AreLinks l
   one-pair q i j (of_old p a below same is of) (of_old p' b below' same' is' of') =
       let place_same : p ≡ p' = omega (arith, same, same', shift-is l places k g links gap p, shift-is l places k g links gap p') in
       is ∙ ap (counted k) (are.one p a b below of (subst (λ x. IsOf l places x b) (sym place_same) of')) ∙ sym is'
-  one-pair q i j (of_old p a below same is of) (of_new at is') = absurd (omega (arith, same, at, shift-is l places k g links gap p, in-order l places k g links gap))
-  one-pair q i j (of_new at is) (of_old p b below same is' of) = absurd (omega (arith, same, at, shift-is l places k g links gap p, in-order l places k g links gap))
+  one-pair q i j (of_old p a below same is of) (of_new at is') =
+      absurd (omega (arith, same, at, shift-is l places k g links gap p, in-order l places k g links gap))
+  one-pair q i j (of_new at is) (of_old p b below same is' of) =
+      absurd (omega (arith, same, at, shift-is l places k g links gap p, in-order l places k g links gap))
   one-pair q i j (of_new at is) (of_new at' is') = is ∙ sym is'
 
   -- the node of an old link, and of a new one
@@ -137,7 +147,8 @@ module _ (l : Links) (places : List ℕ) (k : ℕ) (g : Gap) (links : AreLinks l
   low-lies v node lies =
       let o = low-opposite l places k g links gap n grown in
       sym (ap (λ x. get_or n.heads x 0) o.partner ∙ o.leads_back)
-      ∙ at-tail l places k g links gap n grown v g.low node lies (omega (arith, in-order l places k g links gap, gap-within l places k g links gap, grown.heads.long))
+      ∙ at-tail l places k g links gap n grown v g.low node lies
+      (omega (arith, in-order l places k g links gap, gap-within l places k g links gap, grown.heads.long))
 
   high-lies : (v : ℕ) → IsNode n.nodes v → LiesAt n v (g.high + 1) → g.high_node ≡ v
   high-lies v node lies =
@@ -199,21 +210,34 @@ module _ (l : Links) (places : List ℕ) (k : ℕ) (g : Gap) (links : AreLinks l
   place-within j within there = elim (some-index k (length places) j index (omega (arith, within, placed.long))) [
     | was i below same ↦ elim (cases_eq (get_or places i 0) no_place) [
       | inl none ↦ absurd (there (ap (λ x. get_or after x 0) same ∙ place-none i below none))
-      | inr has ↦ omega (arith, ap (λ x. get_or after x 0) same, place-was i below has, shift-is l places k g links gap (get_or places i 0),
-          are.within i below has, grown.heads.long)
+      | inr has ↦ omega (
+        arith,
+        ap (λ x. get_or after x 0) same,
+        place-was i below has,
+        shift-is l places k g links gap (get_or places i 0),
+        are.within i below has,
+        grown.heads.long,
+      )
     ]
-    | new same ↦ omega (arith, ap (λ x. get_or after x 0) same, placed.new_is, own, in-order l places k g links gap, gap-within l places k g links gap,
-        grown.heads.long)
+    | new same ↦ omega (
+      arith,
+      ap (λ x. get_or after x 0) same,
+      placed.new_is,
+      own,
+      in-order l places k g links gap,
+      gap-within l places k g links gap,
+      grown.heads.long,
+    )
   ]
 
   each-of : (q : ℕ) → q < length n.heads → (j : ℕ) × IsOf n after q j
   each-of q within = elim (some-link g (length l.heads) q (in-order l places k g links gap) (gap-within l places k g links gap)
       (omega (arith, within, grown.heads.long))) [
-    | old p below same ↦ let found = are.each p below in
-        (counted k found.0, subst (λ x. IsOf n after x (counted k found.0)) (sym same) (of-shifted p found.0 found.1))
-    | low same ↦ (k, subst (λ x. IsOf n after x k) (sym same) of-low)
-    | high same ↦ (k, subst (λ x. IsOf n after x k) (sym same) of-high)
-  ]
+        | old p below same ↦ let found = are.each p below in
+            (counted k found.0, subst (λ x. IsOf n after x (counted k found.0)) (sym same) (of-shifted p found.0 found.1))
+        | low same ↦ (k, subst (λ x. IsOf n after x k) (sym same) of-low)
+        | high same ↦ (k, subst (λ x. IsOf n after x k) (sym same) of-high)
+      ]
 
   -- So they are places.
   pub ArePlaces-grown : length places ≤ 2 ^ 27 → ArePlaces n after

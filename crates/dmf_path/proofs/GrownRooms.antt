@@ -91,8 +91,13 @@ module _ (l : Links) (places : List ℕ) (k : ℕ) (g : Gap) (links : AreLinks l
       | old p below same ↦
           let opposite = (links.each p below).partner in
           subst (λ x. get_or after x 0 + get_or after (get_or n.partners x 0) 0 < 2 ^ 64) (sym same)
-          (omega (arith, spread.kept p (omega (arith, below, are.0)), ap (λ x. get_or after x 0) (partner-was p below),
-          spread.kept (get_or l.partners p 0) (omega (arith, opposite, are.0)), are.1 p below))
+          (omega (
+            arith,
+            spread.kept p (omega (arith, below, are.0)),
+            ap (λ x. get_or after x 0) (partner-was p below),
+            spread.kept (get_or l.partners p 0) (omega (arith, opposite, are.0)),
+            are.1 p below,
+          ))
       | low same ↦ subst (λ x. get_or after x 0 + get_or after (get_or n.partners x 0) 0 < 2 ^ 64) (sym same)
           (omega (arith, spread.at_low, ap (λ x. get_or after x 0) grown.partners.at_low, spread.at_high, fits))
       | high same ↦ subst (λ x. get_or after x 0 + get_or after (get_or n.partners x 0) 0 < 2 ^ 64) (sym same)
@@ -142,7 +147,7 @@ module _ (l : Links) (places : List ℕ) (k : ℕ) (made : NewPair) (links : Are
         let head : get_or n.heads (shifted g p) 0 ≡ get_or l.heads p 0 = grown.heads.kept p below in
         let along : get_or given (shifted g p) 0 ≡ get_or rooms p 0 = spread.kept p (omega (arith, below, one_each)) in
         let against : get_or given (get_or n.partners (shifted g p) 0) 0 ≡ get_or rooms (get_or l.partners p 0) 0 =
-            ap (λ x. get_or given x 0) opposite ∙ spread.kept (get_or l.partners p 0) (omega (arith, link.partner, one_each)) in
+        ap (λ x. get_or given x 0) opposite ∙ spread.kept (get_or l.partners p 0) (omega (arith, link.partner, one_each)) in
         ap (pair_at n given) at
         ∙ cond-false _ _ _ (ne_eqb (shifted g p) no_place some)
         ∙ (λ i. Some (record { tail = tail i; head = head i; along = along i; against = against i }))
@@ -166,7 +171,7 @@ module _ (l : Links) (places : List ℕ) (k : ℕ) (made : NewPair) (links : Are
       let head : get_or n.heads (g.high + 1) 0 ≡ p.head = grown.heads.at_high ∙ sym h in
       let along : get_or given (g.high + 1) 0 ≡ p.along = spread.at_high ∙ b in
       let against : get_or given (get_or n.partners (g.high + 1) 0) 0 ≡ p.against =
-          ap (λ x. get_or given x 0) grown.partners.at_high ∙ spread.at_low ∙ a in
+      ap (λ x. get_or given x 0) grown.partners.at_high ∙ spread.at_low ∙ a in
       ap (pair_at n given) (placed.new_is ∙ at)
       ∙ cond-false _ _ _ (ne_eqb (g.high + 1) no_place some)
       ∙ (λ i. Some (record { tail = tail i; head = head i; along = along i; against = against i }))
@@ -178,7 +183,7 @@ module _ (l : Links) (places : List ℕ) (k : ℕ) (made : NewPair) (links : Are
       let new_long : length (pairs_at n after given) ≡ length after = length-map after (pair_at n given) in
       let most : k ≤ length (pairs_at l places rooms) = omega (arith, was_long, index) in
       let long : length (pairs_at n after given) ≡ length (insert (pairs_at l places rooms) k (Some p)) =
-          omega (arith, new_long, placed.long, was_long, length-insert (pairs_at l places rooms) k (Some p) most) in
+      omega (arith, new_long, placed.long, was_long, length-insert (pairs_at l places rooms) k (Some p) most) in
       ext_get_or None (pairs_at n after given) (insert (pairs_at l places rooms) k (Some p)) long
       (λ j h.
       let within : j < length after = omega (arith, h, new_long) in

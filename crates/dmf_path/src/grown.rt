@@ -274,6 +274,7 @@ impl NewPair {
         ensures { IfOk result (λ after. IsSpread self.now.gap (λ flag. flag) (open_flag self.now.high_room) (open_flag self.now.low_room)
             flags.items after.items) }
     {
-        self.gap.put_two(flags, open_flag(self.high_room), open_flag(self.low_room))
+        self.gap
+            .put_two(flags, open_flag(self.high_room), open_flag(self.low_room))
     }
 }

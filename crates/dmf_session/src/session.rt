@@ -152,13 +152,7 @@ impl<H: History> Session<H> {
         self.change(edit, kept)
     }
 
-    fn add(
-        &mut self,
-        alloc: Global,
-        tail: u64,
-        head: u64,
-        cap: u64,
-    ) -> Result<Reply, Refusal>
+    fn add(&mut self, alloc: Global, tail: u64, head: u64, cap: u64) -> Result<Reply, Refusal>
         ensures { (want_cut : Bool) → Answers want_cut (H.timeline self.old) (Add tail head cap) result (H.timeline self.new) }
     {
         let edit = plan_add(self.present(), tail, head, cap)?;

@@ -147,7 +147,10 @@ impl ResidualNetwork {
         ensures { IfSome result (IsNetworkOf (applied edit.now state.now)) }
     {
         match *edit {
-            Edit::Add { tail, head, cap } => self.with_arc(alloc, state, Arc::open(tail, head, cap)),
+            Edit::Add { tail, head, cap } => {
+                let arc = Arc::open(tail, head, cap);
+                self.with_arc(alloc, state, arc)
+            }
             _ => self.follow(state, edit),
         }
     }
@@ -160,7 +163,9 @@ impl ResidualNetwork {
     {
         let pair = residual_pair(arc, 0)?;
         let ResidualNetwork {
-            search, has_solved, ..
+            search,
+            has_solved,
+            ..
         } = self;
         match search.insert(alloc, pair) {
             Ok(search) => Some(ResidualNetwork {

@@ -48,7 +48,7 @@ returns c =
     let k : ℕ = length places - 1 in
     let index : k < length places = omega (arith, c.requires.some) in
     let end : get_or l.first (v + 1) 0 ≡ c.index-2.result.now =
-        get_or_default l.first (v + 1) 0 c.index-2.result.now (omega (arith, c.requires.node.to_last, table.are.first_long)) ∙ sym c.index-2.ensures in
+    get_or_default l.first (v + 1) 0 c.index-2.result.now (omega (arith, c.requires.node.to_last, table.are.first_long)) ∙ sym c.index-2.ensures in
     subst (IsSlot l places k v) end (slot-end l places v k table.are c.requires.node (omega (arith, index))
     (elim c.match-place_of.branch [
       | in-Some+else-tail-node+else-index-node w ↦

@@ -50,11 +50,11 @@ returns c =
     let plain : Searched = searched (record { residual = r; start = w.start; goal = w.goal }) before in
     let long : length before - 1 ≡ length plain.pairs - 1 = omega (arith, length-map before (pair_at r.links r.rooms)) in
     let pairs : pairs_at next.links after next.rooms ≡ insert plain.pairs (length plain.pairs - 1) (Some pair) =
-        (rw c.deref.ensures at g.pairs) ∙ ap (λ (k : ℕ). insert plain.pairs k (Some pair)) long in
+    (rw c.deref.ensures at g.pairs) ∙ ap (λ (k : ℕ). insert plain.pairs k (Some pair)) long in
     let same : plain ≡ c.args.self =
-        rw (← c.self.view_is) (ap (λ (x : Residual). searched (record { residual = x; start = w.start; goal = w.goal }) before)
-        (sym (told-fresh r v w r e.searching e.fresh))
-        ∙ ap (λ (s : Sought). searched s before) e.same) in
+    rw (← c.self.view_is) (ap (λ (x : Residual). searched (record { residual = x; start = w.start; goal = w.goal }) before)
+    (sym (told-fresh r v w r e.searching e.fresh))
+    ∙ ap (λ (s : Sought). searched s before) e.same) in
     ap (λ (x : Residual). searched (record { residual = x; start = w.start; goal = w.goal }) after) (told-fresh r v w next e.searching e.fresh)
     ∙ (λ i. record { nodes = g.nodes i; pairs = pairs i; start = w.start; goal = w.goal; takes_back = g.takes_back i })
     ∙ ap (λ (s : Searched). with_pairs s (insert s.pairs (length s.pairs - 1) (Some pair))) same

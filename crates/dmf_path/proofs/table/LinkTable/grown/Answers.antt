@@ -37,8 +37,12 @@ grown_partners-requires c =
     let gap = c.requires.gap in
     record {
       order = in-order (links_of table) gap.0 gap.1.0 c.args.gap.now table.are gap.1.1;
-      within = omega (arith, gap-within (links_of table) gap.0 gap.1.0 c.args.gap.now table.are gap.1.1, ap length c.deref-3.ensures.value,
-          table.are.partners_long);
+      within = omega (
+        arith,
+        gap-within (links_of table) gap.0 gap.1.0 c.args.gap.now table.are gap.1.1,
+        ap length c.deref-3.ensures.value,
+        table.are.partners_long,
+      );
       few = omega (arith, ap length c.deref-3.ensures.value, table.are.partners_long, table.are.at_most);
       short = subst IsShort (sym c.deref-3.ensures.value) (partners-short table);
     }

@@ -24,8 +24,11 @@ insert-requires-clause-some c =
 
 pub insert-requires-clause-few : goal.insert-requires-clause-few
 insert-requires-clause-few c =
-    omega (arith, pairs-before c.args.state.now c.args.arc c.requires.state c.self.inside.search (before c),
-    few-before c.args.state.now c.args.arc c.requires.state)
+    omega (
+      arith,
+      pairs-before c.args.state.now c.args.arc c.requires.state c.self.inside.search (before c),
+      few-before c.args.state.now c.args.arc c.requires.state,
+    )
 
 pub returns-in-Ok : goal.returns-in-Ok
 returns-in-Ok c =
