@@ -61,3 +61,7 @@ mod TouchedIndices
 pub mod Lowered
 pub mod RoomsSet
 pub mod Released
+pub mod GrownLinks
+pub mod GrownPlaces
+pub mod GrownRooms
+pub mod Slots

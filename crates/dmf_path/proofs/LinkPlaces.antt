@@ -5,7 +5,7 @@ use Rattle.dmf_node.specs.Node.{IsNode}
 use Rattle.dmf_path.specs.Links.{Links, LiesAt, AreLinks}
 
 -- The links of a later node begin later.
-first-later : (l : Links) (v n : ℕ) → AreLinks l → v + n ≤ l.nodes + 1 → get_or l.first v 0 ≤ get_or l.first (v + n) 0
+pub first-later : (l : Links) (v n : ℕ) → AreLinks l → v + n ≤ l.nodes + 1 → get_or l.first v 0 ≤ get_or l.first (v + n) 0
 first-later l v zero are within = let same : get_or l.first (v + 0) 0 ≡ get_or l.first v 0 =
     ap (λ u. get_or l.first u 0) (let e : v + 0 ≡ v = omega arith in e) in omega (arith, same)
 first-later l v (suc n) are within =

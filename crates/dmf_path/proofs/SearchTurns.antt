@@ -167,3 +167,28 @@ search-new r places v w new links are sums labelled current start goal apart cap
       searching = searching-fresh r v w links sums small start goal apart capacity begins current;
       marked = fresh begins.fresh;
     })
+
+-- A fresh search goes on over other links between as many nodes.
+pub search-over : (r : Residual) (v : Labelling) (w : Way) (next : Residual) (places current : List ℕ) → IsSearching r v w → IsFresh r.links v.labels w.start
+    → next.links.nodes ≡ r.links.nodes → AreLinks next.links → ArePlaces next.links places → AreRooms next.links next.rooms → AreCurrent next.links current
+    → IsSearch next places (record { labels = v.labels; current = current }) w true
+search-over r v w next places current is is_fresh same links are sums at_first =
+    let a = is.aimed in
+    let other : Labelling = record { labels = v.labels; current = current } in
+    let node : (x : ℕ) → IsNode r.links.nodes x → IsNode next.links.nodes x = λ x. subst (λ (m : ℕ). IsNode m x) (sym same) in
+    let still : IsFresh next.links v.labels w.start = record {
+      label = is_fresh.label;
+      others = λ x h. is_fresh.others x (subst (λ (m : ℕ). IsNode m x) same h);
+    } in
+    let begins : BeginsFresh next.links v.labels w.start w.goal = record {
+      long = omega (arith, a.one_label_each, same);
+      goal_label = is.under_way.goal_label;
+      fresh = still;
+    } in
+    record {
+      places_are = are;
+      searching = subst (IsSearching next other) (sym (fresh-way r v w is is_fresh))
+          (searching-fresh next other w links sums is.holding.small (node w.start a.start_is) (node w.goal a.goal_is) a.apart
+          (omega (arith, same, a.capacity_is)) begins at_first);
+      marked = fresh still;
+    }

@@ -15,3 +15,4 @@ pub mod Searching
 pub mod BothEnds
 pub mod Frontier
 pub mod Touching
+pub mod Grown

@@ -1,6 +1,6 @@
 -- Links by node: the links of a node lie side by side, in the order of their ranks. A link is known by its place.
 -- Private: only contracts inside the crate and proofs use this.
-use Rattle.std.specs.Prelude.{ℕ, ◌≡◌, ◌≢◌, ◌+◌, ◌^◌, ◌<◌, ◌≤◌, ◌⊎◌, ◌==◌, nat_lt, if◌then◌else◌, List, length, map, slice_index, Option, Some, None}
+use Rattle.std.specs.Prelude.{ℕ, ◌≡◌, ◌≢◌, ◌+◌, ◌*◌, ◌^◌, ◌<◌, ◌≤◌, ◌⊎◌, ◌==◌, nat_lt, if◌then◌else◌, List, length, map, slice_index, Option, Some, None}
 use Rattle.dmf_path.specs.declared.pair.Pair.{Pair}
 use Rattle.dmf_node.specs.Node.{IsNode}
 
@@ -60,6 +60,7 @@ IsOf l places p k =
 -- their pairs.
 pub record ArePlaces (l : Links) (places : List ℕ) : Type 0 where
   pub at_most : length places ≤ 2 ^ 27 + 1
+  pub links_at_most : length l.heads ≤ 2 * length places
   pub within : (k : ℕ) → k < length places → slice_index places k ≢ no_place → slice_index places k < length l.heads
   pub each : (p : ℕ) → p < length l.heads → (k : ℕ) × IsOf l places p k
   pub one : (p j k : ℕ) → p < length l.heads → IsOf l places p j → IsOf l places p k → j ≡ k

@@ -29,6 +29,21 @@ pub struct Levels {
     pub spent: u64,
 }
 
+impl Levels {
+    /// The same labels, with the first link of each node in this table as its current one.
+    pub fn over(mut self, table: &LinkTable) -> Levels
+        requires { length self.current.items ≡ table.now.nodes + 1 }
+        ensures near { result.near ≡ self.near }
+        ensures far { result.far ≡ self.far }
+        ensures all { result.all ≡ self.all }
+        ensures current { AreCurrent (links_of table.now) result.current.items }
+    {
+        let count = self.current.len();
+        self.current.copy_from_slice(&table.first[..count]);
+        self
+    }
+}
+
 /// Makes the first link of each of these nodes its current one.
 pub fn set_current(table: &LinkTable, nodes: &[u32], current: &mut [u32])
     requires nodes { (i : ℕ) → i < length nodes.now → slice_index nodes.now i ≤ table.now.nodes }

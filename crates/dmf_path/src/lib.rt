@@ -7,6 +7,7 @@ pub use search::{AugmentingPath, Search};
 pub use touched::Touched;
 
 mod frontier;
+mod grown;
 mod label;
 mod levels;
 mod links;

@@ -20,6 +20,7 @@ use std::alloc::{AllocError, Global};
 use std::marker::Model;
 use std::rc::Rc;
 
+mod growing;
 mod making;
 
 /// What was pushed along a path.

@@ -1,8 +1,12 @@
 ghost use Rattle.dmf_history.specs.Timeline.{back, forward};
 ghost use Rattle.dmf_session.specs.Kept.{KeepsPresent};
+ghost use Rattle.dmf_solver.specs.KeptNetwork.{Keeps};
+ghost use Rattle.dmf_state.specs.Edit.{applied, Fits};
 
 use dmf_history::History;
 use dmf_solver::ResidualNetwork;
+use dmf_state::{Edit, State};
+use std::alloc::Global;
 
 /// The kept network, one state back. `None` if the history does not tell the edit, or if the edit added an arc.
 pub(crate) fn kept_before<H: History>(
@@ -17,8 +21,9 @@ pub(crate) fn kept_before<H: History>(
     network.follow_back(history.present(), edit)
 }
 
-/// The kept network, one state forward. `None` if the history does not tell the edit, or if the edit adds an arc.
+/// The kept network, one state forward. `None` if the history does not tell the edit, or if the network cannot follow it.
 pub(crate) fn kept_after<H: History>(
+    alloc: Global,
     kept: Option<ResidualNetwork>,
     history: &H,
 ) -> Option<ResidualNetwork>
@@ -27,5 +32,19 @@ pub(crate) fn kept_after<H: History>(
 {
     let network = kept?;
     let edit = history.next_edit()?;
-    network.follow(history.present(), edit)
+    network.follow_any(alloc, history.present(), edit)
+}
+
+/// The kept network, once the edit is made.
+pub(crate) fn kept_with(
+    alloc: Global,
+    kept: Option<ResidualNetwork>,
+    present: &State,
+    edit: &Edit,
+) -> Option<ResidualNetwork>
+    requires kept { Keeps present.now kept }
+    requires fits { Fits edit.now present.now }
+    ensures { Keeps (applied edit.now present.now) result }
+{
+    kept?.follow_any(alloc, present, edit)
 }

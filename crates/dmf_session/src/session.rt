@@ -9,7 +9,7 @@ ghost use Rattle.dmf_session.specs.Optimal.{HasOptimalPresent};
 ghost use Rattle.dmf_session.specs.Telling.{TellsStep};
 
 use crate::command::{Command, Refusal, Reply};
-use crate::kept::{kept_after, kept_before};
+use crate::kept::{kept_after, kept_before, kept_with};
 use crate::laws::greatest_is_optimal;
 use dmf_history::{History, RedoFault};
 use dmf_solver::{
@@ -24,7 +24,8 @@ use std::marker::Model;
 ///
 /// From the first solve or drain on the session also keeps the residual network of the present state, so that the next of these need
 /// not make it anew. The network follows each change, and each step back or forward where the history tells the edit; the first of
-/// these after a solve takes time for each node. The session drops it where an arc is added or taken back, and where memory is refused.
+/// these after a solve takes time for each node, and an added arc takes memory and time for each link. The session drops it where an added arc
+/// is taken back, and where memory is refused.
 #[derive(Drop)]
 pub struct Session<H: History> {
     history: H,
@@ -131,12 +132,12 @@ impl<H: History> Session<H> {
     {
         match command {
             Command::Cap { arc, cap } => self.cap(alloc, arc, cap),
-            Command::Add { tail, head, cap } => self.add(tail, head, cap),
+            Command::Add { tail, head, cap } => self.add(alloc, tail, head, cap),
             Command::Close { arc } => self.close(alloc, arc),
             Command::Shut { node } => self.shut(alloc, node),
             Command::Solve => self.solve(alloc, want_cut, watch),
             Command::Undo(steps) => self.undo(steps),
-            Command::Redo(steps) => self.redo(steps),
+            Command::Redo(steps) => self.redo(alloc, steps),
             Command::PrintProblem => Ok(Reply::Problem),
             Command::PrintFlow => Ok(Reply::Flow),
             Command::PrintCut => self.cut(alloc),
@@ -151,11 +152,12 @@ impl<H: History> Session<H> {
         self.change(edit, kept)
     }
 
-    fn add(&mut self, tail: u64, head: u64, cap: u64) -> Result<Reply, Refusal>
+    fn add(&mut self, alloc: Global, tail: u64, head: u64, cap: u64) -> Result<Reply, Refusal>
         ensures { (want_cut : Bool) → Answers want_cut (H.timeline self.old) (Add tail head cap) result (H.timeline self.new) }
     {
         let edit = plan_add(self.present(), tail, head, cap)?;
-        self.append(edit, None)?;
+        let kept = kept_with(alloc, self.kept.take(), self.history.present(), &edit);
+        self.append(edit, kept)?;
         let present = self.present();
         Ok(Reply::Added(present.arcs().len() as u32, present.value()))
     }
@@ -215,14 +217,14 @@ impl<H: History> Session<H> {
         Ok(Reply::Value(self.present().value()))
     }
 
-    fn redo(&mut self, steps: u64) -> Result<Reply, Refusal>
+    fn redo(&mut self, alloc: Global, steps: u64) -> Result<Reply, Refusal>
         ensures { (want_cut : Bool) → Answers want_cut (H.timeline self.old) (Redo steps) result (H.timeline self.new) }
     {
         if steps > u64::from(self.future()) {
             return Err(Refusal::NothingToRedo);
         }
         for taken in 0..steps as u32 {
-            if let Err(_) = self.go_on() {
+            if let Err(_) = self.go_on(alloc) {
                 self.go_back(taken);
                 return Err(Refusal::NoMemory);
             }
@@ -275,13 +277,13 @@ impl<H: History> Session<H> {
     }
 
     /// Steps one state forward. A kept network follows where it can. If memory is refused, the session keeps none.
-    fn go_on(&mut self) -> Result<(), RedoFault>
+    fn go_on(&mut self, alloc: Global) -> Result<(), RedoFault>
         ensures last { (result ≡ Err redo.NothingToRedo) ↔ (future_of (H.timeline self.old) ≡ 0) }
         ensures memory { result ≡ Err redo.NoMemory → AddsArcs (H.timeline self.old) (H.timeline self.old).place }
         ensures ok { OnOk result (H.timeline self.new ≡ forward (H.timeline self.old) 1) }
         ensures err { OnErr result (H.timeline self.new ≡ H.timeline self.old) }
     {
-        let kept = kept_after(self.kept.take(), &self.history);
+        let kept = kept_after(alloc, self.kept.take(), &self.history);
         self.history.redo()?;
         self.kept = kept;
         Ok(())

@@ -21,6 +21,7 @@ pub mod GreatestSearch
 pub mod SomeSide
 pub mod ResidualPairs
 pub mod NetworkPairs
+mod Added
 pub mod SmallestSide
 pub mod RoomLeaving
 pub mod Enclosing

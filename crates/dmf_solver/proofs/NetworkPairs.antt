@@ -78,7 +78,7 @@ pair-past s k state within past =
 -- ---- the pairs of a state's flow are pairs
 
 -- The pair of an arc on which no more flows than can is one.
-pair-is : (nodes : ℕ) (arc : Arc) (flow : ℕ) (p : Pair) (loop : Bool) → IsArc nodes arc → flow ≤ arc.cap → arc.cap < 2 ^ 64 → (arc.tail == arc.head) ≡ loop
+pub pair-is : (nodes : ℕ) (arc : Arc) (flow : ℕ) (p : Pair) (loop : Bool) → IsArc nodes arc → flow ≤ arc.cap → arc.cap < 2 ^ 64 → (arc.tail == arc.head) ≡ loop
     → residual_pair arc flow ≡ Some p → IsPair nodes p
 pair-is nodes arc flow p true is within small e has = let none = rw e at has in absurd (cc)
 pair-is nodes arc flow p false is within small e has =

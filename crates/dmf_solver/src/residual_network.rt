@@ -2,7 +2,7 @@ ghost use Rattle.std.specs.Prelude.{◌≡◌, ◌↔◌, None, pos, IfOk, IfSom
 ghost use Rattle.dmf_state.specs.Direction.{edited_along, FitsAlong};
 ghost use Rattle.dmf_state.specs.Edit.{applied, differences, AddsArc, Fits};
 ghost use Rattle.dmf_state.specs.Flow.{flow_value};
-ghost use Rattle.dmf_state.specs.NetworkState.{IsState, NetworkState};
+ghost use Rattle.dmf_state.specs.NetworkState.{IsState, NetworkState, with_idle_arc};
 ghost use Rattle.dmf_solver.specs.Pairs.{reached_flows, IsSolved};
 ghost use Rattle.dmf_solver.specs.Planning.{PlansSolve, IsSideWanted};
 ghost use Rattle.dmf_solver.specs.CarryingNetwork.{IsCarryingOf, MayCarry};
@@ -17,12 +17,12 @@ use crate::fault::{CutFault, PlanFault};
 use crate::following::{carry_flows, moves_of, put_capacities, put_flows};
 use crate::moves::list_moves;
 use crate::reached_flows::ReachedFlows;
-use crate::residual::residual_search;
+use crate::residual::{residual_pair, residual_search};
 use crate::side::{side_along, wanted_side};
 use crate::solve::{Solved, solve};
 use crate::watch::Watch;
 use dmf_path::Search;
-use dmf_state::{Direction, Edit, Move, NoMemory, Side, State};
+use dmf_state::{Arc, Direction, Edit, Move, NoMemory, Side, State};
 use std::alloc::{AllocError, Global};
 use std::marker::Model;
 
@@ -140,6 +140,41 @@ impl ResidualNetwork {
         ensures dropped { (result ≡ None) ↔ AddsArc edit.now }
     {
         self.follow_along(state, edit, Direction::Back)
+    }
+
+    /// The residual network of the state that an edit makes of this one, which the edit fits, also where it adds an arc: then the links
+    /// of the arc go in among the others. That takes memory for two links an arc, and time for each link. There is no network where memory
+    /// is refused, or where the arc begins and ends at one node.
+    pub fn follow_any(self, alloc: Global, state: &State, edit: &Edit) -> Option<ResidualNetwork>
+        requires network { IsNetworkOf state.now self }
+        requires fits { Fits edit.now state.now }
+        ensures { IfSome result (IsNetworkOf (applied edit.now state.now)) }
+    {
+        match *edit {
+            Edit::Add { tail, head, cap } => {
+                let arc = Arc::open(tail, head, cap);
+                self.with_arc(alloc, state, arc)
+            }
+            _ => self.follow(state, edit),
+        }
+    }
+
+    /// The residual network of the state with one more arc, on which nothing flows. The search for drains has to be made anew for it.
+    fn with_arc(self, alloc: Global, state: &State, arc: Arc) -> Option<ResidualNetwork>
+        requires network { IsNetworkOf state.now self }
+        requires state { IsState (with_idle_arc state.now arc) }
+        ensures { IfSome result (IsNetworkOf (with_idle_arc state.now arc)) }
+    {
+        let pair = residual_pair(arc, 0)?;
+        let ResidualNetwork { search, .. } = self;
+        match search.insert(alloc, pair) {
+            Ok(search) => Some(ResidualNetwork {
+                search,
+                carrying: None,
+                looks: 0,
+            }),
+            Err(_) => None,
+        }
     }
 
     /// The residual network of the state to which the direction leads, or none where the edit adds an arc.

@@ -1,4 +1,5 @@
 use Rattle.std.proofs.Common.{length, ap, subst, Ok, MatchOption}
+use Rattle.dmf_history.specs.Timeline.{Appends}
 use Rattle.dmf_state.specs.NetworkState.{NetworkState}
 use Rattle.dmf_solver.specs.Change as change
 use Rattle.dmf_session.specs.declared.command.Reply.TheVariants.{Added}
@@ -15,7 +16,8 @@ returns g c want_cut =
     let result = Ok (Added (length c.arcs.result.now) c.value.result) in
     let t = timeline c.args.self.now in
     let u = timeline c.append.new.self in
-    let changed = IsChanged-added t u s _ c.in_ok-edit.edit addition _ _ c.present.ensures.state c.in_ok-edit.ensures.plan.becomes c.in_ok-append.ensures.ok
+    let appends = subst (λ h. Appends c.in_ok-edit.edit (timeline h) u) c.self.view_is c.in_ok-append.ensures.ok in
+    let changed = IsChanged-added t u s _ c.in_ok-edit.edit addition _ _ c.present.ensures.state c.in_ok-edit.ensures.plan.becomes appends
     c.present-present.ensures.state (ap length c.arcs.ensures.value) c.value.ensures.value in (
       s,
       c.present.ensures.state,
