@@ -19,13 +19,22 @@ from client_shared import ROOT, is_running, there
 PROBLEM = "c node 1 lake\nc node 4 sea\nc arc 5 the \"canal\"\np max 4 5\nn 1 s\nn 4 t\n"
 PROBLEM += "a 1 2 3\na 1 3 2\na 2 3 5\na 2 4 2\na 3 4 3\n"
 HEAD = ["case", "commands", "name", "value", "difference", "refused"]
-CLOSED = [
-    ["1", "close 1", "lake -> 2", "2", "-3", ""],
-    ["2", "close 2", "lake -> 3", "3", "-2", ""],
-    ["3", "close 3", "2 -> 3", "4", "-1", ""],
-    ["4", "close 4", "2 -> sea", "3", "-2", ""],
-    ["5", "close 5", 'the "canal"', "2", "-3", ""],
-]
+
+
+def parted(table: str) -> list[list[str]]:
+    """The rows of a table, one a line, whose fields are parted by bars."""
+    return [line.split("|") for line in table.splitlines()]
+
+
+CLOSED = parted(
+    """\
+1|close 1|lake -> 2|2|-3|
+2|close 2|lake -> 3|3|-2|
+3|close 3|2 -> 3|4|-1|
+4|close 4|2 -> sea|3|-2|
+5|close 5|the "canal"|2|-3|
+"""
+)
 
 
 @pytest.fixture(autouse=True)
@@ -58,15 +67,15 @@ def test_each_arc_is_closed() -> None:
 def test_cases() -> None:
     cases = "close 1; add 1 4 7\n\nc a comment\nshut 2\ncap 5 18446744073709551615\nclose 6\nadd 1 9 1\nshut 1;close 1\n"
     Path("cases.txt").write_text(cases)
-    wanted = [
-        ["1", "close 1; add 1 4 7", "lake -> 2", "9", "4", ""],
-        ["2", "shut 2", "2", "2", "-3", ""],
-        ["3", "cap 5 18446744073709551615", 'the "canal"', "", "", "capacities past 64 bits"],
-        ["4", "close 6", "", "", "", "no such arc"],
-        ["5", "add 1 9 1", "", "", "", "no such node"],
-        ["6", "shut 1; close 1", "lake", "", "", "arc is closed"],
-    ]
-    assert rows("--cases", "cases.txt") == wanted
+    wanted = """\
+1|close 1; add 1 4 7|lake -> 2|9|4|
+2|shut 2|2|2|-3|
+3|cap 5 18446744073709551615|the "canal"|||capacities past 64 bits
+4|close 6||||no such arc
+5|add 1 9 1||||no such node
+6|shut 1; close 1|lake|||arc is closed
+"""
+    assert rows("--cases", "cases.txt") == parted(wanted)
     for line in "solve", "close x", "undo", "wash 1", "close 1;":
         Path("cases.txt").write_text(f"close 1\n{line}\n")
         ran = run_tool("--cases", "cases.txt")

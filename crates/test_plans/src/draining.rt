@@ -17,27 +17,24 @@ struct Capacity<'a> {
     value: u64,
 }
 
-/// Gives the arc the capacity, comparing the plan and what then flows.
-fn give(
-    rt: &impl Abort,
-    alloc: Global,
-    state: &mut State,
-    wanted: Capacity<'_>,
-) -> Result<(), Fail> {
-    let edit = plan_cap(alloc, state, u64::from(wanted.arc), wanted.new)?;
-    let moves = listed(alloc, wanted.moves)?;
-    let Capacity { arc, old, new, .. } = wanted;
-    assert!(rt;
-        edit == Edit::Cap {
-            arc,
-            old,
-            new,
-            moves
-        }
-    );
-    state.apply(&edit)?;
-    assert!(rt; state.value() == wanted.value);
-    Ok(())
+impl Capacity<'_> {
+    /// Gives the arc the capacity, comparing the plan and what then flows.
+    fn give(self, rt: &impl Abort, alloc: Global, state: &mut State) -> Result<(), Fail> {
+        let edit = plan_cap(alloc, state, u64::from(self.arc), self.new)?;
+        let moves = listed(alloc, self.moves)?;
+        let Capacity { arc, old, new, .. } = self;
+        assert!(rt;
+            edit == Edit::Cap {
+                arc,
+                old,
+                new,
+                moves
+            }
+        );
+        state.apply(&edit)?;
+        assert!(rt; state.value() == self.value);
+        Ok(())
+    }
 }
 
 /// Gives each of these arcs its capacity on a copy of its own.
@@ -48,7 +45,7 @@ fn give_each(
     capacities: &[Capacity<'_>],
 ) -> Result<(), Fail> {
     for &wanted in capacities {
-        give(rt, alloc, &mut state.copy(alloc)?, wanted)?;
+        wanted.give(rt, alloc, &mut state.copy(alloc)?)?;
     }
     Ok(())
 }
@@ -65,7 +62,7 @@ const LOWERED_SELF_LOOP: Capacity<'static> = Capacity {
 fn a_self_loop_is_drained(rt: HostRuntime) -> Result<(), Fail> {
     let alloc = rt.alloc();
     let mut state = self_loop(alloc)?;
-    give(&rt, alloc, &mut state, LOWERED_SELF_LOOP)?;
+    LOWERED_SELF_LOOP.give(&rt, alloc, &mut state)?;
     assert!(rt; state.arcs().len() == 1 && state.arcs()[0].cap == 2 && state.flow(1) == 2);
     Ok(())
 }
@@ -82,7 +79,7 @@ const LOWERED_ROUND: Capacity<'static> = Capacity {
 fn a_flow_that_goes_round_is_drained(rt: HostRuntime) -> Result<(), Fail> {
     let alloc = rt.alloc();
     let mut state = going_round(alloc)?;
-    give(&rt, alloc, &mut state, LOWERED_ROUND)
+    LOWERED_ROUND.give(&rt, alloc, &mut state)
 }
 
 const LOWERED_BACK: &[Capacity<'static>] = &[
@@ -173,6 +170,10 @@ struct ShutNode<'a> {
     value: u64,
 }
 
+/// At node 2 all six arcs are drained.
+#[rattlefmt::skip]
+const ALL_AT_2: [(u32, u64, u64); 6] = [(1, 4, 0), (2, 5, 0), (3, 2, 0), (4, 8, 0), (5, 2, 0), (6, 2, 0)];
+
 /// Node 1 leaves what goes round. At node 2 the arcs from node 1 take 6 off arc 4, which then takes off what goes round. At
 /// node 3 arc 4 takes off what goes round first, and then both arcs from node 1, over the link. Node 4 leaves the value.
 const SHUT_TANGLE: &[ShutNode<'static>] = &[
@@ -185,14 +186,7 @@ const SHUT_TANGLE: &[ShutNode<'static>] = &[
     ShutNode {
         node: 2,
         arcs: &[(1, 4), (2, 9), (3, 7), (4, 9), (6, 5)],
-        moves: &[
-            (1, 4, 0),
-            (2, 5, 0),
-            (3, 2, 0),
-            (4, 8, 0),
-            (5, 2, 0),
-            (6, 2, 0),
-        ],
+        moves: &ALL_AT_2,
         value: 0,
     },
     ShutNode {
@@ -209,20 +203,17 @@ const SHUT_TANGLE: &[ShutNode<'static>] = &[
     },
 ];
 
-/// Shuts the node, comparing the plan and what then flows.
-fn shut(
-    rt: &impl Abort,
-    alloc: Global,
-    state: &mut State,
-    wanted: ShutNode<'_>,
-) -> Result<(), Fail> {
-    let edit = plan_shut(alloc, state, wanted.node)?;
-    let arcs = shuttings(alloc, wanted.arcs)?;
-    let moves = listed(alloc, wanted.moves)?;
-    assert!(rt; edit == Edit::Shut { arcs, moves });
-    state.apply(&edit)?;
-    assert!(rt; state.value() == wanted.value);
-    Ok(())
+impl ShutNode<'_> {
+    /// Shuts the node, comparing the plan and what then flows.
+    fn shut(self, rt: &impl Abort, alloc: Global, state: &mut State) -> Result<(), Fail> {
+        let edit = plan_shut(alloc, state, self.node)?;
+        let arcs = shuttings(alloc, self.arcs)?;
+        let moves = listed(alloc, self.moves)?;
+        assert!(rt; edit == Edit::Shut { arcs, moves });
+        state.apply(&edit)?;
+        assert!(rt; state.value() == self.value);
+        Ok(())
+    }
 }
 
 /// Parallel arcs, arcs that come back to their tails, and a flow that goes round by the sink.
@@ -233,7 +224,7 @@ fn a_tangle_is_drained(rt: HostRuntime) -> Result<(), Fail> {
     assert!(rt; state.value() == 6);
     give_each(&rt, alloc, &state, LOWERED_TANGLE)?;
     for &wanted in SHUT_TANGLE {
-        shut(&rt, alloc, &mut state.copy(alloc)?, wanted)?;
+        wanted.shut(&rt, alloc, &mut state.copy(alloc)?)?;
     }
     Ok(())
 }

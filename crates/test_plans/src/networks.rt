@@ -50,19 +50,13 @@ pub fn solved_example(alloc: Global) -> Result<State, Fail> {
     Ok(state)
 }
 
+#[rattlefmt::skip]
+const DETOUR: [(u64, u64, u64); 7] = [(3, 2, 1), (1, 3, 1), (2, 5, 1), (1, 2, 1), (3, 5, 1), (2, 4, 1), (4, 5, 1)];
+
 /// Seven arcs of capacity 1, and on the first three of them a flow of 1 from node 1 to node 5. It makes a detour: from node 3,
 /// which an arc joins to node 5, it goes by node 2.
 pub fn detour(alloc: Global) -> Result<State, Fail> {
-    let arcs = [
-        (3, 2, 1),
-        (1, 3, 1),
-        (2, 5, 1),
-        (1, 2, 1),
-        (3, 5, 1),
-        (2, 4, 1),
-        (4, 5, 1),
-    ];
-    let empty = network(alloc, 5, 1, 5, &arcs)?;
+    let empty = network(alloc, 5, 1, 5, &DETOUR)?;
     flowing(alloc, &empty, &[1, 1, 1, 0, 0, 0, 0])
 }
 
@@ -84,18 +78,12 @@ pub fn coming_back(alloc: Global) -> Result<State, Fail> {
     flowing(alloc, &empty, &[3, 3, 1])
 }
 
+#[rattlefmt::skip]
+const TANGLE: [(u64, u64, u64); 7] = [(1, 2, 4), (2, 2, 9), (1, 2, 7), (2, 3, 9), (3, 4, 5), (4, 2, 5), (4, 4, 1)];
+
 /// Four nodes, source 1 and sink 3: 4 and 2 flow side by side from 1 to 2, and on to 3; 2 more go round from 2 over 3 and 4, and
 /// on an arc at node 2 and one at node 4 flow 5 and 1 that come back to it at once.
 pub fn tangle(alloc: Global) -> Result<State, Fail> {
-    let arcs = [
-        (1, 2, 4),
-        (2, 2, 9),
-        (1, 2, 7),
-        (2, 3, 9),
-        (3, 4, 5),
-        (4, 2, 5),
-        (4, 4, 1),
-    ];
-    let empty = network(alloc, 4, 1, 3, &arcs)?;
+    let empty = network(alloc, 4, 1, 3, &TANGLE)?;
     flowing(alloc, &empty, &[4, 5, 2, 8, 2, 2, 1])
 }
