@@ -25,6 +25,9 @@ use std::rt::Stdout;
 // The arguments can ask for each history that a session can keep, and for no other.
 const _: () = prove!(MAX_HISTORY == MAX_BOUND);
 
+/// How many bytes the buffer before standard output holds.
+const OUTPUT_BUFFER: usize = 65536;
+
 fn main(rt: HostRuntime) -> ExitCode {
     let outcome = run(&rt);
     if let Err(fault) = &outcome {
@@ -127,7 +130,7 @@ fn check(rt: &HostRuntime, path: &str) -> Result<Status, Fault> {
 
 /// Standard output, behind a buffer.
 fn output(rt: &HostRuntime) -> Result<StdSink<BufWriter<Stdout>>, Fault> {
-    match BufWriter::new(rt.alloc(), rt.stdout()) {
+    match BufWriter::with_capacity(rt.alloc(), OUTPUT_BUFFER, rt.stdout()) {
         Ok(writer) => Ok(StdSink::new(writer)),
         Err(_) => Err(Fault::NO_MEMORY),
     }
