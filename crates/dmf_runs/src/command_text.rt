@@ -1,5 +1,5 @@
 //! What command lines mean, and the words of commands.
-ghost use Rattle.std.specs.Prelude.{◌≡◌, ◌≤◌, ◌∷◌, length, codes, false};
+ghost use Rattle.std.specs.Prelude.{◌≡◌, ◌≤◌, [], ◌∷◌, length, codes, false};
 ghost use Rattle.std.specs.Str.{bytes_eq};
 ghost use Rattle.std.specs.Str.Lines.{strip_carriage_return};
 ghost use Rattle.dmf_text.specs.Number.{number_of};
@@ -103,12 +103,20 @@ fn read_capping(mut fields: Fields<'_>) -> Result<Command, Refusal>
     ensures { result ≡ capping fields.entry }
 {
     match (fields.next(), fields.next(), fields.next()) {
-        (Some(arc), Some(cap), None) => Ok(Command::Cap {
-            arc: read_number(arc)?,
-            cap: read_number(cap)?,
-        }),
+        (Some(arc), Some(cap), None) => capping_of(arc, cap),
         _ => Err(Refusal::FieldCount),
     }
+}
+
+/// The command that gives the arc with this number this capacity.
+#[tactic(auto, unfolding(crate::specs::CommandText::capping))]
+fn capping_of(arc: &[u8], cap: &[u8]) -> Result<Command, Refusal>
+    ensures { result ≡ capping (arc.now ∷ cap.now ∷ []) }
+{
+    Ok(Command::Cap {
+        arc: read_number(arc)?,
+        cap: read_number(cap)?,
+    })
 }
 
 /// Reads the fields behind `add`.
@@ -117,13 +125,21 @@ fn read_addition(mut fields: Fields<'_>) -> Result<Command, Refusal>
     ensures { result ≡ addition fields.entry }
 {
     match (fields.next(), fields.next(), fields.next(), fields.next()) {
-        (Some(tail), Some(head), Some(cap), None) => Ok(Command::Add {
-            tail: read_number(tail)?,
-            head: read_number(head)?,
-            cap: read_number(cap)?,
-        }),
+        (Some(tail), Some(head), Some(cap), None) => addition_of(tail, head, cap),
         _ => Err(Refusal::FieldCount),
     }
+}
+
+/// The command that adds an arc with these ends and this capacity.
+#[tactic(auto, unfolding(crate::specs::CommandText::addition))]
+fn addition_of(tail: &[u8], head: &[u8], cap: &[u8]) -> Result<Command, Refusal>
+    ensures { result ≡ addition (tail.now ∷ head.now ∷ cap.now ∷ []) }
+{
+    Ok(Command::Add {
+        tail: read_number(tail)?,
+        head: read_number(head)?,
+        cap: read_number(cap)?,
+    })
 }
 
 /// Reads the field behind `close` or `shut`.
@@ -166,11 +182,24 @@ fn read_printing(mut fields: Fields<'_>) -> Result<Command, Refusal>
     ensures { result ≡ printing fields.entry }
 {
     match (fields.next(), fields.next()) {
-        (Some(what), None) if what == b"problem".as_slice() => Ok(Command::PrintProblem),
-        (Some(what), None) if what == b"flow".as_slice() => Ok(Command::PrintFlow),
-        (Some(what), None) if what == b"cut".as_slice() => Ok(Command::PrintCut),
-        (Some(_), None) => Err(Refusal::UnknownCommand),
+        (Some(what), None) => printing_of(what),
         _ => Err(Refusal::FieldCount),
+    }
+}
+
+/// The command that prints what has this name.
+#[tactic(auto, unfolding(crate::specs::CommandText::printing))]
+fn printing_of(what: &[u8]) -> Result<Command, Refusal>
+    ensures { result ≡ printing (what.now ∷ []) }
+{
+    if what == b"problem".as_slice() {
+        Ok(Command::PrintProblem)
+    } else if what == b"flow".as_slice() {
+        Ok(Command::PrintFlow)
+    } else if what == b"cut".as_slice() {
+        Ok(Command::PrintCut)
+    } else {
+        Err(Refusal::UnknownCommand)
     }
 }
 

@@ -87,13 +87,13 @@ answers-at t u s edit change IsAnswer result present planned becomes a answered 
 
 -- The same of a history, under both its names.
 pub answers-appended : {X : Type 0} (timeline : X → Timeline) (inside seen : X) → inside ≡ seen → (u : Timeline) (s : NetworkState) (edit : Edit)
-    (change : Change) (IsAnswer : Timeline → Result Reply Refusal → Type 0) (result : Result Reply Refusal) → IsPresent (timeline inside) s
+    (change : Change) (IsAnswer : Timeline → Result Reply Refusal → Timeline → Type 0) (result : Result Reply Refusal) → IsPresent (timeline inside) s
     → MatchOption (change_fault s change) (IsOkUnless (Ok edit) NoMemory) (λ f. Ok edit ≡ Err f) → Becomes s change (applied edit s)
     → AnswersAppended edit (timeline inside) result u
     → ((t : Timeline) (value : ℕ) → (s : NetworkState) × IsPresent t s × Changes t s change (λ new. Value (value_of new)) (Ok (Value value)) u
-    → IsAnswer t (Ok (Value value)))
-    → ((t : Timeline) → IsAccepted t change × (u ≡ t) → IsAnswer t (Err refusal.NoMemory)) → IsAnswer (timeline seen) result
+    → IsAnswer t (Ok (Value value)) u)
+    → ((t : Timeline) → IsAccepted t change × (u ≡ t) → IsAnswer t (Err refusal.NoMemory) u) → IsAnswer (timeline seen) result u
 answers-appended timeline inside seen same u s edit change IsAnswer result present planned becomes appended answered refused =
-    subst (λ h. IsAnswer (timeline h) result) same
-    (answers-at (timeline inside) u s edit change (IsAnswer (timeline inside)) result present planned becomes appended
+    subst (λ h. IsAnswer (timeline h) result u) same
+    (answers-at (timeline inside) u s edit change (λ r. IsAnswer (timeline inside) r u) result present planned becomes appended
     (answered (timeline inside)) (refused (timeline inside)))

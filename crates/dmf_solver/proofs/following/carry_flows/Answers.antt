@@ -18,16 +18,14 @@ loop-m-init c =
     }
 
 pub overflow_sub-step : goal.overflow_sub-step
-overflow_sub-step c = (carried-within _ _ _ _ _ _
-    (move-along c.args.direction c.args.moves.now _ _ c.loop-m-test.true c.step-step.ensures) c.loop-m.invariant).0
+overflow_sub-step c = (carried-within _ _ _ _ _ _ (move-along _ _ _ _ c.loop-m-test.true c.step-step.ensures) c.loop-m.invariant).0
 
 pub set_rooms-requires-clause-number : goal.set_rooms-requires-clause-number
-set_rooms-requires-clause-number c = (carried-within _ _ _ _ _ _
-    (move-along c.args.direction c.args.moves.now _ _ c.loop-m-test.true c.step-step.ensures) c.loop-m.invariant).2
+set_rooms-requires-clause-number c = (carried-within _ _ _ _ _ _ (move-along _ _ _ _ c.loop-m-test.true c.step-step.ensures) c.loop-m.invariant).2
 
 pub loop-m-preserved : goal.loop-m-preserved
 loop-m-preserved c =
-    carried-next _ _ _ _ _ _ _ (move-along c.args.direction c.args.moves.now _ _ c.loop-m-test.true c.step-step.ensures) c.loop-m.invariant c.set_rooms.ensures
+    carried-next _ _ _ _ _ _ _ (move-along _ _ _ _ c.loop-m-test.true c.step-step.ensures) c.loop-m.invariant c.set_rooms.ensures
 
 pub returns : goal.returns
 returns c =

@@ -15,20 +15,18 @@ loop-m-init c =
     }
 
 pub overflow_sub-k : goal.overflow_sub-k
-overflow_sub-k c = (move-within _ _ _ _ _ _ (move-along c.args.direction c.args.moves.now _ _ c.loop-m-test.true c.step-step.ensures) c.loop-m.invariant).0
+overflow_sub-k c = (move-within _ _ _ _ _ _ (move-along _ _ _ _ c.loop-m-test.true c.step-step.ensures) c.loop-m.invariant).0
 
 pub bounds-arcs-k : goal.bounds-arcs-k
 bounds-arcs-k c =
-    rw c.arcs-arcs.ensures.value (move-within _ _ _ _ _ _
-    (move-along c.args.direction c.args.moves.now _ _ c.loop-m-test.true c.step-step.ensures) c.loop-m.invariant).1
+    rw c.arcs-arcs.ensures.value (move-within _ _ _ _ _ _ (move-along _ _ _ _ c.loop-m-test.true c.step-step.ensures) c.loop-m.invariant).1
 
 pub set_rooms-requires-clause-number : goal.set_rooms-requires-clause-number
-set_rooms-requires-clause-number c = (move-within _ _ _ _ _ _
-    (move-along c.args.direction c.args.moves.now _ _ c.loop-m-test.true c.step-step.ensures) c.loop-m.invariant).2
+set_rooms-requires-clause-number c = (move-within _ _ _ _ _ _ (move-along _ _ _ _ c.loop-m-test.true c.step-step.ensures) c.loop-m.invariant).2
 
 pub loop-m-preserved : goal.loop-m-preserved
 loop-m-preserved c =
-    followed-next _ _ _ _ _ _ _ (move-along c.args.direction c.args.moves.now _ _ c.loop-m-test.true c.step-step.ensures) c.loop-m.invariant
+    followed-next _ _ _ _ _ _ _ (move-along _ _ _ _ c.loop-m-test.true c.step-step.ensures) c.loop-m.invariant
     (rw (c.saturating_sub.ensures, c.arcs-arcs.ensures.value) at c.set_rooms.ensures)
 
 pub returns-clause-flows : goal.returns-clause-flows

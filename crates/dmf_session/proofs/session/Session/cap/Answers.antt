@@ -6,7 +6,6 @@ use Rattle.dmf_session.proofs.session.Session.cap.Goals as goal
 
 pub returns : goal.returns
 returns g c want_cut =
-    let u = g.H.History.timeline c.change.new.self in
-    answers-appended g.H.History.timeline c.self.inside.history c.args.self.now c.self.view_is u _ _ (change.Cap c.args.arc c.args.cap)
-    (λ t result. Answers want_cut t (Cap c.args.arc c.args.cap) result u) _ c.present.ensures.state c.in_ok-edit.ensures.refused
-    c.in_ok-edit.ensures.plan.becomes c.change.ensures (λ t value is. is) (λ t is. is)
+    answers-appended g.H.History.timeline c.self.inside.history c.args.self.now c.self.view_is (g.H.History.timeline c.change.new.self) _ _
+    (change.Cap c.args.arc c.args.cap) (λ t result u. Answers want_cut t (Cap c.args.arc c.args.cap) result u) _ c.present.ensures.state
+    c.in_ok-edit.ensures.refused c.in_ok-edit.ensures.plan.becomes c.change.ensures (λ t value is. is) (λ t is. is)
