@@ -1,6 +1,5 @@
 """What the scripts of this folder share: the cache folder, the drivers that are built there, and the networks."""
 
-import hashlib
 import os
 import shutil
 import subprocess
@@ -49,6 +48,9 @@ def build(name):
 
 def network(family, arcs):
     """The file of a network, which is made where it is missing or its maker has changed."""
+    # It takes 4 MB, which bench/client would count to Python.
+    import hashlib
+
     makers = b"".join((BENCH / name).read_bytes() for name in ("generate.cpp", "dimacs.hpp"))
     file = CACHE / f"networks-{hashlib.sha256(makers).hexdigest()[:8]}" / f"{family}-{arcs}.max"
     if not file.exists():

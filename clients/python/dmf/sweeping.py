@@ -3,7 +3,6 @@
 from __future__ import annotations
 
 import contextlib
-import hashlib
 import operator
 import os
 import pickle
@@ -11,10 +10,9 @@ import threading
 import time
 from collections import deque
 from collections.abc import Callable, Generator, Hashable, Iterable, Iterator
-from concurrent.futures import Executor, Future, ThreadPoolExecutor
 from dataclasses import dataclass
 from itertools import islice
-from typing import Any, Generic, Tuple, Union
+from typing import TYPE_CHECKING, Any, Generic, Tuple, Union
 
 from .arcs import Arc, Node
 from .arrays import package
@@ -22,6 +20,9 @@ from .errors import Error, SessionEnded, UnknownCommand, shown
 from .kept import Kept, Whole, whole
 from .network import Network
 from .process import Program
+
+if TYPE_CHECKING:
+    from concurrent.futures import Executor, Future
 
 # A command of a case: ("cap", arc, capacity), ("close", arc), ("open", arc), ("shut", node) or ("add", tail, head, capacity).
 Command = Tuple[Any, ...]
@@ -267,6 +268,9 @@ class _Here(_Tries):
     """Programs of this process, each with a thread that waits for it."""
 
     def __init__(self, kept: Kept[Any], program: Program, want_cut: bool, jobs: int | None) -> None:
+        # It takes 1 MB, and nothing else needs it.
+        from concurrent.futures import ThreadPoolExecutor
+
         self._jobs = max(1, len(os.sched_getaffinity(0)) if jobs is None else jobs)
         self.most = 4 * self._jobs
         self._want_cut = want_cut
@@ -299,6 +303,9 @@ class _There(_Tries):
     size = PIECE
 
     def __init__(self, kept: Kept[Any], executor: Executor, want_cut: bool) -> None:
+        # It takes 4 MB, and nothing else needs it.
+        import hashlib
+
         self._executor = executor
         self._want_cut = want_cut
         self._sent = pickle.dumps(_Sent.of(kept))
