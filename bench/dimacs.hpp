@@ -64,7 +64,7 @@ inline Text read_text() {
     return text;
 }
 
-// The number at `at`, spaces before it passed over; `at` is moved behind it.
+// The number at `at`, spaces before it passed over; `at` is moved after it.
 inline uint64_t number(const char *&at) {
     while (*at == ' ' || *at == '\t') ++at;
     if (*at < '0' || *at > '9') fail("not a number");

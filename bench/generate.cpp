@@ -173,7 +173,7 @@ Network frames(uint64_t side, uint64_t count, Random &random) {
 }
 
 // Washington's random level graph: 3 arcs from each node to nodes of the next level, the source before the first one, the
-// sink behind the last.
+// sink after the last.
 Network levels(uint64_t width, uint64_t count, Random &random) {
     Network network = with_terminals(width * count);
     for (uint64_t i = 1; i <= width; ++i) network.add(network.source, i, 30000);

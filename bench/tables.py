@@ -67,7 +67,7 @@ def text(results, names, repeat, limit, patience):
     parts = [
         f"Measured on {machine()}",
         f"Seconds to read, solve and write, the least of {repeat} runs (one, where it took more than {patience} s; `> {limit}`: "
-        "not done by then, here or on a smaller network of the family). Behind them the ratio to the quickest of the row.",
+        "not done by then, here or on a smaller network of the family). After them the ratio to the quickest of the row.",
         table(["network", *names, "`dmf` to yardstick"], time_rows(results, names, limit)),
         "Peak memory in bytes for each arc, from 100,000 arcs on.",
         table(["network", *names], memory_rows(results, names)),

@@ -1,6 +1,6 @@
-// The yardstick for very long paths (links.hpp). The path has a slot for each of its places. Behind the first full link the
+// The yardstick for very long paths (links.hpp). The path has a slot for each of its places. After the first full link the
 // old path stays in its slots: where the walk comes back to it, it is whole again. So an augmentation costs the links
-// that change, and not those behind the first full one.
+// that change, and not those after the first full one.
 #include "links.hpp"
 
 // The least of some numbers, and its first place. `least[1]` is the least of all; those below `k` are at 2k and 2k + 1.

@@ -18,7 +18,7 @@ _dmf_takes_value() {
     _dmf_section Options "$1" | grep -qE -e "^(-., )?$2 <"
 }
 
-# How many of the words behind a command name a file.
+# How many of the words after a command name a file.
 _dmf_files() {
     local command=$1 count=0
     shift

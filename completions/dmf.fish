@@ -10,7 +10,7 @@ function __dmf_commands
     __dmf_section Commands | string replace -r '^(\S+)\s+' '$1\t'
 end
 
-# The words that were typed behind the program's name.
+# The words that were typed after the program's name.
 function __dmf_words
     set -l words (commandline -opc)
     string join \n -- $words[2..]

@@ -21,7 +21,7 @@ PIPE_SIZE = 1 << 16
 
 
 class Case(NamedTuple):
-    """The words behind the program's name, the problem in the file problem.max, and what is on standard input, in bytes."""
+    """The words after the program's name, the problem in the file problem.max, and what is on standard input, in bytes."""
 
     name: str
     words: tuple[bytes, ...]

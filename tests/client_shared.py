@@ -42,7 +42,7 @@ def ends(arcs: Iterable[dmf.Arc[Any]]) -> list[tuple[Any, Any]]:
 
 @contextlib.contextmanager
 def script(text: str) -> Iterator[str]:
-    """The path of a shell script, which goes behind the block."""
+    """The path of a shell script, which goes after the block."""
     with tempfile.TemporaryDirectory() as folder:
         program = f"{folder}/dmf"
         with open(program, "w") as file:
@@ -61,7 +61,7 @@ def answering(answer: str) -> Iterator[dmf.Network[str]]:
 
 @contextlib.contextmanager
 def written(text: bytes) -> Iterator[str]:
-    """The path of a file with this text, which goes behind the block."""
+    """The path of a file with this text, which goes after the block."""
     with tempfile.NamedTemporaryFile(suffix=".max") as file:
         file.write(text)
         file.flush()

@@ -42,7 +42,7 @@ class Command(NamedTuple):
         return " ".join([self.word, *self.fields])
 
     def counts(self) -> set[int]:
-        """How many fields may stand behind the word."""
+        """How many fields may stand after the word."""
         optional = sum(field.startswith("[") for field in self.fields)
         return {len(self.fields) - optional, len(self.fields)}
 
@@ -139,7 +139,7 @@ def lists_text(old: str) -> str:
     valued = ", ".join(f'b"{it.word}"' for it in COMMANDS.values() if it.reply.startswith("c "))
     front, _, rest = old.partition(LISTS)
     return (
-        f"{front}{LISTS}# How many fields may stand behind each command's word.\nFIELD_COUNTS = {{\n{counts}}}\n"
+        f"{front}{LISTS}# How many fields may stand after each command's word.\nFIELD_COUNTS = {{\n{counts}}}\n"
         f"PRINTED = ({printed})\n# The commands whose replies tell the value.\nCHANGES = ({valued})\n{LISTS_END}{rest.partition(LISTS_END)[2]}"
     )
 

@@ -16,7 +16,7 @@ from conftest import ROOT
 
 pytestmark = pytest.mark.seconds(20)
 TOOLS = ["dmf-problem", "dmf-names", "dmf-dot", "dmf-sweep", "dmf-plan", "dmf-board"]
-# What is written behind each example.
+# What is written after each example.
 END = "\x1e"
 SCRIPT = """
 import dmf

@@ -42,7 +42,7 @@ HELP = (
     "\n\nFILE and PROBLEM are texts in the DIMACS format",
     "\neach command and tool says more. man dmf has the formats.\n",
 )
-# Words that are refused, each with a part of the text that tells it. The usage is told behind it.
+# Words that are refused, each with a part of the text that tells it. The usage is told after it.
 REFUSED = [
     ("--cut", "unexpected argument '--cut' found"),
     ("--progress", "unexpected argument '--progress' found"),
@@ -116,15 +116,15 @@ HELPS: list[tuple[str, tuple[str, ...]]] = [
 VERSIONS = [("--version", "dmf 0.1.0\n"), ("-V", "dmf 0.1.0\n")]
 
 
-# What may stand behind a command; the words of one part stand together.
+# What may stand after a command; the words of one part stand together.
 PARTS = ("--brief",), ("--cut",), ("--history", "1"), ("--progress",), (PROBLEM.decode(),)
-# What is on standard input behind each command, from which it shows what was asked for.
+# What is on standard input after each command, from which it shows what was asked for.
 INPUTS = {"solve": text(CROSSED), "session": b"solve\ncap 5 1\nundo\nundo\n", "check": text(CROSSED_FLOW)}
 
 
 def orders(command: str) -> Iterator[Case]:
-    """The parts behind a command in every order: all of them behind `session`, three behind the others, which take fewer. And each
-    part twice, with the path behind it or between."""
+    """The parts after a command in every order: all of them after `session`, three after the others, which take fewer. And each
+    part twice, with the path after it or between."""
     most = len(PARTS) if command == "session" else 3
     chosen = [order for count in range(most + 1) for order in permutations(PARTS, count)]
     chosen += [order for part in PARTS for order in ((part, part, PARTS[-1]), (part, PARTS[-1], part))]
@@ -141,7 +141,7 @@ def wanted_of(case: Case) -> Outcome:
 
 
 def having(*parts: str) -> re.Pattern[bytes]:
-    """The texts that have these parts, each behind the one before."""
+    """The texts that have these parts, each after the one before."""
     return re.compile(b".*".join([b"", *(re.escape(part.encode()) for part in parts), b""]), re.DOTALL)
 
 

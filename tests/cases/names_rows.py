@@ -65,7 +65,7 @@ UNKNOWN += "give the commands by --commands FILE"
 WARNED = {
     "a session whose commands are not known": 5,
     "a printed problem makes the capacities known": 1,
-    "a transcript that begins behind its first command": 6,
+    "a transcript that begins after its first command": 6,
 }
 LOST = "c cap value 6 / s 7 / f 1 2 5 / f 2 3 5 / f 1 3 2 / c cut 7 / c side 1"
 
@@ -113,7 +113,7 @@ TOLD_OF: dict[str, tuple[Text, Text | None, Text, Text]] = {
         f"{TOLD} / c cap value 6 / value 7 /   Quarry -> Hill: 5 /   Hill -> Site: 5 /   Quarry -> Site: 2"
         " / limit 7 /   source's side: Quarry / c close value 2",
     ),
-    "a transcript that begins behind its first command": (
+    "a transcript that begins after its first command": (
         ROADS,
         None,
         f"{ANSWER} / undo / c undo value 0 / print flow / s 0 / f 1 2 0 / f 2 3 0 / f 1 3 0",

@@ -11,7 +11,7 @@ Text = Union[str, bytes]
 
 @dataclass(frozen=True)
 class Case:
-    """A table on standard input, the words behind the tool's name, and the files of the folder in which it is called."""
+    """A table on standard input, the words after the tool's name, and the files of the folder in which it is called."""
 
     table: Text
     words: tuple[str, ...] = ("A", "B")
@@ -21,7 +21,7 @@ class Case:
 LARGEST = 2**64 - 1
 TITLES = "from,to,cap\n"
 HINT = " (if these are titles, name the columns: --tail, --head and --capacity)"
-MARKED = ": decimals stand behind a point, and thousands have no mark"
+MARKED = ": decimals stand after a point, and thousands have no mark"
 # One arc from A to B of capacity 3.
 ARC = "c node 1 A\nc node 2 B\np max 2 1\nn 1 s\nn 2 t\na 1 2 3\n"
 # Two arcs, the second with a name.
@@ -255,7 +255,7 @@ WARNINGS: list[tuple[Case, list[str]]] = [
         Case("A,B,3\nA,e\u0301,3\ne\u0301,B,3\nA,\xe9\u200b,3\n\xe9\u200b,B,3\n"),
         ["names that differ only in case, or in what is not seen, are several places: 'e\u0301', '\xe9\\u200b'"],
     ),
-    # Two files, one behind the other, each with its mark.
+    # Two files, one after the other, each with its mark.
     (Case("\ufeffA,B,3\n\ufeffA,B,3\n"), ["names that differ only in spaces are one place: '\\ufeffA' is 'A'"]),
     (Case("A,B,3\nA,B ,3\n"), ["names that differ only in spaces are one place: 'B ' is 'B'"]),
     (

@@ -121,7 +121,7 @@ PROBLEMS = [
     ),
     solved("cHello", b"cHello\n" + TEXT),
     solved("capacity foo", b"capacity foo\n" + TEXT),
-    problem("a comment behind an arc", capacity(b"5 c main"), "line 4: wrong number of fields", f": {COMMENTED}; found 6 fields"),
+    problem("a comment after an arc", capacity(b"5 c main"), "line 4: wrong number of fields", f": {COMMENTED}; found 6 fields"),
     problem("# hello", b"# hello\n" + TEXT, "line 1: unknown line", ", field 1: '#' begins no line of a problem: a comment begins with c"),
     problem("% hello", b"%% hello\n" + TEXT, "line 1: unknown line", ", field 1: '%%' begins no line of a problem: a comment begins with c"),
     problem("p MAX", TEXT.replace(b"max", b"MAX"), "line 1: not a max problem", ", field 2: 'MAX': lower case: max"),

@@ -34,7 +34,7 @@ BOUNDS = "is no whole number from 0 to 18446744073709551615"
 
 @dataclass(frozen=True)
 class Words:
-    """Words that ask for a run that fails, with the status, and what is said behind the fixed text."""
+    """Words that ask for a run that fails, with the status, and what is said after the fixed text."""
 
     words: str
     status: int

@@ -110,7 +110,7 @@ def large() -> list[list[str]]:
 
 
 def test_an_interrupt() -> None:
-    """It ends the tool and its programs, the table has whole lines, and the next run goes on behind them."""
+    """It ends the tool and its programs, the table has whole lines, and the next run goes on after them."""
     wanted = large()
     command = [sys.executable, f"{ROOT}/tools/dmf-sweep", "net.max", "--close-each", "--table", "table.csv", "--jobs", "2"]
     table = Path("table.csv")

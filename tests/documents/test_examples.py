@@ -1,5 +1,5 @@
 """Runs each example of README.md, of the manual page, of the program's help, of the tutorial and of the stories, and compares what it
-writes with what stands there. An example is a line that begins with '$', and what it writes are the lines behind it. They are run in a
+writes with what stands there. An example is a line that begins with '$', and what it writes are the lines after it. They are run in a
 folder that has the program as `dmf`, and the tools and examples of the root. The tutorial and the stories are run on the second
 implementation too."""
 
@@ -16,7 +16,7 @@ from pathlib import Path
 import pytest
 from conftest import BUILT, ROOT
 
-# What is written behind each example.
+# What is written after each example.
 END = "\x1e"
 ROFF = {"\\[aq]": "'", "\\[rs]": "\\", "\\-": "-", "\\fB": "", "\\fP": ""}
 SECONDS = 60

@@ -106,7 +106,7 @@ told() {
 
 putting="$(told "$prefix")
 "
-first="dmf: the program is proved and built. This happens once, and takes some 15 minutes on 4 idle processors.
+first="dmf: the program is proved and built. This happens once, and takes some 17 minutes on 4 idle processors.
 "
 built="dmf: 1 of 1: dmf is built
 "
@@ -218,7 +218,7 @@ quiet --prefix "$prefix"
 same "a call that fails midway" "$? $(cat "$work/err")" "1 install: cannot write $prefix/bin/dmf-names"
 same "it has put the first files alone" "$(tail -qn 1 "$prefix"/bin/dmf-{problem,dot} | grep -c newer)" 1
 rm "$root/bin/mv"
-call "a call behind one that failed" 0 "$putting" "" --prefix "$prefix"
+call "a call after one that failed" 0 "$putting" "" --prefix "$prefix"
 same "it puts the others" "$(tail -qn 1 "$prefix"/bin/dmf-{problem,dot} | grep -c newer)" 2
 same "its list has each file once" "$(cut -d ' ' -f 2- "$prefix/share/dmf/installed" | sort | uniq -d)" ""
 

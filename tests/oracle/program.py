@@ -141,14 +141,14 @@ def asked(words: list[str]) -> Asked | Outcome:
 
 
 def bound_of(text: str) -> int | None:
-    """The bound that a text writes: digits, behind a plus or not; none where it is past the most."""
+    """The bound that a text writes: digits, after a plus or not; none where it is past the most."""
     digits = text.removeprefix("+")
     is_number = digits.isascii() and digits.isdigit()
     return int(digits) if is_number and int(digits) <= MOST_KEPT else None
 
 
 def asked_of(command: str, words: list[str]) -> Asked | Outcome:
-    """What the words behind a command ask for."""
+    """What the words after a command ask for."""
     path_count = 0 if command == "solve" else 1
     paths: list[str] = []
     flags: set[str] = set()

@@ -15,7 +15,7 @@ MOST_LINES = 1_000_000
 # How many states before the present one are kept, where nobody says another number.
 MOST_KEPT = 1_000_000
 LONGEST_LINE = 4_096
-# How many fields may stand behind each command's word.
+# How many fields may stand after each command's word.
 FIELDS = {
     b"cap": {2},
     b"add": {3},
@@ -57,7 +57,7 @@ def cut_of(state: State) -> bytes:
 
 
 class SolveReply(NamedTuple):
-    """What is wanted of the reply to a solve: the cut behind it, and briefly the value in place of the solution."""
+    """What is wanted of the reply to a solve: the cut after it, and briefly the value in place of the solution."""
 
     cut: bool = False
     brief: bool = False
@@ -154,7 +154,7 @@ class Refusals:
 def run_lines(
     state: State, text: bytes, wanted: SolveReply, refusals: Refusals, bound: int = MOST_KEPT
 ) -> tuple[bytes, bool]:
-    """What the lines of a command text write, one reply a line, and whether one of them is refused. An empty rest behind the
+    """What the lines of a command text write, one reply a line, and whether one of them is refused. An empty rest after the
     last line feed is no line. Lines past the limit are left out."""
     session = Session(state, wanted, bound)
     replies = []

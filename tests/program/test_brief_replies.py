@@ -85,7 +85,7 @@ def test_table(tmp_path: Path) -> None:
     for given in commands, None:
         got = ran("dmf-names", tmp_path, given, replies, "--csv")
         assert got.returncode != 0 and got.stdout == b"", given
-    assert b"`print flow` behind the last solve tells them" in ran("dmf-names", tmp_path, commands, replies, "--csv").stderr
+    assert b"`print flow` after the last solve tells them" in ran("dmf-names", tmp_path, commands, replies, "--csv").stderr
 
 
 def test_picture(tmp_path: Path) -> None:

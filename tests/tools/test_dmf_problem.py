@@ -72,13 +72,13 @@ def least_cut(
     arcs: list[tuple[str, str, int]], limits: dict[str, int], sources: dict[str, int | None], sinks: dict[str, int | None]
 ) -> int:
     """The least capacity of what parts the sources from the sinks, by trying all. Each place lies before the cut, in it, so that its
-    own limit is cut, or behind it; a limited source may be cut off where it gives, and a limited sink where it takes."""
+    own limit is cut, or after it; a limited source may be cut off where it gives, and a limited sink where it takes."""
     places = sorted({place for tail, head, _ in arcs for place in (tail, head)})
     totals: list[int] = []
     for sides in product((0, 1, 2), repeat=len(places)):
         side = dict(zip(places, sides))
         costs: list[int | None] = [limits.get(place) for place in places if side[place] == 1]
-        # A source whose entry lies behind the cut is cut off, and so is a sink whose exit lies before it.
+        # A source whose entry lies after the cut is cut off, and so is a sink whose exit lies before it.
         costs += [limit for place, limit in sources.items() if side[place] == 2]
         costs += [limit for place, limit in sinks.items() if side[place] == 0]
         # An arc leaves the exit of its tail, and enters the entry of its head.

@@ -40,7 +40,7 @@ def loaded() -> Any:
 
 
 def problem_lines(columns: Columns[Any], capacities: array[int]) -> Iterator[bytes]:
-    """The arc lines of a problem, many at once. Behind its capacities may stand those of arcs that were added."""
+    """The arc lines of a problem, many at once. After its capacities may stand those of arcs that were added."""
     np, count = loaded(), len(columns)
     size = PLAIN_PIECE if np is None else PIECE
     for begin in range(0, count, size):

@@ -440,7 +440,7 @@ class Handler(BaseHTTPRequestHandler):
         return answer({"error": why}, 403)
 
     def _path(self) -> str:
-        """What stands behind the token."""
+        """What stands after the token."""
         return urlsplit(self.path).path[len(self.server.token) + 1 :]
 
     def _get(self, path: str) -> Answer | None:

@@ -10,7 +10,7 @@ LONGEST_LINE = 4_096
 SOLVE, ADD, UNDO, REDO = "solve", "add", "undo", "redo"
 PRINT_PROBLEM, PRINT_FLOW, PRINT_CUT = "print problem", "print flow", "print cut"
 # tests/commands.py has the commands: /usr/bin/python3 -m pytest --write tests/test_commands.py makes these lists.
-# How many fields may stand behind each command's word.
+# How many fields may stand after each command's word.
 FIELD_COUNTS = {
     b"cap": (2,),
     b"add": (3,),

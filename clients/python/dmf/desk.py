@@ -352,7 +352,7 @@ class Desk:
 
     @property
     def steps(self) -> list[Step]:
-        """The steps that were made, and behind them those that were undone."""
+        """The steps that were made, and after them those that were undone."""
         return [*self._time.done, *reversed(self._time.undone)]
 
     @property
@@ -489,7 +489,7 @@ class Desk:
             self._time.undone.pop()
 
     def go_to(self, at: int) -> None:
-        """Goes back or forward to the state behind so many of the steps."""
+        """Goes back or forward to the state after so many of the steps."""
         if not 0 <= at <= len(self.steps):
             raise DeskFault(f"there is no step {at}")
         if at <= self.at:

@@ -109,7 +109,7 @@ class Network(Generic[Node]):
         try:
             self._begin(_started(kept, program), kept)
         except Refused as refused:
-            # The lines of the arcs stand behind three others.
+            # The lines of the arcs stand after three others.
             number = (refused.line or 0) - 3
             raise Refused.of(refused.text, repr(kept.handle(number)) if number >= 1 else "") from None
 
@@ -212,7 +212,7 @@ class Network(Generic[Node]):
 
     def open(self, arc: Hashable) -> Arc[Node]:
         """Opens a closed arc: adds it again, with its ends, its key and the capacity that it had when it was closed. To the program that
-        is a new arc with a new number, behind all others, on which nothing flows yet; `undo` takes it away. Returns its handle. The key
+        is a new arc with a new number, after all others, on which nothing flows yet; `undo` takes it away. Returns its handle. The key
         and the ends name the new arc from now on, while the old handle still names the arc that is closed.
 
         Raises `ArcIsOpen` where the arc is open, `TooManyArcs`, `CapacitiesPast64Bits`, and what `arc` raises."""
@@ -288,7 +288,7 @@ class Network(Generic[Node]):
         """The smallest minimum cut. Raises `FlowIsNotGreatest` where some flow has a larger value than the present one, as before
         `solve`."""
         with self._child.alone():
-            # A cut is as long as it is; what is answered to `undo 0`, which changes nothing, stands behind its end.
+            # A cut is as long as it is; what is answered to `undo 0`, which changes nothing, stands after its end.
             with self._child.exchange("print cut\nundo 0"):
                 lines = self._child.lines_before(b"c undo value ").split(b"\n")[:-1]
                 capacity = int(self._begun(lines[0].split(), "print cut", [b"c", b"cut"])[2])

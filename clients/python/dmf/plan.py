@@ -32,7 +32,7 @@ FLOW, PLACE, ARC, CLOSED, COMMAND, EACH = "flow", "place", "arc", "closed", "com
 
 
 class Help(NamedTuple):
-    """How a command is written, what it does, and which names may stand behind it."""
+    """How a command is written, what it does, and which names may stand after it."""
 
     form: str
     says: str
@@ -99,7 +99,7 @@ def split(line: str) -> list[Word]:
 
 
 def _quoted(line: str, start: int) -> tuple[Word, int]:
-    """The word whose quote opens at a place, and the place behind it."""
+    """The word whose quote opens at a place, and the place after it."""
     text, at = "", start + 1
     while True:
         end = line.find('"', at)
@@ -486,7 +486,7 @@ class Plan(cmd.Cmd):
         return sorted(f"{_typed_form(name, last.is_open)} "[typed:] for name in found)
 
     def _candidates(self, before: list[str]) -> Iterator[str]:
-        """What may stand behind these words."""
+        """What may stand after these words."""
         desk, names = self.desk, self.desk.names
         if before[:1] == ["what-if"]:
             if len(before) == 1:
@@ -530,7 +530,7 @@ def _none(words: list[str], command: str) -> None:
 
 
 def _wanted(words: list[str], command: str) -> str:
-    """What stands behind a command, which is one name."""
+    """What stands after a command, which is one name."""
     name = cleaned(" ".join(words))
     if not name:
         raise DeskFault(f"wanted is: {COMMANDS[command].form}")

@@ -1,10 +1,10 @@
 """Makes a problem text of a table of arcs: nodes by the names of places, several sources and sinks, and limits of places.
 
-Nodes are numbered as their places come first in the table, and arcs as their rows. Behind them stand what is added:
+Nodes are numbered as their places come first in the table, and arcs as their rows. After them stand what is added:
 
 - the second half of each place with a limit, which has the same name. Arcs into the place enter its first half, arcs out of it leave
   its second half, and the arc between them, `limit of Depot`, carries the limit;
-- a node before several sources, `all sources`, with an arc to each, `supply of Mill`; one behind several sinks, `all sinks`,
+- a node before several sources, `all sources`, with an arc to each, `supply of Mill`; one after several sinks, `all sinks`,
   with an arc from each, `demand of Town`. These carry as much as the arcs at the place, or the limit of the source or the sink.
 """
 

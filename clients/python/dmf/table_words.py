@@ -54,7 +54,7 @@ def parsed(parser: argparse.ArgumentParser, given: list[str], fixed: int = 0) ->
     the sink. Words that do not go together are refused."""
     end = given.index("--") if "--" in given else len(given)
     words = parser.parse_intermixed_args(given[:end])
-    # Behind -- no word is an option, so a place there may begin with a dash.
+    # After -- no word is an option, so a place there may begin with a dash.
     places = [*words.places, *given[end + 1 :]]
     words.fixed, words.places = places[:fixed], places[fixed:]
     if words.places and names_terminals(words) or len(words.places) not in (0, 2):

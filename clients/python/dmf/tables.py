@@ -190,7 +190,7 @@ def whole_number(text: str, scale: Optional[Decimal] = None) -> int:
     found = _DECIMAL.fullmatch(text)
     if not found or not (found[1] or found[2]):
         is_negative = text[:1] in "-\u2212" and text[1:2].isdigit()
-        hint = ": decimals stand behind a point, and thousands have no mark" if _MARKED.fullmatch(text) else ""
+        hint = ": decimals stand after a point, and thousands have no mark" if _MARKED.fullmatch(text) else ""
         raise ValueError("is below 0" if is_negative else f"is no whole number{hint}")
     whole, fraction = found[1].lstrip("0"), found[2] or ""
     hint = f"; --scale {10 ** len(fraction)}?" if 0 < len(fraction) < LONGEST_NUMBER else ""

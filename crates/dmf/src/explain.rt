@@ -1,4 +1,4 @@
-//! What is told on a terminal behind a fault. By its words it is known from where the program reads.
+//! What is told on a terminal after a fault. By its words it is known from where the program reads.
 use crate::fault::Fault;
 use crate::words;
 use dmf_arguments::{MAX_HISTORY, Mode, read_words};

@@ -128,7 +128,7 @@ fn check(rt: &HostRuntime, path: &str) -> Result<Status, Fault> {
     outcome.map_err(Fault::Run)
 }
 
-/// Standard output, behind a buffer.
+/// Standard output with a buffer.
 fn output(rt: &HostRuntime) -> Result<StdSink<BufWriter<Stdout>>, Fault> {
     match BufWriter::with_capacity(rt.alloc(), OUTPUT_BUFFER, rt.stdout()) {
         Ok(writer) => Ok(StdSink::new(writer)),

@@ -49,7 +49,7 @@ pub record AskedRows (rows : List Row) (flag brief progress bound path : Option 
   pub bound_is : one_of (codes "history") rows ≡ bound
   pub path_is : first_of (codes "problem") rows ≡ path
 
--- the name of a command that was found, and the texts of what stood behind it
+-- the name of a command that was found, and the texts of what stood after it
 abbrev Parts : Type 0
 Parts = Text × Option Text × Option Text × Option Text × Option Text × Option Text
 

@@ -41,11 +41,11 @@ session_of cut brief progress path =
 abbrev pub check_of : Text → Asked
 check_of path = Some (codes "check", None, None, None, None, Some path)
 
--- words that begin with an option, whatever stands behind it
+-- words that begin with an option, whatever stands after it
 abbrev pub misplaced : List Text → List (List Text)
 misplaced rest = (codes "--cut" ∷ rest) ∷ (codes "--brief" ∷ rest) ∷ (codes "--progress" ∷ rest) ∷ (codes "--history" ∷ rest) ∷ []
 
--- words with an option behind a command that does not take it
+-- words with an option after a command that does not take it
 abbrev pub strange : Text → List (List Text)
 strange word = (codes "solve" ∷ codes "--brief" ∷ []) ∷ (codes "solve" ∷ codes "--history" ∷ word ∷ [])
     ∷ (codes "check" ∷ codes "--cut" ∷ word ∷ []) ∷ (codes "check" ∷ codes "--brief" ∷ word ∷ [])
@@ -57,7 +57,7 @@ repeated word = (codes "solve" ∷ codes "--cut" ∷ codes "--cut" ∷ []) ∷ (
     ∷ (codes "session" ∷ codes "--cut" ∷ codes "--cut" ∷ word ∷ []) ∷ (codes "session" ∷ codes "--brief" ∷ codes "--brief" ∷ word ∷ [])
     ∷ (codes "session" ∷ codes "--progress" ∷ codes "--progress" ∷ word ∷ []) ∷ []
 
--- words that ask for help: alone, whatever stands behind it, and behind a command
+-- words that ask for help: alone, whatever stands after it, and after a command
 abbrev pub helps : List Text → List (List Text)
 helps rest = (codes "--help" ∷ rest) ∷ (codes "solve" ∷ codes "--help" ∷ []) ∷ (codes "session" ∷ codes "--help" ∷ [])
     ∷ (codes "check" ∷ codes "--help" ∷ []) ∷ []

@@ -15,7 +15,7 @@ use Rattle.dmf_arguments.specs.declared.words.WordsFault.TheVariants.{Help, Usag
 
 -- what the program is asked to do, with the path of the problem's file: of a solve and of a session, whether the cut is wanted,
 -- and whether progress is told also where standard error is no terminal; of a session, between these two, whether a solve is
--- answered briefly, and behind them the bound of its history
+-- answered briefly, and after them the bound of its history
 pub data Task : Type 0 where
   solving : Bool → Bool → Task
   holding : Bool → Bool → Bool → ℕ → Text → Task
@@ -39,7 +39,7 @@ HasBound (mode.Solve cut) = ⊤
 HasBound (mode.Session cut history problem) = history ≤ 1000000
 HasBound (mode.Check problem) = ⊤
 
--- The text writes this bound: decimal digits, behind a plus or not, of a number that is at most 1,000,000.
+-- The text writes this bound: decimal digits, after a plus or not, of a number that is at most 1,000,000.
 pub record IsBound (text : Text) (bound : ℕ) : Type 0 where
   pub numeral : IsNumeral 10 (without_leading_plus text)
   pub value : bound ≡ digits_value 10 (without_leading_plus text)

@@ -1,6 +1,6 @@
 //! The texts that the help adds to what clap makes of the program's arguments.
 
-/// What `dmf --version` tells behind the program's name.
+/// What `dmf --version` tells after the program's name.
 pub const VERSION: &str = "0.1.0";
 
 /// What the program is for.
@@ -32,7 +32,7 @@ pub const HISTORY: &str = "Keep at most N changes for undo";
 /// The option `--progress`.
 pub const PROGRESS: &str = "Tell on standard error how far it is";
 
-/// The path behind `dmf session` and `dmf check`.
+/// The path after `dmf session` and `dmf check`.
 pub const PROBLEM: &str = "The file with the problem";
 
 /// How the program is used.

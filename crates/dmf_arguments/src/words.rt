@@ -78,11 +78,11 @@ pub fn read_words(alloc: Global, words: Vec<String>) -> Result<Mode, WordsFault>
 
 /// Reads the program's arguments, of which the first is its name.
 ///
-/// No words behind it, or `solve`, ask for [`Mode::Solve`]; `session PROBLEM` asks for [`Mode::Session`], and
-/// `check PROBLEM` for [`Mode::Check`]. The flags `--cut` and `--progress` may stand behind `solve` and `session`, `--brief` and
-/// `--history N` behind `session` alone, N a number up to [`MAX_HISTORY`], which is what stands for it where it is absent, and `--help`
-/// behind each command and alone: it is answered by [`WordsFault::Help`], and so are `help`, alone or before a command, and `--version`
-/// alone. A PROBLEM that begins with a dash stands behind `--`. All other words are refused by [`WordsFault::Usage`]; the texts are
+/// No words after it, or `solve`, ask for [`Mode::Solve`]; `session PROBLEM` asks for [`Mode::Session`], and
+/// `check PROBLEM` for [`Mode::Check`]. The flags `--cut` and `--progress` may stand after `solve` and `session`, `--brief` and
+/// `--history N` after `session` alone, N a number up to [`MAX_HISTORY`], which is what stands for it where it is absent, and `--help`
+/// after each command and alone: it is answered by [`WordsFault::Help`], and so are `help`, alone or before a command, and `--version`
+/// alone. A PROBLEM that begins with a dash stands after `--`. All other words are refused by [`WordsFault::Usage`]; the texts are
 /// those of `clap`. [`WordsFault::NoMemory`] may come in place of any answer.
 #[inline(never)]
 pub fn read_arguments(alloc: Global, words: Vec<String>) -> Result<Arguments, WordsFault>

@@ -58,7 +58,7 @@ before-next : (edits : List Edit) (s : NetworkState) (k : ℕ) (edit : Edit) →
     → before (take (k + 1) edits) s ≡ before (take k edits) (reverted edit s)
 before-next edits s k edit is = ap (λ es. before es s) (next edits k edit is) ∙ before-push (take k edits) edit s
 
--- the first edits, and one put behind them
+-- the first edits, and one put after them
 length-put : (edits : List Edit) (k : ℕ) (edit : Edit) → k ≤ length edits → length (take k edits ++ edit ∷ []) ≡ k + 1
 length-put edits k edit h = omega (arith, length_push (take k edits) edit, length-take-le k edits h)
 
@@ -117,7 +117,7 @@ before-after law (edit ∷ edits) s zero fit = refl
 before-after law (edit ∷ edits) s (suc k) fit =
     ap (reverted edit) (before-after law edits (applied edit s) k (λ j e is. fit (suc j) e is)) ∙ law edit s (fit zero edit refl)
 
--- The edits behind the oldest one are taken back to what it makes of the first state.
+-- The edits after the oldest one are taken back to what it makes of the first state.
 forgotten-first : GivesBack → (present : NetworkState) (place : ℕ) (edit : Edit) (edits : List Edit) (are : AreEdits present (edit ∷ edits) (suc place))
     → before (take place edits) present ≡ applied edit are.first
 forgotten-first law present place edit edits are =
@@ -136,7 +136,7 @@ forgotten-next law present place (edit ∷ edits) are =
       present_is = are.present_is;
     }
 
--- What the edits behind the oldest one are.
+-- What the edits after the oldest one are.
 forgotten-edits : GivesBack → (present : NetworkState) (place : ℕ) (edits : List Edit) (next : ℕ) → next ≡ suc place → AreEdits present edits next
     → AreEdits present (drop 1 edits) place
 forgotten-edits law present place edits next is are = forgotten-next law present place edits (subst (AreEdits present edits) is are)

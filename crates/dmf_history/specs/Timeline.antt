@@ -31,7 +31,7 @@ future_of t = length t.states - (t.place + 1)
 abbrev pub start : ℕ → NetworkState → Timeline
 start bound s = record { states = s ∷ []; place = 0; bound = bound }
 
--- The states past the place are dropped, and the new one is put behind the others and is the present one.
+-- The states past the place are dropped, and the new one is put after the others and is the present one.
 abbrev pub extended : Timeline → NetworkState → Timeline
 extended t s = record { states = take (t.place + 1) t.states ++ s ∷ []; place = t.place + 1; bound = t.bound }
 

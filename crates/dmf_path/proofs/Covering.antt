@@ -28,7 +28,7 @@ Covers-weaker n P Q indices weaker covers = record {
       (covers.others k h);
 }
 
--- the index behind the first `i` of these
+-- the index after the first `i` of these
 abbrev pub index_behind : List ℕ → ℕ → ℕ
 index_behind indices zero = 0
 index_behind indices (suc i) = get_or indices i 0 + 1

@@ -29,7 +29,7 @@ descends-append l labels top middle bottom [] qs first later = descends-raised l
 descends-append l labels top middle bottom (p ∷ ps) qs first later =
     (first.0, descends-append l labels (get_or labels (get_or l.heads p 0) 0) middle bottom ps qs first.1 later)
 
--- Those behind some of them descend.
+-- Those after some of them descend.
 pub descends-behind : (l : Links) (labels : List ℕ) (top bottom : ℕ) (ps qs : List ℕ) → Descends l labels top bottom (ps ++ qs)
     → Descends l labels top bottom qs
 descends-behind l labels top bottom [] qs descends = descends
@@ -106,7 +106,7 @@ pub off-append : (p : ℕ) (ps qs : List ℕ) → IsOff p ps → IsOff p qs → 
 off-append p [] qs first later = later
 off-append p (q ∷ ps) qs first later = (first.0, off-append p ps qs first.1 later)
 
--- One of the links, and those before and behind it.
+-- One of the links, and those before and after it.
 pub record IsBetween (l : Links) (labels : List ℕ) (top bottom p : ℕ) (ps qs : List ℕ) : Type 0 where
   pub falls : FallsBelow l labels top p
   pub before : IsOff p ps

@@ -122,7 +122,7 @@ level-read l opens root labels queue done node level are so_far ahead node_read 
     let read = node-read l opens root labels queue done node are so_far ahead node_read in
     ap (λ v. get_or labels v 0) read.0 ∙ get_or_default labels node 0 level (omega (arith, read.1.to_last, so_far.one_each)) ∙ sym level_read
 
--- The nodes behind a place of the queue.
+-- The nodes after a place of the queue.
 pub behind-at : (queue : List ℕ) (before i : ℕ) → get_or (take (length queue - before) (drop before queue)) i 0 ≡ get_or queue (before + i) 0
 behind-at queue before i =
     ap (λ q. get_or q i 0) (take_all (length queue - before) (drop before queue) (omega (arith, length-drop before queue))) ∙ get_or-drop before queue i 0
@@ -131,7 +131,7 @@ pub behind-long : (queue : List ℕ) (before : ℕ) → length (take (length que
 behind-long queue before =
     ap length (take_all (length queue - before) (drop before queue) (omega (arith, length-drop before queue))) ∙ length-drop before queue
 
--- A node behind the place has a label.
+-- A node after the place has a label.
 pub behind-node : (l : Links) (opens : List ℕ) (root : ℕ) (labels queue : List ℕ) (done k v : ℕ) → AreLinks l → AreSpread l opens root labels queue done
     → k < length queue → get_or queue k 0 ≡ v → IsNode l.nodes v × (get_or labels v 0 ≢ no_label)
 behind-node l opens root labels queue done k v are so_far within is =

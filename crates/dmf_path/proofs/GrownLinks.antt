@@ -90,7 +90,7 @@ module _ (l : Links) (places : List ℕ) (k : ℕ) (g : Gap) (links : AreLinks l
   pub shift-is : (p : ℕ) → shifted g p ≡ p + min 1 (p + 1 - g.low) + min 1 (p + 1 - g.high)
   shift-is p = shifted-sum g p in-order
 
-  -- A link behind a new one is not one of an earlier node,
+  -- A link after a new one is not one of an earlier node,
   slot-from : (u s v p : ℕ) → IsSlot l places k u s → v ≤ l.nodes → get_or l.first v 0 ≤ p → min 1 (v - u) ≤ min 1 (p + 1 - s)
   slot-from u s v p slot node from = elim (cases_lt u v) [
     | inl before ↦ omega (arith, slot.to, first-before l u v links before (omega arith), from)
@@ -241,7 +241,7 @@ module _ (l : Links) (places : List ℕ) (k : ℕ) (g : Gap) (links : AreLinks l
       at_tail = λ v q node lies. at-tail v q node lies (lies-in v q (omega (arith, node.to_last, grown.nodes)) lies);
     }
 
--- No node's links begin behind the last link.
+-- No node's links begin after the last link.
 pub first-short : (l : Links) (v : ℕ) → AreLinks l → v < length l.first → get_or l.first v 0 < 2 ^ 31
 first-short l v links within =
     let n : ℕ = l.nodes + 1 - v in

@@ -156,7 +156,7 @@ module _ (l : Links) (places : List ℕ) (k : ℕ) (g : Gap) (links : AreLinks l
       sym (ap (λ x. get_or n.heads x 0) o.partner ∙ o.leads_back)
       ∙ at-tail l places k g links gap n grown v (g.high + 1) node lies (omega (arith, gap-within l places k g links gap, grown.heads.long))
 
-  -- Before a new link lie those of the pairs before it, and behind it the others.
+  -- Before a new link lie those of the pairs before it, and after it the others.
   before-new : (v p a q : ℕ) → IsNode n.nodes v → p < length l.heads → LiesAt n v (shifted g p) → LiesAt n v q → IsOf l places p a
       → (q ≡ g.low) ⊎ (q ≡ g.high + 1) → shifted g p < q → a < k
   before-new v p a q node below p_lies q_lies of at before = elim at [

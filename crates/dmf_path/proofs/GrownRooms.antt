@@ -62,7 +62,7 @@ spread-two g f first second before mid after order within same each is =
       at_high = two-high g first second mid 0 order in_mid;
     })
 
--- what is read behind a new place
+-- what is read after a new place
 pub get-counted : {A : Type 0} (xs : List A) (k : ℕ) (y d : A) (i : ℕ) → k ≤ length xs → get_or (insert xs k y) (counted k i) d ≡ get_or xs i d
 get-counted xs k y d i most = elim (cases_lt i k) [
   | inl before ↦ ap (λ j. get_or (insert xs k y) j d) (cond-true _ _ _ (lt-ltb i k before)) ∙ get_or-insert_below xs k y d i before most

@@ -63,7 +63,7 @@ is-whole l labels after current w way joins =
           ∙ ap (λ v. end_of l v (places_of (rest_slots w))) joins ∙ way.ends;
     }
 
--- One of the slots, and those before and behind it
+-- One of the slots, and those before and after it
 split-at : (slots : List Slot) (i : ℕ) → i < length slots → slots ≡ take i slots ++ (slot_at slots i ∷ drop (i + 1) slots)
 split-at slots i within = sym (take-append-drop i slots) ∙ ap (λ (ss : List Slot). take i slots ++ ss) (drop_more slots i _ within)
 

@@ -56,7 +56,7 @@ IsTrail-set l labels rooms current v (p ∷ ps) x y trail low =
     let other : v ≢ x = λ same. absurd (omega (arith, ap (λ u. slice_index labels u) same, trail.0.falls, falls, low)) in
     (trail.0, get_or-set_other current x v y 0 other ∙ trail.1, IsTrail-set l labels rooms current (slice_index l.heads p) ps x y trail.2 low)
 
--- Another current link of a node that is one of its own, or behind them.
+-- Another current link of a node that is one of its own, or after them.
 pub AreCurrent-set : (l : Links) (current : List ℕ) (x y : ℕ) → AreCurrent l current → IsNode l.nodes x → slice_index l.first x ≤ y
     → y ≤ slice_index l.first (x + 1) → AreCurrent l (set current x y)
 AreCurrent-set l current x y are node from to =

@@ -53,7 +53,7 @@ filled_label beyond label = if label == no_label then beyond else label
 abbrev pub filled : ℕ → List ℕ → List ℕ
 filled beyond labels = map (filled_label beyond) labels
 
--- Each link with room from a node on the level behind the one that nodes without a label count as leads to a node with a label.
+-- Each link with room from a node on the level after the one that nodes without a label count as leads to a node with a label.
 abbrev pub IsGated : Links → List ℕ → List ℕ → ℕ → Type 0
 IsGated l labels rooms beyond =
     (v p : ℕ) → IsNode l.nodes v → LiesAt l v p → 0 < slice_index rooms p → slice_index labels v ≡ beyond + 1

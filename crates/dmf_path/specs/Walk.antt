@@ -35,7 +35,7 @@ abbrev pub AreSkipped : Links → List ℕ → List ℕ → List ℕ → Type 0
 AreSkipped l labels rooms current =
     (v p : ℕ) → IsNode l.nodes v → LiesAt l v p → p < slice_index current v → ¬ IsAdmissible l labels rooms v p
 
--- The current link of each node is one of its links, or stands behind them.
+-- The current link of each node is one of its links, or stands after them.
 pub record AreCurrent (l : Links) (current : List ℕ) : Type 0 where
   pub one_each : length current ≡ l.nodes + 1
   pub from : (v : ℕ) → IsNode l.nodes v → slice_index l.first v ≤ slice_index current v

@@ -153,7 +153,7 @@ impl Trail {
     }
 
     /// Splits the path at its saturated links: the links from the first to the last of them leave. What is before them stays as the
-    /// walk, and what is behind them as the rest.
+    /// walk, and what is after them as the rest.
     pub fn split(&mut self, links: &mut Links)
         requires can { (first behind : ℕ) → first < behind → behind ≤ length self.old.slots.items →
             CanPut (links_of links.old.table.value) links.old.takes_back self.old.sent
@@ -185,7 +185,7 @@ impl Trail {
         self.slots.len()
     }
 
-    /// The index behind the last saturated link, or 0 if there is none.
+    /// The index after the last saturated link, or 0 if there is none.
     fn behind_last_full(&self) -> usize
         ensures within { result ≤ length self.now.slots.items }
         ensures open_links { (i : ℕ) → result ≤ i → i < length self.now.slots.items → (slot_at self.now.slots.items i).full_at ≢ self.now.sent }

@@ -17,35 +17,35 @@ with_number (Ok n) next = next n
 with_number (Err digits.NotANumber) next = Err NotANumber
 with_number (Err digits.TooLarge) next = Err TooLarge
 
--- `I U`, the fields behind `cap`
+-- `I U`, the fields after `cap`
 unfoldable pub capping : List (List ℕ) → Result Command Refusal
 capping (arc ∷ cap ∷ []) = with_number (number_of arc) (λ arc. with_number (number_of cap) (λ cap. Ok (Cap arc cap)))
 capping fields = Err FieldCount
 
--- `V W U`, the fields behind `add`
+-- `V W U`, the fields after `add`
 unfoldable pub addition : List (List ℕ) → Result Command Refusal
 addition (tail ∷ head ∷ cap ∷ []) =
     with_number (number_of tail) (λ tail.
     with_number (number_of head) (λ head. with_number (number_of cap) (λ cap. Ok (Add tail head cap))))
 addition fields = Err FieldCount
 
--- `I`, the field behind `close`, or `V`, that behind `shut`
+-- `I`, the field after `close`, or `V`, that after `shut`
 unfoldable pub one_number : List (List ℕ) → Result ℕ Refusal
 one_number (field ∷ []) = with_number (number_of field) (λ n. Ok n)
 one_number fields = Err FieldCount
 
--- nothing, which is what stands behind `solve`
+-- nothing, which is what stands after `solve`
 unfoldable pub solving : List (List ℕ) → Result Command Refusal
 solving [] = Ok Solve
 solving fields = Err FieldCount
 
--- nothing or `K`, the fields behind `undo` and `redo`
+-- nothing or `K`, the fields after `undo` and `redo`
 unfoldable pub steps : List (List ℕ) → Result ℕ Refusal
 steps [] = Ok 1
 steps (count ∷ []) = with_number (number_of count) (λ n. Ok n)
 steps (count ∷ field ∷ fields) = Err FieldCount
 
--- what to print, the field behind `print`
+-- what to print, the field after `print`
 unfoldable pub printing : List (List ℕ) → Result Command Refusal
 printing (what ∷ []) =
     if bytes_eq what (codes "problem") then Ok PrintProblem
@@ -59,7 +59,7 @@ abbrev pub command_by : {X : Type 0} → (X → Command) → Result X Refusal �
 command_by command (Ok x) = Ok (Some (command x))
 command_by command (Err refusal) = Err refusal
 
--- What a line means that asks for no change: by its first field, which is neither `c` nor the word of a change, and those behind.
+-- What a line means that asks for no change: by its first field, which is neither `c` nor the word of a change, and those after.
 abbrev pub meaning_of_other : List ℕ → List (List ℕ) → Result (Option Command) Refusal
 meaning_of_other word behind =
     if bytes_eq word (codes "solve") then command_by (λ command. command) (solving behind)

@@ -59,7 +59,7 @@ RunsAreOptimal =
     (want_cut brief : Bool) (bound : ℕ) (s : NetworkState) (given text : List ℕ) (refused : Bool) → IsState s
     → RunsAll brief (Answers want_cut) (start bound s) given text refused → RunsAll brief (AnswersOptimally want_cut) (start bound s) given text refused
 
--- What is appended to the timeline makes it forget no state: it is put behind the states up to the present one.
+-- What is appended to the timeline makes it forget no state: it is put after the states up to the present one.
 abbrev pub ForgetsNothing : Timeline → Type 0
 ForgetsNothing t = (s : NetworkState) → appended t s ≡ extended t s
 

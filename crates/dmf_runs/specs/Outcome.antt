@@ -108,7 +108,7 @@ pub record EndsWell (wanted : SolveReply) (t : Timeline) (old new : Streams) (gi
   pub within : IsWithin new given (line_count all.lines all.rest)
   pub none_failed : NoneFailed old new
 
--- A read failed behind the lines that were carried out.
+-- A read failed after the lines that were carried out.
 pub record EndsUnread (wanted : SolveReply) (t : Timeline) (old new : Streams) (given written : List ℕ) : Type 0 where
   pub lines : RunsEndedLines wanted t given written
   pub reader : new.reader.has_failed ≡ true

@@ -43,7 +43,7 @@ fn without_carriage_return(line: &[u8]) -> &[u8]
 /// Reads a command line, given without its end. A blank line and a comment, whose first field is `c`, mean nothing.
 ///
 /// Answers the first of these faults: [`Refusal::UnknownCommand`] of the first field, [`Refusal::FieldCount`],
-/// [`Refusal::UnknownCommand`] of the field behind `print`, and for each number from left to right
+/// [`Refusal::UnknownCommand`] of the field after `print`, and for each number from left to right
 /// [`Refusal::NotANumber`] or [`Refusal::TooLarge`]. Takes no memory.
 pub fn read_command(line: &[u8]) -> Result<Option<Command>, Refusal>
     ensures { result ≡ command_of line.now }
@@ -97,7 +97,7 @@ fn read_other(word: &[u8], fields: Fields<'_>) -> Result<Command, Refusal>
     }
 }
 
-/// Reads the fields behind `cap`.
+/// Reads the fields after `cap`.
 #[tactic(auto, unfolding(crate::specs::CommandText::capping))]
 fn read_capping(mut fields: Fields<'_>) -> Result<Command, Refusal>
     ensures { result ≡ capping fields.entry }
@@ -119,7 +119,7 @@ fn capping_of(arc: &[u8], cap: &[u8]) -> Result<Command, Refusal>
     })
 }
 
-/// Reads the fields behind `add`.
+/// Reads the fields after `add`.
 #[tactic(auto, unfolding(crate::specs::CommandText::addition))]
 fn read_addition(mut fields: Fields<'_>) -> Result<Command, Refusal>
     ensures { result ≡ addition fields.entry }
@@ -142,7 +142,7 @@ fn addition_of(tail: &[u8], head: &[u8], cap: &[u8]) -> Result<Command, Refusal>
     })
 }
 
-/// Reads the field behind `close` or `shut`.
+/// Reads the field after `close` or `shut`.
 #[tactic(auto, unfolding(crate::specs::CommandText::one_number))]
 fn read_one_number(mut fields: Fields<'_>) -> Result<u64, Refusal>
     ensures { result ≡ one_number fields.entry }
@@ -153,7 +153,7 @@ fn read_one_number(mut fields: Fields<'_>) -> Result<u64, Refusal>
     }
 }
 
-/// Reads the fields behind `solve`, of which there are none.
+/// Reads the fields after `solve`, of which there are none.
 #[tactic(auto, unfolding(crate::specs::CommandText::solving))]
 fn read_solving(mut fields: Fields<'_>) -> Result<Command, Refusal>
     ensures { result ≡ solving fields.entry }
@@ -164,7 +164,7 @@ fn read_solving(mut fields: Fields<'_>) -> Result<Command, Refusal>
     }
 }
 
-/// Reads the fields behind `undo` or `redo`.
+/// Reads the fields after `undo` or `redo`.
 #[tactic(auto, unfolding(crate::specs::CommandText::steps))]
 fn read_steps(mut fields: Fields<'_>) -> Result<u64, Refusal>
     ensures { result ≡ steps fields.entry }
@@ -176,7 +176,7 @@ fn read_steps(mut fields: Fields<'_>) -> Result<u64, Refusal>
     }
 }
 
-/// Reads the field behind `print`.
+/// Reads the field after `print`.
 #[tactic(auto, unfolding(crate::specs::CommandText::printing))]
 fn read_printing(mut fields: Fields<'_>) -> Result<Command, Refusal>
     ensures { result ≡ printing fields.entry }

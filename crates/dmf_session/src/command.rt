@@ -70,7 +70,7 @@ pub enum Reply {
 /// Why a command is refused. Only the reader of command lines gives the first four and the last.
 #[derive(Clone, Copy, Debug, PartialEq, Eq)]
 pub enum Refusal {
-    /// The first field is no command, or the field behind `print` names nothing to print.
+    /// The first field is no command, or the field after `print` names nothing to print.
     UnknownCommand,
     /// The command takes another number of fields.
     FieldCount,

@@ -23,9 +23,9 @@ use std::marker::Model;
 /// A network that commands change, over the history that keeps its states.
 ///
 /// From the first solve or drain on the session also keeps the residual network of the present state, so that the next of these need
-/// not make it anew. The network follows each change, and each step back or forward where the history tells the edit; the first of
-/// these after a solve takes time for each node, and an added arc takes memory and time for each link. The session drops it where an added arc
-/// is taken back, and where memory is refused.
+/// not make it anew. The network follows each change, and each step back or forward where the history tells the edit. The first of
+/// these after a solve takes time for each node that has a label; an added arc takes memory and time for each link. The session drops
+/// the network where an added arc is taken back, and where memory is refused.
 #[derive(Drop)]
 pub struct Session<H: History> {
     history: H,

@@ -113,7 +113,7 @@ IsStep-carrying n flows s network (along c) =
 IsStep-carrying n flows s network (returns c) =
     (subst (IsNode n.nodes) (sym c.from_sink) network.sink, subst (IsNode n.nodes) (sym c.to_source) network.source)
 
--- the ranks of the steps behind the first arc's are greater than its rank
+-- the ranks of the steps after the first arc's are greater than its rank
 ranks-behind : (j : ℕ) (arcs : List Arc) (flows : List ℕ) (after : List Step) (s : Step) → s.rank ≡ 2 * j → All (λ t. 2 * (j + 1) ≤ t.rank) after
     → All (IsBefore s) (carried_from (j + 1) arcs flows ++ after)
 ranks-behind j arcs flows after s first greater k d h =

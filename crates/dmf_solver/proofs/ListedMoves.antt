@@ -62,7 +62,7 @@ module _ (before after : List ℕ) (same : length after ≡ length before) where
         rw (are, is) (ap (λ ms. ms ++ move_of (k + 1) (get_or before k 0) (get_or after k 0)) (sym (moves-up_to i h)) ∙ sym (moves-next k)) ∙ ap
         (λ n. moves_before before after (index_behind indices n)) (sym next)
 
-    -- behind the last index
+    -- after the last index
     pub moves-whole : (i : ℕ) (moves : List Move) → i ≤ length indices → length indices ≤ i → moves ≡ moves_before before after (index_behind indices i)
         → moves ≡ differences 1 before after
     moves-whole i moves most whole are =

@@ -44,7 +44,7 @@ return-pushed amount path n flows now less =
     let rank : 2 * (1 + length n.arcs) ≡ 2 * length n.arcs + 2 = omega arith in
     rw (less, rank) (pair-rooms n.sink n.source _ _ _ _ (omega arith) (omega arith))
 
--- The pairs behind that of arc number `j` are pushed.
+-- The pairs after that of arc number `j` are pushed.
 pairs-behind : (amount i j : ℕ) (path : List Step) (arcs : List Arc) (flows : List ℕ) (last now : Option Pair) → j < i → length flows ≡ length arcs
     → now ≡ pushed_pair false (i + length arcs) amount path last →
     carrying_from arcs (lowered_from i j amount path flows) ++ now ∷ [] ≡ pushed_from false i amount path (carrying_from arcs flows ++ last ∷ [])

@@ -109,7 +109,7 @@ ranks-from j arcs flows k d h = rank-from j arcs flows _ (residual-contained j a
 abbrev pub IsBefore : Step → Step → Type 0
 IsBefore s t = s.rank < t.rank
 
--- a step in front, where the test holds, of a rank below those behind it
+-- a step in front, where the test holds, of a rank below those after it
 pub ascending-optional : (b : Bool) (s : Step) (steps : List Step) → All (IsBefore s) steps → AllPairs IsBefore steps
     → AllPairs IsBefore (cond b (s ∷ []) [] ++ steps)
 ascending-optional true s steps below ascending = AllPairs-cons IsBefore s steps below ascending

@@ -47,7 +47,7 @@ reached-more s flows path reached least = record {
 
 -- ---- what is told
 
--- One path more is told behind the others.
+-- One path more is told after the others.
 pub told_of-push : (n : Network) (flows : List ℕ) (paths : List (List Step)) (last : List ℕ) (path : List Step) → Augments n flows paths last
     → told_of n flows (paths ++ path ∷ []) ≡ told_of n flows paths ++ record { value = flow_value n (augmented path last); links = length path } ∷ []
 told_of-push n flows [] last path augments = ap (λ now. told_of n now (path ∷ [])) augments

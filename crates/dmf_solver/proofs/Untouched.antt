@@ -35,7 +35,7 @@ pub keeps-sorted : (old new : Option (List ℕ)) (first pairs : List (Option Pai
     → ((k : ℕ) → IsTouched new k ↔ IsTouched old k) → KeepsUntouched new first pairs
 keeps-sorted old new first pairs keeps same = λ k untouched. keeps k (λ was. untouched ((same k).1 was))
 
--- Listed are indices of arcs, and that behind them.
+-- Listed are indices of arcs, and that after them.
 pub below-next : (s : NetworkState) (value : ℕ) (search : Searched) (old new : Option (List ℕ)) → IsSolving s search value
     → (AreBelow (length search.pairs) old → AreBelow (length search.pairs) new)
     → AreBelow (length s.network.arcs + 1) old → AreBelow (length s.network.arcs + 1) new

@@ -19,7 +19,7 @@ told_of n flows [] = []
 told_of n flows (path ∷ paths) =
     record { value = flow_value n (augmented path flows); links = length path } ∷ told_of n (augmented path flows) paths
 
--- What is known afterwards is what was known before, with these behind it. Or nothing is known afterwards: the watch keeps no
+-- What is known afterwards is what was known before, with these after it. Or nothing is known afterwards: the watch keeps no
 -- record, or had no memory to go on with it.
 abbrev pub AreTold : Option (List Told) → Option (List Told) → List Told → Type 0
 AreTold before None these = ⊤

@@ -121,7 +121,7 @@ impl ResidualNetwork {
 
     /// The residual network of the state that an edit makes of this one, which the edit fits. There is none where the edit adds an
     /// arc: then the links have to be made anew. The call takes no memory, and time for the arcs that the edit names; the first call
-    /// after a solve takes time for each node.
+    /// after a solve also takes time for each node that has a label.
     pub fn follow(self, state: &State, edit: &Edit) -> Option<ResidualNetwork>
         requires network { IsNetworkOf state.now self }
         requires fits { Fits edit.now state.now }

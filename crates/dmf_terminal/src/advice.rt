@@ -22,7 +22,7 @@ impl<'a> Advice<'a> {
         Advice::of_line(words(text))
     }
 
-    /// These words behind the field that has the fault.
+    /// These words after the field that has the fault.
     pub fn about(placed: Placed<'a>, text: &'a str) -> Advice<'a> {
         Advice {
             place: placed.place,
@@ -30,7 +30,7 @@ impl<'a> Advice<'a> {
         }
     }
 
-    /// These words behind the field at a place of the line, and others where there is no such line.
+    /// These words after the field at a place of the line, and others where there is no such line.
     pub fn at(
         line: Option<&'a [u8]>,
         place: usize,

@@ -1,4 +1,4 @@
-//! A session at a terminal: what was typed, and on standard error an explanation behind each refusal.
+//! A session at a terminal: what was typed, and on standard error an explanation after each refusal.
 ghost use Rattle.std.specs.Prelude.{◌≡◌};
 
 use crate::explain::{Origin, text_of};

@@ -100,7 +100,7 @@ pub fn explain_read(rt: &HostRuntime, origin: Origin<'_>) {
 }
 
 /// Tells what may have been meant by words that are not taken. A file that is named where no file belongs has to be there, unless
-/// it stands behind `solve`.
+/// it stands after `solve`.
 pub fn explain_words(rt: &HostRuntime, words: &[String], most: u32) {
     if let Some(meant) = meant_by(words, most) {
         if is_likely(rt, words, meant) {
@@ -197,7 +197,7 @@ fn name_of<'a>(origin: Origin<'a>, input: &'a Option<PathBuf>) -> Option<&'a str
     }
 }
 
-/// What stands behind the last slash of a path.
+/// What stands after the last slash of a path.
 fn last_part(path: &str) -> &str {
     match path.rsplit_once('/') {
         Some((_, last)) => last,

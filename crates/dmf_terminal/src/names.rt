@@ -80,7 +80,7 @@ pub struct Ends {
 /// Two names of more fields than this are not parted.
 const MOST_FIELDS: u64 = 12;
 
-/// The two nodes whose names or numbers stand one behind the other, where they can be parted in one way alone.
+/// The two nodes whose names or numbers stand one after the other, where they can be parted in one way alone.
 pub fn find_ends(text: &[u8], names: &[u8]) -> Option<Ends> {
     let mut found: Option<Ends> = None;
     for fields in 1..count(names).min(MOST_FIELDS) {
@@ -130,7 +130,7 @@ pub fn without_last_field(bytes: &[u8]) -> &[u8] {
     (&bytes[..end]).trim_ascii()
 }
 
-/// What stands behind so many fields of a line, without the blanks around it.
+/// What stands after so many fields of a line, without the blanks around it.
 pub fn behind(line: &[u8], fields: usize) -> &[u8] {
     let mut rest = line.trim_ascii();
     for _ in 0..fields {
@@ -139,7 +139,7 @@ pub fn behind(line: &[u8], fields: usize) -> &[u8] {
     rest
 }
 
-/// The bytes behind the field with which they begin.
+/// The bytes after the field with which they begin.
 fn without_field(bytes: &[u8]) -> &[u8] {
     for (i, byte) in bytes.iter().enumerate() {
         if *byte == b' ' || *byte == b'\t' {

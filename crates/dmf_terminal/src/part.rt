@@ -27,12 +27,12 @@ pub fn words<'a>(text: &'a str) -> Parts<'a> {
     [Part::Words(text), NOTHING, NOTHING, NOTHING, NOTHING]
 }
 
-/// A field in quotes, and words behind it.
+/// A field in quotes, and words after it.
 pub fn about<'a>(field: &'a [u8], text: &'a str) -> Parts<'a> {
     about_with(field, text, NOTHING)
 }
 
-/// A field in quotes, words behind it, and one piece more.
+/// A field in quotes, words after it, and one piece more.
 pub fn about_with<'a>(field: &'a [u8], text: &'a str, more: Part<'a>) -> Parts<'a> {
     [
         Part::Quoted(field),
@@ -43,7 +43,7 @@ pub fn about_with<'a>(field: &'a [u8], text: &'a str, more: Part<'a>) -> Parts<'
     ]
 }
 
-/// A field that is no number, and these words behind it.
+/// A field that is no number, and these words after it.
 pub fn no_number<'a>(field: &'a [u8], more: &'a str) -> Parts<'a> {
     let text = " is no whole number from 0 to 18446744073709551615";
     about_with(field, text, Part::Words(more))
@@ -77,7 +77,7 @@ fn quote<W: fmt::Write>(bytes: &[u8], f: &mut fmt::Formatter<W>) -> fmt::Result 
     write!(f, "'{shown}'")
 }
 
-/// The pieces, one behind the other.
+/// The pieces, one after the other.
 #[derive(Clone, Copy)]
 pub struct Said<'a>(pub Parts<'a>);
 

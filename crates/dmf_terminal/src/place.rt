@@ -6,7 +6,7 @@ use std::fmt;
 /// The text that has a fault.
 #[derive(Clone, Copy)]
 pub struct Place<'a> {
-    /// Words before its name, with a blank behind them.
+    /// Words before its name, with a blank after them.
     pub before: &'static str,
     /// The file's name; none, where the text came from no file.
     pub name: Option<&'a str>,

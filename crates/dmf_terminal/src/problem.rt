@@ -148,7 +148,7 @@ fn field_count<'a>(line: Option<&'a [u8]>) -> Advice<'a> {
     Advice::of_line(found(form, count(line)))
 }
 
-/// What an arc line has. A comment may stand behind this one.
+/// What an arc line has. A comment may stand after this one.
 fn arc_form<'a>(line: &[u8]) -> &'a str {
     match field_at(line, 5) {
         Some([b'c' | b'#' | b'%' | b'/', ..]) => {

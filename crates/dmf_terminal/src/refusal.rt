@@ -169,7 +169,7 @@ fn field_count<'a>(verb: Option<Verb>, line: &'a [u8], known: Known<'_>) -> Part
     }
 }
 
-/// What explains names of several words behind the first word of a command, or else how many fields it takes.
+/// What explains names of several words after the first word of a command, or else how many fields it takes.
 fn by_names<'a>(
     verb: Option<Verb>,
     line: &'a [u8],

@@ -87,7 +87,7 @@ fn field_count<'a>(line: Option<&'a [u8]>) -> Advice<'a> {
     Advice::of_line(found(form, count(line)))
 }
 
-/// Words before the two nodes of a flow line, where it is there, and behind them.
+/// Words before the two nodes of a flow line, where it is there, and after them.
 fn between<'a>(line: Option<&'a [u8]>, before: &'a str, behind: &'a str) -> Advice<'a> {
     let tail = line.and_then(|line| field_at(line, 2));
     let head = line.and_then(|line| field_at(line, 3));

@@ -42,7 +42,7 @@ pub fn meant_by<'a>(words: &'a [String], most: u32) -> Option<Meant<'a>> {
     }
 }
 
-/// What is to be solved by the words behind `solve`: they have one file beside the flags, whose name needs no quotes.
+/// What is to be solved by the words after `solve`: they have one file beside the flags, whose name needs no quotes.
 fn solve_of(words: &[String]) -> Option<Meant<'_>> {
     let mut with_cut = false;
     let mut meant: Option<&str> = None;
@@ -70,7 +70,7 @@ fn is_plain(word: &str) -> bool {
     is_plain
 }
 
-/// Whether a word behind `--history` is no number up to the most.
+/// Whether a word after `--history` is no number up to the most.
 fn has_wrong_history(words: &[String], most: u64) -> bool {
     let mut is_bound = false;
     for word in words {

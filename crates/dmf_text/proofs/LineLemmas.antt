@@ -18,7 +18,7 @@ is_feed b = b == 10
 abbrev width : List ℕ → ℕ
 width text = position_or_len is_feed text
 
--- a list of parts behind a part
+-- a list of parts after a part
 pub parts-more : (x : List ℕ) (text : List ℕ) → lines_of_parts (x ∷ slice_split is_feed text) ≡ strip_carriage_return x ∷ lines text
 parts-more x [] = refl
 parts-more x (b ∷ bs) =
@@ -58,7 +58,7 @@ without-feed text n inside feed =
 without-none : (text : List ℕ) → slice_index text (length text - 1) ≢ 10 → without_terminator text ≡ text
 without-none text other = cond-false _ _ _ (and_right _ _ (ne_eqb _ _ other))
 
--- no byte of the line in front is a line feed, and the one behind it is
+-- no byte of the line in front is a line feed, and the one after it is
 before-width : (text : List ℕ) (k : ℕ) → k < width text → slice_index text k ≢ 10
 before-width text k below = eqb-false _ _ (not-true _ (prefix_len_passes (λ b. not (is_feed b)) text k 0 below))
 

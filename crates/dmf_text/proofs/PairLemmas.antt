@@ -211,7 +211,7 @@ capacity-fits arcs i old kept below =
 
 -- ---- what is put on the arcs
 
--- that on one arc, and on those behind it
+-- that on one arc, and on those after it
 pub put-more : (flows : List (Pair × ℕ)) (arcs : List Arc) (i : ℕ) (d : Arc) → i < length arcs → put_behind flows (take i arcs) (drop i arcs)
     ≡ min (get_or arcs i d).cap (pair_flow flows (ends (get_or arcs i d)) - pair_capacity (take i arcs) (ends (get_or arcs i d)))
     ∷ put_behind flows (take (i + 1) arcs) (drop (i + 1) arcs)

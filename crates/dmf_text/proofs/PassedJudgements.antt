@@ -2,7 +2,7 @@
 use Rattle.std.proofs.Common.{◌≡◌, ℕ, Bool, true, false, Result, Ok, Err, refl, ap}
 use Rattle.dmf_text.specs.Judging.{◌>>=◌, ◌>>◌, expect, at_line}
 
--- the test held, and what comes behind it has no fault
+-- the test held, and what comes after it has no fault
 pub passed : {A Kind : Type 0} (test : Bool) (kind : Kind) (next : Result A Kind) (x : A) → (expect test kind >> next) ≡ Ok x → (test ≡ true) × (next ≡ Ok x)
 passed true kind next x good = (refl, good)
 passed false kind next x good = absurd (let no : ⊥ = cc in no)
@@ -11,7 +11,7 @@ pub held : {Kind : Type 0} (test : Bool) (kind : Kind) → expect test kind ≡ 
 held true kind good = refl
 held false kind good = absurd (let no : ⊥ = cc in no)
 
--- there was a value, of which what comes behind it has no fault
+-- there was a value, of which what comes after it has no fault
 pub record IsPassed {A B Kind : Type 0} (first : Result A Kind) (next : A → Result B Kind) (x : B) : Type 0 where
   pub value : A
   pub is : first ≡ Ok value

@@ -69,7 +69,7 @@ module _ {X : Type 0} (is_kept : X → Bool) (fields : X → Line) where
       ∙ ap written (map-append fields (filter is_kept xs) (filter is_kept ys))
       ∙ flat_map-append written_line (map fields (filter is_kept xs)) (map fields (filter is_kept ys))
 
-  -- the lines of the list up to one, of that one, and of those behind it
+  -- the lines of the list up to one, of that one, and of those after it
   pub kept-more : (xs : List X) (i : ℕ) (d : X) → i < length xs → kept_text (take (i + 1) xs) ≡ kept_text (take i xs) ++ kept_text (get_or xs i d ∷ [])
   kept-more xs i d below = ap kept_text (take_more xs i d below) ∙ kept-append (take i xs) (get_or xs i d ∷ [])
 

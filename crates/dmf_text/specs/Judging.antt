@@ -8,7 +8,7 @@ use Rattle.dmf_text.specs.Number.{number_of}
 
 -- ---- lines
 
--- A line is a list of fields. Its first field tells its kind; the fields behind that are counted from 0.
+-- A line is a list of fields. Its first field tells its kind; the fields after that are counted from 0.
 abbrev pub Line : Type 0
 Line = List (List ℕ)
 

@@ -14,6 +14,6 @@ abbrev pub most_bytes : LineField → ℕ
 most_bytes (Text text) = length text.now
 most_bytes (Number n) = 20
 
--- the same of a line, where each field has one more byte behind it, a space or the line feed
+-- the same of a line, where each field has one more byte after it, a space or the line feed
 abbrev pub most_line_bytes : List LineField → ℕ
 most_line_bytes fields = sum_by (λ field. most_bytes field + 1) fields

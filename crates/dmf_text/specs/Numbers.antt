@@ -33,7 +33,7 @@ pub record AreSpelled (behind : List (List ℕ)) (a b c : ℕ) : Type 0 where
   pub second_is : number_of second ≡ Ok b
   pub third_is : number_of third ≡ Ok c
 
--- The first field of a line spells this number, and the other fields are those of the bytes behind it.
+-- The first field of a line spells this number, and the other fields are those of the bytes after it.
 pub record IsAhead (line : List ℕ) (n : ℕ) (behind : List ℕ) : Type 0 where
   pub first : List ℕ
   pub splits : fields line ≡ first ∷ fields behind

@@ -92,7 +92,7 @@ counts_named behind = do
   expect (nat_le arcs (2 ^ 27)) CountOutOfRange
   Ok (record { nodes = nodes; arcs = arcs })
 
--- `p`, and behind it `max NODES ARCS`
+-- `p`, and after it `max NODES ARCS`
 unfoldable pub judged_problem : Facts → List (List ℕ) → Result (Unit {0}) ProblemFaultKind
 judged_problem facts behind = do
   expect (is_none facts.counts) SecondProblemLine
@@ -120,7 +120,7 @@ abbrev pub differs : ℕ → Option ℕ → Bool
 differs node None = true
 differs node (Some terminal) = not (node == terminal)
 
--- `n`, and behind it `ID s` or `ID t`
+-- `n`, and after it `ID s` or `ID t`
 unfoldable pub judged_node : Facts → List (List ℕ) → Result (Unit {0}) ProblemFaultKind
 judged_node facts behind = do
   expect (is_some facts.counts) ProblemLineExpected
@@ -128,7 +128,7 @@ judged_node facts behind = do
   expect (is_none (own (field 1 behind) facts)) SecondTerminal
   expect (differs node (other (field 1 behind) facts)) SameTerminals
 
--- `a`, and behind it `SRC DST CAP`
+-- `a`, and after it `SRC DST CAP`
 unfoldable pub judged_arc : Facts → List (List ℕ) → Result (Unit {0}) ProblemFaultKind
 judged_arc facts behind = do
   expect (is_some facts.counts) ProblemLineExpected

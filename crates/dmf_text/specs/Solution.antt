@@ -78,7 +78,7 @@ number_fault digits.TooLarge = TooLarge
 abbrev pub number_in : ℕ → List (List ℕ) → Result ℕ SolutionFaultKind
 number_in i behind = map_fault number_fault (number_of (field i behind))
 
--- `s`, and behind it `VALUE`
+-- `s`, and after it `VALUE`
 unfoldable pub judged_value : Facts → List (List ℕ) → Result (Unit {0}) SolutionFaultKind
 judged_value facts behind = do
   expect (is_none facts.value) SecondValue
@@ -92,7 +92,7 @@ flow_fits arcs facts pair flow = do
   expect (has_pair arcs pair) NoSuchPair
   expect (nat_le (pair_flow facts.flows pair + flow) (pair_capacity arcs pair)) OverCapacity
 
--- `f`, and behind it `SRC DST FLOW`
+-- `f`, and after it `SRC DST FLOW`
 unfoldable pub judged_flow : List Arc → Facts → List (List ℕ) → Result (Unit {0}) SolutionFaultKind
 judged_flow arcs facts behind = do
   expect (length behind == 3) FieldCount
@@ -113,7 +113,7 @@ judged arcs facts (kind ∷ behind) =
 
 -- ---- what a text stands for
 
--- What flows on arcs that come behind others in the network. Of the flow of its pair an arc takes as much as its
+-- What flows on arcs that come after others in the network. Of the flow of its pair an arc takes as much as its
 -- capacity allows of what is left by the arcs of the pair before it. Nothing is left where their capacities together
 -- are more than that flow: a difference of whole numbers is then 0.
 abbrev pub put_behind : List (Pair × ℕ) → List Arc → List Arc → List ℕ

@@ -1,4 +1,4 @@
-//! The fields of a line behind its first.
+//! The fields of a line after its first.
 ghost use Rattle.std.specs.Prelude.{◌≡◌, ◌≢◌, ◌∷◌, [], length, MatchResult};
 
 use crate::field::Fields;

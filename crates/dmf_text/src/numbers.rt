@@ -1,4 +1,4 @@
-//! The three numbers of a line behind its first field.
+//! The three numbers of a line after its first field.
 ghost use Rattle.std.specs.Prelude.{◌≡◌, ◌<◌, true, IfErr, IfOk, IfSome, Err};
 ghost use Rattle.dmf_text.specs.Fields.{fields, is_blank};
 ghost use Rattle.dmf_text.specs.Numbers.{numbers_in, AreSpelled, IsAhead, IsNumberInFront};
@@ -64,7 +64,7 @@ fn short_numbers(line: &[u8]) -> Option<(u64, u64, u64)>
     Some((first, second, third))
 }
 
-/// The number that the first field of a line spells, and the bytes behind it.
+/// The number that the first field of a line spells, and the bytes after it.
 fn short_number(line: &[u8]) -> Option<(u64, &[u8])>
     ensures { IfSome result (λ ahead. IsAhead line.now ahead.0 ahead.1.now) }
 {
@@ -93,7 +93,7 @@ fn number_in_front(bytes: &[u8]) -> Option<(u64, usize)>
     Some((value, most))
 }
 
-/// A number of so many digits, if there are some, and the byte behind them is a blank.
+/// A number of so many digits, if there are some, and the byte after them is a blank.
 fn ended(value: u64, count: usize, behind: u8) -> Option<(u64, usize)>
     ensures { IfSome result (λ front. (front ≡ (value, count)) × (0 < count) × (is_blank behind ≡ true)) }
 {

@@ -59,7 +59,7 @@ impl<'a> SolutionReading<'a> {
         }
     }
 
-    /// Takes a value line with these fields behind its first.
+    /// Takes a value line with these fields after its first.
     #[tactic(auto, unfolding(crate::specs::Solution::judged_value))]
     fn take_value_line(&mut self, behind: Fields<'_>) -> Result<(), SolutionFaultKind>
         ensures { (arcs : List Arc) (facts : Facts) → Keeps arcs facts self.old
@@ -72,7 +72,7 @@ impl<'a> SolutionReading<'a> {
         Ok(())
     }
 
-    /// Takes a flow line with these fields behind its first.
+    /// Takes a flow line with these fields after its first.
     #[tactic(auto, unfolding(crate::specs::Solution::judged_flow))]
     fn take_flow_line(&mut self, behind: Fields<'_>) -> Result<(), SolutionFaultKind>
         ensures { (arcs : List Arc) (facts : Facts) → Keeps arcs facts self.old

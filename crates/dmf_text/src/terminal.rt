@@ -16,7 +16,7 @@ pub(crate) enum Terminal {
     Sink,
 }
 
-/// The terminal and the node that a node line names that has these fields behind its first.
+/// The terminal and the node that a node line names that has these fields after its first.
 #[tactic(auto, unfolding(crate::specs::Problem::node_named))]
 pub(crate) fn named(nodes: u32, behind: Fields<'_>) -> Result<(Terminal, u32), ProblemFaultKind>
     ensures { MatchResult result (λ named. Names nodes behind.entry named.0 named.1) (λ kind. node_named nodes behind.entry ≡ Err kind) }

@@ -1,5 +1,5 @@
 //! Calls of the libraries, and after each of them all that then stands, on standard output: a test refuses the program memory,
-//! request by request, and compares. With a word behind its name the program appends changes that alter nothing, and tells how
+//! request by request, and compares. With a word after its name the program appends changes that alter nothing, and tells how
 //! many are kept: a test counts the requests.
 #![tactic(auto)]
 

@@ -119,7 +119,7 @@ fn solves_are_answered_briefly(rt: HostRuntime) -> Result<(), Fail> {
     Ok(())
 }
 
-/// What the words behind the program's name ask for.
+/// What the words after the program's name ask for.
 fn asked(alloc: Global, line: &str) -> Result<Result<Mode, WordsFault>, AllocError> {
     let mut words = Vec::new(alloc);
     words.push(String::from_str(alloc, "dmf")?)?;
@@ -129,7 +129,7 @@ fn asked(alloc: Global, line: &str) -> Result<Result<Mode, WordsFault>, AllocErr
     Ok(read_words(alloc, words))
 }
 
-/// The number of a run's mode, or that of a fault behind 10.
+/// The number of a run's mode, or that of a fault after 10.
 fn number_of(asked: &Result<Mode, WordsFault>) -> u32 {
     match asked {
         Ok(Mode::Solve { cut: _ }) => 1,

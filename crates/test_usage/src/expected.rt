@@ -3,7 +3,7 @@ use dmf_arguments::{Arguments, WordsFault, read_arguments};
 use std::alloc::{AllocError, Global};
 use std::test::Fail;
 
-/// Reads the words behind the program's name, which are given with one space between them.
+/// Reads the words after the program's name, which are given with one space between them.
 #[inline(never)]
 fn read(alloc: Global, line: &str) -> Result<Arguments, WordsFault> {
     read_arguments(alloc, words_of(alloc, line)?)

@@ -9,7 +9,7 @@ use Rattle.dmf_path.proofs.Labelling.{labels-spread}
 use Rattle.dmf_path.proofs.LabellingTurn.{node-read, looked-next}
 use Rattle.dmf_path.proofs.label.label_most.Goals as goal
 
--- The links of a node end behind where they begin.
+-- The links of a node do not end before they begin.
 links-between : (l : Links) (node from end : ℕ) → AreLinks l → node ≤ l.nodes → from ≡ get_or l.first node from → end ≡ get_or l.first (node + 1) end
     → from ≤ end
 links-between l node from end are within from_read end_read =

@@ -8,7 +8,7 @@ use Rattle.dmf_text.proofs.written.put_problem.Given.{Over}
 use Rattle.dmf_text.proofs.written.put_problem.Goals as goal
 use Rattle.dmf_text.proofs.written.put_problem.Goals.{After-put_line, After-put_terminal, After-put_terminal-2}
 
--- the text is the three lines, and the arcs behind them
+-- the text is the three lines, and the arcs after them
 first : (g : Over) (c : After-put_line g) → problem_text c.args.state.now.network
     ≡ written_line (codes "p" ∷ codes "max" ∷ decimal c.from-nodes.result ∷ decimal c.from-arcs.result ∷ [])
     ++ (written_line (codes "n" ∷ decimal c.args.state.now.network.source ∷ codes "s" ∷ [])

@@ -8,7 +8,7 @@ use Rattle.dmf_text.proofs.written.write_cut.Given.{Over}
 use Rattle.dmf_text.proofs.written.write_cut.Goals as goal
 use Rattle.dmf_text.proofs.written.write_cut.Goals.{After-put_line}
 
--- the text is its first line, and what comes behind it
+-- the text is its first line, and what comes after it
 first : (g : Over) (c : After-put_line g)
     → cut_text c.args.side.now ≡ written_line (codes "c" ∷ codes "cut" ∷ decimal c.capacity.result ∷ []) ++ nodes_text c.args.side.now.ids
 first g c =

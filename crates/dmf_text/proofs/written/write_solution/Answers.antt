@@ -8,7 +8,7 @@ use Rattle.dmf_text.proofs.written.write_solution.Given.{Over}
 use Rattle.dmf_text.proofs.written.write_solution.Goals as goal
 use Rattle.dmf_text.proofs.written.write_solution.Goals.{After-put_line}
 
--- the text is its first line, and what comes behind it
+-- the text is its first line, and what comes after it
 first : (g : Over) (c : After-put_line g)
     → solution_text c.args.state.now ≡ written_line (codes "s" ∷ decimal c.value.result ∷ []) ++ flows_text
     (zip c.args.state.now.network.arcs c.args.state.now.flows)

@@ -7,7 +7,7 @@ use Rattle.dmf_path.proofs.GrownLinks.{in-order, gap-within, first-short, AreLin
 use Rattle.dmf_path.proofs.table.LinkTable.grown.Goals.{In_ok-partners}
 use Rattle.dmf_path.proofs.table.LinkTable.grown.Goals as goal
 
--- No opposite link lies behind the last link.
+-- No opposite link lies after the last link.
 partners-short : (table : LinkTable) → IsShort table.partners.items
 partners-short table i within =
     let are = table.are in
