@@ -9,6 +9,8 @@ from typing import NamedTuple
 
 from built import Case
 
+# So many cases are kept of a run, the shortest ones: a fault may show in hundreds.
+MOST_KEPT = 3
 FOUND_FILE = Path(__file__).resolve().parent / "cases" / "found.py"
 
 
@@ -20,9 +22,9 @@ class Found(NamedTuple):
 
 
 def shown_cases(reports: Iterable[str]) -> list[str]:
-    """The case that each of these reports of pytest shows last, which is as small as it was made."""
+    """The cases that these reports of pytest show last, which are as small as they were made, and of those the shortest."""
     shown = [re.findall(r"^\W*E?\W*(Found\(case=.*\))$", report, re.MULTILINE) for report in reports]
-    return [cases[-1] for cases in shown if cases]
+    return sorted((cases[-1] for cases in shown if cases), key=len)[:MOST_KEPT]
 
 
 def with_cases(text: str, cases: Iterable[str]) -> str:
