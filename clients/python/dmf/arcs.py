@@ -232,6 +232,10 @@ class Handles(Generic[Node]):
     def has(self, arc: Arc[Any]) -> bool:
         return self._made.get(arc.number) is arc
 
+    def __reduce__(self) -> tuple[Any, ...]:
+        # Without the network, which is a running program.
+        return Handles, (self.columns,), {"_made": self._made}
+
 
 class Added(Generic[Node]):
     """Added arcs by their ends, and by the keys that were given."""
@@ -261,13 +265,13 @@ def _keys(arc: Arc[Node]) -> list[Hashable]:
     return [ends] if arc.given_key is None or arc.given_key == ends else [ends, arc.given_key]
 
 
-def one_of(found: list[Arc[Node]], key: Hashable) -> Arc[Node]:
+def one_of(found: list[Arc[Node]], key: Hashable, state: str = "open") -> Arc[Node]:
     """The one arc that was found. Raises `NoSuchArc` and `AmbiguousArc` where there is none, or several."""
     if not found:
         raise NoSuchArc(shown(key))
     if len(found) > 1:
         some = ", ".join(map(repr, found[:9])) + ", .." * (len(found) > 9)
-        raise AmbiguousArc(f"{len(found)} open arcs have the key or the ends {shown(key)}: {some}")
+        raise AmbiguousArc(f"{len(found)} {state} arcs have the key or the ends {shown(key)}: {some}")
     return found[0]
 
 
