@@ -218,7 +218,7 @@ def _known(value: Any) -> Any:
 
 def is_unbounded(capacity: object) -> bool:
     """Whether a capacity is none: None, no number, or infinite."""
-    return is_missing(capacity) or capacity == float("inf")
+    return is_missing(capacity) or not hasattr(capacity, "__len__") and capacity == float("inf")
 
 
 def with_infinite(row: tuple[Any, ...], infinite: object) -> tuple[Any, ...]:

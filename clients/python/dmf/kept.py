@@ -64,6 +64,9 @@ def is_missing(value: object) -> bool:
         return value is None or bool(value != value)
     except TypeError:
         return True
+    except ValueError:
+        # An array, of which each value is compared.
+        return False
 
 
 def _judge_nodes(columns: Columns[Any], capacities: array[int]) -> None:

@@ -111,10 +111,10 @@ def sweep(
     the network itself is not changed, and can be used meanwhile. Cases are taken as they are needed, so there may be any number.
 
     A case is a list of commands, as in `[("close", "canal"), ("add", "lake", "sea", 7)]`, or a function that is given a network and
-    changes it. A case that is refused, and one whose function raises an error of this package, has a result that says so; any other
-    error ends the sweep. Where a program is killed, another takes its place, and its case is tried once more.
+    changes it. A case that is refused, and one whose function raises an error of this package, has a result that says so.
 
-    An error of what makes the cases comes after the results of those before it.
+    Any other error ends the sweep. One of what makes the cases comes after the results of those before it. Where a program is killed,
+    another takes its place, and its case is tried once more.
 
     Without an `executor` each of so many `jobs` (as many as there are processors) has a program here. An `executor` is anything of the
     form of `concurrent.futures`, as `Client.get_executor()` of dask.distributed: each of its processes begins programs of its own,
@@ -130,8 +130,10 @@ def sweep(
     programs = len(os.sched_getaffinity(0)) if jobs is None else max(1, whole(jobs, "jobs"))
     swept = _Swept(network._kept, network.value)
     program: Any = network._child.process.args
-    begin = functools.partial(_Here, swept.kept, program[0], want_cut, programs)
-    results = _results(swept, iter(made), begin if executor is None else functools.partial(_There, swept.kept, executor, want_cut))
+    begin: Callable[[], _Tries] = functools.partial(_Here, swept.kept, program[0], want_cut, programs)
+    if executor is not None:
+        begin = functools.partial(_There, swept.kept, executor, want_cut)
+    results = _results(swept, iter(made), begin)
     return _shown(results, operator.length_hint(made) or None) if progress else results
 
 
