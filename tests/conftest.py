@@ -18,24 +18,39 @@ import pytest
 from _pytest.terminal import TerminalReporter
 from hypothesis import settings
 from hypothesis.database import DirectoryBasedExampleDatabase
+from kept import FOUND_FILE, shown_cases, with_cases
 from tool_runs import Tools
 
 ROOT = Path(__file__).resolve().parent.parent
-# So many tests with random cases are to meet each text of the documents together.
-ALL_BATCHES = 120
+# So many seeded random cases are tried in the gate, and by --long; a test tries a batch of them. Hypothesis tries so many in each of its
+# tests, or one for so many seeded cases where --cases tells how many those are.
+GATE_CASES, LONG_CASES, BATCH = 6_000, 600_000, 50
+GATE_DRAWN, LONG_DRAWN, CASES_A_DRAWN = 120, 100_000, 50
 BUILT = ROOT / "crates" / "dmf" / "out" / "dmf"
 
 
 def pytest_addoption(parser: pytest.Parser) -> None:
-    parser.addoption("--long", action="store_true", help="try many more random cases")
+    parser.addoption("--long", action="store_true", help="try many more random cases, and faults in copies of the program")
+    parser.addoption("--cases", type=int, default=0, help="try so many seeded random cases")
+    parser.addoption("--seed", type=int, default=1, help="of random cases")
     parser.addoption("--write", action="store_true", help="make what is compared with files anew")
 
 
-# The random cases of hypothesis: the same ones each time in the gate, and others each time by hand.
-settings.register_profile("gate", max_examples=120, derandomize=True, database=None, deadline=None)
-settings.register_profile(
-    "long", max_examples=100_000, database=DirectoryBasedExampleDatabase(str(ROOT / ".hypothesis")), deadline=None, print_blob=True
-)
+def set_drawn(config: pytest.Config) -> None:
+    """Sets which cases hypothesis draws: the same ones each time in the gate, and others each time by hand."""
+    if config.getoption("--long") or config.getoption("--cases"):
+        count = config.getoption("--cases") // CASES_A_DRAWN or LONG_DRAWN
+        database = DirectoryBasedExampleDatabase(str(ROOT / ".hypothesis"))
+        settings.register_profile("chosen", max_examples=count, database=database, deadline=None, print_blob=True)
+    else:
+        settings.register_profile("chosen", max_examples=GATE_DRAWN, derandomize=True, database=None, deadline=None)
+    settings.load_profile("chosen")
+
+
+def batches(config: pytest.Config) -> int:
+    """How many tests try a batch of seeded cases."""
+    count = config.getoption("--cases") or (LONG_CASES if config.getoption("--long") else GATE_CASES)
+    return -(-int(count) // BATCH)
 
 
 def pytest_configure(config: pytest.Config) -> None:
@@ -43,7 +58,7 @@ def pytest_configure(config: pytest.Config) -> None:
     the Python that runs the tests."""
     os.chdir(ROOT)
     os.environ["PATH"] = os.pathsep.join([os.path.dirname(sys.executable), os.environ["PATH"]])
-    settings.load_profile("long" if config.getoption("--long") else "gate")
+    set_drawn(config)
     if hasattr(config, "workerinput") or config.option.collectonly:
         return
     ran = subprocess.run(["./dmf", "--version"], stdin=subprocess.DEVNULL, capture_output=True, text=True)
@@ -95,9 +110,13 @@ def pytest_terminal_summary(terminalreporter: TerminalReporter) -> None:
             skipped += told["skipped"]
     terminalreporter.ensure_newline()
     unmet = [set(it[1]) for report in stats.get("passed", []) for it in report.user_properties if it[0] == "unmet"]
-    if len(unmet) >= ALL_BATCHES and set.intersection(*unmet):
+    if len(unmet) >= GATE_CASES // BATCH and set.intersection(*unmet):
         failed += 1
         terminalreporter.write_line(f"failed: no random case meets {sorted(set.intersection(*unmet))}")
+    shown = shown_cases(report.longreprtext for report in stats.get("failed", []))
+    if shown:
+        FOUND_FILE.write_text(with_cases(FOUND_FILE.read_text(), shown))
+        terminalreporter.write_line(f"{FOUND_FILE.relative_to(ROOT)} keeps {len(shown)} cases that failed")
     for why in dict.fromkeys(skipped):
         terminalreporter.write_line(f"skipped: {why}")
     terminalreporter.write_line(f"{passed} passed, {failed} failed")

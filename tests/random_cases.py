@@ -9,7 +9,7 @@ from dataclasses import replace
 from random import Random
 
 from built import PROBLEM, Case
-from commands import ARC, CAPACITY, COMMANDS, NODE, PRINTED, STEPS, WHAT
+from commands import ARC, CAPACITY, COMMANDS, NODE, PRINTED, STEPS, WHAT, Command
 from odd_texts import ODD_BYTES, ODD_COMMANDS, ODD_FIELDS, ODD_LINES
 from oracle.changes import add, cap, close, shut, solve
 from oracle.network import Arc, State
@@ -17,8 +17,10 @@ from oracle.texts import LARGEST, Fault
 
 Lines = list[list[bytes]]
 CHANGES: list[Callable[..., State]] = [solve, cap, cap, close, shut, add]
-# Commands over which a session keeps nothing of what it solves over.
-FORGETTING = {"add", "undo", "redo"}
+SOLVE = COMMANDS["solve"]
+# The commands that a chain of changes has, and those after one.
+CHAINED = [it for it in COMMANDS.values() if it.changes and it is not SOLVE]
+AFTER_CHAIN = [COMMANDS[word] for word in ("print", "print", "undo", "redo")]
 
 
 def line(*fields: object) -> list[bytes]:
@@ -111,6 +113,12 @@ def network(random: Random, most_nodes: int = 60) -> State:
     return State(nodes, source, sink, arcs, (0,) * len(arcs))
 
 
+def fitting(state: State) -> State:
+    """The network with the largest capacities lowered, so that their sum has 64 bits."""
+    most = LARGEST // max(1, len(state.arcs))
+    return replace(state, arcs=tuple(arc._replace(cap=min(arc.cap, most)) for arc in state.arcs))
+
+
 def problem_lines(state: State, random: Random) -> Lines:
     terminals = [line("n", state.source, "s"), line("n", state.sink if random.random() < 0.99 else state.source, "t")]
     if random.random() < 0.2:
@@ -179,27 +187,42 @@ def solution_lines(state: State, random: Random) -> Lines:
 AFTER_ADDITION: list[Lines] = [[], [], [], [line("undo"), line("redo")], [line("solve"), line("undo", 2), line("redo", 2)], [line("undo"), line("solve")]]
 
 
+def mixture(random: Random) -> list[Command]:
+    """The commands of a script, in any order."""
+    # An addition that is undone drops the network that a session keeps: some scripts have few.
+    rest = random.choice([1, 1, 0.1])
+    weights = {word: it.weight * (rest if word in ("add", "undo") else 1) for word, it in COMMANDS.items()}
+    weights["print"] += random.randrange(9)
+    return random.choices([*COMMANDS.values()], [*weights.values()], k=random.randint(1, random.choice([3, 8, 20, 60, 200])))
+
+
+def chains(random: Random) -> list[Command]:
+    """The commands of a script that has long chains of changes between its solves. Most of them change a capacity, since the others
+    leave little flow for those after them."""
+    weights = [it.weight * (3 if it.word == "cap" else 0.5) for it in CHAINED]
+    commands = [SOLVE]
+    for _ in range(random.randint(1, 3)):
+        commands += random.choices(CHAINED, weights, k=random.choice([10, 15, 30, 70]))
+        commands += random.choices(AFTER_CHAIN, k=random.randrange(4))
+        commands.append(SOLVE)
+    return commands
+
+
 def command_lines(state: State, random: Random) -> Lines:
     """A script of commands. Most of them can be carried out."""
-    count = random.choice([3, 8, 20, 60, 200])
     odd_share = random.choice([0, 0.02, 0.3])
-    # A session keeps what it solves over from change to change, but not over an addition or a step back: some scripts have few.
-    rest = random.choice([1, 1, 0.1])
-    weights = {word: it.weight * (rest if word in FORGETTING else 1) for word, it in COMMANDS.items()}
-    weights["print"] += random.randrange(9)
-    # Some begin with a solve, and have long chains of changes of its flow.
-    begins_solved = random.random() < 0.3
-    weights["solve"] *= 0.1 if begins_solved else 1
-    commands = random.choices([*COMMANDS.values()], [*weights.values()], k=random.randint(1, count))
+    is_chain = random.random() < 0.2
+    commands = chains(random) if is_chain else mixture(random)
+    after_addition = [lines for lines in AFTER_ADDITION if not is_chain or line("solve") not in lines]
     arc_count = len(state.arcs)
-    lines = [line("solve")] * begins_solved
+    lines: Lines = []
     for command in commands:
         if random.random() < odd_share:
             lines.append(random.choice(ODD_COMMANDS))
             continue
         arc = random.randint(0 if odd_share else 1, arc_count + 1)
-        halves = [known.cap // 2 for known in state.arcs[arc - 1 : arc]]
-        amount = random.choice([0, 1, 1, 1, 2, 2, 3, 5, 9, 9, 20, 2**63, *halves, *halves])
+        near = [amount for known in state.arcs[arc - 1 : arc] for amount in (known.cap // 2, known.cap // 2, known.cap, known.cap + 1)]
+        amount = random.choice([0, 1, 1, 2, 2, 3, 5, 9, 20, 2**63, *near, *near])
         ends = iter([random.randint(0 if odd_share else 1, state.nodes + bool(odd_share)) for _ in range(2)])
         fields: dict[str, Callable[[], list[object]]] = {
             ARC: lambda: [arc],
@@ -211,7 +234,7 @@ def command_lines(state: State, random: Random) -> Lines:
         lines.append(line(command.word, *(field for kind in command.kinds for field in fields[kind]())))
         if command.word == "add":
             arc_count += 1
-            lines += random.choice(AFTER_ADDITION)
+            lines += random.choice(after_addition)
     return lines
 
 
@@ -260,13 +283,14 @@ def plain_text(lines: Lines) -> bytes:
 def loose_text(lines: Lines, random: Random, comment: bytes) -> bytes:
     """The text of lines with more space than is needed, leading zeros, comments, blank lines and carriage returns."""
     text = b""
+    odd_end = b"\r\r\n" if random.random() < 0.2 else b"\n"
     for fields in lines:
         spaced = [random.choice([b"", b"", b" ", b"\t \t"])]
         for field in fields:
             zeros = b"0" * random.choice([0, 0, 0, 1, 25]) if field.isdigit() else b""
             spaced += [zeros + field, random.choice([b" ", b" ", b"\t", b"   "])]
         text += b"".join(spaced if random.random() < 0.2 else spaced[:-1])
-        text += random.choice([b"\n", b"\n", b"\n", b"\r\n", b"\r\r\n" if random.random() < 0.05 else b"\n"])
+        text += random.choice([b"\n", b"\n", b"\n", b"\r\n", odd_end if random.random() < 0.05 else b"\n"])
         if random.random() < 0.1:
             text += random.choice([b"\n", b" \t\n", b"\r\n", comment + b"\n", b" " + comment + b" \xff\0 p max\r\n"])
     return text
@@ -318,6 +342,8 @@ def random_words(random: Random) -> tuple[bytes, ...]:
 def random_case(name: str, random: Random) -> Case:
     command = random.choices([b"solve", b"session", b"check", b""], [20, 45, 30, 5])[0]
     state = network(random)
+    if command != b"solve" and random.random() < 0.95:
+        state = fitting(state)
     if command == b"check":
         state = with_cycles(changed(state, random), random)
     problem = text_of(problem_lines(state, random), random, b"cx", 0.5 if command == b"solve" else 0.05)

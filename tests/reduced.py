@@ -48,6 +48,14 @@ def contracted(text: bytes, tail: bytes, head: bytes) -> bytes:
     return with_count(b"".join(b" ".join(fields) + b"\n" for fields in lines), text)
 
 
+def without_arc(case: Case, number: int) -> Case:
+    """A case without the arc of this number. Its commands name the later arcs by their new numbers."""
+    lines = case.problem.splitlines(keepends=True)
+    del lines[[at for at, line in enumerate(lines) if line.startswith(b"a ")][number - 1]]
+    commands = re.sub(rb"(?m)^(cap|close) (\d{1,9})\b", lambda it: b"%s %d" % (it[1], int(it[2]) - (int(it[2]) > number)), case.input)
+    return case._replace(problem=with_count(b"".join(lines), case.problem), input=commands)
+
+
 def texts_of(case: Case, change: Callable[[bytes], bytes]) -> Case:
     return case._replace(problem=change(case.problem), input=change(case.input))
 
@@ -60,6 +68,7 @@ def smaller(case: Case) -> Iterator[Case]:
     else:
         yield from (case._replace(input=text) for text in shorter(case.input))
         yield from (case._replace(problem=text) for text in shorter(case.problem))
+        yield from (without_arc(case, number + 1) for number in range(len(re.findall(rb"(?m)^a ", case.problem))))
     for tail, head in re.findall(rb"(?m)^a (\d+) (\d+) ", case.problem):
         if tail != head:
             yield texts_of(case, lambda text: contracted(text, tail, head))

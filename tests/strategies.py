@@ -13,7 +13,7 @@ from odd_texts import DRAWN_COMMANDS, ODD_BYTES, ODD_FIELDS, ODD_LINES
 from oracle.network import Arc, State
 from oracle.session import Session, SolveReply
 from oracle.texts import LARGEST, Fault
-from random_cases import ODD_WORDS
+from random_cases import AFTER_ADDITION, CHAINED, ODD_WORDS
 
 Lines = list[list[bytes]]
 
@@ -65,6 +65,10 @@ KINDS: list[Union[Command, list[bytes]]] = [COMMANDS["solve"], *COMMANDS.values(
 Choice = tuple[Union[Command, list[bytes]], tuple[int, int], int]
 choice: st.SearchStrategy[Choice] = st.tuples(st.sampled_from(KINDS), st.tuples(places, places), capacities)
 choices = st.lists(choice, max_size=16)
+# Changes without a solve between: first a few, so that a long chain is shrunk to them where they do.
+change: st.SearchStrategy[Choice] = st.tuples(st.sampled_from(CHAINED), st.tuples(places, places), capacities)
+chains = st.one_of(st.lists(change, max_size=3), st.lists(change, min_size=8, max_size=24))
+SELDOM = st.sampled_from([False] * 5 + [True])
 
 
 def line_of(state: State, chosen: Choice) -> list[bytes]:
@@ -74,7 +78,12 @@ def line_of(state: State, chosen: Choice) -> list[bytes]:
 
 @st.composite
 def scripts(draw: st.DrawFn, state: State) -> Lines:
-    return [line_of(state, chosen) for chosen in draw(choices)]
+    """Any lines, and seldom a chain of changes between two solves before them."""
+    lines = [line_of(state, chosen) for chosen in draw(choices)]
+    if draw(SELDOM):
+        chain = [line_of(state, chosen) for chosen in draw(chains)]
+        lines = [line("solve"), *chain, *draw(st.sampled_from(AFTER_ADDITION)), line("solve"), *lines]
+    return lines
 
 
 changes = st.lists(st.one_of(st.just(("solve",)), st.tuples(st.just("cap"), st.integers(1, 9), st.integers(0, 5))), max_size=6)
@@ -130,7 +139,6 @@ no_edits: list[tuple[Callable[[Lines, int, int], Lines], int, int]] = []
 edits = st.one_of(st.just(no_edits), st.lists(st.tuples(st.sampled_from(EDITS), places, places), max_size=2))
 GAPS = st.sampled_from([b" ", b" ", b"\t", b"  \t"])
 ENDS = st.sampled_from([b"\n", b"\n", b"\r\n", b" \n", b"\n%b x\n\n", b"\r\r\n"])
-SELDOM = st.sampled_from([False] * 5 + [True])
 odd_bytes = st.sampled_from(ODD_BYTES)
 
 

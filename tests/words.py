@@ -81,6 +81,7 @@ REFUSED = [
 BOUNDS = [
     ("session --history 1000001 P", "invalid value '1000001' for '--history <N>'"),
     ("session --history x P", "invalid value 'x' for '--history <N>'"),
+    ("session --history 1 --history", "a value is required for '--history <N>' but none was supplied"),
 ]
 # Words that are refused, each with how they could be right.
 FORMS = [

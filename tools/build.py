@@ -39,8 +39,8 @@ MEMORY = 3.5
 # The seconds that each crate took in a first call on four idle processors of 2.5 GHz, side by side: they say which is begun first, and
 # how long the rest takes.
 SECONDS = {
-    "dmf_node": 10, "dmf_arguments": 155, "dmf_state": 154, "dmf_history": 70, "dmf_path": 341, "dmf_text": 164, "dmf_solver": 177,
-    "dmf_session": 110, "dmf_terminal": 228, "dmf_progress": 53, "dmf_runs": 136, "dmf": 158,
+    "dmf_node": 8, "dmf_arguments": 133, "dmf_state": 144, "dmf_history": 68, "dmf_path": 358, "dmf_text": 218, "dmf_solver": 144,
+    "dmf_session": 134, "dmf_explain": 190, "dmf_terminal": 60, "dmf_progress": 41, "dmf_runs": 136, "dmf": 158,
 }  # fmt: skip
 UNKNOWN_SECONDS = 60
 # From this slack on, in seconds, a crate is built by one job, and as nice as can be. One with less is as much nicer as it has more of it.

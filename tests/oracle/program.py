@@ -155,8 +155,13 @@ def asked_of(command: str, words: list[str]) -> Asked | Outcome:
     bound, are_flags = None, True
     rest = iter(words)
     for word in rest:
-        if are_flags and command == "session" and bound is None and (word == "--history" or word.startswith("--history=")):
-            bound = bound_of(word.removeprefix("--history=") if "=" in word else next(rest, ""))
+        if are_flags and command == "session" and (word == "--history" or word.startswith("--history=")):
+            value = word.removeprefix("--history=") if "=" in word else next(rest, "--")
+            # That a value is missing is told before that the option is there twice.
+            is_missing = "=" not in word and value.startswith("-") and value != "-"
+            if bound is not None and not is_missing:
+                return REFUSED_WORDS
+            bound = bound_of(value)
             if bound is None:
                 return REFUSED_VALUE
         elif are_flags and word in ("-h", "--help"):

@@ -12,10 +12,12 @@ from contextlib import contextmanager
 from pathlib import Path
 
 import strategies
+from built import PROBLEM, Case
 from conftest import BUILT
 from hypothesis import settings
 from hypothesis import strategies as st
 from hypothesis.stateful import RuleBasedStateMachine, initialize, rule
+from kept import Found
 from oracle.network import State
 from oracle.problem import problem_text
 from oracle.session import MOST_KEPT, Session, SolveReply, command_of
@@ -94,27 +96,36 @@ class LiveSession(RuleBasedStateMachine):
     def __init__(self) -> None:
         super().__init__()
         self.folder = tempfile.TemporaryDirectory()
-        self.count, self.some_refused = 0, False
+        self.lines: list[bytes] = []
+        self.some_refused = False
 
     @initialize(state=strategies.networks().filter(strategies.fits), wanted=st.builds(SolveReply, st.booleans(), st.booleans()), bound=st.sampled_from([MOST_KEPT, 0, 1, 2]))
     def begin(self, state: State, wanted: SolveReply, bound: int) -> None:
         self.model = Session(state, wanted, bound)
-        problem = f"{self.folder.name}/problem.max"
-        Path(problem).write_bytes(problem_text(state))
-        self.live = Live(*["--cut"] * wanted.cut, *["--brief"] * wanted.brief, "--history", str(bound), problem)
+        self.problem = problem_text(state)
+        self.words = ["--cut"] * wanted.cut + ["--brief"] * wanted.brief + ["--history", str(bound)]
+        path = Path(self.folder.name) / PROBLEM.decode()
+        path.write_bytes(self.problem)
+        self.live = Live(*self.words, str(path))
 
     @rule(choice=strategies.choice)
     def send(self, choice: strategies.Choice) -> None:
         """Sends a line, and compares its reply."""
         line = b" ".join(strategies.line_of(self.model.present(), choice))
-        self.count += 1
+        self.lines.append(line + b"\n")
         try:
             command = command_of(line, True)
             wanted = self.model.reply(*command) if command else b""
         except Fault as fault:
-            wanted = written("c", "refused", self.count, fault)
+            wanted = written("c", "refused", len(self.lines), fault)
             self.some_refused = True
-        assert self.live.send(line + b"\n", len(wanted)) == wanted, line
+        reply = self.live.send(self.lines[-1], len(wanted))
+        assert reply == wanted, f"the last reply is {reply!r}, and wanted is {wanted!r}\n\n    {self.held()}"
+
+    def held(self) -> Found:
+        """The session as a case, whose lines are all there before it begins."""
+        words = b"session", *map(str.encode, self.words), PROBLEM
+        return Found(Case("a live session", words, self.problem, b"".join(self.lines)))
 
     def teardown(self) -> None:
         if hasattr(self, "live"):

@@ -215,6 +215,14 @@ def test_asked_session(small: Path) -> None:
     assert (asked.returncode, asked.stdout) == (0, SMALL_SOLUTION)
 
 
+def test_asked_drains(tmp_path: Path) -> None:
+    """A shut tells which of the arcs at the node is drained, and how much is taken off; so does the closing of one arc."""
+    (tmp_path / "pipes.max").write_bytes(TWO_PIPES)
+    asked = piped(["session", "--progress", "--brief", str(tmp_path / "pipes.max")], b"solve\nshut 2\nundo\nclose 2\n")
+    told = re.findall(rb"dmf: draining, arc (\d+) of (\d+), (\d+) taken off\n", asked.stderr)
+    assert (asked.returncode, told) == (0, [(b"1", b"2", b"4"), (b"1", b"1", b"4")])
+
+
 def test_size(tmp_path: Path) -> None:
     """Where the size is known, it is told beside what is read: 9 bytes for each line of a comment make three megabytes."""
     large = tmp_path / "large.max"

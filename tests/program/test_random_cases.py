@@ -1,9 +1,10 @@
 """Compares the built program with the second implementation on random cases: what it writes, what it tells, and its status. Each
-case is run once more with one of its requests for memory refused. A case that fails is shown as small as it was made.
+case is run once more with one of its requests for memory refused. A case that fails is shown as small as it was made, and is put into
+tests/cases/found.py, from where it runs from then on.
 
-    /usr/bin/python3 -m pytest tests/program/test_random_cases.py --long -n 4
+    /usr/bin/python3 -m pytest -n 4 tests/program/test_random_cases.py --cases 100000 --seed 2
 
-tries many more. A case that was found is put into tests/cases/found.py, and runs from then on.
+tries other ones, and more.
 """
 
 from __future__ import annotations
@@ -19,15 +20,16 @@ import pytest
 import strategies
 from built import Case, Run
 from commands import COMMANDS
+from conftest import BATCH, batches
 from found import FOUND
 from hypothesis import given
 from hypothesis import strategies as st
+from kept import Found, shown_cases, with_cases
 from random_cases import random_case
 from reduced import reduced
 from refused import REFUSED, wanted_without, ways_of
+from traits import TRAITS, traits
 
-# The random cases that a seed determines: so many in a test, and so many tests.
-BATCH, BATCHES, LONG_BATCHES, SEED = 50, 120, 12_000, 1
 # Texts of the documents, each of which some of these cases is to meet: all but want of memory and the limits of size.
 TEXTS = """problem line expected, second problem line, unknown line, not a max problem, wrong number of fields, not a number,
     number too large, count out of range, no such node, neither source nor sink, terminal named twice,
@@ -38,7 +40,8 @@ TEXTS = """problem line expected, second problem line, unknown line, not a max p
     c greatest, c flow, c cut, c side, c solve value, p max, dmf 0.1.0"""
 NO_MEMORY = "no memory"
 REPLIES = {re.split(" [A-Z]", it.reply)[0] for it in COMMANDS.values() if it.reply.startswith("c ")}
-ALL_TEXTS = {*re.split(r",\s+", TEXTS), *REPLIES, NO_MEMORY}
+ALL_TEXTS = {*re.split(r",\s+", TEXTS), *REPLIES}
+ALL = ALL_TEXTS | TRAITS | {NO_MEMORY}
 
 
 def compared(case: Case) -> tuple[Run, str | None]:
@@ -50,46 +53,48 @@ def compared(case: Case) -> tuple[Run, str | None]:
     return run, f"the program ends with {run.status}, writes {run.out!r} and tells {run.err!r}; wanted is {wanted}"
 
 
-def difference(case: Case) -> str | None:
-    return compared(case)[1]
+def difference(found: Found, library: str = "") -> str | None:
+    """What a run of a case differs in, of which a request for memory may be refused."""
+    if not found.refused:
+        return compared(found.case)[1]
+    built.put_problem(found.case)
+    run, _ = built.watch(found.case, library, CALL="memory", AT=found.refused)
+    return None if ways_of(found.case, run, 1) else f"with request {found.refused} refused the program ends so: {run}"
 
 
-def difference_refused(case: Case, number: int, library: str) -> str | None:
-    """What a run of a case of which this request is refused memory differs in."""
-    built.put_problem(case)
-    run, _ = built.watch(case, library, CALL="memory", AT=number)
-    return None if ways_of(case, run, 1) else f"with request {number} refused the program ends so: {run}"
+def judge(found: Found, library: str = "") -> None:
+    wrong = difference(found, library)
+    assert not wrong, f"{wrong}\n\n    {found}"
 
 
-def shown(case: Case, wrong: str) -> str:
-    """A case that failed, as it is put into tests/cases/found.py."""
-    return f"{wrong}\n\n    {case}"
+def judge_seeded(found: Found, library: str, wrong: object) -> None:
+    """Fails with a smaller case, where a case fails."""
+    if wrong:
+        judge(found._replace(case=reduced(found.case, lambda it: difference(found._replace(case=it), library) is not None)), library)
+        pytest.fail(f"it failed once, and not again: {wrong}\n\n    {found}")
 
 
 def pytest_generate_tests(metafunc: pytest.Metafunc) -> None:
     if "batch" in metafunc.fixturenames:
-        metafunc.parametrize("batch", range(LONG_BATCHES if metafunc.config.getoption("--long") else BATCHES))
+        metafunc.parametrize("batch", range(batches(metafunc.config)))
 
 
 @pytest.mark.seconds(1)
 @pytest.mark.usefixtures("case_folder")
-def test_seeded(batch: int, faults: str, record_property: Callable[[str, object], None]) -> None:
+def test_seeded(request: pytest.FixtureRequest, batch: int, faults: str, record_property: Callable[[str, object], None]) -> None:
+    seed = request.config.getoption("--seed")
     met: set[str] = set()
     for number in range(batch * BATCH, (batch + 1) * BATCH):
-        random = Random(f"{SEED}/{number}")
-        case = random_case(f"case {number} of seed {SEED}", random)
+        random = Random(f"{seed}/{number}")
+        case = random_case(f"case {number} of seed {seed}", random)
         run, wrong = compared(case)
-        if wrong:
-            small = reduced(case, lambda it: difference(it) is not None)
-            pytest.fail(shown(small, difference(small) or wrong))
-        met |= {text for text in ALL_TEXTS - {NO_MEMORY} if text.encode() in run.out + run.err}
+        judge_seeded(Found(case), faults, wrong)
+        met |= {text for text in ALL_TEXTS if text.encode() in run.out + run.err} | {*traits(case)}
         refused = int(10 ** random.uniform(0.5, 3))
         run, calls = built.watch(case, faults, CALL="memory", AT=refused)
         met |= {NO_MEMORY} if REFUSED in calls else set()
-        if not ways_of(case, run, 1):
-            small = reduced(case, lambda it: difference_refused(it, refused, faults) is not None)
-            pytest.fail(shown(small, difference_refused(small, refused, faults) or ""))
-    record_property("unmet", sorted(ALL_TEXTS - met))
+        judge_seeded(Found(case, refused), faults, not ways_of(case, run, 1) and run)
+    record_property("unmet", sorted(ALL - met))
 
 
 KINDS = {
@@ -106,20 +111,27 @@ KINDS = {
 def test_drawn(case_room: Path, kind: str, data: st.DataObject) -> None:
     case = data.draw(KINDS[kind])
     with contextlib.chdir(case_room):
-        wrong = difference(case)
-    assert not wrong, shown(case, wrong)
+        judge(Found(case))
 
 
 @pytest.mark.seconds(10)
 @given(case=strategies.sessions(), number=st.integers(1, 400))
 def test_refused_memory(case_room: Path, faults: str, case: Case, number: int) -> None:
     with contextlib.chdir(case_room):
-        wrong = difference_refused(case, number, faults)
-    assert not wrong, shown(case, wrong)
+        judge(Found(case, number), faults)
 
 
 @pytest.mark.usefixtures("case_folder")
-@pytest.mark.parametrize("case", [pytest.param(it, id=it.name) for it in FOUND])
-def test_found(case: Case) -> None:
-    wrong = difference(case)
-    assert not wrong, wrong
+@pytest.mark.parametrize("found", [pytest.param(it, id=it.case.name) for it in FOUND])
+def test_found(request: pytest.FixtureRequest, found: Found) -> None:
+    judge(found, request.getfixturevalue("faults") if found.refused else "")
+
+
+def test_kept() -> None:
+    """What a test showed as it failed is put into the file of cases once, as small as it was shown last."""
+    found = [Found(Case("case 7", (b"check", b"problem.max"), b"p max 2 0\n", b"s \\'1\"\n"), refused) for refused in (0, 17)]
+    told = [f"E   AssertionError: it differs\nE   {it}\nE   \nE       {last}\n" for it, last in ((found[1], found[0]), (found[0], found[1]))]
+    text = "from __future__ import annotations\n\nfrom built import Case\nfrom kept import Found\n\nFOUND: list[Found] = [\n]\n"
+    kept: dict[str, object] = {}
+    exec(with_cases(with_cases(text, shown_cases(told)), shown_cases([*told, "E   nothing is shown"])), kept)
+    assert kept["FOUND"] == found

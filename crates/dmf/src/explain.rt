@@ -2,10 +2,10 @@
 use crate::fault::Fault;
 use crate::words;
 use dmf_arguments::{MAX_HISTORY, Mode, read_words};
-use dmf_runs::EngineFault;
-use dmf_terminal::{
+use dmf_explain::{
     Origin, explain_open, explain_problem, explain_read, explain_solution, explain_words,
 };
+use dmf_runs::EngineFault;
 use std::io::IsTerminal;
 
 /// Explains a fault on standard error, where that is a terminal.

@@ -8,13 +8,14 @@ mod fault;
 mod words;
 
 use dmf_arguments::{Arguments, MAX_HISTORY, Mode, WordsFault, read_arguments};
+use dmf_explain::{help_without_page, invite};
 use dmf_progress::{Progress, WatchedCommands, WatchedSink, WatchedSolve, WatchedSource};
 use dmf_runs::{
     EngineFault, MAX_BYTES, SolveReply, Status, run_check, run_session_watched, run_solve_watched,
     status_of,
 };
 use dmf_session::MAX_BOUND;
-use dmf_terminal::{Dialogue, HeardSink, KeptCommands, help_without_page, invite};
+use dmf_terminal::{Dialogue, HeardSink, KeptCommands};
 use dmf_text::{StdSink, StdSource};
 use fault::Fault;
 use std::fs::File;

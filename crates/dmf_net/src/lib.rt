@@ -2,7 +2,7 @@
 #![tactic(auto)]
 
 pub use dmf_solver::{
-    CutFault, PlanFault, ResidualNetwork, Unwatched, Watch, is_greatest, plan_add, plan_cap,
+    CutFault, PlanFault, ResidualNetwork, Turn, Unwatched, Watch, is_greatest, plan_add, plan_cap,
     plan_close, plan_shut, plan_solve, plan_solve_watched, plan_solve_with_side, side_after,
     smallest_side,
 };

@@ -8,7 +8,7 @@ use Rattle.std.proofs.lemmas.List.Elements.{Contains-append_left, Contains-appen
 use Rattle.dmf_node.specs.Node.{IsNode}
 use Rattle.dmf_path.specs.Links.{Links, LiesAt, AreLinks, tail_of}
 use Rattle.dmf_path.specs.Labels.{no_label, IsBacked, Spreads}
-use Rattle.dmf_path.proofs.LinkPlaces.{lies-within, end-within}
+use Rattle.dmf_path.proofs.LinkPlaces.{lies-within}
 use Rattle.dmf_path.specs.Frontier.{IsQueued, AreSpread, Expands}
 use Rattle.dmf_path.proofs.Labelling.{queue-short, queued-at}
 
@@ -248,27 +248,18 @@ node-read l opens root labels queue done node are so_far ahead read =
     )
 
 -- How many links are looked at by the end of a turn.
-pub looked-next : (l : Links) (opens : List ℕ) (root : ℕ) (labels queue : List ℕ) (done node from end looked : ℕ) → AreLinks l
-    → AreSpread l opens root labels queue done → done < length queue → node ≡ get_or queue done node → end ≡ get_or l.first (node + 1) end
+pub looked-next : (l : Links) (opens : List ℕ) (root : ℕ) (labels queue : List ℕ) (done from end looked : ℕ) → AreLinks l
+    → AreSpread l opens root labels queue done → done < length queue → end ≤ length l.heads
     → looked ≤ done * 2 ^ 31 → (looked + (end - from) ≤ (done + 1) * 2 ^ 31) × ((done + 1) * 2 ^ 31 < 2 ^ 62)
-looked-next l opens root labels queue done node from end looked are so_far ahead node_read end_read before =
-    let read = node-read l opens root labels queue done node are so_far ahead node_read in
-    let within : end ≤ length l.heads = end-within l node end are read.1.to_last end_read in
+looked-next l opens root labels queue done from end looked are so_far ahead within before =
     (omega (arith, within, are.at_most, before), omega (arith, ahead, queue-short l opens root labels queue done so_far, are.at_most_nodes))
 
--- A turn, where what is read has names of its own.
-pub spread-turn : (l : Links) (opens : List ℕ) (root : ℕ) (old queue : List ℕ) (done : ℕ) (new after heads : List ℕ) (node from end : ℕ) → AreLinks l
-    → AreSpread l opens root old queue done → done < length queue → length new ≡ length old → heads ≡ l.heads → node ≡ get_or queue done node
-    → from ≡ get_or l.first node from → end ≡ get_or l.first (node + 1) end
-    → (fresh : List ℕ) × (after ≡ queue ++ fresh) × Spreads heads opens from end (slice_index old node + 1) old new fresh
+-- A turn leaves the search as far as the next node.
+pub spread-turn : (l : Links) (opens : List ℕ) (root : ℕ) (old queue : List ℕ) (done : ℕ) (new after : List ℕ) → AreLinks l
+    → AreSpread l opens root old queue done → done < length queue → length new ≡ length old → Expands l opens old queue done new after
     → AreSpread l opens root new after (done + 1)
-spread-turn l opens root old queue done new after heads node from end are so_far ahead long same_heads node_read from_read end_read spreads =
-    let read = node-read l opens root old queue done node are so_far ahead node_read in
-    let is_node : slice_index queue done ≡ node = read.0 in
-    let from_is : slice_index l.first node ≡ from = get_or_default l.first node 0 from (omega (arith, read.1.to_last, are.first_long)) ∙ sym from_read in
-    let end_is : slice_index l.first (node + 1) ≡ end = get_or_default l.first (node + 1) 0 end
-    (omega (arith, read.1.to_last, are.first_long)) ∙ sym end_read in
-    rw spreads.1
+spread-turn l opens root old queue done new after are so_far ahead long expands =
+    rw expands.queued
     (spread-next (record {
       l = l;
       opens = opens;
@@ -277,23 +268,10 @@ spread-turn l opens root old queue done new after heads node from end are so_far
       queue = queue;
       done = done;
       new = new;
-      fresh = spreads.0;
+      fresh = expands.fresh;
       are = are;
       so_far = so_far;
       ahead = ahead;
       long = long;
-      spreads = rw (is_node, from_is, end_is, ← same_heads) spreads.2;
+      spreads = expands.spreads;
     }))
-
--- What a turn does, where what is read has names of its own.
-pub expands-turn : (l : Links) (opens : List ℕ) (root : ℕ) (old queue : List ℕ) (done : ℕ) (new after heads : List ℕ) (node from end : ℕ) → AreLinks l
-    → AreSpread l opens root old queue done → done < length queue → heads ≡ l.heads → node ≡ get_or queue done node → from ≡ get_or l.first node from
-    → end ≡ get_or l.first (node + 1) end → (fresh : List ℕ) × (after ≡ queue ++ fresh) × Spreads heads opens from end (slice_index old node + 1) old new fresh
-    → Expands l opens old queue done new after
-expands-turn l opens root old queue done new after heads node from end are so_far ahead same_heads node_read from_read end_read spreads =
-    let read = node-read l opens root old queue done node are so_far ahead node_read in
-    let is_node : slice_index queue done ≡ node = read.0 in
-    let from_is : slice_index l.first node ≡ from = get_or_default l.first node 0 from (omega (arith, read.1.to_last, are.first_long)) ∙ sym from_read in
-    let end_is : slice_index l.first (node + 1) ≡ end = get_or_default l.first (node + 1) 0 end
-    (omega (arith, read.1.to_last, are.first_long)) ∙ sym end_read in
-    record { fresh = spreads.0; queued = spreads.1; spreads = rw (is_node, from_is, end_is, ← same_heads) spreads.2 }

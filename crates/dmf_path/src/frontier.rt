@@ -88,20 +88,13 @@ pub fn expand<O: OpenLinks>(table: &LinkTable, opens: &O, frontier: &mut Frontie
     ensures capacity { vec_capacity frontier.new.queue ≡ vec_capacity frontier.old.queue }
 {
     let node = frontier.queue[frontier.done];
-    let from = table.first[node as usize];
-    let end = table.first[node as usize + 1];
+    let places = table.places_at(node);
     let label = frontier.labels[node as usize] + 1;
-    spread(
-        &table.heads,
-        opens,
-        from,
-        end,
-        label,
-        &mut frontier.labels,
-        &mut frontier.queue,
-    );
     frontier.done += 1;
-    frontier.looked = frontier.looked.wrapping_add(u64::from(end - from));
+    frontier.looked = frontier
+        .looked
+        .wrapping_add((places.end - places.start) as u64);
+    spread(&table.heads, opens, places, label, frontier);
 }
 
 /// Looks at the links of the nodes on the next level, until one of the nodes that they lead to has a label of the other search

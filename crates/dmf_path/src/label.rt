@@ -8,6 +8,7 @@ ghost use Rattle.dmf_path.specs.Labels.{AreLabels, AreQueued, Spreads, no_label,
 use crate::frontier::{Frontier, begin, expand};
 use crate::open::OpenLinks;
 use crate::table::LinkTable;
+use std::ops::Range;
 
 /// What stands for the label of a node that has none.
 pub const NO_LABEL: u32 = u32::MAX;
@@ -56,9 +57,8 @@ pub fn label_most<O: OpenLinks>(
     let mut looked = 0u64;
     while frontier.done < frontier.queue.len() && frontier.labels[stop as usize] == NO_LABEL {
         let node = frontier.queue[frontier.done];
-        let from = table.first[node as usize];
-        let end = table.first[node as usize + 1];
-        looked += u64::from(end - from);
+        let places = table.places_at(node);
+        looked += (places.end - places.start) as u64;
         if looked > most {
             return None;
         }
@@ -98,27 +98,30 @@ fn clear_queued(labels: &mut [u32], queue: &[u32])
     }
 }
 
-/// Labels the nodes without a label to which the open links at the places from `from` up to `end` lead, and queues them.
+/// Gives the label to the nodes without one to which the open links at the places lead, and queues these nodes.
 pub fn spread<O: OpenLinks>(
     heads: &[u32],
     opens: &O,
-    from: u32,
-    end: u32,
+    places: Range<usize>,
     label: u32,
-    labels: &mut [u32],
-    queue: &mut Vec<u32>,
+    frontier: &mut Frontier,
 )
-    requires range { from ≤ end }
-    requires links { end ≤ length heads.now }
+    requires range { places.start ≤ places.end }
+    requires links { places.end ≤ length heads.now }
     requires one_flag_each { length (O.flags opens.now) ≡ length heads.now }
-    requires heads { (p : ℕ) → p < end → slice_index heads.now p < length labels.old }
+    requires heads { (p : ℕ) → p < places.end → slice_index heads.now p < length frontier.old.labels.items }
     requires label { label ≢ no_label }
-    requires queue_capacity { length queue.old.items + unlabelled_count labels.old ≤ vec_capacity queue.old }
-    ensures spreads { (fresh : List ℕ) × (queue.new.items ≡ queue.old.items ++ fresh)
-        × Spreads heads.now (O.flags opens.now) from end label labels.old labels.new fresh }
-    ensures queue_capacity { vec_capacity queue.new ≡ vec_capacity queue.old }
+    requires queue_capacity { length frontier.old.queue.items + unlabelled_count frontier.old.labels.items ≤ vec_capacity frontier.old.queue }
+    ensures spreads { (fresh : List ℕ) × (frontier.new.queue.items ≡ frontier.old.queue.items ++ fresh)
+        × Spreads heads.now (O.flags opens.now) places.start places.end label frontier.old.labels.items frontier.new.labels.items fresh }
+    ensures one_label_each { length frontier.new.labels.items ≡ length frontier.old.labels.items }
+    ensures queue_capacity { vec_capacity frontier.new.queue ≡ vec_capacity frontier.old.queue }
+    ensures root { frontier.new.root ≡ frontier.old.root }
+    ensures done { frontier.new.done ≡ frontier.old.done }
 {
-    for place in from as usize..end as usize {
+    let labels = &mut frontier.labels[..];
+    let queue = &mut frontier.queue;
+    for place in places.start..places.end {
         let head = heads[place];
         if opens.is_open(place) && labels[head as usize] == NO_LABEL {
             labels[head as usize] = label;

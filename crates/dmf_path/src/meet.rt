@@ -108,9 +108,8 @@ fn waiting_links(table: &LinkTable, frontier: &Frontier) -> u64
     }
     let mut links = 0u64;
     for node in waiting {
-        let from = table.first[*node as usize];
-        let end = table.first[*node as usize + 1];
-        links = links.wrapping_add(u64::from(end - from));
+        let places = table.places_at(*node);
+        links = links.wrapping_add((places.end - places.start) as u64);
     }
     links
 }

@@ -1,6 +1,8 @@
 //! The links of all nodes, without their rooms.
 ghost use Rattle.dmf_path.specs.Links.{AreLinks};
 
+use std::ops::Range;
+
 /// The links of all nodes, side by side, in the order of their ranks at each node.
 #[derive(Drop)]
 pub struct LinkTable {
@@ -17,9 +19,20 @@ pub struct LinkTable {
 }
 
 impl LinkTable {
-    ghost use Rattle.std.specs.Prelude.{◌≡◌, ◌<◌, length, slice_index};
+    ghost use Rattle.std.specs.Prelude.{◌≡◌, ◌+◌, ◌<◌, ◌≤◌, length, slice_index};
     ghost use Rattle.dmf_path.specs.Links.{tail_of};
     ghost use Rattle.dmf_path.specs.LinkTable.{links_of};
+
+    /// The places of the links of a node.
+    pub fn places_at(&self, node: u32) -> Range<usize>
+        requires { node ≤ self.now.nodes }
+        ensures start { result.start ≡ slice_index self.now.first.items node }
+        ensures end { result.end ≡ slice_index self.now.first.items (node + 1) }
+        ensures order { result.start ≤ result.end }
+        ensures within { result.end ≤ length self.now.heads.items }
+    {
+        self.first[node as usize] as usize..self.first[node as usize + 1] as usize
+    }
 
     /// The place of the link that is opposite to the one at a place.
     pub fn opposite(&self, place: u32) -> u32

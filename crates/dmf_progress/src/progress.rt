@@ -5,7 +5,7 @@ ghost use Rattle.std.specs.Prelude.{◌≡◌};
 
 use crate::limit::value_limit;
 use crate::word::Word;
-use dmf_solver::Watch;
+use dmf_solver::{Turn, Watch};
 use dmf_state::State;
 use dmf_text::{Failed, Sink, Source};
 use std::cell::Cell;
@@ -26,7 +26,7 @@ const CALLS: u64 = 64;
 /// The path of the file on standard input.
 const INPUT: &str = "/proc/self/fd/0";
 
-/// The line on standard error. It tells how far a task is: reading a text, solving, or writing an answer.
+/// The line on standard error. It tells how far a task is: reading a text, solving, draining, or writing an answer.
 #[derive(Drop)]
 pub struct Progress<'a> {
     rt: &'a HostRuntime,
@@ -209,7 +209,7 @@ impl<S: Source> Source for WatchedCommands<'_, S> {
     }
 }
 
-/// A watch that tells how far a solve is.
+/// A watch that tells how far a solve or a drain is.
 #[derive(Drop)]
 pub struct WatchedSolve<'a> {
     progress: &'a Progress<'a>,
@@ -217,12 +217,16 @@ pub struct WatchedSolve<'a> {
     most: Option<u64>,
     paths: u64,
     phases: u32,
-    /// The number of links of the last path.
+    /// The number of links of the last path of a solve.
     links: u32,
+    /// Which arc the last path of a drain took flow off.
+    place: usize,
+    /// How much flow the drain has taken off.
+    taken: u64,
 }
 
 impl<'a> WatchedSolve<'a> {
-    /// A watch before the first solve.
+    /// A watch before the first path.
     pub fn new(progress: &'a Progress<'a>) -> Self {
         WatchedSolve {
             progress,
@@ -230,6 +234,8 @@ impl<'a> WatchedSolve<'a> {
             paths: 0,
             phases: 0,
             links: 0,
+            place: 0,
+            taken: 0,
         }
     }
 }
@@ -252,6 +258,24 @@ impl Watch for WatchedSolve<'_> {
                 most: self.most,
                 phases: self.phases,
                 paths: self.paths,
+            });
+        }
+    }
+
+    fn lowered(&mut self, turn: Turn, amount: u64) {
+        if !self.progress.is_busy.get() {
+            self.progress.begin();
+            *self = WatchedSolve::new(self.progress);
+        }
+        let is_next_arc = turn.place != self.place;
+        self.paths = self.paths.saturating_add(1);
+        self.place = turn.place;
+        self.taken = self.taken.saturating_add(amount);
+        if (is_next_arc || self.paths % CALLS == 1) && self.progress.is_due() {
+            self.progress.tell(Word::Draining {
+                place: turn.place,
+                count: turn.count,
+                taken: self.taken,
             });
         }
     }

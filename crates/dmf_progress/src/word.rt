@@ -18,6 +18,12 @@ pub enum Word {
         phases: u32,
         paths: u64,
     },
+    /// Which of how many arcs is drained, and how much flow is taken off so far.
+    Draining {
+        place: usize,
+        count: usize,
+        taken: u64,
+    },
     /// So many bytes are written.
     Writing {
         bytes: u64,
@@ -55,6 +61,14 @@ impl fmt::Display for Word {
             } => write!(
                 f,
                 "dmf: solving, value {value}, phase {phases}, {paths} paths"
+            ),
+            Word::Draining {
+                place,
+                count,
+                taken,
+            } => write!(
+                f,
+                "dmf: draining, arc {place} of {count}, {taken} taken off"
             ),
             Word::Writing { bytes } => {
                 let written = bytes / MEGABYTE;

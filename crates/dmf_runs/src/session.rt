@@ -50,8 +50,8 @@ pub fn run_commands<H: History + Drop, C: Source, W: Sink>(
     )
 }
 
-/// As [`run_commands`], with the wanted replies to solves. Also tells the watch of each state that it solves, and of each augmenting
-/// path.
+/// As [`run_commands`], with the wanted replies to solves. Also tells the watch of each state that it solves, of each augmenting
+/// path, and of what each path of a drain takes off.
 pub fn run_commands_watched<H: History + Drop, C: Source, W: Sink, V: Watch>(
     alloc: Global,
     session: Session<H>,
@@ -186,8 +186,8 @@ pub fn run_session_bounded<P: Source, C: Source, W: Sink>(
     )
 }
 
-/// As [`run_session_bounded`], with the wanted replies to solves. Also tells the watch of each state that it solves, and of each
-/// augmenting path.
+/// As [`run_session_bounded`], with the wanted replies to solves. Also tells the watch of each state that it solves, of each
+/// augmenting path, and of what each path of a drain takes off.
 pub fn run_session_watched<P: Source, C: Source, W: Sink, V: Watch>(
     alloc: Global,
     problem: &mut P,

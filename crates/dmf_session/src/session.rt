@@ -1,4 +1,4 @@
-ghost use Rattle.std.specs.Prelude.{◌≡◌, ◌≤◌, ◌↔◌, Bool, Some, Err, IfOk, OnOk, OnErr};
+ghost use Rattle.std.specs.Prelude.{◌≡◌, ◌≤◌, ◌↔◌, [], Bool, Some, Err, IfOk, OnOk, OnErr};
 ghost use Rattle.dmf_session.specs.declared.command.Command.TheVariants.{Cap, Add, Close, Shut, Solve, Undo, Redo, PrintCut};
 ghost use Rattle.dmf_history.specs.declared.history.RedoFault.TheVariants as redo;
 ghost use Rattle.dmf_history.specs.Timeline.{IsTimeline, IsPresent, future_of, back, forward, FitsPresent, Appends, AddsArcs};
@@ -6,15 +6,16 @@ ghost use Rattle.dmf_session.specs.Step.{Answers};
 ghost use Rattle.dmf_session.specs.AppendedEdit.{AnswersAppended};
 ghost use Rattle.dmf_session.specs.Kept.{KeepsPresent, KeepsApplied};
 ghost use Rattle.dmf_session.specs.Optimal.{HasOptimalPresent};
-ghost use Rattle.dmf_session.specs.Telling.{TellsStep};
+ghost use Rattle.dmf_session.specs.Telling.{TellsDrains, TellsStep};
+ghost use Rattle.dmf_solver.specs.Told.{AreTold};
 
 use crate::command::{Command, Refusal, Reply};
 use crate::kept::{kept_after, kept_before, kept_with};
 use crate::laws::greatest_is_optimal;
 use dmf_history::{History, RedoFault};
 use dmf_solver::{
-    ResidualNetwork, Unwatched, Watch, plan_add, plan_cap_with, plan_close_with, plan_shut_with,
-    smallest_side,
+    NewCap, ResidualNetwork, Unwatched, Watch, plan_add, plan_cap_watched, plan_close_watched,
+    plan_shut_watched, smallest_side,
 };
 use dmf_state::{Edit, NoMemory, State};
 use std::alloc::Global;
@@ -102,7 +103,7 @@ impl<H: History> Session<H> {
         self.step_watched(alloc, command, want_cut, &mut Unwatched)
     }
 
-    /// As [`Session::step`]; also tells the watch of each augmenting path of a solve.
+    /// As [`Session::step`]; also tells the watch of each augmenting path of a solve, and of what each path of a drain takes off.
     pub fn step_watched<W: Watch>(
         &mut self,
         alloc: Global,
@@ -113,6 +114,7 @@ impl<H: History> Session<H> {
         ensures answer { Answers want_cut (H.timeline self.old) command result (H.timeline self.new) }
         ensures optimal { command ≡ Solve → OnOk result (HasOptimalPresent (H.timeline self.new)) }
         ensures told { TellsStep (H.timeline self.old) command result (H.timeline self.new) (W.told watch.old) (W.told watch.new) }
+        ensures drained { TellsDrains (H.timeline self.old) command (W.drained watch.old) (W.drained watch.new) }
     {
         let answer = self.carry_out(alloc, command, want_cut, watch);
         self.drop_if_refused(&answer);
@@ -129,12 +131,13 @@ impl<H: History> Session<H> {
         ensures answer { Answers want_cut (H.timeline self.old) command result (H.timeline self.new) }
         ensures optimal { command ≡ Solve → OnOk result (HasOptimalPresent (H.timeline self.new)) }
         ensures told { TellsStep (H.timeline self.old) command result (H.timeline self.new) (W.told watch.old) (W.told watch.new) }
+        ensures drained { TellsDrains (H.timeline self.old) command (W.drained watch.old) (W.drained watch.new) }
     {
         match command {
-            Command::Cap { arc, cap } => self.cap(alloc, arc, cap),
+            Command::Cap { arc, cap } => self.cap(alloc, NewCap { arc, cap }, watch),
             Command::Add { tail, head, cap } => self.add(alloc, tail, head, cap),
-            Command::Close { arc } => self.close(alloc, arc),
-            Command::Shut { node } => self.shut(alloc, node),
+            Command::Close { arc } => self.close(alloc, arc, watch),
+            Command::Shut { node } => self.shut(alloc, node, watch),
             Command::Solve => self.solve(alloc, want_cut, watch),
             Command::Undo(steps) => self.undo(steps),
             Command::Redo(steps) => self.redo(alloc, steps),
@@ -144,10 +147,12 @@ impl<H: History> Session<H> {
         }
     }
 
-    fn cap(&mut self, alloc: Global, arc: u64, cap: u64) -> Result<Reply, Refusal>
-        ensures { (want_cut : Bool) → Answers want_cut (H.timeline self.old) (Cap arc cap) result (H.timeline self.new) }
+    fn cap<W: Watch>(&mut self, alloc: Global, new: NewCap, watch: &mut W) -> Result<Reply, Refusal>
+        ensures answer { (want_cut : Bool) → Answers want_cut (H.timeline self.old) (Cap new.arc new.cap) result (H.timeline self.new) }
+        ensures told { AreTold (W.told watch.old) (W.told watch.new) [] }
+        ensures drained { TellsDrains (H.timeline self.old) (Cap new.arc new.cap) (W.drained watch.old) (W.drained watch.new) }
     {
-        let edit = plan_cap_with(alloc, self.history.present(), arc, cap, &mut self.kept)?;
+        let edit = plan_cap_watched(alloc, self.history.present(), new, &mut self.kept, watch)?;
         let kept = self.kept.take();
         self.change(edit, kept)
     }
@@ -162,18 +167,22 @@ impl<H: History> Session<H> {
         Ok(Reply::Added(present.arcs().len() as u32, present.value()))
     }
 
-    fn close(&mut self, alloc: Global, arc: u64) -> Result<Reply, Refusal>
-        ensures { (want_cut : Bool) → Answers want_cut (H.timeline self.old) (Close arc) result (H.timeline self.new) }
+    fn close<W: Watch>(&mut self, alloc: Global, arc: u64, watch: &mut W) -> Result<Reply, Refusal>
+        ensures answer { (want_cut : Bool) → Answers want_cut (H.timeline self.old) (Close arc) result (H.timeline self.new) }
+        ensures told { AreTold (W.told watch.old) (W.told watch.new) [] }
+        ensures drained { TellsDrains (H.timeline self.old) (Close arc) (W.drained watch.old) (W.drained watch.new) }
     {
-        let edit = plan_close_with(alloc, self.history.present(), arc, &mut self.kept)?;
+        let edit = plan_close_watched(alloc, self.history.present(), arc, &mut self.kept, watch)?;
         let kept = self.kept.take();
         self.change(edit, kept)
     }
 
-    fn shut(&mut self, alloc: Global, node: u64) -> Result<Reply, Refusal>
-        ensures { (want_cut : Bool) → Answers want_cut (H.timeline self.old) (Shut node) result (H.timeline self.new) }
+    fn shut<W: Watch>(&mut self, alloc: Global, node: u64, watch: &mut W) -> Result<Reply, Refusal>
+        ensures answer { (want_cut : Bool) → Answers want_cut (H.timeline self.old) (Shut node) result (H.timeline self.new) }
+        ensures told { AreTold (W.told watch.old) (W.told watch.new) [] }
+        ensures drained { TellsDrains (H.timeline self.old) (Shut node) (W.drained watch.old) (W.drained watch.new) }
     {
-        let edit = plan_shut_with(alloc, self.history.present(), node, &mut self.kept)?;
+        let edit = plan_shut_watched(alloc, self.history.present(), node, &mut self.kept, watch)?;
         let kept = self.kept.take();
         self.change(edit, kept)
     }
@@ -188,6 +197,7 @@ impl<H: History> Session<H> {
         ensures answer { Answers want_cut (H.timeline self.old) Solve result (H.timeline self.new) }
         ensures optimal { OnOk result (HasOptimalPresent (H.timeline self.new)) }
         ensures told { TellsStep (H.timeline self.old) Solve result (H.timeline self.new) (W.told watch.old) (W.told watch.new) }
+        ensures drained { W.drained watch.new ≤ W.drained watch.old }
     {
         greatest_is_optimal();
         let network = self.take_network(alloc)?;

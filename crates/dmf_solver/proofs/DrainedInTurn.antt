@@ -1,6 +1,6 @@
 -- Arcs drained to 0 in turn: what is left is a flow that is 0 on each of them, and its value is less by at most what was on
 -- them.
-use Rattle.std.proofs.Common.{ℕ, ◌≡◌, ◌-◌, ◌≤◌, List, [], ◌∷◌, get_or, zero, suc, refl, ◌∙◌, subst, arith, pos, ◌≤ℤ◌}
+use Rattle.std.proofs.Common.{ℕ, true, ◌≡◌, ◌-◌, ◌≤◌, List, [], ◌∷◌, get_or, zero, suc, refl, ◌∙◌, subst, arith, pos, ◌≤ℤ◌}
 use Rattle.std.proofs.lemmas.Int.{ints}
 use Rattle.std.proofs.lemmas.List.Sums.{sum_by-cons}
 use Rattle.std.proofs.lemmas.Slice.Zip.{AllZip-long}
@@ -11,14 +11,14 @@ use Rattle.dmf_solver.specs.Drain.{Drains, TakesOff}
 use Rattle.dmf_state.specs.Edit.{differences}
 use Rattle.dmf_state.specs.Flow.{flow_on, flow_on_all, IsFlow, flow_value}
 use Rattle.dmf_solver.specs.Moves.{DrainsInTurn, AreShuttingMoves}
-use Rattle.dmf_state.specs.Network.{Network, IsNetwork}
-use Rattle.dmf_state.specs.NetworkState.{NetworkState, IsState}
+use Rattle.dmf_state.specs.Network.{Network, IsNetwork, has_arc}
+use Rattle.dmf_state.specs.NetworkState.{NetworkState, IsState, with_flows}
 use Rattle.dmf_solver.proofs.Draining.{IsNoMore, no_more-in_turn, TakesOff-none, drains-state}
 use Rattle.dmf_state.proofs.ClosedArcs.{HasArcs, AreWithoutFlow}
 use Rattle.dmf_state.proofs.Moving.{moves-between}
 
 -- No flow is more than before, at each place,
-no_more-at : (xs ys : List ℕ) (k : ℕ) → IsNoMore xs ys → get_or ys k 0 ≤ get_or xs k 0
+pub no_more-at : (xs ys : List ℕ) (k : ℕ) → IsNoMore xs ys → get_or ys k 0 ≤ get_or xs k 0
 no_more-at [] [] k less = omega arith
 no_more-at [] (y ∷ ys) k less = absurd less
 no_more-at (x ∷ xs) [] k less = absurd less
@@ -30,6 +30,13 @@ no_more-on_all : (xs ys js : List ℕ) → IsNoMore xs ys → flow_on_all ys js 
 no_more-on_all xs ys [] less = omega arith
 no_more-on_all xs ys (j ∷ js) less =
     omega (arith, no_more-at xs ys (j - 1) less, no_more-on_all xs ys js less, sum_by-cons (flow_on xs) j js, sum_by-cons (flow_on ys) j js)
+
+-- Draining one of them leaves no flow more than it was.
+pub no_more-drained : (s : NetworkState) (first flows last : List ℕ) (j : ℕ) → IsState (with_flows s flows) → has_arc s.network j ≡ true
+    → Drains s.network j 0 flows last → IsNoMore first flows → IsNoMore first last
+no_more-drained s first flows last j state has drains less =
+    let once = drains-state s.network j 0 flows last state.network state.flow state.value_from_zero has drains in
+    no_more-in_turn first flows last less once.0.no_more
 
 -- What is said of the flows that are left.
 pub record AreLeft (n : Network) (js flows last : List ℕ) : Type 0 where

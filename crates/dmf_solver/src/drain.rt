@@ -1,4 +1,4 @@
-ghost use Rattle.std.specs.Prelude.{◌≡◌, ◌≢◌, ◌≤◌, ℕ, true, List, [], ◌∷◌, length, IfOk, IsOk};
+ghost use Rattle.std.specs.Prelude.{◌≡◌, ◌≢◌, ◌+◌, ◌-◌, ◌≤◌, ℕ, true, List, [], ◌∷◌, length, IfOk, IsOk};
 ghost use Rattle.dmf_state.specs.Network.{arc_number, has_arc};
 ghost use Rattle.dmf_state.specs.Flow.{flow_on};
 ghost use Rattle.dmf_state.specs.NetworkState.{IsState};
@@ -8,10 +8,12 @@ ghost use Rattle.dmf_solver.specs.Drain.{Drains};
 ghost use Rattle.dmf_solver.specs.KeptNetwork.{Keeps};
 ghost use Rattle.dmf_solver.specs.Moves.{AreDrainingMoves, CarriesMoved};
 ghost use Rattle.dmf_solver.specs.Pairs.{Along, IsCarryingSearch, flows_read};
+ghost use Rattle.dmf_solver.specs.Told.{AreTold};
 
 use crate::drained_flows::DrainedFlows;
 use crate::moves::list_moves;
 use crate::residual_network::{ResidualNetwork, kept_or_new};
+use crate::watch::{Turn, Watch};
 use dmf_path::{Search, Touched};
 use dmf_state::{Move, State};
 use std::alloc::{AllocError, Global};
@@ -25,22 +27,26 @@ pub struct Drained {
     pub carrying: Option<Search>,
 }
 
-/// Drains arc number `j` to the limit. Where no more than the limit flows on it, there are no moves, and no other arc is looked at.
-/// Else the carrying search is taken out of the kept network; where none is kept, a network is made and kept.
-pub fn drain(
+/// Drains the arc whose turn it is to the limit, and tells the watch of each path. Where no more than the limit flows on it, there are
+/// no moves, and no other arc is looked at. Else the carrying search is taken out of the kept network; where none is kept, a network is
+/// made and kept.
+pub fn drain<W: Watch>(
     alloc: Global,
     state: &State,
-    j: u32,
-    limit: u64,
+    turn: Turn,
     kept: &mut Option<ResidualNetwork>,
+    watch: &mut W,
 ) -> Result<Drained, AllocError>
-    requires is_there { has_arc state.now.network j ≡ true }
+    requires is_there { has_arc state.now.network turn.arc ≡ true }
     requires kept { Keeps state.now kept.old }
-    ensures at_once { flow_on state.now.flows j ≤ limit → IsOk result }
-    ensures moves { IfOk result (λ drained. AreDrainingMoves state.now j limit drained.moves.items) }
+    ensures at_once { flow_on state.now.flows turn.arc ≤ turn.limit → IsOk result }
+    ensures moves { IfOk result (λ drained. AreDrainingMoves state.now turn.arc turn.limit drained.moves.items) }
     ensures carrying { IfOk result (CarriesMoved state.now) }
     ensures kept { Keeps state.now kept.new }
+    ensures told { AreTold (W.told watch.old) (W.told watch.new) [] }
+    ensures drained { W.drained watch.new ≤ W.drained watch.old + (flow_on state.now.flows turn.arc - turn.limit) }
 {
+    let Turn { arc: j, limit, .. } = turn;
     let flow = state.flows()[j as usize - 1];
     if flow <= limit {
         return Ok(Drained {
@@ -57,7 +63,7 @@ pub fn drain(
         });
     }
     let carrying = take_carrying(alloc, state, kept)?;
-    drain_by(alloc, state, j, limit, carrying)
+    drain_by(alloc, state, turn, carrying, watch)
 }
 
 /// Takes the carrying search of the state's flow out of the kept network. Where none is kept, one is made and kept first.
@@ -90,23 +96,25 @@ fn loop_moves(alloc: Global, j: u32, flow: u64, limit: u64) -> Result<Vec<Move>,
     Ok(moves)
 }
 
-/// Drains arc number `j`, which leads from a node to another, to the limit, by this carrying search.
-fn drain_by(
+/// Drains the arc whose turn it is, which leads from a node to another, to the limit, by this carrying search.
+fn drain_by<W: Watch>(
     alloc: Global,
     state: &State,
-    j: u32,
-    limit: u64,
+    turn: Turn,
     mut carrying: Search,
+    watch: &mut W,
 ) -> Result<Drained, AllocError>
-    requires is_there { has_arc state.now.network j ≡ true }
-    requires no_loop { (arc_number state.now.network j).tail ≢ (arc_number state.now.network j).head }
+    requires is_there { has_arc state.now.network turn.arc ≡ true }
+    requires no_loop { (arc_number state.now.network turn.arc).tail ≢ (arc_number state.now.network turn.arc).head }
     requires carrying { IsCarryingOf state.now carrying }
-    ensures moves { IfOk result (λ drained. AreDrainingMoves state.now j limit drained.moves.items) }
+    ensures moves { IfOk result (λ drained. AreDrainingMoves state.now turn.arc turn.limit drained.moves.items) }
     ensures carrying { IfOk result (CarriesMoved state.now) }
+    ensures told { AreTold (W.told watch.old) (W.told watch.new) [] }
+    ensures drained { W.drained watch.new ≤ W.drained watch.old + (flow_on state.now.flows turn.arc - turn.limit) }
 {
     let before = state.flows();
     let mut touched = carrying.none_touched(alloc, state.nodes() as usize / 8)?;
-    drain_along(state, j, limit, &mut carrying, &mut touched);
+    drain_along(state, turn, &mut carrying, &mut touched, watch);
     touched.sort();
     let drained = DrainedFlows {
         state,
@@ -120,30 +128,41 @@ fn drain_by(
     })
 }
 
-/// Drains arc number `j`, which leads from a node to another, to the limit: it takes flow off along the paths that the search over
-/// carrying steps finds. Where no more than the limit flows on the arc, it does nothing. The pairs that it changes count as touched.
-pub fn drain_along(state: &State, j: u32, limit: u64, search: &mut Search, touched: &mut Touched)
-    requires is_there { has_arc state.now.network j ≡ true }
-    requires no_loop { (arc_number state.now.network j).tail ≢ (arc_number state.now.network j).head }
+/// Drains the arc whose turn it is, which leads from a node to another, to the limit: it takes flow off along the paths that the search
+/// over carrying steps finds, and tells the watch of each. Where no more than the limit flows on the arc, it does nothing. The pairs
+/// that it changes count as touched.
+pub fn drain_along<W: Watch>(
+    state: &State,
+    turn: Turn,
+    search: &mut Search,
+    touched: &mut Touched,
+    watch: &mut W,
+)
+    requires is_there { has_arc state.now.network turn.arc ≡ true }
+    requires no_loop { (arc_number state.now.network turn.arc).tail ≢ (arc_number state.now.network turn.arc).head }
     requires carrying { (unpaired : List ℕ) × IsCarryingSearch state.now unpaired search.old }
     ensures touched { Touches touched.old touched.new search.old.pairs search.new.pairs }
     ensures drains { (unpaired : List ℕ) → IsCarryingSearch state.now unpaired search.old →
         IsCarryingSearch state.now unpaired search.new
-        × Drains state.now.network j limit (flows_read Along unpaired search.old.pairs) (flows_read Along unpaired search.new.pairs) }
+        × Drains state.now.network turn.arc turn.limit (flows_read Along unpaired search.old.pairs) (flows_read Along unpaired search.new.pairs) }
+    ensures told { AreTold (W.told watch.old) (W.told watch.new) [] }
+    ensures drained { (unpaired : List ℕ) → IsCarryingSearch state.now unpaired search.old →
+        W.drained watch.new ≤ W.drained watch.old + (flow_on (flows_read Along unpaired search.old.pairs) turn.arc - turn.limit) }
 {
-    let i = j as usize - 1;
-    let mut left = search.along(i).unwrap_or(0).saturating_sub(limit);
+    let i = turn.arc as usize - 1;
+    let mut left = search.along(i).unwrap_or(0).saturating_sub(turn.limit);
     if left == 0 {
         return;
     }
-    let arc = state.arc(j);
+    let arc = state.arc(turn.arc);
     search.aim(arc.head, arc.tail);
-    touched.add(j - 1);
+    touched.add(turn.arc - 1);
     while 0 < left {
         match search.augment(left, touched) {
             Some(found) => {
                 let amount = found.amount;
                 search.lower(i, amount);
+                watch.lowered(turn, amount);
                 left -= amount;
             }
             None => unreachable!(),

@@ -1,4 +1,4 @@
-ghost use Rattle.std.specs.Prelude.{◌≡◌, ◌≢◌, ◌-◌, ◌≤◌, Err, IfOk, IfErr, IfSome, IsOkUnless, MatchResult, OnErr, pos};
+ghost use Rattle.std.specs.Prelude.{◌≡◌, ◌≢◌, ◌+◌, ◌-◌, ◌≤◌, [], Err, IfOk, IfErr, IfSome, IsOkUnless, MatchResult, OnErr, pos};
 ghost use Rattle.std.specs.Result.{result_err};
 ghost use Rattle.dmf_solver.specs.Change.{Cap, Close, Add, Shut, arc_refusal, change_fault};
 ghost use Rattle.dmf_state.specs.Arc.{open_arcs_at};
@@ -9,7 +9,7 @@ ghost use Rattle.dmf_solver.specs.CarryingNetwork.{MayCarry};
 ghost use Rattle.dmf_solver.specs.KeptNetwork.{Keeps};
 ghost use Rattle.dmf_solver.specs.Planning.{EditTakesOff, IsRefusedFor, IsSideWanted, Plans, PlansSolve};
 ghost use Rattle.dmf_state.specs.Side.{IsSmallestSide};
-ghost use Rattle.dmf_solver.specs.Told.{TellsSolve, MayTellSolve};
+ghost use Rattle.dmf_solver.specs.Told.{AreTold, TellsSolve, MayTellSolve};
 
 use crate::drain::drain;
 use crate::fault::PlanFault;
@@ -18,10 +18,19 @@ use crate::residual_network::{ResidualNetwork, touched_moves};
 use crate::shut::{drain_all, open_arcs_at};
 use crate::side::wanted_side;
 use crate::solve::solve;
-use crate::watch::{Unwatched, Watch};
+use crate::watch::{Turn, Unwatched, Watch};
 use dmf_path::{Search, Touched};
 use dmf_state::{Edit, Side, State};
 use std::alloc::Global;
+
+/// Another capacity for an arc, as it is asked for.
+#[derive(Clone, Copy, Debug)]
+pub struct NewCap {
+    /// The number of the arc.
+    pub arc: u64,
+    /// Its new capacity.
+    pub cap: u64,
+}
 
 /// Plans the capacity `cap` for arc number `j`. The state stays as it is. Where more than `cap` flows on the arc, the plan drains
 /// it first.
@@ -59,11 +68,34 @@ pub fn plan_cap_with(
     ensures kept_if_refused { OnErr result (Keeps state.now kept.new) }
     ensures same_if_refused { IfErr result (λ fault. fault ≢ PlanFault.NoMemory → kept.new ≡ kept.old) }
 {
-    let (arc, old) = open_arc(state, j)?;
+    plan_cap_watched(alloc, state, NewCap { arc: j, cap }, kept, &mut Unwatched)
+}
+
+/// As [`plan_cap_with`]; also tells the watch what each path of a drain takes off.
+pub fn plan_cap_watched<W: Watch>(
+    alloc: Global,
+    state: &State,
+    wanted: NewCap,
+    kept: &mut Option<ResidualNetwork>,
+    watch: &mut W,
+) -> Result<Edit, PlanFault>
+    requires { Keeps state.now kept.old }
+    ensures refused { IsRefusedFor state.now (Cap wanted.arc wanted.cap) result }
+    ensures at_once { flow_on state.now.flows wanted.arc ≤ wanted.cap → result ≢ Err PlanFault.NoMemory }
+    ensures plan { IfOk result (Plans state.now (Cap wanted.arc wanted.cap)) }
+    ensures takes_off { IfOk result (EditTakesOff state.now (flow_on state.now.flows wanted.arc - wanted.cap)) }
+    ensures kept { IfOk result (λ edit. Keeps (applied edit state.now) kept.new) }
+    ensures kept_if_refused { OnErr result (Keeps state.now kept.new) }
+    ensures same_if_refused { IfErr result (λ fault. fault ≢ PlanFault.NoMemory → kept.new ≡ kept.old) }
+    ensures told { AreTold (W.told watch.old) (W.told watch.new) [] }
+    ensures drained { W.drained watch.new ≤ W.drained watch.old + (flow_on state.now.flows wanted.arc - wanted.cap) }
+{
+    let (arc, old) = open_arc(state, wanted.arc)?;
+    let cap = wanted.cap;
     if cap > state.largest_cap(old) {
         return Err(PlanFault::SumTooLarge);
     }
-    let drained = drain(alloc, state, arc, cap, kept)?;
+    let drained = drain(alloc, state, Turn::only(arc, cap), kept, watch)?;
     let edit = Edit::Cap {
         arc,
         old,
@@ -105,8 +137,30 @@ pub fn plan_close_with(
     ensures kept_if_refused { OnErr result (Keeps state.now kept.new) }
     ensures same_if_refused { IfErr result (λ fault. fault ≢ PlanFault.NoMemory → kept.new ≡ kept.old) }
 {
+    plan_close_watched(alloc, state, j, kept, &mut Unwatched)
+}
+
+/// As [`plan_close_with`]; also tells the watch what each path of a drain takes off.
+pub fn plan_close_watched<W: Watch>(
+    alloc: Global,
+    state: &State,
+    j: u64,
+    kept: &mut Option<ResidualNetwork>,
+    watch: &mut W,
+) -> Result<Edit, PlanFault>
+    requires { Keeps state.now kept.old }
+    ensures refused { IsRefusedFor state.now (Close j) result }
+    ensures at_once { flow_on state.now.flows j ≡ 0 → result ≢ Err PlanFault.NoMemory }
+    ensures plan { IfOk result (Plans state.now (Close j)) }
+    ensures takes_off { IfOk result (EditTakesOff state.now (flow_on state.now.flows j)) }
+    ensures kept { IfOk result (λ edit. Keeps (applied edit state.now) kept.new) }
+    ensures kept_if_refused { OnErr result (Keeps state.now kept.new) }
+    ensures same_if_refused { IfErr result (λ fault. fault ≢ PlanFault.NoMemory → kept.new ≡ kept.old) }
+    ensures told { AreTold (W.told watch.old) (W.told watch.new) [] }
+    ensures drained { W.drained watch.new ≤ W.drained watch.old + flow_on state.now.flows j }
+{
     let (arc, old) = open_arc(state, j)?;
-    let drained = drain(alloc, state, arc, 0, kept)?;
+    let drained = drain(alloc, state, Turn::only(arc, 0), kept, watch)?;
     let edit = Edit::Close {
         arc,
         old,
@@ -149,11 +203,33 @@ pub fn plan_shut_with(
     ensures kept_if_refused { OnErr result (Keeps state.now kept.new) }
     ensures same_if_refused { IfErr result (λ fault. fault ≢ PlanFault.NoMemory → kept.new ≡ kept.old) }
 {
+    plan_shut_watched(alloc, state, v, kept, &mut Unwatched)
+}
+
+/// As [`plan_shut_with`]; also tells the watch what each path of the drains takes off.
+pub fn plan_shut_watched<W: Watch>(
+    alloc: Global,
+    state: &State,
+    v: u64,
+    kept: &mut Option<ResidualNetwork>,
+    watch: &mut W,
+) -> Result<Edit, PlanFault>
+    requires { Keeps state.now kept.old }
+    ensures refused { IsRefusedFor state.now (Shut v) result }
+    ensures plan { IfOk result (Plans state.now (Shut v)) }
+    ensures arcs { IfOk result (λ edit. shut_arcs edit ≡ open_arcs_at v 1 state.now.network.arcs) }
+    ensures takes_off { IfOk result (EditTakesOff state.now (flow_on_all state.now.flows (open_arcs_at v 1 state.now.network.arcs))) }
+    ensures kept { IfOk result (λ edit. Keeps (applied edit state.now) kept.new) }
+    ensures kept_if_refused { OnErr result (Keeps state.now kept.new) }
+    ensures same_if_refused { IfErr result (λ fault. fault ≢ PlanFault.NoMemory → kept.new ≡ kept.old) }
+    ensures told { AreTold (W.told watch.old) (W.told watch.new) [] }
+    ensures drained { W.drained watch.new ≤ W.drained watch.old + flow_on_all state.now.flows (open_arcs_at v 1 state.now.network.arcs) }
+{
     if v < 1 || v > u64::from(state.nodes()) {
         return Err(PlanFault::NoSuchNode);
     }
     let arcs = open_arcs_at(alloc, state, v as u32)?;
-    let drained = drain_all(alloc, state, &arcs, kept)?;
+    let drained = drain_all(alloc, state, &arcs, kept, watch)?;
     let edit = Edit::Shut {
         arcs,
         moves: drained.moves,
@@ -242,6 +318,7 @@ pub fn plan_solve_watched<W: Watch>(
     ensures told { MatchResult result
         (λ planned. TellsSolve state.now (applied planned.0 state.now).flows (W.told watch.old) (W.told watch.new))
         (λ _. MayTellSolve state.now (W.told watch.old) (W.told watch.new)) }
+    ensures drained { W.drained watch.new ≤ W.drained watch.old }
 {
     let search = residual_search(alloc, state)?;
     let solved = solve(search, state, Touched::all(), watch);

@@ -1,4 +1,4 @@
-ghost use Rattle.std.specs.Prelude.{◌≡◌, ◌↔◌, None, pos, IfOk, IfSome, IsOkUnless, MatchResult};
+ghost use Rattle.std.specs.Prelude.{◌≡◌, ◌≤◌, ◌↔◌, None, pos, IfOk, IfSome, IsOkUnless, MatchResult};
 ghost use Rattle.dmf_state.specs.Direction.{edited_along, FitsAlong};
 ghost use Rattle.dmf_state.specs.Edit.{applied, differences, AddsArc, Fits};
 ghost use Rattle.dmf_state.specs.Flow.{flow_value};
@@ -86,6 +86,7 @@ impl ResidualNetwork {
         ensures told { MatchResult result
             (λ planned. TellsSolve state.now (applied planned.0 state.now).flows (W.told watch.old) (W.told watch.new))
             (λ _. MayTellSolve state.now (W.told watch.old) (W.told watch.new)) }
+        ensures drained { W.drained watch.new ≤ W.drained watch.old }
     {
         let ResidualNetwork {
             mut search,

@@ -1,20 +1,22 @@
 //! Every open arc at a node is closed.
-ghost use Rattle.std.specs.Prelude.{◌≡◌, ◌≤◌, ℕ, true, length, map, IfOk};
+ghost use Rattle.std.specs.Prelude.{◌≡◌, ◌+◌, ◌≤◌, ℕ, true, [], length, map, IfOk};
 ghost use Rattle.dmf_state.specs.Arc.{open_arcs_at};
 ghost use Rattle.dmf_solver.specs.CarryingNetwork.{IsCarryingOf};
 ghost use Rattle.dmf_solver.specs.Drain.{Drains};
 ghost use Rattle.dmf_solver.specs.KeptNetwork.{Keeps};
 ghost use Rattle.dmf_state.specs.Edit.{AreOpenWith, numbers};
-ghost use Rattle.dmf_state.specs.Flow.{flow_on_all};
+ghost use Rattle.dmf_state.specs.Flow.{flow_on, flow_on_all};
 ghost use Rattle.dmf_solver.specs.Moves.{AreShuttingMoves, CarriesMoved};
 ghost use Rattle.dmf_state.specs.Network.{has_arc};
 ghost use Rattle.dmf_state.specs.NetworkState.{IsState};
 ghost use Rattle.dmf_solver.specs.Pairs.{Along, IsCarryingSearch, flows_read};
+ghost use Rattle.dmf_solver.specs.Told.{AreTold};
 
 use crate::drain::{Drained, drain_along, take_carrying};
 use crate::drained_flows::DrainedFlows;
 use crate::moves::list_all_moves;
 use crate::residual_network::ResidualNetwork;
+use crate::watch::{Turn, Watch};
 use dmf_path::{Search, Touched};
 use dmf_state::{Shutting, State};
 use std::alloc::{AllocError, Global};
@@ -36,13 +38,14 @@ pub fn open_arcs_at(alloc: Global, state: &State, v: u32) -> Result<Vec<Shutting
     Ok(open)
 }
 
-/// Drains these arcs in turn. Where nothing flows on any of them, there are no moves, and no other arc is looked at. Else the carrying
-/// search is taken out of the kept network; where none is kept, a network is made and kept.
-pub fn drain_all(
+/// Drains these arcs in turn, and tells the watch of each path. Where nothing flows on any of them, there are no moves, and no other arc
+/// is looked at. Else the carrying search is taken out of the kept network; where none is kept, a network is made and kept.
+pub fn drain_all<W: Watch>(
     alloc: Global,
     state: &State,
     arcs: &[Shutting],
     kept: &mut Option<ResidualNetwork>,
+    watch: &mut W,
 ) -> Result<Drained, AllocError>
     requires state { IsState state.now }
     requires arcs { AreOpenWith 0 arcs.now state.now.network }
@@ -50,6 +53,8 @@ pub fn drain_all(
     ensures moves { IfOk result (λ drained. AreShuttingMoves state.now (numbers arcs.now) drained.moves.items) }
     ensures carrying { IfOk result (CarriesMoved state.now) }
     ensures kept { Keeps state.now kept.new }
+    ensures told { AreTold (W.told watch.old) (W.told watch.new) [] }
+    ensures drained { W.drained watch.new ≤ W.drained watch.old + flow_on_all state.now.flows (numbers arcs.now) }
 {
     if are_without_flow(state, arcs) {
         return Ok(Drained {
@@ -58,24 +63,35 @@ pub fn drain_all(
         });
     }
     let carrying = take_carrying(alloc, state, kept)?;
-    drain_all_by(alloc, state, arcs, carrying)
+    drain_all_by(alloc, state, arcs, carrying, watch)
 }
 
 /// Drains these arcs in turn, by this carrying search.
-fn drain_all_by(
+fn drain_all_by<W: Watch>(
     alloc: Global,
     state: &State,
     arcs: &[Shutting],
     mut search: Search,
+    watch: &mut W,
 ) -> Result<Drained, AllocError>
     requires arcs { AreOpenWith 0 arcs.now state.now.network }
     requires carrying { IsCarryingOf state.now search }
     ensures moves { IfOk result (λ drained. AreShuttingMoves state.now (numbers arcs.now) drained.moves.items) }
     ensures carrying { IfOk result (CarriesMoved state.now) }
+    ensures told { AreTold (W.told watch.old) (W.told watch.new) [] }
+    ensures drained { W.drained watch.new ≤ W.drained watch.old + flow_on_all state.now.flows (numbers arcs.now) }
 {
     let mut unpaired = Vec::from_slice(alloc, state.flows())?;
+    let mut place = 0usize;
     for shutting in arcs {
-        drain_in_turn(state, shutting.arc, &mut search, &mut unpaired);
+        place = place.wrapping_add(1);
+        let turn = Turn {
+            arc: shutting.arc,
+            limit: 0,
+            place,
+            count: arcs.len(),
+        };
+        drain_in_turn(state, turn, &mut search, &mut unpaired, watch);
     }
     let drained = DrainedFlows {
         state,
@@ -102,18 +118,27 @@ fn are_without_flow(state: &State, arcs: &[Shutting]) -> bool
     true
 }
 
-/// Drains arc number `j`, where the search and the list tell the flows. The search drains an arc that leads to another node. One that
-/// comes back to its tail has no pair: its flow in the list becomes 0.
-fn drain_in_turn(state: &State, j: u32, search: &mut Search, unpaired: &mut [u64])
-    requires is_there { has_arc state.now.network j ≡ true }
+/// Drains the arc whose turn it is to 0, where the search and the list tell the flows. The search drains an arc that leads to another
+/// node. One that comes back to its tail has no pair: its flow in the list becomes 0.
+fn drain_in_turn<W: Watch>(
+    state: &State,
+    turn: Turn,
+    search: &mut Search,
+    unpaired: &mut [u64],
+    watch: &mut W,
+)
+    requires to_zero { turn.limit ≡ 0 }
+    requires is_there { has_arc state.now.network turn.arc ≡ true }
     requires carrying { IsCarryingSearch state.now unpaired.old search.old }
     ensures carrying { IsCarryingSearch state.now unpaired.new search.new }
-    ensures drains { Drains state.now.network j 0 (flows_read Along unpaired.old search.old.pairs) (flows_read Along unpaired.new search.new.pairs) }
+    ensures drains { Drains state.now.network turn.arc 0 (flows_read Along unpaired.old search.old.pairs) (flows_read Along unpaired.new search.new.pairs) }
+    ensures told { AreTold (W.told watch.old) (W.told watch.new) [] }
+    ensures drained { W.drained watch.new ≤ W.drained watch.old + flow_on (flows_read Along unpaired.old search.old.pairs) turn.arc }
 {
-    let arc = state.arc(j);
+    let arc = state.arc(turn.arc);
     if arc.tail == arc.head {
-        unpaired[j as usize - 1] = 0;
+        unpaired[turn.arc as usize - 1] = 0;
     } else {
-        drain_along(state, j, 0, search, &mut Touched::all());
+        drain_along(state, turn, search, &mut Touched::all(), watch);
     }
 }

@@ -1,4 +1,4 @@
-ghost use Rattle.std.specs.Prelude.{◌≡◌, ◌+◌, ◌↔◌, false, length, IfOk, IsTrue};
+ghost use Rattle.std.specs.Prelude.{◌≡◌, ◌+◌, ◌≤◌, ◌↔◌, false, length, IfOk, IsTrue};
 ghost use Rattle.dmf_path.specs.Touched.{AreBelow};
 ghost use Rattle.dmf_state.specs.NetworkState.{IsState};
 ghost use Rattle.dmf_solver.specs.Greatest.{IsGreatest, IsSurpassed};
@@ -33,6 +33,7 @@ pub fn solve<W: Watch>(
     requires below { AreBelow (length state.now.network.arcs + 1) touched }
     ensures solved { IsSolved state.now result }
     ensures told { TellsSolve state.now (reached_flows state.now result.search) (W.told watch.old) (W.told watch.new) }
+    ensures drained { W.drained watch.new ≤ W.drained watch.old }
     ensures state { IsState state.now }
 {
     let mut value = state.value();

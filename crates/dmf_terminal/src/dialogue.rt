@@ -1,10 +1,8 @@
 //! A session at a terminal: what was typed, and on standard error an explanation after each refusal.
 ghost use Rattle.std.specs.Prelude.{◌≡◌};
 
-use crate::explain::{Origin, text_of};
-use crate::part::Said;
 use crate::refusal::{Known, Refused, refusal_advice};
-use crate::typed::TypedLines;
+use dmf_explain::{Origin, Said, TypedLines, text_of};
 use dmf_session::Refusal;
 use dmf_text::{Failed, Sink, Source};
 use std::cell::{Cell, RefCell};

@@ -1,10 +1,9 @@
 //! The refusals of a session, explained.
-use crate::advice::way_on;
-use crate::fields::{Places, count, field_at, first_fault};
-use crate::front::Front;
-use crate::names::{Named, Thing, behind, find_ends, find_named, without_last_field};
-use crate::part::{Part, Parts, about, about_with, no_number, numbered, words};
-use crate::problem::found;
+use dmf_explain::{
+    Front, Named, Part, Parts, Places, Thing, about, about_with, behind, count, field_at,
+    find_ends, find_named, first_fault, found, no_number, numbered, way_on, without_last_field,
+    words,
+};
 use dmf_session::Refusal;
 use dmf_text::{NumberFault, number};
 

@@ -1,62 +1,69 @@
 -- The links of the node that is next are its own, and lead to nodes; a turn of the search.
-use Rattle.std.proofs.Common.{◌≡◌, ap, sym, ◌∙◌, arith, length, get_or}
-use Rattle.std.proofs.lemmas.List.{get_or_default, with_items_is}
+use Rattle.std.proofs.Common.{◌≡◌, ◌+◌, ◌<◌, sym, ◌∙◌, arith, slice_index}
+use Rattle.std.proofs.lemmas.List.{get_or_default}
+use Rattle.dmf_node.specs.Node.{IsNode}
 use Rattle.dmf_path.specs.LinkTable.{links_of}
-use Rattle.dmf_path.proofs.LinkPlaces.{end-within}
-use Rattle.dmf_path.proofs.LabellingTurn.{node-read, spread-turn, expands-turn}
+use Rattle.dmf_path.specs.Labels.{no_label}
+use Rattle.dmf_path.specs.Frontier.{Expands}
+use Rattle.dmf_path.proofs.LabellingTurn.{node-read, spread-turn}
 use Rattle.dmf_path.proofs.frontier.expand.Goals as goal
+use Rattle.dmf_path.proofs.frontier.expand.Goals.{After-index-node, After-index, After-spread}
 
-pub spread-requires-clause-links : goal.spread-requires-clause-links
-spread-requires-clause-links g c =
-    let read = node-read (links_of c.args.table.now) (g.O.OpenLinks.flags c.args.opens.now) c.args.frontier.now.root c.args.frontier.now.labels.items
+-- the node that is next
+next : (g : _) (c : After-index-node g) → (slice_index c.args.frontier.now.queue.items c.args.frontier.now.done ≡ c.index-node.result.now)
+    × IsNode c.args.table.now.nodes c.index-node.result.now
+    × (slice_index c.args.frontier.now.labels.items c.index-node.result.now + 1 < no_label)
+next g c =
+    node-read (links_of c.args.table.now) (g.O.OpenLinks.flags c.args.opens.now) c.args.frontier.now.root c.args.frontier.now.labels.items
     c.args.frontier.now.queue.items c.args.frontier.now.done c.index-node.result.now c.args.table.now.are c.requires.so_far c.requires.ahead
-    c.index-node.ensures in
-    omega (
-      arith,
-      ap length c.deref.ensures.value,
-      end-within (links_of c.args.table.now) c.index-node.result.now c.index-end.result.now
-          c.args.table.now.are read.1.to_last c.index-end.ensures,
-    )
+    c.index-node.ensures
+
+-- its label
+label-is : (g : _) (c : After-index g) → IsNode c.args.table.now.nodes c.index-node.result.now
+    → slice_index c.args.frontier.now.labels.items c.index-node.result.now ≡ c.index.result.now
+label-is g c node =
+    get_or_default c.args.frontier.now.labels.items c.index-node.result.now 0 c.index.result.now
+    (omega (arith, node.to_last, c.requires.so_far.one_each)) ∙ sym c.index.ensures
+
+-- what the turn does
+expands : (g : _) (c : After-spread g) → slice_index c.args.frontier.now.queue.items c.args.frontier.now.done ≡ c.index-node.result.now
+    → slice_index c.args.frontier.now.labels.items c.index-node.result.now ≡ c.index.result.now
+    → Expands (links_of c.args.table.now) (g.O.OpenLinks.flags c.args.opens.now) c.args.frontier.now.labels.items c.args.frontier.now.queue.items
+    c.args.frontier.now.done c.spread.new.frontier.labels.items c.spread.new.frontier.queue.items
+expands g c node label =
+    let spreads = c.spread.ensures.spreads in
+    record {
+      fresh = spreads.0;
+      queued = spreads.1;
+      spreads = rw (node, label, ← c.deref.ensures.value, ← c.places_at-places.ensures.start, ← c.places_at-places.ensures.end) spreads.2;
+    }
+
+pub places_at-places-requires : goal.places_at-places-requires
+places_at-places-requires g c = (next g (goal.at.places_at-places-requires g c).After-index-node).1.to_last
 
 pub spread-requires-clause-heads : goal.spread-requires-clause-heads
 spread-requires-clause-heads g c p before =
-    let read = node-read (links_of c.args.table.now) (g.O.OpenLinks.flags c.args.opens.now) c.args.frontier.now.root c.args.frontier.now.labels.items
-    c.args.frontier.now.queue.items c.args.frontier.now.done c.index-node.result.now c.args.table.now.are c.requires.so_far c.requires.ahead
-    c.index-node.ensures in
-    let within = end-within (links_of c.args.table.now) c.index-node.result.now c.index-end.result.now c.args.table.now.are read.1.to_last
-    c.index-end.ensures in
-    let head = (c.args.table.now.are.each p (omega (arith, before, within))).head.to_last in
-    rw (c.deref.ensures.value, c.deref_mut.ensures.value) (omega (arith, head, c.requires.so_far.one_each))
+    let head = (c.args.table.now.are.each p (omega (arith, before, c.places_at-places.ensures.within))).head.to_last in
+    rw c.deref.ensures.value (omega (arith, head, c.requires.so_far.one_each))
+
+pub spread-requires-clause-label : goal.spread-requires-clause-label
+spread-requires-clause-label g c none =
+    let at = goal.at.spread-requires-clause-label g c in
+    let node = next g at.After-index-node in
+    absurd (omega (arith, none, node.2, label-is g at.After-index node.1))
 
 pub returns-clause-so_far : goal.returns-clause-so_far
 returns-clause-so_far g c =
-    let labels = with_items_is c.args.frontier.now.labels c.spread.new.labels (c.spread.auto.labels ∙ c.deref_mut.ensures.len) in
-    let read = node-read (links_of c.args.table.now) (g.O.OpenLinks.flags c.args.opens.now) c.args.frontier.now.root c.args.frontier.now.labels.items
-    c.args.frontier.now.queue.items c.args.frontier.now.done c.index-node.result.now c.args.table.now.are c.requires.so_far c.requires.ahead
-    c.index-node.ensures in
-    let label_is : c.index.result.now ≡ get_or c.args.frontier.now.labels.items c.index-node.result.now 0 =
-    c.index.ensures ∙ sym (get_or_default c.args.frontier.now.labels.items c.index-node.result.now 0 c.index.result.now
-    (omega (arith, read.1.to_last, c.requires.so_far.one_each))) in
-    rw labels
+    let at = goal.at.returns-clause-so_far g c in
+    let node = next g at.After-index-node in
+    rw (c.spread.ensures.root, c.spread.ensures.done)
     (spread-turn (links_of c.args.table.now) (g.O.OpenLinks.flags c.args.opens.now) c.args.frontier.now.root c.args.frontier.now.labels.items
-    c.args.frontier.now.queue.items c.args.frontier.now.done c.spread.new.labels c.spread.new.queue.items c.deref.result.now c.index-node.result.now
-    c.index-from.result.now c.index-end.result.now
-    c.args.table.now.are c.requires.so_far c.requires.ahead (c.spread.auto.labels ∙ ap length c.deref_mut.ensures.value) c.deref.ensures.value
-    c.index-node.ensures c.index-from.ensures c.index-end.ensures
-    (rw (c.deref_mut.ensures.value, label_is) at c.spread.ensures.spreads))
+    c.args.frontier.now.queue.items c.args.frontier.now.done c.spread.new.frontier.labels.items c.spread.new.frontier.queue.items
+    c.args.table.now.are c.requires.so_far c.requires.ahead c.spread.ensures.one_label_each
+    (expands g at.After-spread node.0 (label-is g at.After-index node.1)))
 
 pub returns-clause-expands : goal.returns-clause-expands
 returns-clause-expands g c =
-    let labels = with_items_is c.args.frontier.now.labels c.spread.new.labels (c.spread.auto.labels ∙ c.deref_mut.ensures.len) in
-    let read = node-read (links_of c.args.table.now) (g.O.OpenLinks.flags c.args.opens.now) c.args.frontier.now.root c.args.frontier.now.labels.items
-    c.args.frontier.now.queue.items c.args.frontier.now.done c.index-node.result.now c.args.table.now.are c.requires.so_far c.requires.ahead
-    c.index-node.ensures in
-    let label_is : c.index.result.now ≡ get_or c.args.frontier.now.labels.items c.index-node.result.now 0 =
-    c.index.ensures ∙ sym (get_or_default c.args.frontier.now.labels.items c.index-node.result.now 0 c.index.result.now
-    (omega (arith, read.1.to_last, c.requires.so_far.one_each))) in
-    rw labels
-    (expands-turn (links_of c.args.table.now) (g.O.OpenLinks.flags c.args.opens.now) c.args.frontier.now.root c.args.frontier.now.labels.items
-    c.args.frontier.now.queue.items c.args.frontier.now.done c.spread.new.labels c.spread.new.queue.items c.deref.result.now c.index-node.result.now
-    c.index-from.result.now c.index-end.result.now
-    c.args.table.now.are c.requires.so_far c.requires.ahead c.deref.ensures.value c.index-node.ensures c.index-from.ensures c.index-end.ensures
-    (rw (c.deref_mut.ensures.value, label_is) at c.spread.ensures.spreads))
+    let at = goal.at.returns-clause-expands g c in
+    let node = next g at.After-index-node in
+    expands g at.After-spread node.0 (label-is g at.After-index node.1)

@@ -1,5 +1,5 @@
 -- A turn of the loop, and the labels where the loop ends.
-use Rattle.std.proofs.Common.{ℕ, ◌≡◌, ◌≢◌, ◌+◌, ◌≤◌, ◌⊎◌, inl, inr, List, length, get_or, refl, sym, subst, ◌∙◌, arith}
+use Rattle.std.proofs.Common.{ℕ, ◌≡◌, ◌≢◌, ◌+◌, ◌-◌, ◌*◌, ◌^◌, ◌≤◌, ◌<◌, ◌⊎◌, inl, inr, List, length, get_or, refl, sym, subst, ◌∙◌, arith}
 use Rattle.std.proofs.lemmas.List.{get_or_default}
 use Rattle.dmf_path.specs.Links.{Links, AreLinks}
 use Rattle.dmf_path.specs.LinkTable.{links_of}
@@ -8,14 +8,7 @@ use Rattle.dmf_path.specs.Frontier.{AreSpread}
 use Rattle.dmf_path.proofs.Labelling.{labels-spread}
 use Rattle.dmf_path.proofs.LabellingTurn.{node-read, looked-next}
 use Rattle.dmf_path.proofs.label.label_most.Goals as goal
-
--- The links of a node do not end before they begin.
-links-between : (l : Links) (node from end : ℕ) → AreLinks l → node ≤ l.nodes → from ≡ get_or l.first node from → end ≡ get_or l.first (node + 1) end
-    → from ≤ end
-links-between l node from end are within from_read end_read =
-    let from_is : get_or l.first node 0 ≡ from = get_or_default l.first node 0 from (omega (arith, within, are.first_long)) ∙ sym from_read in
-    let end_is : get_or l.first (node + 1) 0 ≡ end = get_or_default l.first (node + 1) 0 end (omega (arith, within, are.first_long)) ∙ sym end_read in
-    omega (arith, from_is, end_is, are.ascending node within)
+use Rattle.dmf_path.proofs.label.label_most.Goals.{After-places_at-places}
 
 -- The labels from the root at which the search has begun.
 labels-from : (l : Links) (opens : List ℕ) (root same stop : ℕ) (labels queue : List ℕ) (done : ℕ) → AreLinks l → same ≡ root
@@ -27,30 +20,30 @@ labels-from l opens root same stop labels queue done are is spread within ended 
 pub loop-frontier-init : goal.loop-frontier-init
 loop-frontier-init g c = record { so_far = c.requires.so_far; counted = omega arith; root = refl; capacity = refl }
 
+-- How many links are looked at by the end of a turn.
+counted : (g : _) (c : After-places_at-places g) → c.loop-frontier.frontier.done < length c.loop-frontier.frontier.queue.items
+    → (c.loop-frontier.looked + (c.places_at-places.result.end - c.places_at-places.result.start) ≤ (c.loop-frontier.frontier.done + 1) * 2 ^ 31)
+    × ((c.loop-frontier.frontier.done + 1) * 2 ^ 31 < 2 ^ 62)
+counted g c ahead =
+    looked-next (links_of c.args.table.now) (g.O.OpenLinks.flags c.args.opens.now) c.loop-frontier.frontier.root
+    c.loop-frontier.frontier.labels.items c.loop-frontier.frontier.queue.items c.loop-frontier.frontier.done c.places_at-places.result.start
+    c.places_at-places.result.end c.loop-frontier.looked c.args.table.now.are c.loop-frontier.invariant.so_far ahead c.places_at-places.ensures.within
+    c.loop-frontier.invariant.counted
+
 pub overflow_add-looked : goal.overflow_add-looked
 overflow_add-looked g c =
-    let next = looked-next (links_of c.args.table.now) (g.O.OpenLinks.flags c.args.opens.now) c.loop-frontier.frontier.root
-    c.loop-frontier.frontier.labels.items c.loop-frontier.frontier.queue.items c.loop-frontier.frontier.done c.index-node.result.now
-    c.index-from.result.now c.index-end.result.now c.loop-frontier.looked c.args.table.now.are
-    c.loop-frontier.invariant.so_far (omega arith) c.index-node.ensures c.index-end.ensures c.loop-frontier.invariant.counted in
-    omega (arith, next.0, next.1, c.from-looked.ensures)
+    let next = counted g (goal.at.overflow_add-looked g c).After-places_at-places (omega arith) in
+    omega (arith, next.0, next.1)
 
 pub returns-then-looked-most-clause-enough : goal.returns-then-looked-most-clause-enough
 returns-then-looked-most-clause-enough g c many =
-    let next = looked-next (links_of c.args.table.now) (g.O.OpenLinks.flags c.args.opens.now) c.loop-frontier.frontier.root
-    c.loop-frontier.frontier.labels.items c.loop-frontier.frontier.queue.items c.loop-frontier.frontier.done c.index-node.result.now
-    c.index-from.result.now c.index-end.result.now c.loop-frontier.looked c.args.table.now.are
-    c.loop-frontier.invariant.so_far (omega arith) c.index-node.ensures c.index-end.ensures c.loop-frontier.invariant.counted in
-    absurd (omega (arith, next.0, next.1, c.from-looked.ensures, c.if-looked-most.true, many))
+    let next = counted g (goal.at.returns-then-looked-most-clause-enough g c).After-places_at-places (omega arith) in
+    absurd (omega (arith, next.0, next.1, c.if-looked-most.true, many))
 
 pub loop-frontier-preserved : goal.loop-frontier-preserved
 loop-frontier-preserved g c = record {
   so_far = c.expand.ensures.so_far;
-  counted = let next = looked-next (links_of c.args.table.now) (g.O.OpenLinks.flags c.args.opens.now) c.loop-frontier.frontier.root
-      c.loop-frontier.frontier.labels.items c.loop-frontier.frontier.queue.items
-      c.loop-frontier.frontier.done c.index-node.result.now c.index-from.result.now c.index-end.result.now c.loop-frontier.looked c.args.table.now.are
-      c.loop-frontier.invariant.so_far (omega arith) c.index-node.ensures c.index-end.ensures c.loop-frontier.invariant.counted in
-      omega (arith, next.0, c.from-looked.ensures, c.expand.ensures.done);
+  counted = omega (arith, (counted g (goal.at.loop-frontier-preserved g c).After-places_at-places (omega arith)).0, c.expand.ensures.done);
   root = c.expand.ensures.root ∙ c.loop-frontier.invariant.root;
   capacity = c.expand.ensures.capacity ∙ c.loop-frontier.invariant.capacity;
 }
@@ -69,24 +62,8 @@ returns-after-loop-frontier-clause-labels g c ended =
     c.loop-frontier.frontier.labels.items c.loop-frontier.frontier.queue.items c.loop-frontier.frontier.done c.args.table.now.are
     c.loop-frontier.invariant.root c.loop-frontier.invariant.so_far c.requires.stop (inl (omega (arith, c.loop-frontier.invariant.so_far.come)))
 
-pub index-from-requires : goal.index-from-requires
-index-from-requires g c =
-    let read = node-read (links_of c.args.table.now) (g.O.OpenLinks.flags c.args.opens.now) c.loop-frontier.frontier.root
+pub places_at-places-requires : goal.places_at-places-requires
+places_at-places-requires g c =
+    (node-read (links_of c.args.table.now) (g.O.OpenLinks.flags c.args.opens.now) c.loop-frontier.frontier.root
     c.loop-frontier.frontier.labels.items c.loop-frontier.frontier.queue.items c.loop-frontier.frontier.done c.index-node.result.now
-    c.args.table.now.are c.loop-frontier.invariant.so_far (omega arith) c.index-node.ensures in
-    omega (arith, read.1.to_last, c.args.table.now.are.first_long, c.args.table.now.first.ok.0)
-
-pub index-end-requires : goal.index-end-requires
-index-end-requires g c =
-    let read = node-read (links_of c.args.table.now) (g.O.OpenLinks.flags c.args.opens.now) c.loop-frontier.frontier.root
-    c.loop-frontier.frontier.labels.items c.loop-frontier.frontier.queue.items c.loop-frontier.frontier.done c.index-node.result.now
-    c.args.table.now.are c.loop-frontier.invariant.so_far (omega arith) c.index-node.ensures in
-    omega (arith, read.1.to_last, c.args.table.now.are.first_long, c.args.table.now.first.ok.0)
-
-pub overflow_sub-end : goal.overflow_sub-end
-overflow_sub-end g c =
-    let read = node-read (links_of c.args.table.now) (g.O.OpenLinks.flags c.args.opens.now) c.loop-frontier.frontier.root
-    c.loop-frontier.frontier.labels.items c.loop-frontier.frontier.queue.items c.loop-frontier.frontier.done c.index-node.result.now
-    c.args.table.now.are c.loop-frontier.invariant.so_far (omega arith) c.index-node.ensures in
-    links-between (links_of c.args.table.now) c.index-node.result.now c.index-from.result.now c.index-end.result.now c.args.table.now.are read.1.to_last
-    c.index-from.ensures c.index-end.ensures
+    c.args.table.now.are c.loop-frontier.invariant.so_far (omega arith) c.index-node.ensures).1.to_last

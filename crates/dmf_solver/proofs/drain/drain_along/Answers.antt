@@ -1,4 +1,4 @@
-use Rattle.std.proofs.Common.{List, ℕ, ◌-◌, ◌≤◌, length, ap, sym, ◌∙◌, arith}
+use Rattle.std.proofs.Common.{[], List, ℕ, ◌-◌, ◌≤◌, length, ap, sym, ◌∙◌, arith}
 use Rattle.std.specs.Option.{unwrap_or}
 use Rattle.dmf_path.specs.Search.{Searched}
 use Rattle.dmf_state.specs.Flow.{flow_on}
@@ -9,31 +9,36 @@ use Rattle.dmf_solver.proofs.DrainingSearch.{DrainsOnce, draining-begun, drainin
 use Rattle.dmf_solver.proofs.DrainingSearch.{carries-along, length-carries, length-draining}
 use Rattle.dmf_solver.proofs.DrainingWalk.{drained-none, drained-all}
 use Rattle.dmf_solver.proofs.Untouched.{keeps-same, touches-lowered}
+use Rattle.dmf_solver.proofs.Solving.{AreTold-none, AreTold-trans}
 use Rattle.dmf_solver.proofs.drain.drain_along.Goals as goal
 
 pub along-requires : goal.along-requires
-along-requires c =
+along-requires g c =
     let s = c.args.state.now in
     let carries = c.requires.carrying.1 in
-    let at = has_arc-within s.network c.args.j c.requires.is_there in
+    let at = has_arc-within s.network c.args.turn.arc c.requires.is_there in
     let long = length-carries s c.requires.carrying.0 _ c.args.search.now carries in
     omega (arith, at.1, long)
 
 pub loop-left-init : goal.loop-left-init
-loop-left-init c =
+loop-left-init g c =
     let s = c.args.state.now in
     let differ = c.requires.no_loop in
     record {
       draining = λ unpaired carries.
-          let along = carries-along s unpaired _ c.args.search.now c.args.j c.requires.is_there (λ e. differ (sym e)) carries in
+          let along = carries-along s unpaired _ c.args.search.now c.args.turn.arc c.requires.is_there (λ e. differ (sym e)) carries in
           rw (c.aim.ensures, c.arc-arc.ensures.value) (draining-begun s unpaired
-          (flows_read Along unpaired c.args.search.now.pairs) c.args.j c.args.limit _ c.args.search.now
-          (c.saturating_sub-left.ensures ∙ ap (λ x. x - c.args.limit) (c.unwrap_or.ensures ∙ ap (λ o. unwrap_or o 0) c.along.ensures ∙ along)) carries);
+          (flows_read Along unpaired c.args.search.now.pairs) c.args.turn.arc c.args.turn.limit _ c.args.search.now
+          (c.saturating_sub-left.ensures ∙ ap (λ x. x - c.args.turn.limit) (c.unwrap_or.ensures ∙ ap (λ o. unwrap_or o 0) c.along.ensures ∙ along)) carries);
       own = c.add.ensures.touched;
+      told = AreTold-none _;
+      drained = λ unpaired carries.
+          let along = carries-along s unpaired _ c.args.search.now c.args.turn.arc c.requires.is_there (λ e. differ (sym e)) carries in
+          omega (arith, c.saturating_sub-left.ensures ∙ ap (λ x. x - c.args.turn.limit) (c.unwrap_or.ensures ∙ ap (λ o. unwrap_or o 0) c.along.ensures ∙ along));
       touches = record {
         more = c.add.ensures.more;
         below = c.add.ensures.below (length c.args.search.now.pairs)
-            (let at = has_arc-within s.network c.args.j c.requires.is_there in
+            (let at = has_arc-within s.network c.args.turn.arc c.requires.is_there in
             let long = length-carries s c.requires.carrying.0 _ c.args.search.now c.requires.carrying.1 in
             omega (arith, at.0, at.1, long));
         kept = keeps-same c.add.new.self c.args.search.now.pairs c.aim.new.self.pairs (ap (λ (x : Searched). x.pairs) c.aim.ensures);
@@ -41,57 +46,67 @@ loop-left-init c =
     }
 
 pub returns-then-left-eq0-clause-drains : goal.returns-then-left-eq0-clause-drains
-returns-then-left-eq0-clause-drains c = λ unpaired carries.
+returns-then-left-eq0-clause-drains g c = λ unpaired carries.
     let s = c.args.state.now in
     let differ = c.requires.no_loop in
     let flows = flows_read Along unpaired c.args.search.now.pairs in
-    let along = carries-along s unpaired flows c.args.search.now c.args.j c.requires.is_there (λ e. differ (sym e)) carries in
-    let left = c.saturating_sub-left.ensures ∙ ap (λ x. x - c.args.limit) (c.unwrap_or.ensures ∙ ap (λ o. unwrap_or o 0) c.along.ensures ∙ along) in
-    let within : flow_on flows c.args.j ≤ c.args.limit = omega (arith, left, c.if-left-eq0.true) in
-    (carries, drained-all (with_flows s flows) c.args.j c.args.limit flows within (drained-none (with_flows s flows) c.args.j c.args.limit carries.state))
+    let along = carries-along s unpaired flows c.args.search.now c.args.turn.arc c.requires.is_there (λ e. differ (sym e)) carries in
+    let left = c.saturating_sub-left.ensures ∙ ap (λ x. x - c.args.turn.limit) (c.unwrap_or.ensures ∙ ap (λ o. unwrap_or o 0) c.along.ensures ∙ along) in
+    let within : flow_on flows c.args.turn.arc ≤ c.args.turn.limit = omega (arith, left, c.if-left-eq0.true) in
+    (carries, drained-all (with_flows s flows) c.args.turn.arc c.args.turn.limit flows within (drained-none (with_flows s flows) c.args.turn.arc c.args.turn.limit carries.state))
 
 -- what one path more does
-once : (c : goal.After-lower) (unpaired : List ℕ) → IsCarryingSearch c.args.state.now unpaired c.args.search.now
-    → DrainsOnce c.args.state.now unpaired (flows_read Along unpaired c.args.search.now.pairs) c.args.j c.args.limit c.loop-left.left c.in-Some.found.amount
+once : (g : _) (c : goal.After-lowered g) (unpaired : List ℕ) → IsCarryingSearch c.args.state.now unpaired c.args.search.now
+    → DrainsOnce c.args.state.now unpaired (flows_read Along unpaired c.args.search.now.pairs) c.args.turn.arc c.args.turn.limit c.loop-left.left c.in-Some.found.amount
     c.augment.new.self
-once c unpaired carries =
+once g c unpaired carries =
     let differ = c.requires.no_loop in
-    draining-once c.args.state.now unpaired _ c.args.j c.args.limit _ c.in-Some.found _ _ c.requires.is_there (λ e. differ (sym e)) c.loop-left-test.true
+    draining-once c.args.state.now unpaired _ c.args.turn.arc c.args.turn.limit _ c.in-Some.found _ _ c.requires.is_there (λ e. differ (sym e)) c.loop-left-test.true
     (c.loop-left.invariant.draining unpaired carries) c.in-Some.ensures.found
 
 pub lower-requires : goal.lower-requires
-lower-requires c =
+lower-requires g c =
     let differ = c.requires.no_loop in
-    (draining-once c.args.state.now c.requires.carrying.0 _ c.args.j c.args.limit _ c.in-Some.found _ _ c.requires.is_there
+    (draining-once c.args.state.now c.requires.carrying.0 _ c.args.turn.arc c.args.turn.limit _ c.in-Some.found _ _ c.requires.is_there
     (λ e. differ (sym e)) c.loop-left-test.true (c.loop-left.invariant.draining c.requires.carrying.0 c.requires.carrying.1) c.in-Some.ensures.found).room
 
 pub overflow_sub-left : goal.overflow_sub-left
-overflow_sub-left c = (once c c.requires.carrying.0 c.requires.carrying.1).within
+overflow_sub-left g c = (once g c c.requires.carrying.0 c.requires.carrying.1).within
 
 pub loop-left-smaller : goal.loop-left-smaller
-loop-left-smaller c =
-    let told = once c c.requires.carrying.0 c.requires.carrying.1 in
+loop-left-smaller g c =
+    let told = once g c c.requires.carrying.0 c.requires.carrying.1 in
     omega (arith, told.some, told.within)
 
 pub loop-left-preserved : goal.loop-left-preserved
-loop-left-preserved c = record {
-  draining = λ unpaired carries. rw c.lower.ensures (once c unpaired carries).draining;
+loop-left-preserved g c = record {
+  draining = λ unpaired carries. rw c.lower.ensures (once g c unpaired carries).draining;
   own = c.in-Some.ensures.touched.more _ c.loop-left.invariant.own;
+  told = AreTold-trans _ _ _ [] [] c.loop-left.invariant.told c.lowered.ensures.told;
+  drained = λ unpaired carries.
+      let told = once g c unpaired carries in
+      omega (arith, told.within, c.loop-left.invariant.drained unpaired carries, c.lowered.ensures.drained);
   touches =
       let s = c.args.state.now in
       let draining = c.loop-left.invariant.draining c.requires.carrying.0 c.requires.carrying.1 in
       let begun = length-carries s c.requires.carrying.0 _ c.args.search.now c.requires.carrying.1 in
       rw c.lower.ensures (touches-lowered c.args.touched.now c.loop-left.touched c.augment.new.touched c.args.search.now.pairs c.loop-left.search.pairs
-      c.augment.new.self.pairs (c.args.j - 1) c.in-Some.found.amount
-      (length-draining s c.requires.carrying.0 _ c.args.j c.args.limit _ c.loop-left.search draining ∙ sym begun)
+      c.augment.new.self.pairs (c.args.turn.arc - 1) c.in-Some.found.amount
+      (length-draining s c.requires.carrying.0 _ c.args.turn.arc c.args.turn.limit _ c.loop-left.search draining ∙ sym begun)
       c.loop-left.invariant.own c.loop-left.invariant.touches c.in-Some.ensures.touched);
 }
 
 -- what flows on the arc comes back
 pub unreachable-requires : goal.unreachable-requires
-unreachable-requires c = draining-has_path c.args.state.now c.requires.carrying.0 _ c.args.j c.args.limit _ _ c.requires.is_there c.loop-left-test.true
+unreachable-requires g c = draining-has_path c.args.state.now c.requires.carrying.0 _ c.args.turn.arc c.args.turn.limit _ _ c.requires.is_there c.loop-left-test.true
     (c.loop-left.invariant.draining c.requires.carrying.0 c.requires.carrying.1) c.in-None.ensures.found.0
 
 pub returns-clause-drains : goal.returns-clause-drains
-returns-clause-drains c = λ unpaired carries. rw c.settle.ensures (draining-done c.args.state.now unpaired _ c.args.j c.args.limit _ _ c.loop-left-test.false
+returns-clause-drains g c = λ unpaired carries. rw c.settle.ensures (draining-done c.args.state.now unpaired _ c.args.turn.arc c.args.turn.limit _ _ c.loop-left-test.false
     (c.loop-left.invariant.draining unpaired carries))
+
+pub returns-clause-drained : goal.returns-clause-drained
+returns-clause-drained g c = λ unpaired carries. omega (arith, c.loop-left.invariant.drained unpaired carries)
+
+pub returns-then-left-eq0-clause-told : goal.returns-then-left-eq0-clause-told
+returns-then-left-eq0-clause-told g c = AreTold-none _

@@ -10,24 +10,24 @@ use Rattle.dmf_solver.proofs.drain.drain_by.Goals as goal
 use Rattle.dmf_solver.proofs.drain.drain_by.Goals.{In_ok-touched}
 
 -- The search carries the state's flow.
-begun : (c : In_ok-touched) → IsCarryingSearch c.args.state.now c.args.state.now.flows c.args.carrying
+begun : (g : _) (c : In_ok-touched g) → IsCarryingSearch c.args.state.now c.args.state.now.flows c.args.carrying
     × (flows_read Along c.args.state.now.flows c.args.carrying.pairs ≡ c.args.state.now.flows)
-begun c =
+begun g c =
     let s = c.args.state.now in
     carrying-first s c.args.carrying c.flows-before.ensures.state c.requires.carrying
 
 pub drain_along-requires-clause-carrying : goal.drain_along-requires-clause-carrying
-drain_along-requires-clause-carrying c = (c.args.state.now.flows, (begun (goal.at.drain_along-requires-clause-carrying c).In_ok-touched).0)
+drain_along-requires-clause-carrying g c = (c.args.state.now.flows, (begun g (goal.at.drain_along-requires-clause-carrying g c).In_ok-touched).0)
 
 pub invariant_of-drained : goal.invariant_of-drained
-invariant_of-drained c =
+invariant_of-drained g c =
     let s = c.args.state.now in
-    rw c.flows-before.ensures.value (c.drain_along.ensures.drains s.flows (begun (goal.at.invariant_of-drained c).In_ok-touched).0).0
+    rw c.flows-before.ensures.value (c.drain_along.ensures.drains s.flows (begun g (goal.at.invariant_of-drained g c).In_ok-touched).0).0
 
 pub indices-requires-clause-below : goal.indices-requires-clause-below
-indices-requires-clause-below c =
+indices-requires-clause-below g c =
     let s = c.args.state.now in
-    let here = begun (goal.at.indices-requires-clause-below c).In_ok-touched in
+    let here = begun g (goal.at.indices-requires-clause-below g c).In_ok-touched in
     let pairs = length-carries s s.flows _ c.args.carrying here.0 in
     let flows = AllZip-long _ s.network.arcs s.flows c.flows-before.ensures.state.flow.within in
     let first = c.in_ok-touched.ensures (length c.args.carrying.pairs) in
@@ -36,16 +36,16 @@ indices-requires-clause-below c =
     (c.sort.ensures.below _ (c.drain_along.ensures.touched.below first)))
 
 pub list_moves-requires-clause-one_each : goal.list_moves-requires-clause-one_each
-list_moves-requires-clause-one_each c =
+list_moves-requires-clause-one_each g c =
     let s = c.args.state.now in
     let state = c.flows-before.ensures.state in
-    let carries = (c.drain_along.ensures.drains s.flows (begun (goal.at.list_moves-requires-clause-one_each c).In_ok-touched).0).0 in
+    let carries = (c.drain_along.ensures.drains s.flows (begun g (goal.at.list_moves-requires-clause-one_each g c).In_ok-touched).0).0 in
     rw c.flows-before.ensures.value (one_each s s.flows _ c.drain_along.new.search carries ∙ sym (AllZip-long _ s.network.arcs s.flows state.flow.within))
 
 pub list_moves-requires-clause-others_stay : goal.list_moves-requires-clause-others_stay
-list_moves-requires-clause-others_stay c =
+list_moves-requires-clause-others_stay g c =
     let s = c.args.state.now in
-    let here = begun (goal.at.list_moves-requires-clause-others_stay c).In_ok-touched in
+    let here = begun g (goal.at.list_moves-requires-clause-others_stay g c).In_ok-touched in
     let flows = AllZip-long _ s.network.arcs s.flows c.flows-before.ensures.state.flow.within in
     let carries = (c.drain_along.ensures.drains s.flows here.0).0 in
     let old = length-carries s s.flows _ c.args.carrying here.0 in
@@ -57,17 +57,27 @@ list_moves-requires-clause-others_stay c =
     (omega (arith, old, flows)) (omega (arith, new, flows)) (omega arith) here.1 keeps (rw c.flows-before.ensures.value at c.indices.ensures))
 
 pub returns-clause-moves : goal.returns-clause-moves
-returns-clause-moves c =
+returns-clause-moves g c =
     let s = c.args.state.now in
     let listed = rw c.flows-before.ensures.value at c.in_ok-moves.ensures in
-    let here = begun (goal.at.returns-clause-moves c).In_ok-touched in
+    let here = begun g (goal.at.returns-clause-moves g c).In_ok-touched in
     let drains = rw here.1 at (c.drain_along.ensures.drains s.flows here.0).1 in
-    draining-moves s c.args.j c.args.limit (flows_read Along s.flows c.drain_along.new.search.pairs) c.in_ok-moves.moves.items c.flows-before.ensures.state
+    draining-moves s c.args.turn.arc c.args.turn.limit (flows_read Along s.flows c.drain_along.new.search.pairs) c.in_ok-moves.moves.items c.flows-before.ensures.state
     c.requires.is_there drains listed
 
 pub returns-clause-carrying : goal.returns-clause-carrying
-returns-clause-carrying c =
+returns-clause-carrying g c =
     let s = c.args.state.now in
     let listed = rw c.flows-before.ensures.value at c.in_ok-moves.ensures in
-    let here = begun (goal.at.returns-clause-carrying c).In_ok-touched in
+    let here = begun g (goal.at.returns-clause-carrying g c).In_ok-touched in
     carries-moved s s.flows c.in_ok-moves.moves.items c.drain_along.new.search c.flows-before.ensures.state (c.drain_along.ensures.drains s.flows here.0).0 listed
+
+pub returns-clause-drained : goal.returns-clause-drained
+returns-clause-drained g c =
+    let here = begun g (goal.at.returns-clause-drained g c).In_ok-touched in
+    rw here.1 at (c.drain_along.ensures.drained c.args.state.now.flows here.0)
+
+pub returns-in_err-moves-clause-drained : goal.returns-in_err-moves-clause-drained
+returns-in_err-moves-clause-drained g c =
+    let here = begun g (goal.at.returns-in_err-moves-clause-drained g c).In_ok-touched in
+    rw here.1 at (c.drain_along.ensures.drained c.args.state.now.flows here.0)

@@ -6,7 +6,7 @@ use Rattle.dmf_solver.proofs.DrainingWalk.{differences-none}
 use Rattle.dmf_solver.proofs.shut.drain_all.Goals as goal
 
 pub returns-then-are_without_flow-clause-moves : goal.returns-then-are_without_flow-clause-moves
-returns-then-are_without_flow-clause-moves c =
+returns-then-are_without_flow-clause-moves g c =
     let s = c.args.state.now in
     let js = numbers c.args.arcs.now in
     let none = c.are_without_flow.ensures c.if-are_without_flow.true in
