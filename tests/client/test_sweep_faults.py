@@ -8,7 +8,7 @@ from concurrent.futures import ThreadPoolExecutor
 from typing import Any
 
 import pytest
-from client_shared import dmf, pipes
+from client_shared import dmf
 
 BESIDE = [("a", "b", 3, "x"), ("a", "b", 4, "y"), ("a", "b", 5, "z")]
 
@@ -87,14 +87,3 @@ def test_jobs() -> None:
         for jobs in (-1, 2.5, "3"):
             with pytest.raises(dmf.NotANumber, match="in 'jobs'$"):
                 dmf.sweep(network, [], jobs=jobs)  # type: ignore[arg-type]
-
-
-def test_names_that_cannot_be_hashed() -> None:
-    with pipes() as network:
-        name: Any = ["lake"]
-        for call in network.arc, network.close, network.open, network.capacity:
-            with pytest.raises(dmf.NoSuchArc, match=r"^no such arc: \['lake'\]$"):
-                call(name)
-        for change in network.shut, lambda node: network.add(node, "sea", 1), lambda node: network.add("lake", node, 1):
-            with pytest.raises(dmf.NoSuchNode, match=r"^no such node: \['lake'\]$"):
-                change(name)

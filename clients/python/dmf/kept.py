@@ -12,7 +12,7 @@ from itertools import count, islice
 from typing import Any, Generic, NoReturn, SupportsIndex, Union
 
 from .arcs import Added, Arc, Columns, Handles, Node, OpenArcs, one_of
-from .errors import ArcIsClosed, HistoryOutOfRange, NoSuchArc, NoSuchNode, NotAnArc, NotANumber, NothingToUndo, NumberTooLarge, shown
+from .errors import ArcIsClosed, HistoryOutOfRange, NoSuchArc, NotAnArc, NotANumber, NothingToUndo, NumberTooLarge, shown
 from .numbering import AMOUNTS, NODES, WholeNodes
 from .text import LARGEST
 
@@ -194,9 +194,7 @@ class Kept(Generic[Node]):
 
     def number(self, node: Node) -> int:
         """The number of a node. Raises `NoSuchNode`."""
-        with contextlib.suppress(KeyError, TypeError):
-            return self.columns.numbers[node]
-        raise NoSuchNode(shown(node))
+        return self.columns.number(node)
 
     @property
     def arc_count(self) -> int:
@@ -225,12 +223,7 @@ class Kept(Generic[Node]):
             if self.origin and self.origin.has(key) and key.number <= self.arc_count:
                 return self.handle(key.number)
             raise NoSuchArc(repr(key))
-        try:
-            named = self.columns.named(key)
-        except TypeError:
-            # It cannot be hashed.
-            raise NoSuchArc(shown(key)) from None
-        numbers = [*named, *(arc.number for arc in self._added_index.named(key))]
+        numbers = [*self.columns.named(key), *(arc.number for arc in self._added_index.named(key))]
         opened = [number for number in numbers if number not in self.closed]
         if opened or not numbers:
             return one_of(list(map(self.handle, opened)), key)
