@@ -125,6 +125,26 @@ def test_the_table_of_another_problem(change: tuple[str, str]) -> None:
     assert (run_tool("--close-each", "--table", "table.csv").returncode, table.read_text()) == (0, "".join(lines))
 
 
+def test_odd_names_in_a_table() -> None:
+    """A sweep goes on after names in which other lines could end: the table is whole again, wherever it broke off."""
+    names = 'the "canal"', "ca\rnal", "ca\r\rnal", "ca\x0cnal", "ca\u2028nal", 'ca\r"nal', "ca,nal", "\ufffdnal"
+    for name in names:
+        Path("net.max").write_text(PROBLEM.replace('the "canal"', name).replace("lake", "la\rke"), newline="")
+        Path("table.csv").unlink(missing_ok=True)
+        assert run_tool("--close-each", "--table", "table.csv").returncode == 0
+        whole = Path("table.csv").read_bytes()
+        wanted = [[it.replace("lake", "la\rke").replace('the "canal"', name) for it in row] for row in CLOSED]
+        assert kept_rows(whole.decode()) == wanted
+        for length in len(whole) - 1, len(whole) - 30, len(whole) // 2, whole.index(b"\r") + 1:
+            Path("table.csv").write_bytes(whole[:length])
+            assert run_tool("--close-each", "--table", "table.csv").returncode == 0
+            assert Path("table.csv").read_bytes() == whole, (name, length)
+        ran = subprocess.run([sys.executable, f"{ROOT}/tools/dmf-sweep", "net.max", "--close-each"], capture_output=True, timeout=60)
+        assert list(csv.reader(io.StringIO(ran.stdout.decode(), newline="")))[1:] == wanted
+    Path("table.csv").write_text("case,commands\rname\n", newline="")
+    assert run_tool("--close-each", "--table", "table.csv").stderr == "dmf-sweep: table.csv is no table of dmf-sweep\n"
+
+
 def test_a_table_that_names_no_problem() -> None:
     """One that an older version wrote, whole or broken off."""
     for count in 0, 2, 5:
