@@ -39,7 +39,8 @@ def pytest_addoption(parser: pytest.Parser) -> None:
 def set_drawn(config: pytest.Config) -> None:
     """Sets which cases hypothesis draws: the same ones each time in the gate, and others each time by hand."""
     if config.getoption("--long") or config.getoption("--cases"):
-        count = config.getoption("--cases") // CASES_A_DRAWN or LONG_DRAWN
+        cases = int(config.getoption("--cases"))
+        count = -(-cases // CASES_A_DRAWN) or LONG_DRAWN
         database = DirectoryBasedExampleDatabase(str(ROOT / ".hypothesis"))
         settings.register_profile("chosen", max_examples=count, database=database, deadline=None, print_blob=True)
     else:
