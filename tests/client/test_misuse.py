@@ -97,6 +97,26 @@ def test_copies_of_what_a_network_gives() -> None:
         assert copy.deepcopy(network.cut()) == network.cut()
 
 
+def test_a_solution_in_another_process() -> None:
+    """It is pickled with its arcs, but without the network, which is a running program."""
+    with dmf.Network([("a", "b", 3, "x"), ("a", "b", 4), ("b", "c", 5, "out")], "a", "c") as network:
+        network.solve()
+        network.close("x")
+        network.add("b", "c", 1, "new")
+        plan = network.solve()
+        pickled = pickle.dumps(plan)
+    for again in pickle.loads(pickled), pickle.loads(pickle.dumps(plan)):
+        # The arc that is left carries 4, and the way out 5 + 1.
+        assert (again.value, len(again), again["a", "b"], again["out"] + again["new"], again.between("b", "c")) == (4, 3, 4, 4, 4)
+        told = [(arc.number, arc.tail, arc.head, arc.given_key) for arc in again]
+        assert told == [(2, "a", "b", None), (3, "b", "c", "out"), (4, "b", "c", "new")]
+        assert [again[arc] for arc in again] == list(again.values())
+        with pytest.raises(dmf.NoSuchArc):
+            again["x"]
+        with pytest.raises(dmf.SessionEnded):
+            next(iter(again)).flow
+
+
 def test_a_call_beside_another() -> None:
     """Each call is refused while another thread waits for its answer, which comes once the file `go` is there."""
     wait = 'touch "$0.got"; while [ ! -e "$0.go" ]; do sleep 0.01; done; echo c undo value 9'
@@ -179,3 +199,20 @@ def test_a_forked_process() -> None:
         with open(read) as told:
             assert re.search("^UsedByTwoProcesses: used by two processes at once: ", told.read())
         assert network.solve().value == 5
+
+
+def test_names_that_cannot_be_hashed() -> None:
+    with pipes() as network:
+        name: Any = ["lake"]
+        for call in network.arc, network.close, network.open, network.capacity:
+            with pytest.raises(dmf.NoSuchArc, match=r"^no such arc: \['lake'\]$"):
+                call(name)
+        changes: list[Callable[[], object]] = [lambda: network.shut(name), lambda: network.add(name, "sea", 1), lambda: network.add("lake", name, 1)]
+        for change in changes:
+            with pytest.raises(dmf.NoSuchNode, match=r"^no such node: \['lake'\]$"):
+                change()
+        plan = network.solve()
+        for key in name, ("lake", name):
+            assert plan.get(key) is None and key not in plan
+        with pytest.raises(dmf.NoSuchNode, match=r"^no such node: \['lake'\]$"):
+            plan.between("mill", name)

@@ -87,18 +87,73 @@ def test_it_goes_on_where_its_table_ends() -> None:
     table = Path("table.csv")
     assert run_tool("--close-each", "--table", "table.csv").returncode == 0
     whole = table.read_text()
-    assert list(csv.reader(io.StringIO(whole)))[1:] == CLOSED
+    assert kept_rows(whole) == CLOSED
     for length in range(len(whole) + 1):
         if length % 7 == 0 or length == len(whole):
             # The value of the first case is wrong, and stays: it is not tried again.
-            table.write_text(whole.replace(",2,-3,\n", ",8,3,\n", 1)[: length - 1] if length > 90 else whole[:length])
-            kept = table.read_text().count(",8,3,\n")
+            table.write_text(whole.replace(",2,-3,", ",8,3,", 1)[: length - 1] if length > 120 else whole[:length])
+            kept = table.read_text().count(",8,3,")
             assert run_tool("--close-each", "--table", "table.csv").returncode == 0
-            assert table.read_text().replace(",8,3,\n", ",2,-3,\n") == whole, length
-            assert table.read_text().count(",8,3,\n") == kept
+            assert table.read_text().replace(",8,3,", ",2,-3,") == whole, length
+            assert table.read_text().count(",8,3,") == kept
     for other in "hello\n", whole.replace("close 2", "close 3"), "hello":
         table.write_text(other)
         assert (run_tool("--close-each", "--table", "table.csv").returncode, table.read_text()) == (3, other)
+
+
+def kept_rows(table: str) -> list[list[str]]:
+    """The rows of the table of a file, without what all have in common, the mark of their problem."""
+    head, *found = csv.reader(io.StringIO(table, newline=""))
+    assert head == [*HEAD, "problem"] and len({row[-1] for row in found}) <= 1
+    return [row[:-1] for row in found]
+
+
+@pytest.mark.parametrize("change", [("a 3 4 3", "a 3 4 2"), ("a 1 3 2", "a 1 2 2"), ("n 4 t", "n 3 t"), ("p max 4", "p max 5"), ("canal", "ditch")])
+def test_the_table_of_another_problem(change: tuple[str, str]) -> None:
+    """It is refused, though the cases are the same; comments that name nothing, blanks and another name of the file make no other one."""
+    assert run_tool("--close-each", "--table", "table.csv").returncode == 0
+    table = Path("table.csv")
+    lines = table.read_text().splitlines(keepends=True)
+    begun = "".join(lines[:3]) + "4,close"
+    Path("net.max").write_text(PROBLEM.replace(*change))
+    for text in "".join(lines), begun:
+        table.write_text(text)
+        run = run_tool("--close-each", "--table", "table.csv")
+        assert (run.returncode, run.stderr) == (3, "dmf-sweep: table.csv is the table of another problem than net.max\n")
+        assert (run.stdout, table.read_text()) == ("", text)
+    Path("net.max").write_text("c of today\n\n" + PROBLEM.replace("a 1 2 3", "a  1 2\t3"))
+    assert (run_tool("--close-each", "--table", "table.csv").returncode, table.read_text()) == (0, "".join(lines))
+
+
+def test_odd_names_in_a_table() -> None:
+    """A sweep goes on after names in which other lines could end: the table is whole again, wherever it broke off."""
+    names = 'the "canal"', "ca\rnal", "ca\r\rnal", "ca\x0cnal", "ca\u2028nal", 'ca\r"nal', "ca,nal", "\ufffdnal"
+    for name in names:
+        Path("net.max").write_text(PROBLEM.replace('the "canal"', name).replace("lake", "la\rke"), newline="")
+        Path("table.csv").unlink(missing_ok=True)
+        assert run_tool("--close-each", "--table", "table.csv").returncode == 0
+        whole = Path("table.csv").read_bytes()
+        wanted = [[it.replace("lake", "la\rke").replace('the "canal"', name) for it in row] for row in CLOSED]
+        assert kept_rows(whole.decode()) == wanted
+        for length in len(whole) - 1, len(whole) - 30, len(whole) // 2, whole.index(b"\r") + 1:
+            Path("table.csv").write_bytes(whole[:length])
+            assert run_tool("--close-each", "--table", "table.csv").returncode == 0
+            assert Path("table.csv").read_bytes() == whole, (name, length)
+        ran = subprocess.run([sys.executable, f"{ROOT}/tools/dmf-sweep", "net.max", "--close-each"], capture_output=True, timeout=60)
+        assert list(csv.reader(io.StringIO(ran.stdout.decode(), newline="")))[1:] == wanted
+    Path("table.csv").write_text("case,commands\rname\n", newline="")
+    assert run_tool("--close-each", "--table", "table.csv").stderr == "dmf-sweep: table.csv is no table of dmf-sweep\n"
+
+
+def test_a_table_that_names_no_problem() -> None:
+    """One that an older version wrote, whole or broken off."""
+    for count in 0, 2, 5:
+        text = "".join(",".join(row) + "\n" for row in [HEAD, *([str(at), f"close {at}", "", "2", "-3", ""] for at in range(1, count + 1))])
+        Path("table.csv").write_text(text)
+        run = run_tool("--close-each", "--table", "table.csv")
+        assert (run.returncode, run.stdout) == (3, "")
+        assert run.stderr == "dmf-sweep: table.csv does not say of which problem it is: an older dmf-sweep wrote it\n"
+        assert Path("table.csv").read_text() == text
 
 
 def large() -> list[list[str]]:
@@ -124,10 +179,10 @@ def test_an_interrupt() -> None:
     assert (process.returncode, told, len(programs)) == (130, b"", 3)
     assert not [program for program in programs if is_running(program)]
     text = table.read_text()
-    rows = list(csv.reader(io.StringIO(text)))[1:]
+    rows = kept_rows(text)
     assert text.endswith("\n") and 20 <= len(rows) < len(wanted) and rows == wanted[: len(rows)]
     assert run_tool("--close-each", "--table", "table.csv").returncode == 0
-    assert list(csv.reader(io.StringIO(table.read_text())))[1:] == wanted
+    assert kept_rows(table.read_text()) == wanted
 
 
 def programs_of(process: int) -> list[int]:

@@ -102,6 +102,33 @@ def test_open() -> None:
             network.open(new)
 
 
+def test_open_one_of_several_by_their_ends() -> None:
+    """The ends of closed arcs side by side name none of them, until all but one were opened again."""
+    with dmf.Network([("a", "b", 3, "x"), ("a", "b", 4, "y")], "a", "b") as network:
+        one, other = network.arcs
+        network.close("x")
+        # One arc is open, so that the ends name it.
+        with pytest.raises(dmf.ArcIsOpen):
+            network.open(("a", "b"))
+        network.close("y")
+        several = "2 closed arcs have the key or the ends ('a', 'b'): <Arc 1: 'a' to 'b', 'x'>, <Arc 2: 'a' to 'b', 'y'>"
+        for call in network.open, network.arc, network.capacity:
+            with pytest.raises(dmf.AmbiguousArc) as caught:
+                call(("a", "b"))
+            assert (str(caught.value), network.arcs) == (several, [])
+        new = network.open(one)
+        network.close(new)
+        # The closed arcs are the one that was opened in the place of the first, and the second: the first is past.
+        assert (network.arc("x"), network.arc("y")) == (new, other)
+        with pytest.raises(dmf.AmbiguousArc, match="^2 closed arcs .*: <Arc 2: .*>, <Arc 3: .*>$"):
+            network.open(("a", "b"))
+        # What is taken back and made again names what it named.
+        network.undo(2)
+        assert network.arc("x") == one
+        network.redo(2)
+        assert (network.arc("x"), network.open("x").number, network.open("y").number, network.solve().value) == (new, 4, 5, 7)
+
+
 def test_an_arc_tells_of_itself() -> None:
     with pipes() as network:
         mill, town = network.arcs[:2]

@@ -2,6 +2,7 @@
 
 from __future__ import annotations
 
+import contextlib
 import functools
 import weakref
 from array import array
@@ -12,7 +13,7 @@ from itertools import compress, count
 from operator import gt
 from typing import Any, Generic, Protocol, TypeVar
 
-from .errors import AmbiguousArc, NoSuchArc, SessionEnded, shown
+from .errors import AmbiguousArc, NoSuchArc, NoSuchNode, SessionEnded, shown
 from .numbering import NODES, WholeNodes
 
 Node = TypeVar("Node", bound=Hashable)
@@ -156,9 +157,18 @@ class Columns(Generic[Node]):
         """The numbers of the arcs from one node to another."""
         return self._by_ends.find(tail * (len(self.numbers) + 1) + head)
 
+    def number(self, node: Node) -> int:
+        """The number of a node. Raises `NoSuchNode`, also for what cannot be hashed."""
+        with contextlib.suppress(KeyError, TypeError):
+            return self.numbers[node]
+        raise NoSuchNode(shown(node))
+
     def named(self, key: Hashable) -> list[int]:
-        """The numbers of the arcs of a key, or of a pair of ends, in their order."""
-        found = self._by_key.find(key)
+        """The numbers of the arcs of a key, or of a pair of ends, in their order. Raises `NoSuchArc` for what cannot be hashed."""
+        try:
+            found = self._by_key.find(key)
+        except TypeError:
+            raise NoSuchArc(shown(key)) from None
         if isinstance(key, tuple) and len(key) == 2:
             tail, head = map(self.numbers.get, key)
             if tail and head and (pairs := self.between(tail, head)):
@@ -232,6 +242,10 @@ class Handles(Generic[Node]):
     def has(self, arc: Arc[Any]) -> bool:
         return self._made.get(arc.number) is arc
 
+    def __reduce__(self) -> tuple[Any, ...]:
+        # Without the network, which is a running program.
+        return Handles, (self.columns,), {"_made": self._made}
+
 
 class Added(Generic[Node]):
     """Added arcs by their ends, and by the keys that were given."""
@@ -261,13 +275,13 @@ def _keys(arc: Arc[Node]) -> list[Hashable]:
     return [ends] if arc.given_key is None or arc.given_key == ends else [ends, arc.given_key]
 
 
-def one_of(found: list[Arc[Node]], key: Hashable) -> Arc[Node]:
+def one_of(found: list[Arc[Node]], key: Hashable, state: str = "open") -> Arc[Node]:
     """The one arc that was found. Raises `NoSuchArc` and `AmbiguousArc` where there is none, or several."""
     if not found:
         raise NoSuchArc(shown(key))
     if len(found) > 1:
         some = ", ".join(map(repr, found[:9])) + ", .." * (len(found) > 9)
-        raise AmbiguousArc(f"{len(found)} open arcs have the key or the ends {shown(key)}: {some}")
+        raise AmbiguousArc(f"{len(found)} {state} arcs have the key or the ends {shown(key)}: {some}")
     return found[0]
 
 
@@ -336,8 +350,8 @@ class OpenArcs(Generic[Node]):
         return one_of(found + [arc for arc in self._added_index.named(key) if self.is_open(arc.number)], key)
 
     def between(self, tail: Node, head: Node) -> list[int]:
-        """The numbers of the open arcs from one node to another, which are nodes."""
-        numbers = self.columns.between(self.columns.numbers[tail], self.columns.numbers[head])
+        """The numbers of the open arcs from one node to another. Raises `NoSuchNode`."""
+        numbers = self.columns.between(self.columns.number(tail), self.columns.number(head))
         added = (arc.number for arc in self.added if (arc.tail, arc.head) == (tail, head))
         return [number for number in (*numbers, *added) if self.is_open(number)]
 

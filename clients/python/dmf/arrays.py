@@ -14,7 +14,7 @@ from typing import Any
 
 from .arcs import Columns, Node, OpenArcs
 from .errors import NoCapacity, NotAnArc, NumberTooLarge, shown
-from .kept import LARGEST_NODE, columns_of, whole
+from .kept import LARGEST_NODE, columns_of, is_missing, refuse_node, whole
 from .numbering import AMOUNTS, NODES, WholeNodes
 
 # How many lines of a text are made or read at once, and how many are made without numpy, with an object for each number.
@@ -165,7 +165,8 @@ def columns_of_arrays(
     tail: Any, head: Any, capacity: Any, key: Any, nodes: Iterable[Node], infinite: object
 ) -> tuple[Columns[Node], array[int]]:
     """The columns of three sequences of one length, and their capacities. Numbers in arrays of numpy are taken as they are, all
-    together, and everything else row by row. Raises `NotAnArc` for sequences of several lengths, and what `columns_of` raises."""
+    together, and everything else row by row. Raises `NotAnArc` for sequences of several lengths or with a node that is missing, and
+    what `columns_of` raises."""
     tail, head, capacity, key = (_plain(column) for column in (tail, head, capacity, key))
     lengths = {len(column) for column in (tail, head, capacity, key) if column is not None}
     if len(lengths) > 1:
@@ -174,18 +175,30 @@ def columns_of_arrays(
         np = package("numpy", "arrays")
         columns, capacities = _of_numbers(np, tail, head, capacity, nodes, infinite)
         if key is not None:
-            columns.keys.update((at, _known(value)) for at, value in enumerate(_listed(key), 1) if _known(value) is not None)
-            for given in columns.keys.values():
-                hash(given)
+            columns.keys.update((at, value) for at, value in enumerate(_listed(key), 1) if not is_missing(value))
+            for at, given in columns.keys.items():
+                try:
+                    hash(given)
+                except TypeError:
+                    raise NotAnArc(f"not an arc: number {at}: its key {shown(given)} cannot be hashed") from None
         return columns, capacities
     rows = zip(*map(_listed, (tail, head, capacity)), *([] if key is None else [map(_known, _listed(key))]))
-    return columns_of(rows if infinite is None else (with_infinite(row, infinite) for row in rows), nodes)
+    nodes = list(nodes)
+    columns, capacities = columns_of(rows if infinite is None else (with_infinite(row, infinite) for row in rows), nodes)
+    if None in columns.numbers and None not in nodes:
+        refuse_node(columns, capacities, None)
+    return columns, capacities
 
 
 def _plain(column: Any) -> Any:
-    """A series of pandas as an array of numpy; any other column as it is, or as a list where its length is not known."""
+    """A series of pandas as an array of numpy, and an array that hides some of its values as a list, in which these are None; any other
+    column as it is, or as a list where its length is not known. Raises `NotAnArc` for a table."""
+    if getattr(column, "ndim", 1) != 1:
+        raise NotAnArc(f"not an arc: a column has {column.ndim} dimensions, and not one")
     if hasattr(column, "to_numpy"):
-        return column.to_numpy()
+        column = column.to_numpy()
+    if hasattr(column, "filled"):
+        return column.tolist()
     return column if column is None or hasattr(column, "__len__") else list(column)
 
 
@@ -200,17 +213,17 @@ def _listed(column: Any) -> Any:
 
 def _known(value: Any) -> Any:
     """A value of a frame: None where it is missing, as pandas writes it."""
-    return None if value is None or value != value else value
+    return None if is_missing(value) else value
 
 
-def is_missing(capacity: object) -> bool:
+def is_unbounded(capacity: object) -> bool:
     """Whether a capacity is none: None, no number, or infinite."""
-    return capacity is None or isinstance(capacity, float) and (capacity != capacity or capacity == float("inf"))
+    return is_missing(capacity) or not hasattr(capacity, "__len__") and capacity == float("inf")
 
 
 def with_infinite(row: tuple[Any, ...], infinite: object) -> tuple[Any, ...]:
     """A row of arcs, with a capacity where it has none."""
-    return (*row[:2], infinite, *row[3:]) if is_missing(row[2]) else row
+    return (*row[:2], infinite, *row[3:]) if is_unbounded(row[2]) else row
 
 
 def _of_numbers(

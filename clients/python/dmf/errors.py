@@ -23,7 +23,7 @@ class SessionEnded(Error):
 
 
 class AmbiguousArc(Error, LookupError):
-    """Several open arcs have this key, or these ends. Each has a handle, by which it can be named."""
+    """Several arcs have this key, or these ends, which are open, or are all closed. Each has a handle, by which it can be named."""
 
 
 class ArcIsOpen(Error, ValueError):

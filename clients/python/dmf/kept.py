@@ -2,16 +2,17 @@
 
 from __future__ import annotations
 
+import contextlib
 import operator
 from array import array
 from collections import defaultdict, deque
 from collections.abc import Hashable, Iterable
 from dataclasses import dataclass, field
 from itertools import count, islice
-from typing import Any, Generic, SupportsIndex, Union
+from typing import Any, Generic, NoReturn, SupportsIndex, Union
 
 from .arcs import Added, Arc, Columns, Handles, Node, OpenArcs, one_of
-from .errors import ArcIsClosed, HistoryOutOfRange, NoSuchArc, NoSuchNode, NotAnArc, NotANumber, NothingToUndo, NumberTooLarge, shown
+from .errors import ArcIsClosed, HistoryOutOfRange, NoSuchArc, NotAnArc, NotANumber, NothingToUndo, NumberTooLarge, shown
 from .numbering import AMOUNTS, NODES, WholeNodes
 from .text import LARGEST
 
@@ -28,7 +29,9 @@ def whole(number: Any, at: object) -> int:
     """The whole number from 0 to 2^64 - 1 that this is. Raises `NotANumber` and `NumberTooLarge`, which say that it stands in
     `at`."""
     try:
-        taken = int(number) if isinstance(number, float) and number.is_integer() else operator.index(number)
+        # A float of Python or of numpy, of any width.
+        is_whole = getattr(number, "is_integer", bool)
+        taken = int(number) if is_whole() else operator.index(number)
     except TypeError:
         raise NotANumber(f"{shown(number)} in {shown(at)}") from None
     if taken < 0:
@@ -40,6 +43,7 @@ def whole(number: Any, at: object) -> int:
 
 def columns_of(rows: Iterable[Any], nodes: Iterable[Node]) -> tuple[Columns[Node], array[int]]:
     """The columns of rows of arcs, and their capacities. Raises `NotAnArc`, `NotANumber` and `NumberTooLarge`."""
+    nodes = list(nodes)
     taken = _Taken(nodes, operator.length_hint(rows, USUAL))
     left = iter(rows)
     while piece := list(islice(left, PIECE)):
@@ -49,7 +53,43 @@ def columns_of(rows: Iterable[Any], nodes: Iterable[Node]) -> tuple[Columns[Node
     if isinstance(taken.numbers, defaultdict):
         # From now on a node that is not there is none.
         taken.numbers.default_factory = None
-    return Columns(taken.numbers, taken.tails, taken.heads, taken.keys), taken.capacities
+    columns = Columns(taken.numbers, taken.tails, taken.heads, taken.keys)
+    _judge_nodes(columns, taken.capacities)
+    return columns, taken.capacities
+
+
+def is_missing(value: object) -> bool:
+    """Whether a value of a table is none: None, or what is not equal to itself, as NaN and the NA of pandas."""
+    try:
+        return value is None or bool(value != value)
+    except TypeError:
+        return True
+    except ValueError:
+        # An array, of which each value is compared.
+        return False
+
+
+def _judge_nodes(columns: Columns[Any], capacities: array[int]) -> None:
+    """Raises `NotAnArc` where a node is not equal to itself, since it could not be found again."""
+    numbers = columns.numbers
+    if isinstance(numbers, WholeNodes):
+        return
+    with contextlib.suppress(TypeError):
+        if not any(map(operator.ne, numbers, numbers)):
+            return
+    for node in numbers:
+        if node is not None and is_missing(node):
+            refuse_node(columns, capacities, node)
+
+
+def refuse_node(columns: Columns[Any], capacities: array[int], node: object) -> NoReturn:
+    """Raises `NotAnArc` for a node that is none, with the first arc that has it."""
+    number = columns.numbers[node]
+    at = next((at for at, ends in enumerate(zip(columns.tails, columns.heads)) if number in ends), None)
+    if at is None:
+        raise NotAnArc(f"not an arc: the node {shown(node)} is no name")
+    tail, head = columns.names[columns.tails[at] - 1], columns.names[columns.heads[at] - 1]
+    raise NotAnArc(f"not an arc: number {at + 1}, {shown((tail, head, capacities[at]))}: {shown(node)} is no node")
 
 
 class _Taken:
@@ -117,11 +157,11 @@ class _Taken:
 
 @dataclass(frozen=True)
 class Change(Generic[Node]):
-    """What a change did to capacities: each arc's number with its capacity before and after; and the arc that it added. A closed
-    arc has no capacity."""
+    """What a change did to capacities: each arc's number with its capacity before and after; and the arc that it added, with its
+    capacity and the number of the closed arc whose place it took, if it did. A closed arc has no capacity."""
 
     capacities: list[tuple[int, int | None, int | None]] = field(default_factory=list)
-    added: tuple[Arc[Node], int] | None = None
+    added: tuple[Arc[Node], int, int | None] | None = None
 
 
 class Kept(Generic[Node]):
@@ -135,6 +175,8 @@ class Kept(Generic[Node]):
         self.capacities = capacities
         self.closed: set[int] = set()
         self.added: list[Arc[Node]] = []
+        # For each of these the number of the closed arc whose place it took.
+        self.replaced: list[int | None] = []
         # The arcs of the network that this one was copied of, whose handles name the arcs here too.
         self.origin: OpenArcs[Node] | None = None
         self.most = most
@@ -152,9 +194,7 @@ class Kept(Generic[Node]):
 
     def number(self, node: Node) -> int:
         """The number of a node. Raises `NoSuchNode`."""
-        if node not in self.columns.numbers:
-            raise NoSuchNode(shown(node))
-        return self.columns.numbers[node]
+        return self.columns.number(node)
 
     @property
     def arc_count(self) -> int:
@@ -183,13 +223,11 @@ class Kept(Generic[Node]):
             if self.origin and self.origin.has(key) and key.number <= self.arc_count:
                 return self.handle(key.number)
             raise NoSuchArc(repr(key))
-        named = self.columns.named(key)
-        added = self._added_index.named(key)
-        found = [number for number in named if number not in self.closed]
-        opened = [arc for arc in added if arc.number not in self.closed]
-        if not found and not opened and (named or added):
-            return added[-1] if added else self.handles.of(named[-1])
-        return one_of([*map(self.handles.of, found), *opened], key)
+        numbers = [*self.columns.named(key), *(arc.number for arc in self._added_index.named(key))]
+        opened = [number for number in numbers if number not in self.closed]
+        if opened or not numbers:
+            return one_of(list(map(self.handle, opened)), key)
+        return one_of([self.handle(number) for number in numbers if number not in self.replaced], key, "closed")
 
     def has(self, arc: Arc[Any]) -> bool:
         """Whether a handle is that of an arc here, open or closed."""
@@ -234,8 +272,8 @@ class Kept(Generic[Node]):
             change = self._undone.pop()
             self._done.append(change)
             if change.added:
-                arc, capacity = change.added
-                self.put_added(arc)
+                arc, capacity, replaced = change.added
+                self.put_added(arc, replaced)
                 self.capacities.append(capacity)
             self._put((number, after) for number, _, after in change.capacities)
         self.place += count
@@ -248,6 +286,7 @@ class Kept(Generic[Node]):
             self._undone.append(change)
             if change.added:
                 self._added_index.drop(self.added.pop())
+                self.replaced.pop()
                 self.capacities.pop()
             self._put((number, before) for number, before, _ in change.capacities)
         self.place -= count
@@ -277,11 +316,12 @@ class Kept(Generic[Node]):
         copy = Kept(self.columns, self.capacities[:], self.source, self.sink, self.most)
         copy.closed = set(self.closed)
         copy.origin = self.origin or self.opened()
-        for arc in self.added:
-            copy.put_added(Arc(arc.number, arc.tail, arc.head, arc.given_key))
+        for arc, replaced in zip(self.added, self.replaced):
+            copy.put_added(Arc(arc.number, arc.tail, arc.head, arc.given_key), replaced)
         return copy
 
-    def put_added(self, arc: Arc[Node]) -> None:
-        """Takes in an arc that was added before, whose capacity is there."""
+    def put_added(self, arc: Arc[Node], replaced: int | None) -> None:
+        """Takes in an arc that was added before, in the place of this closed one if there is one; its capacity is there."""
         self.added.append(arc)
+        self.replaced.append(replaced)
         self._added_index.put(arc)

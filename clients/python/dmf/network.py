@@ -70,7 +70,7 @@ class Network(Generic[Node]):
         arrays of numpy, series of pandas and whatever else has a length; arrays of whole numbers are taken together, which is several
         times as quick. The nodes of an array are the numbers or texts of Python that stand in it. `infinite` is the capacity of
         arcs whose capacity is infinite, None or no number. The other arguments are those of `Network`, and it raises the same, with
-        `NotAnArc` where the columns have several lengths."""
+        `NotAnArc` where the columns have several lengths, or where a node is missing: None, NaN, or hidden by a mask."""
         most = bound(history)
         made = cls.__new__(cls)
         made._make(*arrays.columns_of_arrays(tail, head, capacity, key, nodes, infinite), source, sink, program, most)
@@ -166,8 +166,8 @@ class Network(Generic[Node]):
         return list(self._kept.opened())
 
     def arc(self, key: Hashable) -> Arc[Node]:
-        """The arc of a key, or of a pair `(tail, head)`. Where several have it, it is the open one. Raises `NoSuchArc` and, where
-        several are open, `AmbiguousArc`."""
+        """The arc of a key, or of a pair `(tail, head)`. Where several have it, it is the open one; where all are closed, the one in whose
+        place none was opened. Raises `NoSuchArc` and, where several are left, `AmbiguousArc`."""
         return self._kept.arc(key)
 
     def capacity(self, arc: Hashable) -> int:
@@ -208,7 +208,7 @@ class Network(Generic[Node]):
         Raises `NoSuchNode`, `CapacitiesPast64Bits`, `TooManyArcs`, `NotANumber` and `NumberTooLarge`."""
         hash(key)
         with self._child.alone():
-            return self._add(tail, head, whole(capacity, (tail, head)), key)
+            return self._add(tail, head, whole(capacity, (tail, head)), key, None)
 
     def open(self, arc: Hashable) -> Arc[Node]:
         """Opens a closed arc: adds it again, with its ends, its key and the capacity that it had when it was closed. To the program that
@@ -220,12 +220,12 @@ class Network(Generic[Node]):
             found = self._kept.arc(arc)
             if found.number not in self._kept.closed:
                 raise ArcIsOpen(f"arc is open: {found!r}")
-            return self._add(found.tail, found.head, self._kept.capacities[found.number - 1], found.given_key)
+            return self._add(found.tail, found.head, self._kept.capacities[found.number - 1], found.given_key, found.number)
 
-    def _add(self, tail: Node, head: Node, room: int, key: Hashable) -> Arc[Node]:
+    def _add(self, tail: Node, head: Node, room: int, key: Hashable, replaced: int | None) -> Arc[Node]:
         self._changed(f"add {self._kept.number(tail)} {self._kept.number(head)} {room}", (tail, head))
         arc = Arc(self._kept.arc_count + 1, tail, head, key, weakref.ref(self))
-        self._kept.note(Change(added=(arc, room)))
+        self._kept.note(Change(added=(arc, room, replaced)))
         return arc
 
     def solve(self) -> Solution[Node]:
@@ -319,7 +319,7 @@ class Network(Generic[Node]):
 
     def to_networkx(self) -> Any:
         """A MultiDiGraph of networkx with an edge for each open arc. Its key is the arc's number, and its attributes are `capacity`,
-        `flow`, and `key` where one was given. Raises an ImportError where networkx is not there."""
+        `flow`, and `name` where a key was given. Raises an ImportError where networkx is not there."""
         graph = arrays.package("networkx", "a graph")
         flow = self.flow()
         made = graph.MultiDiGraph()

@@ -9,7 +9,7 @@ from typing import Any, Generic, TypeVar, overload
 
 from . import arrays
 from .arcs import Arc, Node, OpenArcs
-from .errors import NoSuchArc, NoSuchNode, SessionEnded, shown
+from .errors import NoSuchArc, SessionEnded
 from .notebook import Look, table
 
 Other = TypeVar("Other")
@@ -163,11 +163,9 @@ class Solution(Mapping[Arc[Node], int], Generic[Node]):
     def between(self, tail: Node, head: Node) -> int:
         """What flows on all arcs from one node to another together. Raises `NoSuchNode`."""
         arcs = self._flows.arcs
-        for node in tail, head:
-            if node not in arcs.columns.numbers:
-                raise NoSuchNode(shown(node))
+        numbers = arcs.between(tail, head)
         flows = self._flows.numbers()
-        return sum(flows[arcs.place(number)] for number in arcs.between(tail, head))
+        return sum(flows[arcs.place(number)] for number in numbers)
 
     def array(self) -> Any:
         """The flows as an array of numpy, in the order of the arcs: of whole numbers with a sign in 64 bits, or without one where

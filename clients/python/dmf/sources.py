@@ -9,7 +9,7 @@ from collections import Counter
 from typing import Any
 
 from .arcs import Columns, Node
-from .arrays import PIECE, is_missing, no_capacity, numpy_for, read_lines
+from .arrays import PIECE, is_unbounded, no_capacity, numpy_for, read_lines
 from .kept import Kept, Whole
 from .network import Network
 from .numbering import AMOUNTS, NODES
@@ -90,7 +90,7 @@ def from_networkx(
         if capacity not in attributes and infinite is None:
             raise no_capacity((tail, head, *key), capacity)
         amount = attributes.get(capacity)
-        if infinite is not None and is_missing(amount):
+        if infinite is not None and is_unbounded(amount):
             amount = infinite
         rows.append((tail, head, amount, (tail, head, *key) if key else None))
         if not graph.is_directed() and tail != head:

@@ -3,6 +3,7 @@
 from __future__ import annotations
 
 import contextlib
+import functools
 import operator
 import os
 import pickle
@@ -19,7 +20,7 @@ from .arrays import package
 from .errors import Error, SessionEnded, UnknownCommand, shown
 from .kept import Kept, Whole, whole
 from .network import Network
-from .process import Program
+from .process import MOST_KEPT, Program
 
 if TYPE_CHECKING:
     from concurrent.futures import Executor, Future
@@ -85,8 +86,9 @@ def each_capacity_raised(by: Whole, arcs: Iterable[Hashable] | None = None) -> C
 
     def cases(network: Network[Any]) -> Iterator[Case]:
         more = whole(by, "each_capacity_raised")
-        for arc in network.arcs if arcs is None else arcs:
-            yield [("cap", arc, network.capacity(arc) + more)]
+        # As the network is now, whatever becomes of it while the cases are taken.
+        kept = network._kept.copy()
+        return ([("cap", arc, kept.capacity(kept.arc(arc)) + more)] for arc in (network.arcs if arcs is None else arcs))
 
     return cases
 
@@ -109,8 +111,10 @@ def sweep(
     the network itself is not changed, and can be used meanwhile. Cases are taken as they are needed, so there may be any number.
 
     A case is a list of commands, as in `[("close", "canal"), ("add", "lake", "sea", 7)]`, or a function that is given a network and
-    changes it. A case that is refused, and one whose function raises an error of this package, has a result that says so; any other
-    error ends the sweep. Where a program is killed, another takes its place, and its case is tried once more.
+    changes it. A case that is refused, and one whose function raises an error of this package, has a result that says so.
+
+    Any other error ends the sweep. One of what makes the cases comes after the results of those before it. Where a program is killed,
+    another takes its place, and its case is tried once more.
 
     Without an `executor` each of so many `jobs` (as many as there are processors) has a program here. An `executor` is anything of the
     form of `concurrent.futures`, as `Client.get_executor()` of dask.distributed: each of its processes begins programs of its own,
@@ -123,56 +127,83 @@ def sweep(
     [(4, -3), (3, -4)]
     """
     made = cases(network) if callable(cases) else cases
-    results = _results(network, iter(made), executor, want_cut, jobs)
+    programs = len(os.sched_getaffinity(0)) if jobs is None else max(1, whole(jobs, "jobs"))
+    swept = _Swept(network._kept, network.value)
+    program: Any = network._child.process.args
+    begin: Callable[[], _Tries] = functools.partial(_Here, swept.kept, program[0], want_cut, programs)
+    if executor is not None:
+        begin = functools.partial(_There, swept.kept, executor, want_cut)
+    results = _results(swept, iter(made), begin)
     return _shown(results, operator.length_hint(made) or None) if progress else results
 
 
+class _Swept(Generic[Node]):
+    """A network as it is when a sweep is asked for, whatever becomes of it meanwhile. In the copies any number of changes can be undone."""
+
+    def __init__(self, kept: Kept[Node], value: int) -> None:
+        self.opened = kept.opened()
+        self.value = value
+        self.kept = kept.copy()
+        self.kept.most = MOST_KEPT
+
+    def plain(self, case: Case) -> _Plain | Error:
+        """A case as a copy takes it, or why it is refused."""
+        if callable(case):
+            return case
+        try:
+            return [self._plain_command(command) for command in case]
+        except TypeError:
+            return UnknownCommand(f"{shown(case)} in a sweep")
+        except Error as error:
+            return error
+
+    def _plain_command(self, command: Command) -> Command:
+        """A command with the number of its arc in place of what names it."""
+        if not isinstance(command, (tuple, list)) or not command or COMMANDS.get(command[0]) != len(command) - 1:
+            raise UnknownCommand(f"{shown(command)} in a sweep")
+        word, *rest = command
+        if word in ("cap", "close", "open"):
+            rest[0] = self.kept.arc(rest[0]).number
+        return (word, *rest)
+
+    def told(self, case: Case, answer: _Answer) -> SweepResult[Node]:
+        """The result of a case."""
+        if answer.refusal is not None:
+            return SweepResult(case, refusal=answer.refusal)
+        cut: tuple[Arc[Node], ...] | None = None
+        if answer.cut is not None:
+            cut = tuple(self.opened.handle(arc) if isinstance(arc, int) else arc for arc in answer.cut)
+        return SweepResult(case, answer.value, answer.value - self.value, cut)
+
+
 def _results(
-    network: Network[Node], cases: Iterator[Case], executor: Executor | None, want_cut: bool, jobs: int | None
+    swept: _Swept[Node], cases: Iterator[Case], begin: Callable[[], _Tries]
 ) -> Generator[SweepResult[Node], None, None]:
-    before = network.value
-    kept = network._kept.copy()
-    program: Any = network._child.process.args
-    tries: _Tries = _Here(kept, program[0], want_cut, jobs) if executor is None else _There(kept, executor, want_cut)
-    with contextlib.closing(tries):
+    failed: Exception | None = None
+    with contextlib.closing(begin()) as tries:
         waiting: deque[tuple[list[Case], _Pending]] = deque()
         while True:
-            while len(waiting) < tries.most and (piece := list(islice(cases, tries.size))):
-                waiting.append((piece, tries.begin([_plain(network._kept, case) for case in piece])))
+            while len(waiting) < tries.most and failed is None:
+                piece, failed = _piece(cases, tries.size)
+                if not piece:
+                    break
+                waiting.append((piece, tries.begin(list(map(swept.plain, piece)))))
             if not waiting:
-                return
+                break
             piece, pending = waiting.popleft()
-            for case, answer in zip(piece, pending()):
-                yield _told(network._kept, case, answer, before)
+            yield from map(swept.told, piece, pending())
+    if failed:
+        raise failed
 
 
-def _told(kept: Kept[Node], case: Case, answer: _Answer, before: int) -> SweepResult[Node]:
-    if answer.refusal is not None:
-        return SweepResult(case, refusal=answer.refusal)
-    cut: tuple[Arc[Node], ...] | None = None
-    if answer.cut is not None:
-        cut = tuple(kept.handle(arc) if isinstance(arc, int) else arc for arc in answer.cut)
-    return SweepResult(case, answer.value, answer.value - before, cut)
-
-
-def _plain(kept: Kept[Any], case: Case) -> _Plain | Error:
-    """A case as a copy takes it, or why it is refused."""
-    if callable(case):
-        return case
+def _piece(cases: Iterator[Case], size: int) -> tuple[list[Case], Exception | None]:
+    """The next cases, so many, and the error that came in the place of one: what was tried before that is told first."""
+    piece: list[Case] = []
     try:
-        return [_plain_command(kept, command) for command in case]
-    except Error as error:
-        return error
-
-
-def _plain_command(kept: Kept[Any], command: Command) -> Command:
-    """A command with the number of its arc in place of what names it."""
-    word, *rest = command
-    if COMMANDS.get(word) != len(rest):
-        raise UnknownCommand(f"{shown(command)} in a sweep")
-    if word in ("cap", "close", "open"):
-        rest[0] = kept.arc(rest[0]).number
-    return (word, *rest)
+        piece.extend(islice(cases, size))
+    except Exception as error:
+        return piece, error
+    return piece, None
 
 
 def _try(network: Network[Any], case: _Plain, want_cut: bool) -> _Answer:
@@ -267,16 +298,15 @@ _Pending = Callable[[], "list[_Answer]"]
 class _Here(_Tries):
     """Programs of this process, each with a thread that waits for it."""
 
-    def __init__(self, kept: Kept[Any], program: Program, want_cut: bool, jobs: int | None) -> None:
+    def __init__(self, kept: Kept[Any], program: Program, want_cut: bool, jobs: int) -> None:
         # It takes 1 MB, and nothing else needs it.
         from concurrent.futures import ThreadPoolExecutor
 
-        self._jobs = max(1, len(os.sched_getaffinity(0)) if jobs is None else jobs)
-        self.most = 4 * self._jobs
+        self.most = 4 * jobs
         self._want_cut = want_cut
-        self._copies = [_Copy(kept, program) for _ in range(self._jobs)]
+        self._copies = [_Copy(kept, program) for _ in range(jobs)]
         self._free = list(self._copies)
-        self._threads = ThreadPoolExecutor(self._jobs, "dmf-sweep")
+        self._threads = ThreadPoolExecutor(jobs, "dmf-sweep")
 
     def begin(self, cases: list[_Plain | Error]) -> _Pending:
         return self._threads.submit(self._answers, cases).result
@@ -362,17 +392,17 @@ class _Sent:
     added: list[tuple[Any, ...]]
     closed: set[int]
     ends: tuple[Any, Any]
-    most: int
 
     @staticmethod
     def of(kept: Kept[Any]) -> _Sent:
-        added: list[tuple[Any, ...]] = [(arc.number, arc.tail, arc.head, arc.given_key) for arc in kept.added]
-        return _Sent(kept.columns, kept.capacities, added, kept.closed, (kept.source, kept.sink), kept.most)
+        rows = zip(kept.added, kept.replaced)
+        added: list[tuple[Any, ...]] = [((arc.number, arc.tail, arc.head, arc.given_key), replaced) for arc, replaced in rows]
+        return _Sent(kept.columns, kept.capacities, added, kept.closed, (kept.source, kept.sink))
 
     def kept(self) -> Kept[Any]:
-        kept = Kept(self.columns, self.capacities, *self.ends, self.most)
-        for row in self.added:
-            kept.put_added(Arc(*row))
+        kept = Kept(self.columns, self.capacities, *self.ends, MOST_KEPT)
+        for row, replaced in self.added:
+            kept.put_added(Arc(*row), replaced)
         kept.closed = self.closed
         return kept
 

@@ -1,0 +1,89 @@
+"""Sweeps of a network that changes meanwhile, and with cases that fail. Worked by hand: over the arcs side by side flows what all of
+them carry together."""
+
+from __future__ import annotations
+
+from collections.abc import Iterator
+from concurrent.futures import ThreadPoolExecutor
+from typing import Any
+
+import pytest
+from client_shared import dmf
+
+BESIDE = [("a", "b", 3, "x"), ("a", "b", 4, "y"), ("a", "b", 5, "z")]
+
+
+def beside(**options: Any) -> dmf.Network[str]:
+    network = dmf.Network(BESIDE, "a", "b", **options)
+    network.solve()
+    return network
+
+
+@pytest.mark.parametrize("is_there", [False, True])
+def test_a_sweep_is_of_the_network_as_it_was_asked_for(is_there: bool) -> None:
+    """Whatever becomes of it before the first result is taken: names, capacities, the value and the cut are those of then."""
+    with beside() as network, ThreadPoolExecutor(1) as threads:
+        raised = dmf.sweep(network, dmf.each_capacity_raised(2), threads if is_there else None, want_cut=True)
+        closed = dmf.sweep(network, [[("close", "x")], [("cap", "y", 0)], [("close", "new")]], threads if is_there else None)
+        network.cap("y", 100)
+        network.close("x")
+        network.add("a", "b", 9, "new")
+        network.solve()
+        results = list(raised)
+        assert [(result.value, result.difference) for result in results] == [(14, 2)] * 3
+        assert [[arc.number for arc in result.cut or ()] for result in results] == [[1, 2, 3]] * 3
+        assert [(result.value, str(result.refusal)) for result in closed] == [(9, "None"), (8, "None"), (None, "no such arc: 'new'")]
+        assert network.value == 114
+
+
+@pytest.mark.parametrize("history", [0, 1, 2, None])
+def test_a_sweep_needs_no_history(history: int | None) -> None:
+    with beside(history=history) as network, ThreadPoolExecutor(1) as threads:
+        case = [("close", "x"), ("cap", "y", 1), ("add", "a", "b", 2)]
+        for executor in None, threads:
+            assert [result.value for result in dmf.sweep(network, [case, case], executor)] == [8, 8]
+
+
+def test_an_error_comes_after_the_results_before_it() -> None:
+    def broken(count: int) -> Iterator[Any]:
+        for turn in range(count):
+            yield [("cap", "x", turn)]
+        raise ZeroDivisionError
+
+    with beside() as network, ThreadPoolExecutor(1) as threads:
+        for count in 0, 1, 5, 40:
+            for executor in None, threads:
+                results = dmf.sweep(network, broken(count), executor, jobs=1)
+                assert [next(results).value for _ in range(count)] == [9 + turn for turn in range(count)]
+                with pytest.raises(ZeroDivisionError):
+                    next(results)
+
+
+MALFORMED: list[tuple[Any, str]] = [
+    (5, "unknown command: 5 in a sweep"),
+    ([5], "unknown command: 5 in a sweep"),
+    ([()], "unknown command: () in a sweep"),
+    ([("close", "x"), ("cap", "x")], "unknown command: ('cap', 'x') in a sweep"),
+    ([("solve",)], "unknown command: ('solve',) in a sweep"),
+    ("close x", "unknown command: 'c' in a sweep"),
+    ([(["close"], "x")], "unknown command: [(['close'], 'x')] in a sweep"),
+    ([("cap", ["x"], 1)], "no such arc: ['x']"),
+    ([("cap", "x", "much")], "not a number: 'much' in <Arc 1: 'a' to 'b', 'x'>"),
+    ([("shut", {})], "no such node: {}"),
+    ([("add", "a", ["b"], 1)], "no such node: ['b']"),
+]
+
+
+@pytest.mark.parametrize(("case", "said"), MALFORMED)
+def test_a_malformed_case_is_refused_by_itself(case: Any, said: str) -> None:
+    with beside() as network:
+        refused, after = dmf.sweep(network, [case, [("close", "x")]], jobs=1)
+        assert (refused.value, refused.difference, str(refused.refusal)) == (None, None, said)
+        assert after.value == 9
+
+
+def test_jobs() -> None:
+    with beside() as network:
+        for jobs in (-1, 2.5, "3"):
+            with pytest.raises(dmf.NotANumber, match="in 'jobs'$"):
+                dmf.sweep(network, [], jobs=jobs)  # type: ignore[arg-type]
