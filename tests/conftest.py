@@ -97,7 +97,10 @@ def pytest_collection_modifyitems(config: pytest.Config, items: list[pytest.Item
 
 
 def pytest_terminal_summary(terminalreporter: TerminalReporter) -> None:
-    """Tells what was skipped, and ends with the line 'N passed, M failed', in which a script counts for each of its cases."""
+    """Keeps the shortest cases that failed, tells what was skipped, and ends with the line 'N passed, M failed', in which a script counts
+    for each of its cases. A worker of pytest-xdist, which knows its own tests alone, does none of this."""
+    if hasattr(terminalreporter.config, "workerinput"):
+        return
     stats = terminalreporter.stats
     passed = len(stats.get("passed", []))
     failed = len(stats.get("failed", [])) + len(stats.get("error", []))
