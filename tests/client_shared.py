@@ -28,7 +28,7 @@ def there(name: str) -> Any:
 
 
 def needs(is_there: object, package: str, so: str) -> pytest.MarkDecorator:
-    """Skips a test where a package of Debian is not there, and tells what was not tested."""
+    """Skips a test where a package of Debian is not there, and names what was not tested."""
     return pytest.mark.skipif(not is_there, reason=f"{package} is not there, so {so}")
 
 

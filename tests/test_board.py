@@ -236,7 +236,7 @@ def test_sweep_in_portions(tmp_path: Path) -> None:
 
 
 def test_session_that_ends() -> None:
-    """It is told, and begun again with the steps; and what can be taken along is of the present plan."""
+    """The page says so, and begins again with the steps; and what can be taken along is of the present plan."""
     with board(PIPES) as it:
         it.do(what="close", arc=10)
         (session,) = it.sessions()

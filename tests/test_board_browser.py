@@ -101,7 +101,7 @@ class Page:
 
 
 def test_story(driver: Any) -> None:
-    """The water story, told three ways."""
+    """The water story in three ways."""
     commands = ROOT / "examples/water/tomorrow.txt"
     with tempfile.NamedTemporaryFile() as problem:
         made = run("dmf-problem", "--table", PIPES, "Reservoir", "Harbour")

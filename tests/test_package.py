@@ -191,7 +191,7 @@ def test_words(tmp_path: Path) -> None:
 
 
 def test_one_version() -> None:
-    """Whatever tells the version tells that of the program."""
+    """Whatever prints a version prints that of the program."""
     version = ran("./dmf", "--version").removeprefix("dmf ").strip()
     assert dmf.__version__ == version
     for page in ROOT.glob("docs/*.1"):

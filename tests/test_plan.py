@@ -119,7 +119,7 @@ def test_random() -> None:
 
 
 def test_ended() -> None:
-    """A session that ends by itself is told, and is begun again with the steps."""
+    """A session that ends by itself is reported, and begins again with the steps."""
     desk = desk_of(WATER)
     desk.close(10)
     end_session()
@@ -216,7 +216,7 @@ def test_scripts() -> None:
 
 
 def test_what_is_typed_otherwise() -> None:
-    """Commands in capitals, ends as they are told, and the number that an arc had before it was opened again."""
+    """Commands in capitals, ends as they are printed, and the number that an arc had before it was opened again."""
     typed = "SOLVE\nsolve\nadd Mill -> Station 25\nsolve\nclose #9\nopen Mill Lane\nclose #9\nclose #16\n"
     ran = run("dmf-plan", PIPES, typed=typed)
     told = [line.partition(": line ")[2] for line in ran.stderr.splitlines() if ": line " in line]

@@ -4,8 +4,8 @@
     python3 tools/build.py
 
 A crate begins once those are built that it stands on, the one with the longest chain above it first, and several are built side by
-side, as many as processors and memory allow. Standard error tells which are in work and which are built, how long it has taken, and
-how long the rest is likely to take: on a terminal in one line, which is written anew, and elsewhere in a line for each crate.
+side, as many as processors and memory allow. Standard error shows which are in work and which are built, how long it has taken, and
+how long the rest is likely to take: on a terminal in one line, which is rewritten, and elsewhere in a line for each crate.
 
 Each crate is built in a folder of its own, beside links to what it stands on, since `rt` lets no two of its calls work over one
 crate. What was built is moved to the crate's out/ once it is whole, so an interrupt leaves nothing half made, and the next call
@@ -112,7 +112,7 @@ def duration(seconds: float) -> str:
 
 
 class Told:
-    """What standard error tells of the build."""
+    """What standard error shows of the build."""
 
     def __init__(self) -> None:
         self.is_terminal = sys.stderr.isatty()

@@ -1,4 +1,4 @@
-"""What tools/dmf-names tells of answers, sessions and transcripts, and what it says of those that do not fit, worked out by hand.
+"""What tools/dmf-names prints of answers, sessions and transcripts, and what it says of those that do not fit, worked out by hand.
 Between lines stands a slash."""
 
 from __future__ import annotations
@@ -312,7 +312,7 @@ TOWN_ROADS = {
 
 
 def carrying(flows: dict[int, str]) -> str:
-    """The lines of these roads, with what is told of each."""
+    """The lines of these roads, with what is printed of each."""
     return "".join(f"  {road} {TOWN_ROADS[road]}: {told}\n" for road, told in flows.items())
 
 

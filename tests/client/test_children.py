@@ -1,4 +1,4 @@
-"""Programs that end in odd ways, or tell much: scripts that stand in for dmf."""
+"""Programs that end in odd ways, or print much: scripts that stand in for dmf."""
 
 import re
 import threading

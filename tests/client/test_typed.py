@@ -33,7 +33,7 @@ def test_the_package_and_a_caller(types: Types) -> None:
 
 @needs(shutil.which("mypy"), "mypy", "the types of the client in Python were not checked")
 def test_mistakes(types: Types) -> None:
-    """Each mistake is told in its line, and nothing else."""
+    """mypy reports each mistake in its line, and nothing else."""
     said = judge(types, "-c", "\n".join(["import dmf", *MISTAKES]))
     told = re.findall(r"^(.*?):(\d+): error: .*\[(.*)\]$", said, re.MULTILINE)
     assert told == [("<string>", str(line), code) for line, code in enumerate(MISTAKES.values(), 2)], said

@@ -77,7 +77,7 @@ class Clone:
         )  # fmt: skip
 
     def call(self, *words: str, by: tuple[str, ...] = ()) -> tuple[int, str, str]:
-        """The status of a call, what it writes, and what it tells, without times."""
+        """The status of a call, what it writes, and what standard error shows, without times."""
         ran = self.begin(*words, by=by)
         out, err = ran.communicate(timeout=SECONDS)
         return ran.returncode, out, re.sub(r", after \d+ s(; about \d+ (s|min).* left)?$", "", err, flags=re.MULTILINE)

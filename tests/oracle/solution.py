@@ -68,7 +68,7 @@ class Reading:
 
 
 def read_solution(text: bytes, state: State) -> State:
-    """The same network with the flow that a solution text tells. Raises its first fault."""
+    """The same network with the flow of a solution text. Raises its first fault."""
     return read_text(text, Reading(state))
 
 

@@ -19,7 +19,7 @@ class Reading(Protocol[T_co]):
 
 
 class Fault(Exception):
-    """Why a line, a field or a whole text is refused. The text is what is told."""
+    """Why a line, a field or a whole text is refused. The text is the message."""
 
 
 class LineFault(Fault):

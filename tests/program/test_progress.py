@@ -1,4 +1,4 @@
-"""What the built program tells of how far it is, on one line that is erased before anything is answered or asked for: on a pseudo
+"""How the built program shows its progress, on one line that is erased before anything is answered or asked for: on a pseudo
 terminal, and where it is asked for. Texts are given in pieces with pauses between them, and an answer is not taken at once, so that the
 program reads and writes after a pause; a network that takes some seconds is solved in sessions."""
 
@@ -89,7 +89,7 @@ def words_of(told: str) -> list[re.Match[str]]:
 
 
 def tasks(words: list[re.Match[str]]) -> list[str]:
-    """What words tell of, in their order, each once."""
+    """What lines of progress are about, in their order, each once."""
     return [*dict.fromkeys(word[1] or word[2] for word in words)]
 
 
@@ -132,7 +132,7 @@ def test_slow_solve(problem: bytes) -> None:
 
 @pytest.mark.seconds(5)
 def test_one_terminal(problem: bytes) -> None:
-    """The line is erased before the solution, and nothing is told while that is written."""
+    """The line is erased before the solution, and none is shown while that is written."""
     status, _, told = slowly(["solve"], problem, both=True)
     told, _, solution = told.rpartition(ERASED)
     assert (status, solution.encode()) == (0, piped(["solve"], problem).stdout)
@@ -145,14 +145,14 @@ def test_quick_solve() -> None:
 
 @pytest.mark.seconds(4)
 def test_typed_problem() -> None:
-    """Nothing is told between lines that are typed."""
+    """Nothing is shown between lines that are typed."""
     status, told = typed(["solve"], SMALL.splitlines(keepends=True))
     assert (status, told.encode()) == (0, INVITATION.encode() + SMALL_SOLUTION)
 
 
 @pytest.mark.seconds(5)
 def test_fault(problem: bytes) -> None:
-    """A fault is told on a line of its own."""
+    """A fault has a line of its own."""
     status, solution, told = slowly(["solve"], problem[:-2] + b"x\n", both=False)
     assert (status, solution) == (3, b"") and told.rpartition(ERASED)[2].startswith("dmf: line ")
 
@@ -177,14 +177,14 @@ def test_session(tmp_path: Path) -> None:
 
 @pytest.mark.seconds(3)
 def test_waiting_session(small: Path) -> None:
-    """A session that only waits tells nothing."""
+    """A session that only waits shows nothing."""
     status, told = typed(["session", str(small)], [b"so", b"lve\n", b"print flow\n"])
     assert (status, told.encode()) == (0, 2 * SMALL_SOLUTION)
 
 
 @pytest.mark.seconds(3)
 def test_slow_problem(tmp_path: Path) -> None:
-    """What a session told of its problem is erased before it waits for commands."""
+    """What a session showed of its problem is erased before it waits for commands."""
     pipe = tmp_path / "slow.max"
     os.mkfifo(pipe)
     with Terminal() as terminal:
@@ -216,7 +216,7 @@ def test_asked_session(small: Path) -> None:
 
 
 def test_asked_drains(tmp_path: Path) -> None:
-    """A shut tells which of the arcs at the node is drained, and how much is taken off; so does the closing of one arc."""
+    """A shut shows which of the arcs at the node is drained, and how much is taken off; so does the closing of one arc."""
     (tmp_path / "pipes.max").write_bytes(TWO_PIPES)
     asked = piped(["session", "--progress", "--brief", str(tmp_path / "pipes.max")], b"solve\nshut 2\nundo\nclose 2\n")
     told = re.findall(rb"dmf: draining, arc (\d+) of (\d+), (\d+) taken off\n", asked.stderr)

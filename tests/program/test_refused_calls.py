@@ -158,7 +158,7 @@ def calls_program(tmp_path_factory: pytest.TempPathFactory) -> None:
 
 
 def test_stdout(writes: bool) -> None:
-    """The text of crates/test_calls/stdout is what the second implementation tells."""
+    """The text of crates/test_calls/stdout is that of the second implementation."""
     if writes:
         STDOUT.write_text(ample())
     assert STDOUT.read_text() == ample()

@@ -111,7 +111,7 @@ def test_typed_session() -> None:
 
 
 def test_changed_problem() -> None:
-    """The names of a problem that is changed while the session runs are not told."""
+    """The names of a problem that is changed while the session runs do not appear."""
     changing = Path("changing.max")
     changing.write_bytes(NETWORK)
     with Terminal() as terminal:

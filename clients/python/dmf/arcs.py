@@ -22,7 +22,7 @@ MOST_MISSED = 20
 
 
 class Owner(Protocol):
-    """The network of an arc, which tells of the arc as it is now."""
+    """The network of an arc, which knows the arc as it is now."""
 
     def capacity_now(self, arc: Arc[Any]) -> int: ...
 
@@ -33,7 +33,7 @@ class Owner(Protocol):
 
 class Arc(Generic[Node]):
     """An arc of a network: its handle. `number` is the one that the program knows it by, `tail` and `head` are its ends, and
-    `given_key` is the key that the caller gave it, or None. `is_open`, `capacity` and `flow` tell how it is now in its network. Each
+    `given_key` is the key that the caller gave it, or None. `is_open`, `capacity` and `flow` say how it is now in its network. Each
     arc is equal to itself alone, so a copy of it is the arc itself. One that was pickled has no network any more."""
 
     __slots__ = "number", "tail", "head", "given_key", "_owner"
@@ -65,7 +65,7 @@ class Arc(Generic[Node]):
     @property
     def flow(self) -> int:
         """What flows on it now: nothing where it is closed. Raises `NoSuchArc` where the change that added it was undone. The first
-        arc that is asked after a change has the program tell all flows."""
+        look at an arc after a change asks the program for all flows."""
         return self._network().flow_now(self)
 
     def _network(self) -> Owner:

@@ -1,8 +1,8 @@
 """The server of a board: one page in the browser, on this machine alone, over one desk.
 
-Each address begins with a token that only the one who started the board is told. A request is refused with 403 where its token is
+Each address begins with a token that only the one who started the board gets. The server refuses a request with 403 where its token is
 another, where it names another host, or where a page of another origin made it; with 400 where it has not the form of one that the
-page makes; with 409 where the desk refuses what it asks for, and with 410 where the session has ended. Requests come to the desk
+page makes; with 409 where the desk refuses what it asks for; and with 410 where the session has ended. Requests come to the desk
 one after the other.
 
 The page holds a connection open, `life`. Once no page has held one for a while, the board ends.
@@ -319,7 +319,7 @@ def _amount(text: str) -> int:
 
 class Server(ThreadingHTTPServer):
     """The server of a board. `address` is where its page is; `opening` leads there too, once, so that the words of a browser's process,
-    which others on this machine may read, tell nobody the token."""
+    which others on this machine may read, give nobody the token."""
 
     daemon_threads = True
     allow_reuse_address = False

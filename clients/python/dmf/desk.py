@@ -1,7 +1,7 @@
 """A planner's desk: a network by its names, the steps that were tried on it, and sweeps.
 
 A step is one thing that a planner does, as to close a place that is limited, and may be several changes of the network; it is
-undone as a whole. Arcs go by their numbers here, as `dmf-names` tells them, and `Names` finds the number of a name. Steps are kept
+undone as a whole. Arcs go by their numbers here, as `dmf-names` prints them, and `Names` finds the number of a name. Steps are kept
 as what was asked for, so they can be made again after a sweep, and on a new session where one has ended.
 """
 

@@ -103,7 +103,7 @@ def _only(plan: Plan, kind: str, end: int) -> Terminal:
 
 
 def _which(kind: str, found: Sequence[str], places: Sequence[str]) -> str:
-    """What is said where the table does not tell its source or its sink."""
+    """The message where the table does not name its source or its sink."""
     way = "leads to" if kind == "source" else "leads away from"
     where = "does it flow from" if kind == "source" else "does it flow to"
     choice = found or places

@@ -35,7 +35,7 @@ class NotAnArc(Error, ValueError):
 
 
 class NoCapacity(Error, LookupError):
-    """An edge of a graph lacks the attribute that tells its capacity."""
+    """An edge of a graph lacks the attribute with its capacity."""
 
 
 class HistoryOutOfRange(Error, ValueError):
@@ -56,7 +56,7 @@ class UsedByTwoProcesses(Error, RuntimeError):
 
 class Refused(Error):
     """The program refuses a command, or a problem. Each of its reasons is a class of its own; one that this package does not
-    know is a plain `Refused`. `text` is the reason as the program tells it, `what` was refused, and `line` is the line of the
+    know is a plain `Refused`. `text` is the reason in the program's words, `what` was refused, and `line` is the line of the
     problem that has the fault, where the problem was read from a file."""
 
     text = "refused"

@@ -409,7 +409,7 @@ class Network(Generic[Node]):
             return text
 
     def _flows(self) -> Flows[Node]:
-        """The present flow, of which the program has told nothing but the value so far, where nobody asked."""
+        """The present flow. Where nobody has looked at it, only its value is known so far."""
         flows = None if self._present is None else self._present()
         if flows is None:
             flows = Flows(self._value, self._kept.opened(), self._kept.capacities, self._ask_flow)
@@ -422,7 +422,7 @@ class Network(Generic[Node]):
             return self._asked_flow()
 
     def _part(self) -> None:
-        """Lets the present flow take what the program does not tell any more after a change, where somebody has it."""
+        """Has the present flow take its text before a change, where somebody still has the flow."""
         flows = None if self._present is None else self._present()
         if flows is not None:
             flows.part(self._asked_flow)

@@ -14,7 +14,7 @@ FULL, UNUSED, CUT, SIDE = "2.5", "#8f8f8f", "#c62828", "#d3e4f5"
 
 @dataclass
 class Drawing:
-    """What is drawn: the arcs as they are, the flow on each where it is told, the nodes on the source's side of the cut (none where
+    """What is drawn: the arcs as they are, the flow on each where it is known, the nodes on the source's side of the cut (none where
     there is no cut), the nodes that are shut, and notes."""
 
     problem: Problem

@@ -264,7 +264,7 @@ def _program() -> str:
 @functools.cache
 def _beside() -> str:
     """The program of the repository, or of the install, that this package lies in. In a repository the first call proves and builds
-    it, and tells on standard error how far it is. Raises a FileNotFoundError where there is none, and `SessionEnded` where it
+    it, and shows on standard error how far it is. Raises a FileNotFoundError where there is none, and `SessionEnded` where it
     cannot be built."""
     package = Path(__file__).resolve().parent
     for place, program in PLACES.items():

@@ -1,4 +1,4 @@
-"""What the program tells of a network: solutions and cuts."""
+"""The answers of the program about a network: solutions and cuts."""
 
 from __future__ import annotations
 
@@ -16,8 +16,8 @@ Other = TypeVar("Other")
 
 
 class Flows(Generic[Node]):
-    """The flow of one state of a network, which the program is asked for when someone wants to know it, and at the latest before the
-    network changes. The text is kept as the program told it, and read when a flow is looked at."""
+    """The flow of one state of a network. It asks the program for its text when somebody looks at it, and at the latest before the
+    network changes. It keeps the text as it is, and reads it when somebody looks at a flow."""
 
     def __init__(self, value: int, arcs: OpenArcs[Node], capacities: array[int], ask: Callable[[], bytes]) -> None:
         self.value = value
@@ -38,7 +38,7 @@ class Flows(Generic[Node]):
                 self._text, self._ask = text, None
 
     def part(self, ask: Callable[[], bytes]) -> None:
-        """Takes all that the network tells no more once it has changed."""
+        """Takes all that the network no longer has once it has changed."""
         self.settle(ask)
         self._capacities = self._capacities[:]
 
@@ -48,7 +48,7 @@ class Flows(Generic[Node]):
         return self._text
 
     def numbers(self) -> array[int]:
-        """What flows on each open arc. Raises `SessionEnded` where the program told something else."""
+        """What flows on each open arc. Raises `SessionEnded` where the program answered something else."""
         if self._numbers is None:
             self._numbers = arrays.flows(self.text(), len(self.arcs))
             if self._numbers is None:

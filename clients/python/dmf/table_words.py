@@ -1,4 +1,4 @@
-"""The options by which the tools are told what a table is: its columns, its sources and sinks, its limits and its encoding."""
+"""The options that say what a table is: its columns, its sources and sinks, its limits and its encoding."""
 
 from __future__ import annotations
 

@@ -1,8 +1,8 @@
 """Reads tables as spreadsheets write them (CSV): tables of arcs, and of places with an amount each. `tools/dmf-problem` makes
 problems of them.
 
-Columns are parted by commas, semicolons or tabs, whichever parts the first rows best. Blank rows are passed over, and rows with
-quoted ends of lines are told by their first line. White space of any kind inside a name is one space, and none is around it.
+Commas, semicolons or tabs part columns, whichever part the first rows best. Blank rows do not count, and messages name rows with
+quoted ends of lines by their first line. White space of any kind inside a name is one space, and none is around it.
 """
 
 from __future__ import annotations
@@ -61,7 +61,7 @@ class Form:
 
     @property
     def columns(self) -> dict[str, int]:
-        """The place of each column where titles do not tell it."""
+        """The place of each column where titles do not say it."""
         return {column: place for place, column in enumerate((*self.places, self.amount, *filter(None, [self.label])))}
 
 

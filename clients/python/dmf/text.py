@@ -38,7 +38,7 @@ _UNSHOWN = re.compile("[\x00-\x1f\x7f-\x9f\u061c\u200e\u200f\u2028-\u202e\u2066-
 
 
 class Fault(Exception):
-    """Why a field or a line is refused: `reason` is what `dmf` tells of it, and `field` the field that it is about, if one is."""
+    """Why a field or a line is refused: `reason` is the text that `dmf` has for it, and `field` the field that it is about, if one is."""
 
     def __init__(self, reason: str, about: bytes = b"") -> None:
         super().__init__(reason)
@@ -166,7 +166,7 @@ def names_in(pieces: Iterable[bytes], kind: str) -> dict[int, str]:
 
 
 def read_problem(text: bytes) -> Problem:
-    """The problem that a text stands for, with its names. Raises a `TextFault` for its first fault, the one that `dmf` tells."""
+    """The problem that a text stands for, with its names. Raises a `TextFault` for its first fault, the one that `dmf` reports."""
     reading = _Reading()
     read = lines(text)
     # Where none of these bytes is in the text, what parts fields is the white space of `split`, which is quicker.

@@ -26,7 +26,7 @@ class ToolFault(Exception):
 
 
 def run(name: str, main: Callable[[], int]) -> NoReturn:
-    """Runs a tool to its end. It ends with what `main` gives, or with the status of a `ToolFault`, which is told in one line. At
+    """Runs a tool to its end. It ends with what `main` gives, or with the status of a `ToolFault`, which it prints in one line. At
     Ctrl-C it ends with 130, and where nobody reads on it ends by the signal of that, as other filters do."""
     signal.signal(signal.SIGPIPE, signal.SIG_DFL)
     if signal.getsignal(signal.SIGINT) is not signal.SIG_IGN:

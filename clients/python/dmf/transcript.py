@@ -74,8 +74,8 @@ class Pending:
 class Follower:
     """Takes the lines of an answer one after the other. `timeline` has the present network, unless `is_known` is false: then
     commands that are not known changed it. `is_numbered` is false where no more than a printed problem is known of it, in which
-    the arcs may have other numbers. `solution` and `cut` are the last ones; the solution is None where its flows were not
-    told, as in the brief reply to a solve, or not on a known network. `solves_are_brief` says whether a solve is answered by its
+    the arcs may have other numbers. `solution` and `cut` are the last ones; the solution is None where its flows are not
+    known, as after the brief reply to a solve, or not on a known network. `solves_are_brief` says whether a solve is answered by its
     value alone (`--brief`), and is None where that is not known."""
 
     def __init__(self, problem: Problem, commands: Iterator[bytes] | None = None) -> None:
