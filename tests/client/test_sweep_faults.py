@@ -3,12 +3,14 @@ them carry together."""
 
 from __future__ import annotations
 
+import os
 from collections.abc import Iterator
-from concurrent.futures import ThreadPoolExecutor
+from concurrent.futures import ProcessPoolExecutor, ThreadPoolExecutor
+from pathlib import Path
 from typing import Any
 
 import pytest
-from client_shared import dmf
+from client_shared import BUILT, dmf, script
 
 BESIDE = [("a", "b", 3, "x"), ("a", "b", 4, "y"), ("a", "b", 5, "z")]
 
@@ -57,6 +59,22 @@ def test_an_error_comes_after_the_results_before_it() -> None:
                 assert [next(results).value for _ in range(count)] == [9 + turn for turn in range(count)]
                 with pytest.raises(ZeroDivisionError):
                     next(results)
+
+
+@pytest.mark.parametrize("make", [ThreadPoolExecutor, ProcessPoolExecutor])
+def test_the_program_over_an_executor(make: Any) -> None:
+    """It is the one that the network was made with; where a process of the executor has none of this name, the sweep ends."""
+    with script(f'echo >>"$0.ran"; exec {BUILT} "$@"') as program:
+        with beside(program=program) as network:
+            with make(1) as executor:
+                assert [result.value for result in dmf.sweep(network, dmf.each_arc_closed(), executor)] == [9, 8, 7]
+            # That of the network itself, and that of its copy.
+            assert Path(f"{program}.ran").read_text() == "\n\n"
+            network.close("x")
+            network.solve()
+            os.remove(program)
+            with make(1) as executor, pytest.raises(FileNotFoundError, match=program):
+                list(dmf.sweep(network, dmf.each_arc_closed(), executor))
 
 
 MALFORMED: list[tuple[Any, str]] = [
