@@ -6,11 +6,12 @@ from __future__ import annotations
 import os
 from collections.abc import Iterator
 from concurrent.futures import ProcessPoolExecutor, ThreadPoolExecutor
+from operator import length_hint
 from pathlib import Path
 from typing import Any
 
 import pytest
-from client_shared import BUILT, dmf, script
+from client_shared import BUILT, dmf, pipes, script, there
 
 BESIDE = [("a", "b", 3, "x"), ("a", "b", 4, "y"), ("a", "b", 5, "z")]
 
@@ -75,6 +76,40 @@ def test_the_program_over_an_executor(make: Any) -> None:
             os.remove(program)
             with make(1) as executor, pytest.raises(FileNotFoundError, match=program):
                 list(dmf.sweep(network, dmf.each_arc_closed(), executor))
+
+
+READY: list[tuple[Any, int]] = [
+    (dmf.each_arc_closed(), 5),
+    (dmf.each_arc_closed([("lake", "mill"), "nothing"]), 2),
+    (dmf.each_node_shut(), 2),
+    (dmf.each_node_shut(["lake"]), 1),
+    (dmf.each_capacity_raised(2), 5),
+    (dmf.each_pair_added([("lake", "sea"), ("sea", "lake"), ("mill", "town")], 7), 3),
+    # How many these are is not known.
+    (dmf.each_arc_closed(arc for arc in [("lake", "mill")]), 0),
+]
+
+
+@pytest.mark.parametrize(("cases", "count"), READY)
+def test_how_many_cases_are_left(cases: Any, count: int) -> None:
+    """It is known of ready-made cases, before one is taken and after."""
+    with pipes() as network:
+        made = cases(network)
+        for left in range(count, 0, -1):
+            assert length_hint(made) == left
+            next(made)
+        assert (length_hint(made), len(list(made))) == (0, 0 if count else 1)
+
+
+def test_a_bar(capsys: pytest.CaptureFixture[str]) -> None:
+    """It tells of how many cases it is, ready-made ones and others, where that is known."""
+    if not there("tqdm"):
+        pytest.skip("python3-tqdm is not there, so no bar was shown")
+    with pipes() as network:
+        told: list[tuple[Any, str]] = [(dmf.each_arc_closed(), "5/5"), (dmf.each_node_shut(), "2/2"), ([[("close", ("lake", "mill"))]] * 7, "7/7")]
+        for cases, bar in [*told, (map(list, ["", ""]), "2case")]:
+            list(dmf.sweep(network, cases, progress=True))
+            assert bar in capsys.readouterr().err
 
 
 MALFORMED: list[tuple[Any, str]] = [

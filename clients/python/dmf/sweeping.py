@@ -64,9 +64,25 @@ class _Answer:
     refusal: Error | None = None
 
 
+class _Each(Iterator[Case]):
+    """A case for each of these things, made when it is needed. How many are left is known, where it is known of the things."""
+
+    def __init__(self, make: Callable[[Any], Case], things: Iterable[Any]) -> None:
+        self._cases = map(make, things)
+        self._left = operator.length_hint(things)
+
+    def __next__(self) -> Case:
+        case = next(self._cases)
+        self._left = max(0, self._left - 1)
+        return case
+
+    def __length_hint__(self) -> int:
+        return self._left
+
+
 def each_arc_closed(arcs: Iterable[Hashable] | None = None) -> Callable[[Network[Any]], Iterator[Case]]:
     """The cases in which each open arc is closed, or each of these."""
-    return lambda network: ([("close", arc)] for arc in (network.arcs if arcs is None else arcs))
+    return lambda network: _Each(lambda arc: [("close", arc)], network.arcs if arcs is None else arcs)
 
 
 def each_node_shut(nodes: Iterable[Hashable] | None = None) -> Callable[[Network[Any]], Iterator[Case]]:
@@ -74,9 +90,7 @@ def each_node_shut(nodes: Iterable[Hashable] | None = None) -> Callable[[Network
 
     def cases(network: Network[Any]) -> Iterator[Case]:
         ends = network.source, network.sink
-        for node in network.nodes if nodes is None else nodes:
-            if nodes is not None or node not in ends:
-                yield [("shut", node)]
+        return _Each(lambda node: [("shut", node)], [node for node in network.nodes if node not in ends] if nodes is None else nodes)
 
     return cases
 
@@ -88,14 +102,14 @@ def each_capacity_raised(by: Whole, arcs: Iterable[Hashable] | None = None) -> C
         more = whole(by, "each_capacity_raised")
         # As the network is now, whatever becomes of it while the cases are taken.
         kept = network._kept.copy()
-        return ([("cap", arc, kept.capacity(kept.arc(arc)) + more)] for arc in (network.arcs if arcs is None else arcs))
+        return _Each(lambda arc: [("cap", arc, kept.capacity(kept.arc(arc)) + more)], network.arcs if arcs is None else arcs)
 
     return cases
 
 
 def each_pair_added(pairs: Iterable[tuple[Hashable, Hashable]], capacity: Whole) -> Callable[[Network[Any]], Iterator[Case]]:
     """The cases in which an arc of this capacity is added from the first to the second of each of these pairs of nodes."""
-    return lambda network: ([("add", tail, head, capacity)] for tail, head in pairs)
+    return lambda network: _Each(lambda pair: [("add", *pair, capacity)], pairs)
 
 
 def sweep(
