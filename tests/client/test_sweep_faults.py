@@ -78,6 +78,26 @@ def test_the_program_over_an_executor(make: Any) -> None:
                 list(dmf.sweep(network, dmf.each_arc_closed(), executor))
 
 
+class Counting(ThreadPoolExecutor):
+    """An executor of one thread that notes for each piece of cases whether the network was sent with it."""
+
+    def submit(self, call: Any, /, *arguments: Any, **named: Any) -> Any:
+        sent.append(arguments[1] is not None)
+        return super().submit(call, *arguments, **named)
+
+
+sent: list[bool] = []
+
+
+def test_how_often_the_network_is_sent() -> None:
+    """With the cases that came before it was there: those of the two pieces that are begun first. Later ones find it."""
+    sent.clear()
+    with beside() as network, Counting(1) as executor:
+        cases = [[("cap", "x", turn)] for turn in range(16 * 10)]
+        assert [result.value for result in dmf.sweep(network, cases, executor)] == [9 + turn for turn in range(160)]
+        assert (sent.count(False), sent.count(True), any(sent[5:])) == (10, 2, False)
+
+
 READY: list[tuple[Any, int]] = [
     (dmf.each_arc_closed(), 5),
     (dmf.each_arc_closed([("lake", "mill"), "nothing"]), 2),
