@@ -1,5 +1,7 @@
 """What the scripts of this folder share: the cache folder, the drivers that are built there, and the networks."""
 
+from __future__ import annotations
+
 import os
 import shutil
 import subprocess
@@ -12,7 +14,7 @@ CACHE = Path(os.environ.get("DMF_BENCH_CACHE") or Path.home() / ".cache/dmf-benc
 SEED = 1990
 
 # By driver: the Debian package that it needs, a file of it, and what it is linked with.
-PACKAGES = {
+PACKAGES: dict[str, tuple[str, str, list[str]]] = {
     "lemon": ("liblemon-dev", "/usr/include/lemon/preflow.h", []),
     "boost": ("libboost-graph-dev", "/usr/include/boost/graph/push_relabel_max_flow.hpp", []),
     "igraph": ("libigraph-dev", "/usr/include/igraph/igraph.h", ["-I/usr/include/igraph", "-ligraph"]),
@@ -21,7 +23,7 @@ PACKAGES = {
 }
 
 
-def is_there(driver):
+def is_there(driver: str) -> bool:
     """Whether a driver's package is there; a root user gets it installed."""
     package, file, _ = PACKAGES[driver]
     if not Path(file).exists() and os.geteuid() == 0 and shutil.which("apt-get"):
@@ -35,7 +37,7 @@ def is_there(driver):
     return True
 
 
-def build(name):
+def build(name: str) -> Path:
     """Compiles a program of this folder, as a packager would, and tells where it is."""
     source, program = BENCH / f"{name}.cpp", CACHE / name
     sources = [source, *BENCH.glob("*.hpp")]
@@ -46,7 +48,7 @@ def build(name):
     return program
 
 
-def network(family, arcs):
+def network(family: str, arcs: int) -> Path:
     """The file of a network, which is made where it is missing or its maker has changed."""
     # It takes 4 MB, which bench/client would count to Python.
     import hashlib

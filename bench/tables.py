@@ -1,16 +1,23 @@
 """The tables of a run, in Markdown."""
 
+from __future__ import annotations
+
 import math
 import os
 import platform
 import subprocess
+from collections.abc import Iterable, Iterator, Sequence
 from pathlib import Path
 
+# The seconds and the KiB of a run; by solver; and by family and number of arcs.
+Took = tuple[float, int]
+Best = dict[str, Took]
+Results = dict[tuple[str, int], Best]
 # In place of what a run took: the time limit passed.
-LATE = (math.inf, 0)
+LATE: Took = (math.inf, 0)
 
 
-def machine():
+def machine() -> str:
     info = Path("/proc/cpuinfo").read_text().splitlines()
     model = next((line.split(":")[1].strip() for line in info if line.startswith("model name")), platform.machine())
     system = next(line.split('"')[1] for line in Path("/etc/os-release").read_text().splitlines() if "PRETTY_NAME" in line)
@@ -19,16 +26,16 @@ def machine():
     return f"{os.cpu_count()} x {model}, {system}, g++ {compiler} -O2; load {load:.1f} at the end."
 
 
-def table(head, rows):
+def table(head: Sequence[object], rows: Iterable[Sequence[object]]) -> str:
     first, *lines = ("| " + " | ".join(map(str, row)) + " |" for row in [head, *rows])
     return "\n".join([first, "|---" + "|--:" * (len(head) - 1) + "|", *lines])
 
 
-def seconds(took):
+def seconds(took: float) -> str:
     return f"{took:.3f}" if took < 0.1 else f"{took:.2f}" if took < 10 else f"{took:.1f}"
 
 
-def time_cell(took, best, limit, name):
+def time_cell(took: Took | None, best: float, limit: int, name: str) -> str:
     if took is None:
         return ""
     if took == LATE:
@@ -38,13 +45,13 @@ def time_cell(took, best, limit, name):
     return f"{seconds(took[0])} ({took[0] / best:.1f})"
 
 
-def solving(best, name):
+def solving(best: Best, name: str) -> float | None:
     """The seconds of a run that solved, if it did."""
     took = best.get(name, LATE)
     return took[0] if name != "dmf check" and took != LATE else None
 
 
-def time_rows(results, names, limit):
+def time_rows(results: Results, names: Sequence[str], limit: int) -> Iterator[list[str]]:
     for (family, arcs), best in results.items():
         least = min((took for name in names if (took := solving(best, name))), default=math.inf)
         yardstick = min(solving(best, "phases") or math.inf, solving(best, "tree") or math.inf)
@@ -53,7 +60,7 @@ def time_rows(results, names, limit):
         yield [f"{family} {arcs:,}", *(time_cell(best.get(name), least, limit, name) for name in names), ratio]
 
 
-def memory_rows(results, names):
+def memory_rows(results: Results, names: Sequence[str]) -> Iterator[list[str]]:
     for (family, arcs), best in results.items():
         if arcs < 100_000:
             continue
@@ -62,7 +69,7 @@ def memory_rows(results, names):
         yield [f"{family} {arcs:,}", *cells]
 
 
-def text(results, names, repeat, limit, patience):
+def text(results: Results, names: Sequence[str], repeat: int, limit: int, patience: int) -> str:
     """The tables of what was measured, by family and number of arcs and then by solver."""
     parts = [
         f"Measured on {machine()}",
@@ -75,7 +82,7 @@ def text(results, names, repeat, limit, patience):
     return "\n\n".join(parts)
 
 
-def put(file, text, begin, end):
+def put(file: Path, text: str, begin: str, end: str) -> None:
     """Puts a text between two marks in a file."""
     before, _, rest = file.read_text().partition(begin)
     file.write_text(f"{before}{begin}\n\n{text}\n\n{end}{rest.partition(end)[2]}")

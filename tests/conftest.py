@@ -19,6 +19,7 @@ from _pytest.terminal import TerminalReporter
 from hypothesis import settings
 from hypothesis.database import DirectoryBasedExampleDatabase
 from kept import FOUND_FILE, shown_cases, with_cases
+from sources import judged_at_once
 from tool_runs import Tools
 
 ROOT = Path(__file__).resolve().parent.parent
@@ -39,7 +40,8 @@ def pytest_addoption(parser: pytest.Parser) -> None:
 def set_drawn(config: pytest.Config) -> None:
     """Sets which cases hypothesis draws: the same ones each time in the gate, and others each time by hand."""
     if config.getoption("--long") or config.getoption("--cases"):
-        count = config.getoption("--cases") // CASES_A_DRAWN or LONG_DRAWN
+        cases = int(config.getoption("--cases"))
+        count = -(-cases // CASES_A_DRAWN) or LONG_DRAWN
         database = DirectoryBasedExampleDatabase(str(ROOT / ".hypothesis"))
         settings.register_profile("chosen", max_examples=count, database=database, deadline=None, print_blob=True)
     else:
@@ -95,7 +97,10 @@ def pytest_collection_modifyitems(config: pytest.Config, items: list[pytest.Item
 
 
 def pytest_terminal_summary(terminalreporter: TerminalReporter) -> None:
-    """Tells what was skipped, and ends with the line 'N passed, M failed', in which a script counts for each of its cases."""
+    """Keeps the shortest cases that failed, tells what was skipped, and ends with the line 'N passed, M failed', in which a script counts
+    for each of its cases. A worker of pytest-xdist, which knows its own tests alone, does none of this."""
+    if hasattr(terminalreporter.config, "workerinput"):
+        return
     stats = terminalreporter.stats
     passed = len(stats.get("passed", []))
     failed = len(stats.get("failed", [])) + len(stats.get("error", []))
@@ -145,7 +150,7 @@ def faults(tmp_path_factory: pytest.TempPathFactory) -> str:
 
 
 class Types(NamedTuple):
-    """What mypy says of the tests and the package, and the folder of what it has read, which makes each further call of it quick."""
+    """What mypy says of all Python here, and the folder of what it has read, which makes each further call of it quick."""
 
     said: str
     cache: Path
@@ -153,14 +158,15 @@ class Types(NamedTuple):
 
 @pytest.fixture(scope="session")
 def types(tmp_path_factory: pytest.TempPathFactory) -> Types:
-    with shared(tmp_path_factory, "types") as cache:
-        said = cache / "said"
+    cache = ROOT / ".mypy_cache"
+    with shared(tmp_path_factory, "types") as said:
         if not said.exists():
-            files = sorted((ROOT / "tests").rglob("*.py"))
-            words: list[str | Path] = [sys.executable, "-m", "mypy", "--no-error-summary", "--cache-dir", cache]
-            words += [*files, ROOT / "clients/python/dmf"]
-            ran = subprocess.run(words, cwd=ROOT, capture_output=True, text=True)
-            said.write_text(ran.stdout + ran.stderr)
+            mypy = [sys.executable, "-m", "mypy", "--no-error-summary", f"--cache-dir={cache}"]
+            text = ""
+            for words in judged_at_once():
+                ran = subprocess.run([*mypy, *words], cwd=ROOT, capture_output=True, text=True)
+                text += ran.stdout + ran.stderr
+            said.write_text(text)
         return Types(said.read_text(), cache)
 
 

@@ -1,24 +1,15 @@
-"""Checks the scripts of the repository by the field's tools: mypy the types in Python, flake8 names and idle statements, and
+"""Checks every script of the repository by the field's tools: mypy the types in Python, flake8 names and idle statements, and
 shellcheck the shell."""
 
 from __future__ import annotations
 
-import re
 import subprocess
 import sys
-from collections.abc import Iterator
 from pathlib import Path
 
 import pytest
 from conftest import ROOT, Types
-
-
-def scripts(pattern: bytes, *folders: str) -> Iterator[Path]:
-    """The files of these folders that a program of this name runs."""
-    for folder in folders:
-        for path in sorted((ROOT / folder).iterdir()):
-            if path.is_file() and re.match(rb"#!.*\b" + pattern + rb"\b.*\n", path.read_bytes()[:40]):
-                yield path
+from sources import PYTHON, SHELL
 
 
 def judge(*words: object) -> None:
@@ -26,25 +17,22 @@ def judge(*words: object) -> None:
     assert ran.returncode == 0, ran.stdout + ran.stderr
 
 
+def test_found() -> None:
+    """Scripts are found by their ending or by their first line."""
+    names = {str(path.relative_to(ROOT)) for path in [*PYTHON, *SHELL]}
+    assert {"bench/setting.py", "bench/run", "examples/rota/arcs.py", "tools/dmf-names", "tools/friends/igraph"} <= names
+    assert {"dmf", "test", ".ci/run", "tests/install/install.sh", "completions/dmf.bash"} <= names
+    assert not names & {"setup.cfg", "README.md", "completions/dmf.fish", "tools/friends/lemon.cpp"}
+
+
 @pytest.mark.seconds(50)
 def test_types(types: Types) -> None:
-    """The tests, the package and the tools; and each of those that have the name of what they import, by itself."""
     assert types.said == ""
-    again = sys.executable, "-m", "mypy", "--cache-dir", types.cache
-    judge(*again, "--scripts-are-modules", *scripts(b"python3", "tools"))
-    for script in scripts(b"python3", "tools/friends"):
-        judge(*again, script)
 
 
 @pytest.mark.seconds(5)
 def test_names() -> None:
-    judge(sys.executable, "-m", "flake8", "tests", "tools", "clients", *scripts(b"python3", "tools", "tools/friends"))
-
-
-SHELL = [
-    *scripts(b"(?:ba)?sh", ".", ".ci", "tests/install", "tools", "tools/friends", "bench"),
-    *sorted((ROOT / "completions").glob("*.bash")),
-]
+    judge(sys.executable, "-m", "flake8", *PYTHON)
 
 
 @pytest.mark.parametrize("script", [pytest.param(it, id=str(it.relative_to(ROOT))) for it in SHELL])

@@ -3,14 +3,17 @@
     python3 arcs.py <rota.csv | dmf-problem Staff Rota >rota.max
 """
 
+from __future__ import annotations
+
 import csv
 import sys
+from collections.abc import Iterator
 
 # Hours in a shift. Nobody works more than one shift a day.
 SHIFT = 8
 
 
-def arcs(shifts, needed, people):
+def arcs(shifts: list[str], needed: dict[str, str], people: list[dict[str, str]]) -> Iterator[tuple[str, str, str | int, str]]:
     for person in people:
         yield "Staff", person["name"], person["hours"], f"hours of {person['name']}"
     for person in people:
@@ -24,7 +27,7 @@ def arcs(shifts, needed, people):
 
 
 rota = csv.DictReader(sys.stdin)
-shifts = rota.fieldnames[2:]
+shifts = [*(rota.fieldnames or [])][2:]
 needed, *people = rota
 table = csv.writer(sys.stdout)
 table.writerow(["from", "to", "hours", "arc"])

@@ -26,14 +26,15 @@ print(f"now: {before} litres per second")
 losses = [
     {"pipe": arc.key, "loss": -result.difference}
     for arc, result in zip(network.arcs, dmf.sweep(network, dmf.each_arc_closed()))
+    if result.difference is not None
 ]
 table = pandas.DataFrame(losses).sort_values("loss", ascending=False, kind="stable")
 print(table.head(10).to_string(index=False))
 
 # Three widenings.
-gains = {}
+gains: dict[str, int] = {}
 for pipe, result in zip(WIDENED, dmf.sweep(network, dmf.each_capacity_raised(LITRES, WIDENED))):
-    gains[pipe] = result.difference
+    gains[pipe] = result.difference or 0
     print(f"{pipe} with {LITRES} more: {result.value}")
 
 # The best of them, drawn with its cut.

@@ -32,7 +32,7 @@ def test_killed(tmp_path_factory: pytest.TempPathFactory, mutant: Mutant) -> Non
     """In one copy of the repository with what was built, one fault after the other."""
     with shared(tmp_path_factory, "copy") as copy:
         if not copy.exists():
-            shutil.copytree(ROOT, copy, symlinks=True, ignore=shutil.ignore_patterns(".git", ".hypothesis", "__pycache__"))
+            shutil.copytree(ROOT, copy, symlinks=True, ignore=shutil.ignore_patterns(".git", ".hypothesis", ".mypy_cache", "__pycache__"))
         file = copy / mutant.file
         whole = file.read_text()
         file.write_text(whole.replace(mutant.old, mutant.new))

@@ -1,10 +1,6 @@
 """Compares the built program with the second implementation on random cases: what it writes, what it tells, and its status. Each
 case is run once more with one of its requests for memory refused. A case that fails is shown as small as it was made, and is put into
-tests/cases/found.py, from where it runs from then on.
-
-    /usr/bin/python3 -m pytest -n 4 tests/program/test_random_cases.py --cases 100000 --seed 2
-
-tries other ones, and more.
+tests/cases/found.py, from where it runs from then on. tests/README.md tells how to try more cases, and others.
 """
 
 from __future__ import annotations

@@ -45,29 +45,29 @@ ARCS_SAID = (
 )
 COMMANDS = {
     "solve": Help("solve", "Finds the greatest value that can be sent, going on from the present flow."),
-    "cut": Help("cut", "Tells the limit: the arcs that hold the value where it is, and the places on the source's side of them."),
-    "flow": Help("flow [ARC|PLACE]", "Tells what flows on each arc, or on one, or on those at a place.", FLOW),
+    "cut": Help("cut", "Shows the limit: the arcs that hold the value where it is, and the places on the source's side of them."),
+    "flow": Help("flow [ARC|PLACE]", "Shows what flows on each arc, or on one, or on those at a place.", FLOW),
     "close": Help("close ARC", f"Closes an arc. {ARCS_SAID}", ARC),
     "open": Help("open [ARC|PLACE]", "Opens an arc that is closed, or a place that is shut; alone, what was closed or shut last.", CLOSED),
     "cap": Help("cap ARC NUMBER", f"Gives an arc another capacity. {ARCS_SAID}", ARC),
     "add": Help("add PLACE PLACE NUMBER [NAME]", "Adds an arc from the first place to the second, with a capacity.", PLACE),
     "shut": Help("shut PLACE", "Closes each arc at a place.", PLACE),
     "undo": Help("undo [NUMBER]", "Takes back the last step, or so many."),
-    "redo": Help("redo [NUMBER]", "Makes the step again that was taken back last, or so many."),
+    "redo": Help("redo [NUMBER]", "Makes again the step that `undo` took back last, or so many."),
     "steps": Help("steps", "Lists the steps with the value after each."),
-    "try": Help("try", "Begins a trial: `drop` takes back all that was done since, and `keep` keeps it."),
-    "keep": Help("keep", "Ends the trial, and keeps what was done."),
-    "drop": Help("drop", "Ends the trial, and takes back what was done."),
+    "try": Help("try", "Begins a trial: `drop` takes back all that is done from here on, and `keep` keeps it."),
+    "keep": Help("keep", "Ends the trial, and keeps its steps."),
+    "drop": Help("drop", "Ends the trial, and takes its steps back."),
     "what-if": Help(
         "what-if each arc [of the cut | at PLACE]  or  what-if COMMAND",
-        "Tells for each arc the greatest value where it alone is closed, and where a second one lies beside it; or what a command would "
-        "bring, once it is solved. Nothing is changed.",
+        "Lists for each arc the greatest value if it alone is closed, and if a second one lies beside it; or shows what a command and a "
+        "solve would bring. Nothing changes.",
         EACH,
     ),
     "draw": Help("draw FILE", "Draws the network: FILE ends with .svg, .png or .pdf, or with .dot for the text alone."),
     "save": Help("save FILE", "Writes the plan as a table where FILE ends with .csv, or the problem where it ends with .max."),
-    "help": Help("help [COMMAND]", "Lists the commands, or tells what one does.", COMMAND),
-    "quit": Help("quit", "Ends. Nothing is saved of itself."),
+    "help": Help("help [COMMAND]", "Lists the commands, or says what one does.", COMMAND),
+    "quit": Help("quit", "Ends, and saves nothing."),
 }
 CHANGES = ("close", "open", "cap", "add", "shut")
 
