@@ -92,8 +92,10 @@ sent: list[bool] = []
 def test_how_often_the_network_is_sent() -> None:
     """With the cases that came before it was there: those of the two pieces that are begun first. Later ones find it."""
     sent.clear()
-    with beside() as network, Counting(1) as executor:
-        cases = [[("cap", "x", turn)] for turn in range(16 * 10)]
+    # No other test has this network, which this process would know of it.
+    with dmf.Network([("a", "b", 3, "sent"), ("a", "b", 9)], "a", "b") as network, Counting(1) as executor:
+        network.solve()
+        cases = [[("cap", "sent", turn)] for turn in range(16 * 10)]
         assert [result.value for result in dmf.sweep(network, cases, executor)] == [9 + turn for turn in range(160)]
         assert (sent.count(False), sent.count(True), any(sent[5:])) == (10, 2, False)
 
