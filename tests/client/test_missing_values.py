@@ -3,6 +3,7 @@
 from __future__ import annotations
 
 from collections.abc import Callable
+from datetime import date
 from typing import Any
 
 import pytest
@@ -70,6 +71,23 @@ def test_a_table_is_no_column() -> None:
         refused(lambda: make(tail, head, capacity, key=key, source=1, sink=3), "a column has 2 dimensions, and not one")
     refused(lambda: make(*whole_numbers(), numpy.array([[1, 2], [3, 4]]), source=1, sink=3), "a column has 2 dimensions, and not one")
     refused(lambda: make(*whole_numbers(), numpy.array(7), source=1, sink=3), "a column has 0 dimensions, and not one")
+
+
+@needs(numpy, "python3-numpy", "no times were refused")
+@pytest.mark.parametrize("kind", ["datetime64[ns]", "timedelta64[ns]"])
+def test_times_that_would_become_whole_numbers(kind: str) -> None:
+    """They are refused in each column; times that Python has are nodes as they are."""
+    times = numpy.array([1, 2], kind)
+    for place in range(4):
+        columns: list[Any] = [[1, 2], [2, 3], [5, 6], [7, 8]]
+        for column in times, numpy.ma.masked_array(times, [False, True]), *([pandas.Series(times)] if pandas else []):
+            columns[place] = column
+            tail, head, capacity, key = columns
+            said = f"a column of {kind}, whose times would become whole numbers: make texts of them"
+            refused(lambda: make(tail, head, capacity, key=key, source=1, sink=3), said)
+    days = numpy.array(["2026-11-24", "2026-11-25"], "datetime64[D]")
+    with make(days, ["night", "sea"], [5, 6], source=date(2026, 11, 24), sink="sea") as network:
+        assert network.nodes == [date(2026, 11, 24), "night", date(2026, 11, 25), "sea"]
 
 
 @needs(numpy, "python3-numpy", "no masked array was read")

@@ -3,12 +3,15 @@ them carry together."""
 
 from __future__ import annotations
 
+import os
 from collections.abc import Iterator
-from concurrent.futures import ThreadPoolExecutor
+from concurrent.futures import ProcessPoolExecutor, ThreadPoolExecutor
+from operator import length_hint
+from pathlib import Path
 from typing import Any
 
 import pytest
-from client_shared import dmf
+from client_shared import BUILT, dmf, pipes, script, there
 
 BESIDE = [("a", "b", 3, "x"), ("a", "b", 4, "y"), ("a", "b", 5, "z")]
 
@@ -57,6 +60,78 @@ def test_an_error_comes_after_the_results_before_it() -> None:
                 assert [next(results).value for _ in range(count)] == [9 + turn for turn in range(count)]
                 with pytest.raises(ZeroDivisionError):
                     next(results)
+
+
+@pytest.mark.parametrize("make", [ThreadPoolExecutor, ProcessPoolExecutor])
+def test_the_program_over_an_executor(make: Any) -> None:
+    """It is the one that the network was made with; where a process of the executor has none of this name, the sweep ends."""
+    with script(f'echo >>"$0.ran"; exec {BUILT} "$@"') as program:
+        with beside(program=program) as network:
+            with make(1) as executor:
+                assert [result.value for result in dmf.sweep(network, dmf.each_arc_closed(), executor)] == [9, 8, 7]
+            # That of the network itself, and that of its copy.
+            assert Path(f"{program}.ran").read_text() == "\n\n"
+            network.close("x")
+            network.solve()
+            os.remove(program)
+            with make(1) as executor, pytest.raises(FileNotFoundError, match=program):
+                list(dmf.sweep(network, dmf.each_arc_closed(), executor))
+
+
+class Counting(ThreadPoolExecutor):
+    """An executor of one thread that notes for each piece of cases whether the network was sent with it."""
+
+    def submit(self, call: Any, /, *arguments: Any, **named: Any) -> Any:
+        sent.append(arguments[1] is not None)
+        return super().submit(call, *arguments, **named)
+
+
+sent: list[bool] = []
+
+
+def test_how_often_the_network_is_sent() -> None:
+    """With the cases that came before it was there: those of the two pieces that are begun first. Later ones find it."""
+    sent.clear()
+    # No other test has this network, which this process would know of it.
+    with dmf.Network([("a", "b", 3, "sent"), ("a", "b", 9)], "a", "b") as network, Counting(1) as executor:
+        network.solve()
+        cases = [[("cap", "sent", turn)] for turn in range(16 * 10)]
+        assert [result.value for result in dmf.sweep(network, cases, executor)] == [9 + turn for turn in range(160)]
+        assert (sent.count(False), sent.count(True), any(sent[5:])) == (10, 2, False)
+
+
+READY: list[tuple[Any, int]] = [
+    (dmf.each_arc_closed(), 5),
+    (dmf.each_arc_closed([("lake", "mill"), "nothing"]), 2),
+    (dmf.each_node_shut(), 2),
+    (dmf.each_node_shut(["lake"]), 1),
+    (dmf.each_capacity_raised(2), 5),
+    (dmf.each_pair_added([("lake", "sea"), ("sea", "lake"), ("mill", "town")], 7), 3),
+    # How many these are is not known.
+    (dmf.each_arc_closed(arc for arc in [("lake", "mill")]), 0),
+]
+
+
+@pytest.mark.parametrize(("cases", "count"), READY)
+def test_how_many_cases_are_left(cases: Any, count: int) -> None:
+    """It is known of ready-made cases, before one is taken and after."""
+    with pipes() as network:
+        made = cases(network)
+        for left in range(count, 0, -1):
+            assert length_hint(made) == left
+            next(made)
+        assert (length_hint(made), len(list(made))) == (0, 0 if count else 1)
+
+
+def test_a_bar(capsys: pytest.CaptureFixture[str]) -> None:
+    """It tells of how many cases it is, ready-made ones and others, where that is known."""
+    if not there("tqdm"):
+        pytest.skip("python3-tqdm is not there, so no bar was shown")
+    with pipes() as network:
+        told: list[tuple[Any, str]] = [(dmf.each_arc_closed(), "5/5"), (dmf.each_node_shut(), "2/2"), ([[("close", ("lake", "mill"))]] * 7, "7/7")]
+        for cases, bar in [*told, (map(list, ["", ""]), "2case")]:
+            list(dmf.sweep(network, cases, progress=True))
+            assert bar in capsys.readouterr().err
 
 
 MALFORMED: list[tuple[Any, str]] = [

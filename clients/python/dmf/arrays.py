@@ -192,11 +192,13 @@ def columns_of_arrays(
 
 def _plain(column: Any) -> Any:
     """A series of pandas as an array of numpy, and an array that hides some of its values as a list, in which these are None; any other
-    column as it is, or as a list where its length is not known. Raises `NotAnArc` for a table."""
+    column as it is, or as a list where its length is not known. Raises `NotAnArc` for a table, and for times that Python has not."""
     if getattr(column, "ndim", 1) != 1:
         raise NotAnArc(f"not an arc: a column has {column.ndim} dimensions, and not one")
     if hasattr(column, "to_numpy"):
         column = column.to_numpy()
+    if _kind(column) in ("m", "M") and any(isinstance(value, int) for value in column.tolist()):
+        raise NotAnArc(f"not an arc: a column of {column.dtype}, whose times would become whole numbers: make texts of them")
     if hasattr(column, "filled"):
         return column.tolist()
     return column if column is None or hasattr(column, "__len__") else list(column)

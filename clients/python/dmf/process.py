@@ -62,6 +62,8 @@ class Child:
         self._rest = b""
         # How many lines were sent.
         self.line_count = 0
+        # The program, where the caller named it.
+        self.program: Program = None
 
     @contextlib.contextmanager
     def alone(self) -> Iterator[None]:
@@ -250,6 +252,7 @@ def start(path: str, program: Program, words: list[str | bytes]) -> Child:
     """A session that these words ask for, on the problem's file, once it has read the problem. Raises a `Refused` where the problem
     has a fault, `SessionEnded` where the program fails, and an OSError where it is not found."""
     child = Child([os.fspath(_program() if program is None else program), *words, "--", path])
+    child.program = program
     with child.exchange("undo 0"):
         if child.line() != [b"c", b"undo", b"value", b"0"]:
             raise ValueError

@@ -64,9 +64,25 @@ class _Answer:
     refusal: Error | None = None
 
 
+class _Each(Iterator[Case]):
+    """A case for each of these things, made when it is needed. How many are left is known, where it is known of the things."""
+
+    def __init__(self, make: Callable[[Any], Case], things: Iterable[Any]) -> None:
+        self._cases = map(make, things)
+        self._left = operator.length_hint(things)
+
+    def __next__(self) -> Case:
+        case = next(self._cases)
+        self._left = max(0, self._left - 1)
+        return case
+
+    def __length_hint__(self) -> int:
+        return self._left
+
+
 def each_arc_closed(arcs: Iterable[Hashable] | None = None) -> Callable[[Network[Any]], Iterator[Case]]:
     """The cases in which each open arc is closed, or each of these."""
-    return lambda network: ([("close", arc)] for arc in (network.arcs if arcs is None else arcs))
+    return lambda network: _Each(lambda arc: [("close", arc)], network.arcs if arcs is None else arcs)
 
 
 def each_node_shut(nodes: Iterable[Hashable] | None = None) -> Callable[[Network[Any]], Iterator[Case]]:
@@ -74,9 +90,7 @@ def each_node_shut(nodes: Iterable[Hashable] | None = None) -> Callable[[Network
 
     def cases(network: Network[Any]) -> Iterator[Case]:
         ends = network.source, network.sink
-        for node in network.nodes if nodes is None else nodes:
-            if nodes is not None or node not in ends:
-                yield [("shut", node)]
+        return _Each(lambda node: [("shut", node)], [node for node in network.nodes if node not in ends] if nodes is None else nodes)
 
     return cases
 
@@ -88,14 +102,14 @@ def each_capacity_raised(by: Whole, arcs: Iterable[Hashable] | None = None) -> C
         more = whole(by, "each_capacity_raised")
         # As the network is now, whatever becomes of it while the cases are taken.
         kept = network._kept.copy()
-        return ([("cap", arc, kept.capacity(kept.arc(arc)) + more)] for arc in (network.arcs if arcs is None else arcs))
+        return _Each(lambda arc: [("cap", arc, kept.capacity(kept.arc(arc)) + more)], network.arcs if arcs is None else arcs)
 
     return cases
 
 
 def each_pair_added(pairs: Iterable[tuple[Hashable, Hashable]], capacity: Whole) -> Callable[[Network[Any]], Iterator[Case]]:
     """The cases in which an arc of this capacity is added from the first to the second of each of these pairs of nodes."""
-    return lambda network: ([("add", tail, head, capacity)] for tail, head in pairs)
+    return lambda network: _Each(lambda pair: [("add", *pair, capacity)], pairs)
 
 
 def sweep(
@@ -117,9 +131,9 @@ def sweep(
     another takes its place, and its case is tried once more.
 
     Without an `executor` each of so many `jobs` (as many as there are processors) has a program here. An `executor` is anything of the
-    form of `concurrent.futures`, as `Client.get_executor()` of dask.distributed: each of its processes begins programs of its own,
-    and is sent the network once. There functions are pickled, and name arcs by their keys or ends. `progress` shows a bar of tqdm,
-    where that is there.
+    form of `concurrent.futures`, as `Client.get_executor()` of dask.distributed: each of its processes is sent the network, and begins
+    programs of its own: the one that the network was made with by `program`, or else the one that it finds itself. There functions are
+    pickled, and name arcs by their keys or ends. `progress` shows a bar of tqdm, where that is there.
 
     >>> with Network([("a", "b", 3, "x"), ("a", "b", 4, "y")], source="a", sink="b") as network:
     ...     value = network.solve().value
@@ -132,7 +146,7 @@ def sweep(
     program: Any = network._child.process.args
     begin: Callable[[], _Tries] = functools.partial(_Here, swept.kept, program[0], want_cut, programs)
     if executor is not None:
-        begin = functools.partial(_There, swept.kept, executor, want_cut)
+        begin = functools.partial(_There, _Sent.of(swept.kept, network._child.program), executor, want_cut)
     results = _results(swept, iter(made), begin)
     return _shown(results, operator.length_hint(made) or None) if progress else results
 
@@ -332,13 +346,13 @@ class _There(_Tries):
 
     size = PIECE
 
-    def __init__(self, kept: Kept[Any], executor: Executor, want_cut: bool) -> None:
+    def __init__(self, sent: _Sent, executor: Executor, want_cut: bool) -> None:
         # It takes 4 MB, and nothing else needs it.
         import hashlib
 
         self._executor = executor
         self._want_cut = want_cut
-        self._sent = pickle.dumps(_Sent.of(kept))
+        self._sent = pickle.dumps(sent)
         self._name = hashlib.sha256(self._sent).hexdigest()
         workers = getattr(executor, "_max_workers", None)
         self.most = WAITING * (workers if isinstance(workers, int) else os.cpu_count() or 1)
@@ -385,19 +399,20 @@ def _is_lost(error: BaseException) -> bool:
 
 @dataclass
 class _Sent:
-    """A network as it is sent to another process."""
+    """A network as it is sent to another process, and the program, where the caller named it."""
 
     columns: Any
     capacities: Any
     added: list[tuple[Any, ...]]
     closed: set[int]
     ends: tuple[Any, Any]
+    program: Program
 
     @staticmethod
-    def of(kept: Kept[Any]) -> _Sent:
+    def of(kept: Kept[Any], program: Program) -> _Sent:
         rows = zip(kept.added, kept.replaced)
         added: list[tuple[Any, ...]] = [((arc.number, arc.tail, arc.head, arc.given_key), replaced) for arc, replaced in rows]
-        return _Sent(kept.columns, kept.capacities, added, kept.closed, (kept.source, kept.sink))
+        return _Sent(kept.columns, kept.capacities, added, kept.closed, (kept.source, kept.sink), program)
 
     def kept(self) -> Kept[Any]:
         kept = Kept(self.columns, self.capacities, *self.ends, MOST_KEPT)
@@ -407,9 +422,9 @@ class _Sent:
         return kept
 
 
-# The copies in this process that no case uses now, by the name of what was sent.
+# The copies in this process that no case uses now, and how another one is made, by the name of what was sent.
 _free: dict[str, list[_Copy]] = {}
-_known: dict[str, Kept[Any]] = {}
+_known: dict[str, Callable[[], _Copy]] = {}
 _free_lock = threading.Lock()
 
 
@@ -429,15 +444,16 @@ def _answers_there(name: str, sent: bytes | None, asked: Any) -> list[_Answer] |
         copies = _free.get(name, [])
         copy = copies.pop() if copies else None
         if copy is None and name in _known:
-            copy = _Copy(_known[name], None)
+            copy = _known[name]()
     if copy is None:
         if sent is None:
             return None
-        kept = pickle.loads(sent).kept()
+        network: _Sent = pickle.loads(sent)
+        another = functools.partial(_Copy, network.kept(), network.program)
         with _free_lock:
             _known.clear()
-            _known[name] = kept
-        copy = _Copy(kept, None)
+            _known[name] = another
+        copy = another()
     cases, want_cut = pickle.loads(asked) if isinstance(asked, bytes) else asked
     try:
         return [copy.answer(case, want_cut) for case in cases]
