@@ -12,6 +12,7 @@ use Rattle.dmf_path.proofs.Walking.{end_of-push, IsTrail-pop, come-next, end-nod
 use Rattle.dmf_path.proofs.WalkingTurn.{WalkTurn, walk-turn, node-within, come-moved, found-within, none-found, come-popped, tail-within, work_left, work-found}
 use Rattle.dmf_path.proofs.WalkingTurn.{work-popped}
 use Rattle.dmf_path.proofs.UnderWay.{goal-joint, is-free, free-room}
+use Rattle.dmf_path.proofs.Splitting.{made-aim}
 use Rattle.dmf_path.proofs.WayStart.{walk-end, last-link_within}
 use Rattle.dmf_path.proofs.WayTurn.{IsOnWay, on-moved, slots-left, first-leaves, IsMade, way-made, on-entered, last-places, last-leaves, on-back}
 
@@ -115,20 +116,7 @@ slot-found t f = omega (arith, slots-left t.r t.labels t.current t.aim t.w t.nod
 pub slot-first : (t : Turn) → IsFound t → t.w.walked ≡ t.w.rest → IsSlot t.r.links t.w.sent t.r.rooms (slot_at t.w.slots t.w.rest)
 slot-first t f meets = (first-leaves t.r t.labels t.current t.aim t.w t.node t.links t.start_is t.on (omega (arith, meets, slot-found t f))).slot
 
--- the ends of the path, and for how many links there is memory, once the slot is free
-pub made-start : (r : Residual) (w : Way) (next : Residual) (new : Way) → MakesWay r w next new → new.start ≡ w.start
-made-start r w next new (free less is kept) = ap (λ (u : Way). u.start) is
-made-start r w next new (leaves meets is put) = ap (λ (u : Way). u.start) is
-
-pub made-goal : (r : Residual) (w : Way) (next : Residual) (new : Way) → MakesWay r w next new → new.goal ≡ w.goal
-made-goal r w next new (free less is kept) = ap (λ (u : Way). u.goal) is
-made-goal r w next new (leaves meets is put) = ap (λ (u : Way). u.goal) is
-
-pub made-capacity : (r : Residual) (w : Way) (next : Residual) (new : Way) → MakesWay r w next new → new.capacity ≡ w.capacity
-made-capacity r w next new (free less is kept) = ap (λ (u : Way). u.capacity) is
-made-capacity r w next new (leaves meets is put) = ap (λ (u : Way). u.capacity) is
-
--- The links stay,
+-- Once the slot is free, the links are the same,
 pub made-links : (r : Residual) (w : Way) (next : Residual) (new : Way) → MakesWay r w next new → next.links ≡ r.links
 made-links r w next new (free less is kept) = ap (λ (x : Residual). x.links) kept
 made-links r w next new (leaves meets is put) = ap (λ (x : Residual). x.links) put
@@ -152,7 +140,7 @@ on-found t next new head f way sums read =
     let falls : get_or t.labels (get_or next.links.heads t.place 0) 0 + 1 ≡ get_or t.labels t.node 0 =
     subst (λ (l : Links). get_or t.labels (get_or l.heads t.place 0) 0 + 1 ≡ get_or t.labels t.node 0) (sym same) f.falls in
     let start : IsNode next.links.nodes new.start =
-    subst (λ (l : Links). IsNode l.nodes new.start) (sym same) (subst (IsNode t.r.links.nodes) (sym (made-start t.r t.w next new way)) t.start_is) in
+    subst (λ (l : Links). IsNode l.nodes new.start) (sym same) (subst (IsNode t.r.links.nodes) (sym (made-aim t.r t.w next new way).start) t.start_is) in
     let head_is : head ≡ get_or next.links.heads t.place 0 = read ∙ get_or_default next.links.heads t.place head 0 within in
     let told : get_or t.aim.rooms t.place 0 ≡ get_or t.r.rooms t.place 0 =
     told-room t.r t.labels t.current t.aim t.w t.node t.place t.links t.start_is t.on t.other (lies-found t f) f.falls in
