@@ -19,6 +19,7 @@ pub data IsSomeIndex (k count j : ℕ) : Type 0 where
   was : (i : ℕ) → i < count → j ≡ counted k i → IsSomeIndex k count j
   new : j ≡ k → IsSomeIndex k count j
 
+-- Each index is that of one of the two.
 pub some-index : (k count j : ℕ) → k ≤ count → j < count + 1 → IsSomeIndex k count j
 some-index k count j most within = elim (cases_lt j k) [
   | inl before ↦ was j (omega arith) (omega (arith, counted-sum k j))

@@ -176,10 +176,13 @@ has-met_start l rooms flags opens start goal at g queue_g done_g s queue_s done_
         node = node;
         goal_label = has_g;
         start_label = has_s;
-        both = λ v is. either-met g new v (near + far + 1) (λ has_x has_y. omega (arith, sum-met l opens flags start goal far near v new g queue_g done_g are
-            (λ p within one. let link = are.each p within in flagged.1 (get_or l.partners p 0) link.partner
-            ∙ ap (λ q. open_flag (get_or rooms q 0)) link.partner_back ∙ sym (opened p within) ∙ one)
-            levels spread_g ahead_g rest refl beyond is (omega (arith, few, are.at_most_nodes)) has_y has_x));
+        both = λ v is. either-met g new v (near + far + 1) (λ has_x has_y. omega (
+          arith,
+          sum-met l opens flags start goal far near v new g queue_g done_g are
+              (λ p within one. let link = are.each p within in flagged.1 (get_or l.partners p 0) link.partner
+              ∙ ap (λ q. open_flag (get_or rooms q 0)) link.partner_back ∙ sym (opened p within) ∙ one)
+              levels spread_g ahead_g rest refl beyond is (omega (arith, few, are.at_most_nodes)) has_y has_x,
+        ));
       };
       long = few;
     }

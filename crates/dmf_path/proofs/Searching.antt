@@ -33,6 +33,7 @@ pub record CanAugment (r : Residual) (places : List ℕ) (v : Labelling) (w : Wa
   pub augments : Augments limit (record { amount = amount; links = length w.slots }) (searched (sought r w) places)
       (searched (record { residual = sent_along r (sent_on w amount); start = w.start; goal = w.goal }) places)
 
+-- So much as is left in the slots can be sent along a path that was found.
 pub can-augment : (r : Residual) (places : List ℕ) (v : Labelling) (w : Way) (limit amount : ℕ) → ArePlaces r.links places → IsSearching r v w
     → IsFound r w → amount ≡ least_left w.sent limit w.slots → CanAugment r places v w limit amount
 can-augment r places v w limit amount places_are is joins least =
@@ -108,6 +109,7 @@ pub record IsOn (r : Residual) (places : List ℕ) (v : Labelling) (w : Way) (am
   pub searching : IsSearching next v new
   pub same : sought next new ≡ record { residual = sent_along r (sent_on w amount); start = w.start; goal = w.goal }
 
+-- Once the path is split, the search goes on with what is left.
 pub split-on : (r : Residual) (places : List ℕ) (v : Labelling) (w : Way) (limit amount : ℕ) (next : Residual) (new : Way) → IsSearching r v w
     → IsFound r w → CanAugment r places v w limit amount → IsSplit r (sent_on w amount) next new → AreRooms next.links next.rooms
     → IsOn r places v w amount next new

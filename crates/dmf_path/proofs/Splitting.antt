@@ -131,6 +131,7 @@ made-aim r w next new (leaves meets is put) = rw is (record { start = refl; goal
 abbrev pub sent_along : Residual → Way → Residual
 sent_along r w = roomed r (settled r.links r.takes_back w.sent w.slots r.rooms)
 
+-- A path that is split leaves its open links in slots, and all that was sent put on.
 pub has-split : (r : Residual) (labels before current : List ℕ) (w : Way) (next : Residual) (new : Way) → IsSent r labels before current w
     → IsNode r.links.nodes w.joint → IsSplit r w next new → AreRooms next.links next.rooms → HasSplit next labels (sent_along r w) current new
 has-split r labels before current w next new is joint_is (stays first behind none open_links same kept) sums =

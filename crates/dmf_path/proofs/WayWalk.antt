@@ -74,6 +74,7 @@ walk_of t =
     walk-turn t.r.links t.labels t.aim.rooms t.w.start t.w.goal t.current
     (places_of (walked_slots t.w)) t.node t.place t.end t.r.links.heads t.links t.start_is t.on.come t.end_read refl t.from t.to (none-told t)
 
+-- With the node's current link moved on, the walk is still on its way.
 pub on-turned : (t : Turn) → IsOnWay t.r t.labels (set t.current t.node t.place) t.aim t.w t.node
 on-turned t = on-moved t.r t.labels t.current t.aim t.w t.node t.place t.on t.other (come-moved (walk_of t))
 
@@ -105,6 +106,7 @@ lies-found t f = record {
       omega (arith, f.found, where-ends t);
 }
 
+-- The link found is one of the links.
 pub within-found : (t : Turn) → IsFound t → t.place < length t.r.links.heads
 within-found t f = found-within (walk_of t) f.found
 
@@ -155,6 +157,7 @@ on-found t next new head f way sums read =
 same-links : (t : Turn) → t.r.links ≡ t.aim.links
 same-links t = ap (λ (x : Residual). x.links) t.on.same
 
+-- Over a link that was found, less work is left.
 pub less-found : (t : Turn) (next : Residual) (new : Way) (head : ℕ) → IsFound t → MakesWay t.r t.w next new → head ≡ get_or next.links.heads t.place head
     → work_left t.aim.links t.labels t.w.start (set t.current t.node t.place) head < work_left t.aim.links t.labels t.w.start t.current t.node
 less-found t next new head f way read =
@@ -172,9 +175,11 @@ popped : (t : Turn) → 0 < t.w.walked → places_of (walked_slots t.w) ≡ plac
     (slot_at t.w.slots (t.w.walked - 1)).place ∷ []
 popped t some = last-places t.w some (omega (arith, t.on.way.order, t.on.way.within))
 
+-- It has a slot,
 pub slot-last : (t : Turn) → 0 < t.w.walked → IsSlot t.r.links t.w.sent t.r.rooms (slot_at t.w.slots (t.w.walked - 1))
 slot-last t some = (last-leaves t.r t.labels t.current t.aim t.w t.node t.links t.start_is t.on some).slot
 
+-- and it is one of the links.
 pub back-within : (t : Turn) (back : ℕ) → 0 < t.w.walked → back ≡ (slot_at t.w.slots (t.w.walked - 1)).place → back < length t.r.links.heads
 back-within t back some is = omega (arith, is, (slot-last t some).within)
 
@@ -192,11 +197,13 @@ back-tail t new tail some step first last =
     let fits : t.w.walked - 1 ≤ length t.w.slots = omega (arith, t.on.way.order, t.on.way.within) in
     sym (walk-end l (stepped_back t.w) tail fits (rw step at first) (rw step at last)) ∙ sym (t.links.at_tail (end_of l t.w.start front) p node before.1.lies)
 
+-- That node has a current link,
 pub back-tail_within : (t : Turn) (tail : ℕ) → 0 < t.w.walked → tail ≡ tail_of t.r.links (slot_at t.w.slots (t.w.walked - 1)).place
     → tail < length (set t.current t.node t.place)
 back-tail_within t tail some is = tail-within (walk_of t) (places_of (take (t.w.walked - 1) t.w.slots)) (slot_at t.w.slots (t.w.walked - 1)).place tail
     (popped t some) is
 
+-- and there less work is left.
 pub less-back : (t : Turn) (back tail : ℕ) → 0 < t.w.walked → back ≡ (slot_at t.w.slots (t.w.walked - 1)).place
     → tail ≡ tail_of t.r.links (slot_at t.w.slots (t.w.walked - 1)).place
     → work_left t.aim.links t.labels t.w.start (set (set t.current t.node t.place) tail (back + 1)) tail

@@ -3,7 +3,7 @@
 
 pub use pair::{Pair, Pairs};
 pub use places::Indices;
-pub use search::{AugmentingPath, Search};
+pub use search::{AugmentingPath, Ends, Search};
 pub use touched::Touched;
 
 mod frontier;

@@ -44,6 +44,7 @@ module _ (s : NetworkState) (arc : Arc) (state : IsState (with_idle_arc s arc)) 
   pub pairs-before : (search : Searched) → search ≡ residual_search s.network s.flows → length search.pairs ≡ length s.network.arcs + 1
   pairs-before search is = ap (λ (x : Searched). length x.pairs) is ∙ length-network_pairs s.network s.flows one_each
 
+  -- The arcs that there were, and one more, are not too many.
   pub few-before : length s.network.arcs + 1 ≤ 2 ^ 27
   few-before = omega (arith, state.network.at_most_arcs, length_push s.network.arcs arc)
 

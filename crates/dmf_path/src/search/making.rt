@@ -26,6 +26,15 @@ struct Linked {
     rooms: Vec<u64>,
 }
 
+/// The nodes between which paths are looked for.
+#[derive(Clone, Copy, Debug)]
+pub struct Ends {
+    /// The node at which a path starts.
+    pub start: u32,
+    /// The node to which it leads.
+    pub goal: u32,
+}
+
 impl Search {
     /// A search over these pairs, between so many nodes. What is pushed along one link of a pair can be pushed back along
     /// the other where `takes_back` says so. Takes memory for two links a pair, and for some numbers a node.
@@ -33,25 +42,24 @@ impl Search {
         alloc: Global,
         nodes: u32,
         pairs: &P,
-        start: u32,
-        goal: u32,
+        ends: Ends,
         takes_back: bool,
     ) -> Result<Search, AllocError>
         requires nodes { nodes ≤ 2 ^ 24 }
         requires pairs { ArePairs nodes (P.pairs pairs.now) }
-        requires start { IsNode nodes start }
-        requires goal { IsNode nodes goal }
-        requires apart { start ≢ goal }
+        requires start { IsNode nodes ends.start }
+        requires goal { IsNode nodes ends.goal }
+        requires apart { ends.start ≢ ends.goal }
         ensures { IfOk result (λ search. search ≡ record {
           nodes = nodes;
           pairs = P.pairs pairs.now;
-          start = start;
-          goal = goal;
+          start = ends.start;
+          goal = ends.goal;
           takes_back = takes_back;
         }) }
     {
         let linked = link(alloc, nodes, pairs)?;
-        linked.search(alloc, start, goal, takes_back)
+        linked.search(alloc, ends.start, ends.goal, takes_back)
     }
 
     /// Another search over the same links, with the rooms of these pairs, which have the same ends. Takes memory for a room

@@ -1,5 +1,6 @@
 //! Building a state: appending arcs, and putting a flow on them.
-ghost use Rattle.std.specs.Prelude.{◌≡◌, false, ◌+◌, ◌-◌, ◌<◌, ◌⊎◌, length, vec_len, vec_capacity, Some, Ok, Err, IfOk, OnOk, OnErr, IsErrOf, IsOkUnless, MatchOption};
+ghost use Rattle.std.specs.Prelude.{◌≡◌, false, ◌+◌, ◌-◌, ◌<◌, ◌⊎◌, length, vec_len, vec_capacity, Some, Ok, Err};
+ghost use Rattle.std.specs.Prelude.{IfOk, OnOk, OnErr, IsErrOf, IsOkUnless, MatchOption};
 ghost use Rattle.std.specs.Result.{result_err};
 ghost use Rattle.dmf_node.specs.Node.{is_node};
 ghost use Rattle.dmf_state.specs.Arc.{open_arc};
