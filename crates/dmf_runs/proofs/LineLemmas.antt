@@ -17,6 +17,7 @@ pub answers-cases : (want_cut : Bool) (t : Timeline) (command : Command) (result
 answers-cases want_cut t command (Err NoMemory) u a = inl a.1
 answers-cases want_cut t command result u a = inr a
 
+-- Nothing was refused besides.
 pub or-false : (b : Bool) → b ≡ (b || false)
 or-false true = refl
 or-false false = refl
