@@ -12,7 +12,7 @@ use Rattle.dmf_runs.specs.CommandText.{command_of}
 abbrev pub HasNoLineFeed : List ℕ → Type 0
 HasNoLineFeed bytes = All (λ b. b ≢ 10) bytes
 
--- the bytes of lines of which each is ended by a line feed
+-- the bytes of these lines, each with a line feed at its end
 abbrev pub with_line_feeds : List (List ℕ) → List ℕ
 with_line_feeds lines = flat_map (λ line. line ++ 10 ∷ []) lines
 
@@ -22,8 +22,8 @@ pub record IsSplit (text : List ℕ) (lines : List (List ℕ)) (rest : List ℕ)
   pub each : All HasNoLineFeed lines
   pub last : HasNoLineFeed rest
 
--- What a line means, of which these are the bytes before the line feed, if one ended it. A carriage return directly
--- before the line feed is counted in its length, and is no part of its fields.
+-- What a line means: these are the bytes before its line feed, if it has one. A carriage return directly before the line feed counts
+-- toward the line's length, and belongs to none of its fields.
 abbrev pub line_meaning : Bool → List ℕ → Result (Option Command) Refusal
 line_meaning ended line =
     if nat_lt 4096 (length line) then Err LineTooLong

@@ -19,11 +19,11 @@ use dmf_text::{
 pub struct SolveReply {
     /// Whether the smallest minimum cut follows the solution or the value.
     pub cut: bool,
-    /// Whether the value, as `c solve value V`, stands in place of the solution.
+    /// Whether the reply is the value, as `c solve value V`, instead of the solution.
     pub brief: bool,
 }
 
-/// How a line was answered.
+/// The outcome of a line.
 #[derive(Clone, Copy)]
 pub enum Answer {
     /// The session carried it out.
@@ -44,7 +44,7 @@ impl Answer {
     }
 }
 
-/// Writes that a line was refused, and flushes.
+/// Writes that the session refused a line, and flushes.
 pub fn refuse<W: Sink>(number: u32, refusal: &Refusal, out: &mut W) -> Result<Answer, WriteFault>
     ensures text { Writes (W.written out.old) (W.written out.new) result (run.refused_text number refusal.now) }
     ensures refused { IfOk result (λ answer. is_refusal answer ≡ true) }
@@ -61,7 +61,7 @@ pub fn put_line<W: Sink>(line: &LineBuffer, out: &mut W) -> Result<(), WriteFaul
     flush(out)
 }
 
-/// Writes the solution of a state, and after it this cut, if there is one, and flushes.
+/// Writes the solution of a state, then this cut, if there is one, and flushes.
 pub fn put_solved<W: Sink>(
     state: &State,
     side: &Option<Side>,
@@ -73,7 +73,7 @@ pub fn put_solved<W: Sink>(
     flush(out)
 }
 
-/// Writes the reply to a command, and flushes. With `brief` the reply to a solve has its value alone.
+/// Writes the reply to a command, and flushes. With `brief` the reply to a solve is only its value.
 pub fn put_reply<W: Sink>(
     command: Command,
     reply: &Reply,
@@ -141,7 +141,7 @@ fn write_solve<W: Sink>(
     }
 }
 
-/// Writes the value of a solve, and after it this cut, if there is one.
+/// Writes the value of a solve, then this cut, if there is one.
 fn write_brief<W: Sink>(state: &State, side: &Option<Side>, out: &mut W) -> Result<(), WriteFault>
     ensures { Writes (W.written out.old) (W.written out.new) result (run.solve_text true state.now side.now) }
 {
@@ -149,7 +149,7 @@ fn write_brief<W: Sink>(state: &State, side: &Option<Side>, out: &mut W) -> Resu
     write_side(side, out)
 }
 
-/// Writes the solution of a state, and after it this cut, if there is one.
+/// Writes the solution of a state, then this cut, if there is one.
 fn write_solved<W: Sink>(state: &State, side: &Option<Side>, out: &mut W) -> Result<(), WriteFault>
     ensures { Writes (W.written out.old) (W.written out.new) result (run.solved_text state.now side.now) }
 {
