@@ -1,4 +1,4 @@
--- Taking an amount off the room of one link.
+-- Lowering the room of one link.
 use Rattle.std.proofs.Common.{ℕ, ◌≡◌, ◌≢◌, ◌-◌, ◌<◌, ◌≤◌, false, List, [], ◌∷◌, length, map, get_or, set, zero, suc, refl, ap, sym, ◌∙◌, arith, ⊎_elim, eq-eqb}
 use Rattle.std.proofs.Common.{get_or-set_other, get_or-set_same, inl, inr, Some, None}
 use Rattle.std.specs.Option.{option_map}
@@ -19,7 +19,7 @@ pub record HasPlace (l : Links) (places rooms : List ℕ) (k amount : ℕ) : Typ
   pub within : get_or places k 0 < length l.heads
   pub enough : amount ≤ get_or rooms (get_or places k 0) 0
 
--- the place of a pair that is there
+-- the place of a pair that exists
 pub HasPlace-along : (l : Links) (places rooms : List ℕ) (k amount : ℕ) → ArePlaces l places → HasAlong (pairs_at l places rooms) k amount
     → HasPlace l places rooms k amount
 HasPlace-along l places rooms k amount are has =
@@ -56,7 +56,7 @@ map-set f g (q ∷ qs) (suc k) x within here others =
     (λ j h apart. others (suc j) (omega (arith, h)) (λ e. apart (omega (arith, e)))) in
     λ i. first i ∷ rest i
 
--- The pairs, once the room of one link along is lowered.
+-- The pairs after the room of one link along is lowered.
 pub pairs-lowered : (l : Links) (places rooms : List ℕ) (k amount : ℕ) → AreLinks l → ArePlaces l places → length rooms ≡ length l.heads
     → HasPlace l places rooms k amount →
     pairs_at l places (pushed_once l false amount (get_or places k 0) rooms) ≡ lowered_along (pairs_at l places rooms) k amount
@@ -82,7 +82,7 @@ pairs-lowered l places rooms k amount links are long has =
     (get_or-set_other rooms p (get_or l.partners (get_or places j 0) 0) _ 0 its)))
     (cases_eq (get_or places j 0) no_place))
 
--- Lowering opens no link.
+-- Lowering gives room to no link.
 pub opens-lowered : (l : Links) (labels rooms : List ℕ) (p amount : ℕ) → length rooms ≡ length l.heads → p < length l.heads
     → OpensUpwards l labels rooms (pushed_once l false amount p rooms)
 opens-lowered l labels rooms p amount long within v q node lies room =

@@ -10,15 +10,15 @@ use std::fmt;
 /// Why a change cannot be planned.
 #[derive(Clone, Copy, Debug, PartialEq, Eq)]
 pub enum PlanFault {
-    /// The arc's number is 0 or past the last arc.
+    /// The arc's number is 0 or exceeds the number of arcs.
     NoSuchArc,
     /// The arc is closed.
     Closed,
-    /// A node's number is 0 or past the last node.
+    /// A node's number is 0 or exceeds the number of nodes.
     NoSuchNode,
     /// The network has as many arcs as it may have.
     TooManyArcs,
-    /// The sum of the capacities would pass 2^64 - 1.
+    /// The sum of the capacities would exceed 2^64 - 1.
     SumTooLarge,
     /// A request for memory was refused.
     NoMemory,
@@ -66,7 +66,7 @@ impl From<AllocError> for PlanFault {
     }
 }
 
-/// Why the smallest side of a network is not told.
+/// Why a call does not give the smallest side of a network.
 #[derive(Clone, Copy, Debug, PartialEq, Eq)]
 pub enum CutFault {
     /// Some flow of the network has a larger value.
