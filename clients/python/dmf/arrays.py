@@ -224,7 +224,7 @@ def is_unbounded(capacity: object) -> bool:
 
 
 def with_infinite(row: tuple[Any, ...], infinite: object) -> tuple[Any, ...]:
-    """A row of arcs, with this capacity if it has none."""
+    """A row of arcs, with a capacity where it has none."""
     return (*row[:2], infinite, *row[3:]) if is_unbounded(row[2]) else row
 
 
@@ -279,7 +279,7 @@ def _numbered(np: Any, ends: Any) -> tuple[list[int], Any]:
 
 
 def _amounts(np: Any, tail: Any, head: Any, capacity: Any, infinite: object) -> Any:
-    """An array of capacities in 64 bits without a sign. The error for the first that is none names its arc."""
+    """An array of capacities in 64 bits without a sign. The first that is none is told with its arc."""
     if capacity.dtype.kind == "f":
         missing = np.isnan(capacity) | (capacity == np.inf)
         if infinite is not None and missing.any():

@@ -269,8 +269,9 @@ class Network(Generic[Node]):
                 network.close("canal")
                 loss = before - network.solve().value
 
-        Inside the block `undo` stops at the block's first change, and raises `NothingToUndo` before it. If `history` bounds the
-        changes that can be undone, a block refuses one change more than that by `HistoryOutOfRange`. Blocks may stand in blocks."""
+        Inside the block `undo` takes back no more than what was done in it, and raises `NothingToUndo`. Where `history` bounds the
+        changes that can be undone, a change past so many in one block is refused by `HistoryOutOfRange`. Blocks may stand in
+        blocks."""
         kept = self._kept
         with self._child.alone():
             outer, kept.floor = kept.floor, kept.place
@@ -278,7 +279,7 @@ class Network(Generic[Node]):
             yield self
         finally:
             inner, kept.floor = kept.floor, outer
-            # A session that has ended has nothing to undo.
+            # A session that has ended has nothing to take back.
             if self._child.end.alive and inner is not None and kept.place > inner:
                 self.undo(kept.place - inner)
 

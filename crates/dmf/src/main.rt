@@ -26,7 +26,7 @@ use std::rt::Stdout;
 // The arguments can ask for each history that a session can keep, and for no other.
 const _: () = prove!(MAX_HISTORY == MAX_BOUND);
 
-/// The size of the buffer before standard output, in bytes.
+/// How many bytes the buffer before standard output holds.
 const OUTPUT_BUFFER: usize = 65536;
 
 fn main(rt: HostRuntime) -> ExitCode {
@@ -67,7 +67,7 @@ fn run(rt: &HostRuntime) -> Result<Status, Fault> {
     }
 }
 
-/// Solves the problem on standard input, and writes the cut if it is wanted.
+/// Solves the problem on standard input, and tells the cut where it is wanted.
 #[inline(never)]
 fn solve(rt: &HostRuntime, want_cut: bool, want_progress: bool) -> Result<Status, Fault> {
     let out = output(rt)?;
@@ -81,8 +81,8 @@ fn solve(rt: &HostRuntime, want_cut: bool, want_progress: bool) -> Result<Status
     outcome.map_err(Fault::Run)
 }
 
-/// Holds a session on the problem in the file at the path, with the commands from standard input, and replies to solves as wanted.
-/// Keeps at most `bound` states before the present one.
+/// Holds a session on the problem in the file at the path, with the commands from standard input, and solves answered as
+/// wanted. At most `bound` states are kept before the present one.
 #[inline(never)]
 fn hold_session(
     rt: &HostRuntime,
@@ -137,11 +137,11 @@ fn output(rt: &HostRuntime) -> Result<StdSink<BufWriter<Stdout>>, Fault> {
     }
 }
 
-/// Opens the problem's file. Does not read one whose size exceeds the limit.
+/// Opens the problem's file. One whose size is past the limit is not read at all.
 ///
-/// If standard input was closed when the program began, the system gives its descriptor to the next file that is opened, and the run
-/// would read the problem as the commands too. So the run reads the problem through a copy of that descriptor, whose number is none of
-/// the standard streams', and the first one is closed.
+/// Where standard input was closed when the program began, the system gives its descriptor to the next file that is opened,
+/// and the problem would be read as the commands too. So the problem is read by a copy of the first descriptor, which is
+/// none of the standard streams', and the first one is closed.
 fn open_problem(rt: &HostRuntime, path: &str) -> Result<File, Fault> {
     let Ok(file) = File::open(rt, path).and_then(|file| file.try_clone()) else {
         return Err(Fault::Open);
@@ -154,7 +154,7 @@ fn open_problem(rt: &HostRuntime, path: &str) -> Result<File, Fault> {
     }
 }
 
-/// Writes a text that the arguments ask for.
+/// Writes the text that was asked for.
 fn print(rt: &HostRuntime, text: &str) -> Result<Status, Fault> {
     let written = match help_without_page(rt, text) {
         Some(front) => println!(rt; "{front}"),
@@ -166,7 +166,7 @@ fn print(rt: &HostRuntime, text: &str) -> Result<Status, Fault> {
     }
 }
 
-/// Reports a fault on standard error. For invalid arguments that is the text of `clap`, which says what is wrong with them.
+/// Tells a fault on standard error: that of the words by the text that says what is wrong with them.
 fn tell(rt: &HostRuntime, fault: &Fault) -> std::io::Result<()> {
     match fault {
         Fault::Usage(text) => eprint!(rt; "{text}"),
@@ -174,7 +174,8 @@ fn tell(rt: &HostRuntime, fault: &Fault) -> std::io::Result<()> {
     }
 }
 
-/// The exit status: 2 for invalid arguments, 4 if the problem cannot be opened, and else the status of the run's end.
+/// The status with which the program ends: 2 for words that it does not take, 4 where the problem cannot be opened,
+/// and else that of the run's end.
 fn program_status(outcome: Result<Status, Fault>) -> u8 {
     match outcome {
         Ok(status) => status_of(&Ok(status)),

@@ -68,7 +68,7 @@ filled-none labels =
     (λ v within. get_or-map (filled_label no_label) labels v 0 0 (omega (arith, within, length-map labels (filled_label no_label))) ∙ filled_label-none
     (slice_index labels v))
 
--- So labels found backwards from the goal are sound below the label of the node `stop`.
+-- So labels found backwards from the goal are sound below that of the node `stop`.
 pub sound-labelled : (l : Links) (rooms flags labels : List ℕ) (stop goal : ℕ) → AreLinks l → AreFlags l rooms flags → AreLabels l flags goal stop labels
     → AreSound l labels rooms (slice_index labels stop)
 sound-labelled l rooms flags labels stop goal are flagged labelled = record {

@@ -18,7 +18,7 @@ skipped-opens : (l : Links) (labels old new current : List ℕ) → OpensUpwards
 skipped-opens l labels old new current opens skipped v p node lies before admissible =
     skipped v p node lies before (admissible-before l labels old new v p node opens admissible)
 
--- So a push keeps these labels.
+-- So a push leaves them.
 pub lasting-opens : (v : Labelling) (stepped_back : Bool) (r : Residual) (rooms : List ℕ) → AreLinks r.links → OpensUpwards r.links v.labels r.rooms rooms
     → AreLasting v stepped_back r → AreLasting v stepped_back (roomed r rooms)
 lasting-opens v stepped_back r rooms links opens is = record {

@@ -1,4 +1,4 @@
--- Lowering the room of one link.
+-- Taking an amount off the room of one link.
 use Rattle.std.proofs.Common.{ℕ, ◌≡◌, ◌≢◌, ◌-◌, ◌<◌, ◌≤◌, false, List, [], ◌∷◌, length, map, get_or, set, zero, suc, refl, ap, sym, ◌∙◌, arith, ⊎_elim, eq-eqb}
 use Rattle.std.proofs.Common.{get_or-set_other, get_or-set_same, inl, inr, Some, None}
 use Rattle.std.specs.Option.{option_map}
@@ -82,7 +82,7 @@ pairs-lowered l places rooms k amount links are long has =
     (get_or-set_other rooms p (get_or l.partners (get_or places j 0) 0) _ 0 its)))
     (cases_eq (get_or places j 0) no_place))
 
--- Lowering gives room to no link.
+-- Lowering opens no link.
 pub opens-lowered : (l : Links) (labels rooms : List ℕ) (p amount : ℕ) → length rooms ≡ length l.heads → p < length l.heads
     → OpensUpwards l labels rooms (pushed_once l false amount p rooms)
 opens-lowered l labels rooms p amount long within v q node lies room =

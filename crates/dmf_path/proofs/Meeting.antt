@@ -54,7 +54,7 @@ rest-most l opens root level labels queue done v so_far ahead rest is node has =
     let at = queued-at l opens root labels queue done v so_far node has in
     omega (arith, rest at.0 ahead at.1, is, ap (λ u. get_or labels u 0) at.2)
 
--- If the goal's side goes on and meets the start's, which is at rest on level `far`, this is the node's label of the start's side.
+-- Where the goal's side goes on and meets the start's, which is at rest on level `far`, the node has that label of the latter.
 pub sum-goal : (l : Links) (rooms flags opens : List ℕ) (start goal near far v : ℕ) (g s queue : List ℕ) (done : ℕ) → AreLinks l → AreFlags l rooms flags
     → AreOpen l rooms opens → AreLevels l flags goal near g → AreSpread l opens start s queue done → done < length queue → IsAtRest s queue done
     → get_or s (get_or queue done 0) 0 ≡ far → MeetBeyond near g s → IsNode l.nodes v → get_or g v 0 ≢ no_label → get_or s v 0 ≢ no_label
@@ -79,7 +79,7 @@ sum-goal l rooms flags opens start goal near far v g s queue done are flagged op
       | inr behind ↦ omega (arith, behind, most, label)
     ]
 
--- And if the start's side goes on and meets the goal's.
+-- And where the start's side goes on and meets the goal's.
 pub sum-start : (l : Links) (rooms flags opens : List ℕ) (start goal near far v : ℕ) (g s queue : List ℕ) (done : ℕ) → AreLinks l → AreFlags l rooms flags
     → AreOpen l rooms opens → AreLevels l opens start far s → AreSpread l flags goal g queue done → done < length queue → IsAtRest g queue done
     → get_or g (get_or queue done 0) 0 ≡ near → MeetBeyond far s g → IsNode l.nodes v → get_or g v 0 ≢ no_label → get_or s v 0 ≢ no_label

@@ -1,5 +1,5 @@
--- What a push along a trail keeps: labels stay valid, passed links stay passed, and the links of the trail that still have room are a
--- trail.
+-- What a push along a trail keeps: labels stay valid, what was passed stays passed, and the links of the trail that still
+-- have room are one.
 use Rattle.std.proofs.Common.{ℕ, ◌≡◌, ◌+◌, ◌<◌, ◌⊎◌, inl, inr, Bool, List, [], ◌∷◌, length, get_or, take, zero, suc, ap, sym, ◌∙◌, arith, ⊎_elim}
 use Rattle.std.specs.List.{All}
 use Rattle.dmf_node.specs.Node.{IsNode}
@@ -41,7 +41,7 @@ OpensUpwards l labels old new =
     (v p : ℕ) → IsNode l.nodes v → LiesAt l v p → 0 < get_or new p 0
     → (0 < get_or old p 0) ⊎ (get_or labels (get_or l.heads p 0) 0 ≡ get_or labels v 0 + 1)
 
--- A push along a link that falls gives room to no link but its opposite.
+-- A push along a link that falls opens at most its opposite.
 opens-once : (l : Links) (takes_back : Bool) (amount : ℕ) (labels rooms : List ℕ) (u q : ℕ) → AreLinks l → length rooms ≡ length l.heads → Falls l labels u q
     → OpensUpwards l labels rooms (pushed_once l takes_back amount q rooms)
 opens-once l takes_back amount labels rooms u q links long falls v p node lies room =

@@ -1,4 +1,4 @@
--- Labels that lead to one goal lead to another one too, which gets the label 0, if only nodes with the labels 0 and 1 lead to it.
+-- Labels that lead to one goal, made to lead to another: that gets the label 0, where only nodes with the labels 0 and 1 lead there.
 use Rattle.std.proofs.Common.{ℕ, ◌≡◌, ◌≢◌, ◌+◌, ◌<◌, ◌≤◌, ◌⊎◌, inl, inr, List, length, get_or, set, ap, subst, sym, ◌∙◌, arith}
 use Rattle.std.proofs.lemmas.List.{get_or-map, get_or-set_other, get_or-set_same, length-set}
 use Rattle.std.proofs.lemmas.Bool.{cases_eq}
@@ -54,7 +54,7 @@ small-set nodes labels goal goal_is small = (
   ],
 )
 
--- the label of the goal afterwards
+-- what the goal counts as then
 goal-filled : (nodes beyond : ℕ) (labels : List ℕ) (goal : ℕ) → IsNode nodes goal → AreSmall nodes labels
     → get_or (filled beyond (set labels goal 0)) goal 0 ≡ 0
 goal-filled nodes beyond labels goal goal_is small =
@@ -62,7 +62,7 @@ goal-filled nodes beyond labels goal goal_is small =
     get_or-map (filled_label beyond) (set labels goal 0) goal 0 0 (omega (arith, inside, length-set labels goal 0))
     ∙ ap (filled_label beyond) (get_or-set_same labels goal 0 0 inside)
 
--- and of another node
+-- and another node
 other-filled : (nodes beyond : ℕ) (labels : List ℕ) (goal v : ℕ) → IsNode nodes v → v ≢ goal → AreSmall nodes labels
     → get_or (filled beyond (set labels goal 0)) v 0 ≡ get_or (filled beyond labels) v 0
 other-filled nodes beyond labels goal v node other small =
@@ -118,7 +118,7 @@ sound-redirected l labels rooms goal links goal_is near sound =
           ];
     }
 
--- No admissible link is passed, if no link to the new goal is.
+-- No admissible link is passed, where the links to the new goal are not.
 pub skipped-redirected : (l : Links) (labels rooms current new : List ℕ) (goal : ℕ) → AreSmall l.nodes labels → IsNode l.nodes goal
     → ((v : ℕ) → get_or new v 0 ≤ get_or current v 0) → ((v p : ℕ) → LeadsTo l rooms goal v p → get_or new v 0 ≤ p)
     → AreSkipped l labels rooms current → AreSkipped l (set labels goal 0) rooms new

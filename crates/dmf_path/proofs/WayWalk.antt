@@ -114,7 +114,7 @@ slot-found t f = omega (arith, slots-left t.r t.labels t.current t.aim t.w t.nod
 pub slot-first : (t : Turn) → IsFound t → t.w.walked ≡ t.w.rest → IsSlot t.r.links t.w.sent t.r.rooms (slot_at t.w.slots t.w.rest)
 slot-first t f meets = (first-leaves t.r t.labels t.current t.aim t.w t.node t.links t.start_is t.on (omega (arith, meets, slot-found t f))).slot
 
--- the ends of the path, and the memory for slots, after the slot is freed
+-- the ends of the path, and for how many links there is memory, once the slot is free
 pub made-start : (r : Residual) (w : Way) (next : Residual) (new : Way) → MakesWay r w next new → new.start ≡ w.start
 made-start r w next new (free less is kept) = ap (λ (u : Way). u.start) is
 made-start r w next new (leaves meets is put) = ap (λ (u : Way). u.start) is

@@ -72,7 +72,7 @@ pub record AreSound (l : Links) (labels rooms : List ℕ) (top : ℕ) : Type 0 w
   pub valid : AreValid l (filled beyond labels) rooms top
   pub gated : IsGated l labels rooms beyond
 
--- The start has a label, and a walk leads from it to the goal, along labels that are sound.
+-- The start has a label, and a walk leads from it to the goal, as least paths do.
 pub record IsLabelled (l : Links) (rooms labels : List ℕ) (start goal : ℕ) : Type 0 where
   pub sound : AreSound l labels rooms (slice_index labels start)
   pub start_label : slice_index labels start ≤ l.nodes

@@ -71,7 +71,7 @@ pub record IsSearching (r : Residual) (v : Labelling) (w : Way) : Type 0 where
 abbrev pub MaySkip : Bool → Residual → List ℕ → List ℕ → Type 0
 MaySkip stepped_back r labels current = stepped_back ≡ false → AreSkipped r.links labels r.rooms current
 
--- Labels that another search may keep: they are sound whatever its start is, and its passed links are known.
+-- Labels that another search may keep: they are sound whatever its start is, and it knows which links are passed.
 pub record AreLasting (v : Labelling) (stepped_back : Bool) (r : Residual) : Type 0 where
   pub sound : AreSound r.links v.labels r.rooms no_label
   pub skipped : MaySkip stepped_back r v.labels v.current

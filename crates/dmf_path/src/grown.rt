@@ -143,7 +143,7 @@ impl Gap {
         }
     }
 
-    /// The number of new links at nodes before this one.
+    /// How many of the new links lie at nodes before this one.
     fn new_before(&self, node: usize) -> u32
         ensures { result ≡ new_before self.now node }
     {

@@ -1,4 +1,4 @@
-//! What a search keeps for each node: its label and its current link.
+//! What a search keeps of each node: its label and its current link.
 ghost use Rattle.std.specs.Prelude.{◌≡◌, ℕ, ◌+◌, ◌≤◌, ◌<◌, length, slice_index};
 ghost use Rattle.dmf_path.specs.LinkTable.{links_of};
 ghost use Rattle.dmf_path.specs.Walk.{AreCurrent};
@@ -23,7 +23,7 @@ pub struct Levels {
     pub all: bool,
     /// Whether the walk has stepped back since the current links were set: only then is an admissible link before one of them.
     pub stepped_back: bool,
-    /// Whether the last call that set the ends of the search kept its start or its goal.
+    /// Whether the search was aimed at its goal twice in turn.
     pub again: bool,
     /// How many links labelling from both ends has looked at since all nodes got a label, or since both ends of the search changed.
     pub spent: u64,

@@ -90,8 +90,8 @@ pub fn begin_anew(links: &mut Links, levels: &mut Levels, trail: &mut Trail)
     levels.both = true;
 }
 
-/// Restarts the search between other nodes: applies the held pushes, and keeps the labels if they can be made to lead to the goal. If
-/// not, removes all labels, and the search is fresh. Returns whether it is fresh.
+/// Restarts the search between other nodes: applies the held pushes, and keeps the labels if they can be made to lead to the goal. Else
+/// it takes off all labels, and is fresh. Whether it is.
 pub fn aim(links: &mut Links, levels: &mut Levels, trail: &mut Trail, start: u32, goal: u32) -> bool
     requires searching { IsSearching (residual_of links.old) (labelling_of levels.old) (way_of trail.old) }
     requires ready { AreReady levels.old }

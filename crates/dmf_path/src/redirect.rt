@@ -13,8 +13,8 @@ use crate::levels::Levels;
 use crate::push::Links;
 use crate::table::LinkTable;
 
-/// Makes the labels, which lead to `from`, lead to `goal` too, and returns whether they do. They can if all nodes from which paths lead
-/// to `from` have labels, `start` has one, and only the label of `goal` has to change, to 0. If not, nothing changes.
+/// Makes the labels, which lead to one goal, lead to another, and to that from this start: if all nodes from which paths lead to the one
+/// goal have labels, and it takes no more than the label 0 for the other. Whether they lead there then.
 pub fn redirect(links: &Links, levels: &mut Levels, from: u32, start: u32, goal: u32) -> bool
     requires ready { IsReady links.now.table.value.nodes levels.old.near levels.old.far }
     requires kept { levels.old.all ≡ true → AreKeptFor (labelling_of levels.old) levels.old.stepped_back (residual_of links.now) from }

@@ -23,7 +23,7 @@ use std::rc::Rc;
 mod growing;
 mod making;
 
-/// The push along an augmenting path.
+/// What was pushed along a path.
 #[derive(Clone, Copy)]
 pub struct AugmentingPath {
     /// The amount of the push.
@@ -159,8 +159,8 @@ impl Search {
         self.links.lower(place, amount);
     }
 
-    /// Applies the held pushes to the rooms. Afterwards reading a room takes constant time; before, it takes time for each link of the
-    /// path. Takes no memory.
+    /// Applies the held pushes to the rooms. Each room is then read in constant time; before, in time for each link of the path. Takes
+    /// no memory.
     pub fn settle(&mut self)
         ensures { self.new ≡ self.old }
     {

@@ -1,4 +1,4 @@
--- A line, as far as the buffer keeps it.
+-- A line as far as it is kept.
 use Rattle.std.proofs.Common.{ℕ, ◌≡◌, ◌<◌, ◌≤◌, List, [], ◌∷◌, ◌++◌, length, ltb, Bool, true, false, cond, arith, sym, ap, ◌∙◌}
 use Rattle.std.proofs.lemmas.List.{length-take, length_push, take_all, take-append-le}
 use Rattle.std.proofs.lemmas.Bool.{lt-ltb, le-ltb, ltb-false}
@@ -34,7 +34,7 @@ whole-line kept line short is =
     let le : length line ≤ 4096 = ltb-false 4096 (length line) (sym is.long_is ∙ short) in
     is.bytes_are ∙ take_all 4096 line le
 
--- the meaning of a line that is not too long
+-- what a line means that is not too long
 pub meaning-of : (kept : Kept) (ended : Bool) (line content : List ℕ) → kept.is_long ≡ false → IsKept kept line
     → content ≡ cond ended (strip_carriage_return kept.bytes) kept.bytes → command_of content ≡ line_meaning ended line
 meaning-of kept ended line content short is content_is =

@@ -1,4 +1,4 @@
--- What one line leaves, and a run with one more line.
+-- What one line leaves, and one line more of a run.
 use Rattle.std.proofs.Common.{ℕ, ◌≡◌, ◌+◌, List, [], ◌∷◌, ◌++◌, length, Bool, true, false, ◌||◌, Result, Err, ◌⊎◌, inl, inr, refl, sym, ap, ◌∙◌, subst, arith}
 use Rattle.std.proofs.Common.{append_assoc, append-nil}
 use Rattle.dmf_session.specs.declared.command.Command.{Command}

@@ -76,7 +76,7 @@ MillionIsNeverForgotten =
     → (all : RunsAll brief (Answers want_cut) (start 1000000 s) given text refused) → line_count all.lines all.rest ≤ 1000000
     → RunsAll brief (AnswersForgettingNothing want_cut) (start 1000000 s) given text refused
 
--- If a run that solves a problem writes a solution, it is the solution of an optimal state.
+-- Where a run that solves a problem writes a solution, it is that of an optimal state.
 abbrev pub WrittenIsOptimal : Type 0
 WrittenIsOptimal =
     (want_cut : Bool) (from to : Reader) (old new : Writer) (text : List ℕ) (result : Result Status EngineFault)

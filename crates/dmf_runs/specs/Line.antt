@@ -12,7 +12,7 @@ use Rattle.dmf_runs.specs.CommandText.{command_of}
 abbrev pub HasNoLineFeed : List ℕ → Type 0
 HasNoLineFeed bytes = All (λ b. b ≢ 10) bytes
 
--- the bytes of these lines, each with a line feed at its end
+-- the bytes of lines of which each is ended by a line feed
 abbrev pub with_line_feeds : List (List ℕ) → List ℕ
 with_line_feeds lines = flat_map (λ line. line ++ 10 ∷ []) lines
 

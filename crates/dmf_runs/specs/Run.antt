@@ -33,8 +33,8 @@ side_text (Some side) = cut_text side
 abbrev pub solved_text : NetworkState → Option CutSide → List ℕ
 solved_text s side = solution_text s ++ side_text side
 
--- The reply to a solve that left the state `s`: its solution or, if brief replies are wanted, `c solve value V`. This cut follows, if
--- there is one.
+-- what a solve is answered by that left the state `s`: its solution or, where brief replies are wanted, `c solve value V`; and
+-- this cut after it, if there is one
 abbrev pub solve_text : Bool → NetworkState → Option CutSide → List ℕ
 solve_text false s side = solved_text s side
 solve_text true s side = value_text Solve (value_of s) ++ side_text side

@@ -14,18 +14,18 @@ use Rattle.dmf_text.specs.Streams.{Reader}
 use Rattle.dmf_runs.specs.Streams.{Streams}
 use Rattle.dmf_runs.specs.Outcome.{RunsCommandsWith, solutions}
 
--- The reader gave this text, which is all that it had left and is within the limit.
+-- This text was given, it is the whole of what the reader had left, and it is within the limit.
 pub record GaveWhole (old new : Reader) (text : List ℕ) : Type 0 where
   pub at_end : IsAtEnd new.known
   pub within : length text ≤ 2 ^ 30
   pub mark : new.has_failed ≡ old.has_failed
 
--- The reader gave more than the limit.
+-- More was given than may be.
 pub record GaveTooMuch (old new : Reader) (text : List ℕ) : Type 0 where
   pub past : 2 ^ 30 < length text
   pub mark : new.has_failed ≡ old.has_failed
 
--- The reader gave a text with this property.
+-- The reader gave this text, of which that is so.
 pub record HasGiven (old new : Reader) (IsSo : List ℕ → Type 0) : Type 0 where
   pub text : List ℕ
   pub consumes : Consumes old.known new.known text
@@ -33,13 +33,13 @@ pub record HasGiven (old new : Reader) (IsSo : List ℕ → Type 0) : Type 0 whe
 
 -- ---- a text that is read whole and judged
 
--- The reader gave the whole text, and the judge finds this fault, if there is one. With no fault this is false.
+-- The text was read whole, and the judge finds this fault, if there is one; nothing is so where there is none.
 abbrev pub FindsFault : {Fault : Type 0} → (List ℕ → Result NetworkState Fault) → Reader → Reader → List ℕ → Option Fault → Type 0
 FindsFault judge old new text None = ⊥
 FindsFault judge old new text (Some found) = GaveWhole old new text × (judge text ≡ Err found)
 
--- The result of reading a text that a judge turns into a state, where the reader gave this much; no other results are possible.
--- `found_in` is the fault of the text that an error names.
+-- What reading a text gives that a judge turns into a state, of which this much was given; no answer but these is given.
+-- `found_in` is the fault of the text that an answer tells.
 abbrev pub Reads : {Fault : Type 0} → (List ℕ → Result NetworkState Fault) → (EngineFault → Option Fault) → Reader → Reader → List ℕ
     → Result NetworkState EngineFault → Type 0
 Reads judge found_in old new text (Ok s) = GaveWhole old new text × (judge text ≡ Ok s)
@@ -52,13 +52,13 @@ abbrev pub problem_fault_in : EngineFault → Option ProblemFault
 problem_fault_in (fault.Problem found) = Some found
 problem_fault_in other = None
 
--- the result of reading a problem
+-- what reading a problem gives
 abbrev pub ReadsProblem : Reader → Reader → List ℕ → Result NetworkState EngineFault → Type 0
 ReadsProblem old new text result = Reads problem_of problem_fault_in old new text result
 
 -- ---- the run
 
--- The run took no command byte, and wrote nothing.
+-- No command byte was taken, and nothing was written.
 abbrev pub Untouched : Streams → Streams → Type 0
 Untouched old new = new ≡ old
 

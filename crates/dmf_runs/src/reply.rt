@@ -61,7 +61,7 @@ pub fn put_line<W: Sink>(line: &LineBuffer, out: &mut W) -> Result<(), WriteFaul
     flush(out)
 }
 
-/// Writes the solution of a state, then this cut, if there is one, and flushes.
+/// Writes the solution of a state, and after it this cut, if there is one, and flushes.
 pub fn put_solved<W: Sink>(
     state: &State,
     side: &Option<Side>,
@@ -73,7 +73,7 @@ pub fn put_solved<W: Sink>(
     flush(out)
 }
 
-/// Writes the reply to a command, and flushes. With `brief` the reply to a solve is only its value.
+/// Writes the reply to a command, and flushes. With `brief` the reply to a solve has its value alone.
 pub fn put_reply<W: Sink>(
     command: Command,
     reply: &Reply,
@@ -149,7 +149,7 @@ fn write_brief<W: Sink>(state: &State, side: &Option<Side>, out: &mut W) -> Resu
     write_side(side, out)
 }
 
-/// Writes the solution of a state, then this cut, if there is one.
+/// Writes the solution of a state, and after it this cut, if there is one.
 fn write_solved<W: Sink>(state: &State, side: &Option<Side>, out: &mut W) -> Result<(), WriteFault>
     ensures { Writes (W.written out.old) (W.written out.new) result (run.solved_text state.now side.now) }
 {

@@ -1,4 +1,4 @@
--- A maximum flow is optimal, and so is the present state after a solve.
+-- A greatest flow is optimal, and so is the present state after a solve.
 use Rattle.std.proofs.Common.{ℕ, List, ◌≡◌, Bool, pos, arith, sym, ap, ◌∙◌, subst}
 use Rattle.std.proofs.lemmas.Int.{ints}
 use Rattle.std.proofs.lemmas.Option.{slice_get_within}

@@ -8,7 +8,7 @@ use dmf_solver::ResidualNetwork;
 use dmf_state::{Edit, State};
 use std::alloc::Global;
 
-/// The kept network, one state back. `None` if the history does not give the edit, or if the edit added an arc.
+/// The kept network, one state back. `None` if the history does not tell the edit, or if the edit added an arc.
 pub(crate) fn kept_before<H: History>(
     kept: Option<ResidualNetwork>,
     history: &H,

@@ -5,7 +5,7 @@ use dmf_solver::{
     network_has_one_smallest_side, network_has_smallest_side, solved_is_greatest,
 };
 
-/// The law that the value of a maximum flow is the capacity of a minimum cut, and so the capacity of the smallest side.
+/// The law that a greatest flow has as its value the capacity of a minimum cut, and so that of the smallest side.
 pub fn greatest_is_optimal()
     ensures { GreatestIsOptimal }
 {

@@ -66,7 +66,7 @@ impl From<AllocError> for PlanFault {
     }
 }
 
-/// Why a call does not give the smallest side of a network.
+/// Why the smallest side of a network is not told.
 #[derive(Clone, Copy, Debug, PartialEq, Eq)]
 pub enum CutFault {
     /// Some flow of the network has a larger value.

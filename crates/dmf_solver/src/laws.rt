@@ -17,7 +17,7 @@ pub fn max_flow_min_cut()
     ensures cut { MaxFlowMinCut }
 {}
 
-/// The law that a network has one smallest side: any two lists of nodes, with a capacity, that are smallest sides are equal.
+/// The law that a network has one smallest side: any two lists of nodes with a capacity that are one are the same.
 pub fn network_has_one_smallest_side()
     ensures { HasOneSmallestSide }
 {}

@@ -47,10 +47,10 @@ pub fn plan_cap(alloc: Global, state: &State, j: u64, cap: u64) -> Result<Edit, 
     plan_cap_with(alloc, state, j, cap, &mut None)
 }
 
-/// Plans the same capacity, and makes the kept network the network of the state after the edit.
+/// Plans the same capacity, and makes the kept network that of the state that the edit makes.
 ///
-/// A plan that drains uses the kept network; if none is kept, it makes one and keeps it. A plan that fails leaves the network as it is,
-/// unless it fails for want of memory: then it may drop the network, or the search that drains use.
+/// A plan that drains takes the kept network for it; where none is kept, one is made and kept. A plan that is refused leaves the
+/// network as it is, but for want of memory: then it may be dropped, or lose the search that drains use.
 pub fn plan_cap_with(
     alloc: Global,
     state: &State,
@@ -70,7 +70,7 @@ pub fn plan_cap_with(
     plan_cap_watched(alloc, state, NewCap { arc: j, cap }, kept, &mut Unwatched)
 }
 
-/// As [`plan_cap_with`]. Also reports to the watch what each path of a drain takes off.
+/// As [`plan_cap_with`]; also tells the watch what each path of a drain takes off.
 pub fn plan_cap_watched<W: Watch>(
     alloc: Global,
     state: &State,
@@ -119,7 +119,8 @@ pub fn plan_close(alloc: Global, state: &State, j: u64) -> Result<Edit, PlanFaul
     plan_close_with(alloc, state, j, &mut None)
 }
 
-/// Plans to close the same arc, and makes the kept network the network of the state after the edit, as [`plan_cap_with`] does.
+/// Plans to close the same arc, and makes the kept network that of the state that the edit makes, as
+/// [`plan_cap_with`] does.
 pub fn plan_close_with(
     alloc: Global,
     state: &State,
@@ -138,7 +139,7 @@ pub fn plan_close_with(
     plan_close_watched(alloc, state, j, kept, &mut Unwatched)
 }
 
-/// As [`plan_close_with`]. Also reports to the watch what each path of a drain takes off.
+/// As [`plan_close_with`]; also tells the watch what each path of a drain takes off.
 pub fn plan_close_watched<W: Watch>(
     alloc: Global,
     state: &State,
@@ -184,7 +185,8 @@ pub fn plan_shut(alloc: Global, state: &State, v: u64) -> Result<Edit, PlanFault
     plan_shut_with(alloc, state, v, &mut None)
 }
 
-/// Plans to close the same arcs, and makes the kept network the network of the state after the edit, as [`plan_cap_with`] does.
+/// Plans to close the same arcs, and makes the kept network that of the state that the edit makes, as
+/// [`plan_cap_with`] does.
 pub fn plan_shut_with(
     alloc: Global,
     state: &State,
@@ -203,7 +205,7 @@ pub fn plan_shut_with(
     plan_shut_watched(alloc, state, v, kept, &mut Unwatched)
 }
 
-/// As [`plan_shut_with`]. Also reports to the watch what each path of the drains takes off.
+/// As [`plan_shut_with`]; also tells the watch what each path of the drains takes off.
 pub fn plan_shut_watched<W: Watch>(
     alloc: Global,
     state: &State,

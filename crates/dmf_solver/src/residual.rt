@@ -47,7 +47,7 @@ impl Pairs for ResidualPairs<'_> {
     }
 }
 
-/// The pair of an arc with this flow, which is at most its capacity.
+/// The pair of an arc on which so much flows, at most its capacity.
 pub fn residual_pair(arc: Arc, flow: u64) -> Option<Pair>
     ensures { result ≡ residual_pair arc flow }
 {

@@ -160,7 +160,7 @@ impl ResidualNetwork {
         }
     }
 
-    /// The residual network of the state with one more arc, which carries no flow. The search for drains is dropped.
+    /// The residual network of the state with one more arc, on which nothing flows. The search for drains has to be made anew for it.
     fn with_arc(self, alloc: Global, state: &State, arc: Arc) -> Option<ResidualNetwork>
         requires network { IsNetworkOf state.now self }
         requires state { IsState (with_idle_arc state.now arc) }
@@ -178,7 +178,7 @@ impl ResidualNetwork {
         }
     }
 
-    /// The residual network of the state to which the direction leads, or `None` if the edit adds an arc.
+    /// The residual network of the state to which the direction leads, or none where the edit adds an arc.
     fn follow_along(
         self,
         state: &State,

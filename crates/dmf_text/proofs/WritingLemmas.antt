@@ -32,7 +32,7 @@ pub writes-more : {V E : Type 0} (a b c : Writer) (outcome : Result V E) (s t : 
 writes-more a b c (Ok v) s t held mark then = (Appends-trans _ _ _ s t held then.0, then.1 ∙ mark)
 writes-more a b c (Err e) s t held mark then = front-after a b c s t held then
 
--- The first part of a text was to be put, and then the rest. The first part failed,
+-- Of a text the first part was to be put, and the rest after it. The first part failed.
 pub first-failed : {V E : Type 0} (a b : Writer) (outcome : Result V E) (e : E) (text first rest : List ℕ) → outcome ≡ Err e → text ≡ first ++ rest
     → PutsFront a b first → Writes a b outcome text
 first-failed a b outcome e text first rest is split put_front =

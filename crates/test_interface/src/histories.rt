@@ -1,4 +1,4 @@
-//! Histories and sessions over them: the histories of the library, and one that a caller writes.
+//! Histories and sessions over them: those of the library, and one that a caller writes.
 use crate::networks::two_arcs;
 use dmf_net::{Edit, NoMemory, State, plan_solve};
 use dmf_session::{

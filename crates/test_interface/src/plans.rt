@@ -1,4 +1,4 @@
-//! Changes that are planned on a state, applied and reverted, and the smallest minimum cut.
+//! Changes that are planned on a state, applied and taken back, and the smallest minimum cut.
 use crate::networks::two_arcs;
 use dmf_net::{
     CutFault, Edit, Move, PlanFault, Shutting, Side, SideIds, plan_add, plan_cap, plan_close,

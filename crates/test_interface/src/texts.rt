@@ -1,4 +1,4 @@
-//! Texts: lines, fields and numbers, problems, solutions and cuts, and the sources and sinks of their bytes.
+//! Texts: lines, fields and numbers, problems, solutions and cuts, and what they are read from and written to.
 use crate::networks::two_arcs;
 use dmf_net::{Side, State, plan_solve, side_after};
 use dmf_text::{

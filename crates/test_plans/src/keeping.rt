@@ -1,4 +1,4 @@
-//! A test that a kept residual network is dropped when an arc is added.
+//! A test that a residual network that is kept is let go where an arc is added.
 use crate::networks::solved_example;
 use dmf_solver::{ResidualNetwork, plan_add};
 use std::test::Fail;

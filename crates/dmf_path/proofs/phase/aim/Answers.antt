@@ -1,4 +1,4 @@
--- All links leave. Then the labels are made to lead to the goal, or removed.
+-- All links leave. Then the labels are made to lead to the goal, or taken off.
 use Rattle.std.proofs.Common.{ℕ, ◌≡◌, ◌≤◌, true, get_or, [], refl, ap, sym, ◌∙◌, subst, arith, inl, inr}
 use Rattle.std.proofs.lemmas.List.{get_or_default}
 use Rattle.dmf_node.specs.Node.{IsNode}

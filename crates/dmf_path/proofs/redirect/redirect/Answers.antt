@@ -1,4 +1,4 @@
--- The nodes look at the links to the new goal again, and it gets the label 0.
+-- The links to the new goal are looked at again, and it gets the label 0.
 use Rattle.std.proofs.Common.{◌≤◌, ℕ, get_or, set, ap, ◌∙◌, arith}
 use Rattle.std.proofs.lemmas.List.{get_or-set_same, with_items_is}
 use Rattle.dmf_path.specs.LinkTable.{links_of}

@@ -1,4 +1,4 @@
--- The beginning of the walk, a turn that goes on, one that steps back, and the work of each.
+-- Where the walk begins, a turn that goes on, one that steps back, and what the work is each time.
 use Rattle.std.proofs.Common.{◌≡◌, ◌+◌, ◌<◌, set, get_or, refl, ap, sym, subst, ◌∙◌, arith, length}
 use Rattle.std.proofs.lemmas.List.{get_or_default}
 use Rattle.dmf_node.specs.Node.{IsNode}

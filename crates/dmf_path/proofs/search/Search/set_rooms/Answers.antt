@@ -1,4 +1,4 @@
--- The search begins anew, if it had begun, and then the rooms of one pair's links are set.
+-- The search begins anew, where it had begun, and then the rooms of one pair's links are set.
 use Rattle.std.proofs.Common.{◌≡◌, ◌<◌, true, length, refl, ap, sym, ◌∙◌, subst, arith}
 use Rattle.std.proofs.lemmas.List.{length-map}
 use Rattle.dmf_path.specs.declared.search.Search.TheInside.{Inside}
