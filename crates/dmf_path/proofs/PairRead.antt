@@ -1,4 +1,4 @@
--- Reading a pair by its place.
+-- What is read of a pair, by its place.
 use Rattle.std.proofs.Common.{ℕ, ◌≡◌, ◌≢◌, ◌<◌, List, length, get_or, refl, ◌∙◌, arith, Option, Some, None}
 use Rattle.std.specs.Prelude.{MatchOption, IsSome}
 use Rattle.std.proofs.lemmas.Bool.{eq-eqb, ne_eqb}

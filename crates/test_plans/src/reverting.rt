@@ -86,7 +86,7 @@ fn solve_by(
     Ok(kept_or_new(alloc, state, back)?)
 }
 
-/// Makes the changes that are not refused, and reverts them in the opposite order: the state before each comes back.
+/// Carries out the changes that are not refused, and takes them back in the opposite order: the state before each comes back.
 fn try_out(
     rt: &impl Abort,
     alloc: Global,
