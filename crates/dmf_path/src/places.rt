@@ -37,7 +37,7 @@ impl Iterator for Indices<'_> {
     }
 }
 
-/// Of each pair the place of its link along, or [`NO_PLACE`].
+/// The place of each pair's link along, or [`NO_PLACE`].
 #[derive(Drop)]
 pub struct Places {
     places: Vec<u32>,
