@@ -5,7 +5,7 @@ use std::alloc::Global;
 use std::test::Fail;
 use test_fixtures::{FlushCounter, NO_ARCS};
 
-/// How a session of these commands ends, and how often it flushes. Each flush fails, or none.
+/// How a session of these commands ends, and how often it flushes. Either each flush fails or none.
 fn run_counted(
     alloc: Global,
     commands: &[u8],
@@ -33,14 +33,14 @@ const SESSIONS: &[Flushed] = &[
     // comments and blank lines, and a comment that no line feed ends
     (b"c what if\n\n \t\r\nc solve", false, Ok(Status::Well), 0),
     (b"c what if\n\n \t\r\nc solve", true, Ok(Status::Well), 0),
-    // a solve, a print, a command that is refused, and an undo that no line feed ends
+    // a solve, a print, a refused command, and an undo that no line feed ends
     (
         b"c\nsolve\n\nprint flow\nsolve it\nc\nundo",
         false,
         Ok(Status::SomeRefused),
         4,
     ),
-    // the first reply is the last line that is carried out
+    // the first reply belongs to the last line that is carried out
     (
         b"c\n\nprint flow\nprint flow\n",
         true,
