@@ -68,6 +68,13 @@ impl Places {
         Places { places }
     }
 
+    /// The places in their order.
+    pub fn into_items(self) -> Vec<u32>
+        ensures { result.items ≡ self }
+    {
+        self.places
+    }
+
     /// Whether these are the same places.
     pub fn are(&self, other: &Places) -> bool
         ensures { result ≡ true → self.now ≡ other.now }
