@@ -7,7 +7,7 @@ use Rattle.dmf_path.specs.declared.grown.Gap.{Gap}
 use Rattle.dmf_path.specs.Links.{Links, LiesAt, IsLink, AreLinks, tail_of}
 use Rattle.dmf_path.specs.Grown.{shifted, new_before, IsGrown}
 use Rattle.dmf_path.specs.Shrunk.{IsFilled}
-use Rattle.dmf_path.proofs.LinkPlaces.{last-within, lies-within}
+use Rattle.dmf_path.proofs.LinkPlaces.{lies-within}
 use Rattle.dmf_path.proofs.GrownLinks.{shifted-sum, before-sum, first-before}
 
 -- A link lies before those of a node, among them, or after them.

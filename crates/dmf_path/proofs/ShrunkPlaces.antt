@@ -1,7 +1,5 @@
 -- Without the two links of a pair, and without its place, the places are those of pairs still.
-use Rattle.std.proofs.Common.{ℕ, ◌≡◌, ◌≢◌, ◌+◌, ◌^◌, ◌<◌, ◌≤◌, ◌⊎◌, List, length, get_or, refl, ap, sym, ◌∙◌, subst, arith, inl, inr}
-use Rattle.std.specs.Prelude.{min}
-use Rattle.std.proofs.lemmas.Bool.{cases_eq}
+use Rattle.std.proofs.Common.{ℕ, ◌≡◌, ◌≢◌, ◌+◌, ◌<◌, ◌⊎◌, List, length, get_or, refl, ap, sym, ◌∙◌, subst, arith, inl, inr}
 use Rattle.dmf_node.specs.Node.{IsNode}
 use Rattle.dmf_path.specs.declared.grown.Gap.{Gap}
 use Rattle.dmf_path.specs.Links.{Links, LiesAt, AreLinks, ArePlaces, IsOf, no_place}
@@ -9,7 +7,7 @@ use Rattle.dmf_path.specs.Grown.{shifted, counted, IsGrown}
 use Rattle.dmf_path.specs.Shrunk.{IsFilled, IsUnplaced}
 use Rattle.dmf_path.proofs.GrownLinks.{old, low, high, some-link}
 use Rattle.dmf_path.proofs.GrownPlaces.{was, new, some-index, counted-sum}
-use Rattle.dmf_path.proofs.ShrunkLinks.{shifted-in, in-shifted, shifted-other, shifted-one, shift-is, partner-was, partner-in, opposite-back, lies-was}
+use Rattle.dmf_path.proofs.ShrunkLinks.{shifted-in, shifted-other, shifted-one, shift-is, partner-was, opposite-back, lies-was}
 
 module _ (l : Links) (places : List ℕ) (k : ℕ) (g : Gap) (links : AreLinks l) (filled : IsFilled l (get_or places k 0) g) (n : Links)
     (grown : IsGrown g n l) (after : List ℕ) (left : IsUnplaced g k places after) (are : ArePlaces l places) (index : k < length places) where
@@ -111,7 +109,7 @@ module _ (l : Links) (places : List ℕ) (k : ℕ) (g : Gap) (links : AreLinks l
       let found = are.each q (shifted-in l (get_or places k 0) g links filled n grown p within) in
       elim (some-index k (length after) found.0 (omega (arith, index, left.long)) (omega (arith, found.1.0, left.long))) [
         | was j below same ↦ (j, of-back p j below (subst (IsOf l places q) same found.1))
-        | new same ↦ absurd (elim (of-pair q (subst (IsOf l places q) same found.1)) [ | inl at ↦ other.0 at | inr at ↦ other.1 at ])
+        | new same ↦ absurd (elim (of-pair q (subst (IsOf l places q) same found.1)) [ inl at ↦ other.0 at | inr at ↦ other.1 at ])
       ]
 
   ascends : (v p q i j : ℕ) → IsNode n.nodes v → LiesAt n v p → LiesAt n v q → p < q → IsOf n after p i → IsOf n after q j → i < j

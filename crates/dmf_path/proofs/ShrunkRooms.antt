@@ -1,6 +1,6 @@
 -- Without two links, the rooms, the flags and the pairs that are left are as they were.
-use Rattle.std.proofs.Common.{ℕ, ◌≡◌, ◌≢◌, ◌+◌, ◌^◌, ◌<◌, ◌≤◌, List, length, get_or, Some, None, refl, ap, sym, ◌∙◌, arith, inl, inr}
-use Rattle.std.specs.Prelude.{min, remove}
+use Rattle.std.proofs.Common.{ℕ, ◌≡◌, ◌≢◌, ◌+◌, ◌<◌, ◌≤◌, List, length, get_or, Some, None, refl, ap, sym, ◌∙◌, arith, inl, inr}
+use Rattle.std.specs.Prelude.{remove}
 use Rattle.std.proofs.lemmas.Bool.{cases_lt, cases_eq, lt-ltb, le-ltb, cond-true, cond-false, eq-eqb, ne_eqb}
 use Rattle.std.proofs.lemmas.List.{ext_get_or, get_or-map, length-map}
 use Rattle.std.proofs.lemmas.List.Edits.{length-remove, get_or-remove_below, get_or-remove_above}
@@ -10,9 +10,9 @@ use Rattle.dmf_path.specs.Grown.{shifted, counted, new_before, IsGrown, IsSpread
 use Rattle.dmf_path.specs.Shrunk.{without_two, AreUnshifted, IsFilled, IsUnplaced}
 use Rattle.dmf_path.proofs.GrownLinks.{old, low, high, some-link, shifted-sum}
 use Rattle.dmf_path.proofs.GrownPlaces.{counted-sum}
-use Rattle.dmf_path.proofs.ShrunkLinks.{shifted-in, shifted-other, shift-is, partner-was, partner-in, partner-kept, tail-was, head-was, opposite-back, head-low}
+use Rattle.dmf_path.proofs.ShrunkLinks.{shifted-in, partner-was, partner-in, partner-kept, tail-was, head-was, opposite-back, head-low}
 use Rattle.dmf_path.proofs.ShrunkLinks.{head-high}
-use Rattle.dmf_path.proofs.ShrunkPlaces.{place-was, was-there}
+use Rattle.dmf_path.proofs.ShrunkPlaces.{place-was}
 
 -- Where two are taken out, the others stay.
 module _ {A : Type 0} (g : Gap) (xs : List A) (d : A) (order : g.low ≤ g.high) (within : g.high + 1 < length xs) where

@@ -1,5 +1,5 @@
 //! The two links of a pair are taken out from among the others, which keep their order.
-ghost use Rattle.std.specs.Prelude.{◌≡◌, ◌≢◌, ℕ, ◌+◌, ◌<◌, ◌≤◌, length, slice_index};
+ghost use Rattle.std.specs.Prelude.{◌≡◌, ◌≢◌, ℕ, ◌+◌, ◌<◌, ◌≤◌, length, slice_index, IfSome};
 ghost use Rattle.dmf_path.specs.Links.{no_place};
 ghost use Rattle.dmf_path.specs.LinkTable.{links_of};
 ghost use Rattle.dmf_path.specs.Grown.{shifted, new_before, IsGrown};
@@ -8,7 +8,10 @@ ghost use Rattle.dmf_path.specs.Shrunk.{without_two, AreUnshifted, IsFilled, IsU
 use crate::grown::Gap;
 use crate::links::NO_PLACE;
 use crate::places::Places;
+use crate::push::Links;
 use crate::table::LinkTable;
+use std::alloc::Global;
+use std::rc::Rc;
 
 /// Finds the gap that is left when the link at a place and its opposite are taken out.
 pub fn gap_of(table: &LinkTable, place: u32) -> Gap
@@ -144,5 +147,37 @@ impl LinkTable {
             heads,
             partners,
         }
+    }
+}
+
+impl Links {
+    /// The links with their rooms, without the two that leave this gap. Takes memory for one small block. `None` if that is refused,
+    /// or if another search shares the links.
+    pub fn shrunk(self, alloc: Global, gap: &Gap) -> Option<Links>
+        requires { (place : ℕ) × IsFilled (links_of self.table.value) place gap.now }
+        ensures table { IfSome result (λ left. IsGrown gap.now (links_of left.table.value) (links_of self.table.value)) }
+        ensures rooms { IfSome result (λ left. left.rooms.items ≡ without_two gap.now self.rooms.items) }
+        ensures takes_back { IfSome result (λ left. left.takes_back ≡ self.takes_back) }
+    {
+        let Links {
+            table,
+            takes_back,
+            rooms,
+            flags,
+        } = self;
+        let Ok(before) = Rc::try_unwrap(table) else {
+            return None;
+        };
+        let Ok(table) = Rc::new(alloc, before.shrunk(gap)) else {
+            return None;
+        };
+        let rooms = gap.take_two(rooms);
+        let flags = gap.take_two(flags);
+        Some(Links {
+            table,
+            takes_back,
+            rooms,
+            flags,
+        })
     }
 }

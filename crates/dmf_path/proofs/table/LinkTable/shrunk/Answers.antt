@@ -1,7 +1,7 @@
 -- The links were grown from those that are left, which are links then.
-use Rattle.std.proofs.Common.{◌≡◌, ◌+◌, length, get_or, ap, sym, ◌∙◌, subst, arith, refl}
+use Rattle.std.proofs.Common.{◌∙◌, arith, refl}
 use Rattle.std.proofs.lemmas.List.{with_items_is}
-use Rattle.dmf_path.specs.Links.{Links, AreLinks}
+use Rattle.dmf_path.specs.Links.{Links}
 use Rattle.dmf_path.specs.LinkTable.{links_of}
 use Rattle.dmf_path.specs.Grown.{IsGrown}
 use Rattle.dmf_path.proofs.ShrunkLinks.{before-first, AreLinks-shrunk}
@@ -33,14 +33,18 @@ pub invariant_of-result : goal.invariant_of-result
 invariant_of-result c =
     let at = (goal.at.invariant_of-result c).After-unshift in
     let self = c.args.self in
-    rw (with_items_is self.first c.unshift_first.new.first (c.unshift_first.auto.first ∙ c.deref_mut.ensures.len),
-        with_items_is c.take_two-partners.result c.unshift.new.places (c.unshift.auto.places ∙ c.deref_mut-2.ensures.len))
+    rw (
+      with_items_is self.first c.unshift_first.new.first (c.unshift_first.auto.first ∙ c.deref_mut.ensures.len),
+      with_items_is c.take_two-partners.result c.unshift.new.places (c.unshift.auto.places ∙ c.deref_mut-2.ensures.len),
+    )
     (record { are = AreLinks-shrunk (links_of self) c.requires.0 c.args.gap.now self.are c.requires.1 (left at) (were at) })
 
 pub returns : goal.returns
 returns c =
     let at = (goal.at.returns c).After-unshift in
     let self = c.args.self in
-    rw (with_items_is self.first c.unshift_first.new.first (c.unshift_first.auto.first ∙ c.deref_mut.ensures.len),
-        with_items_is c.take_two-partners.result c.unshift.new.places (c.unshift.auto.places ∙ c.deref_mut-2.ensures.len))
+    rw (
+      with_items_is self.first c.unshift_first.new.first (c.unshift_first.auto.first ∙ c.deref_mut.ensures.len),
+      with_items_is c.take_two-partners.result c.unshift.new.places (c.unshift.auto.places ∙ c.deref_mut-2.ensures.len),
+    )
     (were at)
