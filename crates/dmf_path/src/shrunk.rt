@@ -1,16 +1,14 @@
 //! The two links of a pair are taken out from among the others, which keep their order.
-ghost use Rattle.std.specs.Prelude.{◌≡◌, ◌≢◌, ℕ, ◌+◌, ◌<◌, ◌≤◌, length, slice_index, IfSome};
+ghost use Rattle.std.specs.Prelude.{◌≡◌, ◌≢◌, ℕ, ◌+◌, ◌<◌, ◌≤◌, true, length, slice_index, IfSome};
 ghost use Rattle.dmf_path.specs.Links.{no_place};
 ghost use Rattle.dmf_path.specs.LinkTable.{links_of};
 ghost use Rattle.dmf_path.specs.Grown.{shifted, new_before, IsGrown};
-ghost use Rattle.dmf_path.specs.Shrunk.{without_two, AreUnshifted, IsFilled, IsUnplaced};
+ghost use Rattle.dmf_path.specs.Shrunk.{without_two, AreUnshifted, IsFilled};
 
 use crate::grown::Gap;
 use crate::links::NO_PLACE;
-use crate::places::Places;
 use crate::push::Links;
 use crate::table::LinkTable;
-use std::alloc::Global;
 use std::rc::Rc;
 
 /// Finds the gap that is left when the link at a place and its opposite are taken out.
@@ -80,7 +78,7 @@ impl Gap {
     }
 
     /// The same of the place of each pair.
-    fn unshift_places(&self, places: &mut [u32])
+    pub fn unshift_places(&self, places: &mut [u32])
         requires { self.now.low ≤ self.now.high }
         ensures none { (i : ℕ) → i < length places.old → slice_index places.old i ≡ no_place → slice_index places.new i ≡ no_place }
         ensures some { (i p : ℕ) → i < length places.old → slice_index places.old i ≢ no_place
@@ -101,78 +99,63 @@ impl Gap {
         }
     }
 
-    /// Takes out what is kept of the two links. Takes no memory.
-    pub fn take_two<T: Copy + Drop>(&self, mut items: Vec<T>) -> Vec<T>
+    /// Takes out what is kept of the two links.
+    pub fn take_two<T: Copy + Drop>(&self, items: &mut Vec<T>)
         requires order { self.now.low ≤ self.now.high }
-        requires within { self.now.high + 1 < length items.items }
-        ensures { result.items ≡ without_two self.now items.items }
+        requires within { self.now.high + 1 < length items.old.items }
+        ensures { items.new.items ≡ without_two self.now items.old.items }
     {
         let _ = items.remove(self.high as usize + 1);
         let _ = items.remove(self.low as usize);
-        items
-    }
-
-    /// The places of the pairs, once the two links of the pair at index `k` are taken out. Takes no memory.
-    pub fn left_places(&self, places: Places, k: usize) -> Places
-        requires order { self.now.low ≤ self.now.high }
-        requires index { k < length places }
-        ensures { IsUnplaced self.now k places result }
-    {
-        let mut left = places.into_items();
-        let _ = left.remove(k);
-        self.unshift_places(&mut left);
-        Places::new(left)
     }
 }
 
 impl LinkTable {
-    /// The links without the two that leave this gap. Takes no memory.
-    pub fn shrunk(self, gap: &Gap) -> LinkTable
-        requires { (place : ℕ) × IsFilled (links_of self) place gap.now }
-        ensures { IsGrown gap.now (links_of result) (links_of self) }
+    /// Takes out the two links that leave this gap. Takes no memory.
+    pub fn shrink(&mut self, gap: &Gap)
+        requires { (place : ℕ) × IsFilled (links_of self.old) place gap.now }
+        ensures { IsGrown gap.now (links_of self.new) (links_of self.old) }
     {
-        let LinkTable {
-            nodes,
-            mut first,
-            heads,
-            partners,
-        } = self;
-        gap.unshift_first(&mut first);
-        let heads = gap.take_two(heads);
-        let mut partners = gap.take_two(partners);
-        gap.unshift(&mut partners);
-        LinkTable {
-            nodes,
-            first,
-            heads,
-            partners,
+        gap.unshift_first(&mut self.first);
+        gap.take_two(&mut self.heads);
+        gap.take_two(&mut self.partners);
+        gap.unshift(&mut self.partners);
+    }
+}
+
+/// Takes the two links that leave this gap out of a table. If others have the table too, the answer is `false`, and it stays as it is.
+fn shrink_own(table: &mut Rc<LinkTable>, gap: &Gap) -> bool
+    requires { (place : ℕ) × IsFilled (links_of table.old.value) place gap.now }
+    ensures { result ≡ true → IsGrown gap.now (links_of table.new.value) (links_of table.old.value) }
+{
+    match Rc::get_mut(table) {
+        Some(own) => {
+            own.shrink(gap);
+            true
         }
+        None => false,
     }
 }
 
 impl Links {
-    /// The links with their rooms, without the two that leave this gap. Takes memory for one small block. `None` if that is refused,
-    /// or if another search shares the links.
-    pub fn shrunk(self, alloc: Global, gap: &Gap) -> Option<Links>
+    /// The links with their rooms, without the two that leave this gap. `None` if another search has the same links. Takes no memory.
+    pub fn shrunk(self, gap: &Gap) -> Option<Links>
         requires { (place : ℕ) × IsFilled (links_of self.table.value) place gap.now }
         ensures table { IfSome result (λ left. IsGrown gap.now (links_of left.table.value) (links_of self.table.value)) }
         ensures rooms { IfSome result (λ left. left.rooms.items ≡ without_two gap.now self.rooms.items) }
         ensures takes_back { IfSome result (λ left. left.takes_back ≡ self.takes_back) }
     {
         let Links {
-            table,
+            mut table,
             takes_back,
-            rooms,
-            flags,
+            mut rooms,
+            mut flags,
         } = self;
-        let Ok(before) = Rc::try_unwrap(table) else {
+        if !shrink_own(&mut table, gap) {
             return None;
-        };
-        let Ok(table) = Rc::new(alloc, before.shrunk(gap)) else {
-            return None;
-        };
-        let rooms = gap.take_two(rooms);
-        let flags = gap.take_two(flags);
+        }
+        gap.take_two(&mut rooms);
+        gap.take_two(&mut flags);
         Some(Links {
             table,
             takes_back,

@@ -161,20 +161,15 @@ impl ResidualNetwork {
     }
 
     /// The residual network of the state before an edit that stands in this one, also where it added an arc: then the links of the arc
-    /// are taken out from among the others. That takes memory for small blocks, and time for each link. There is no network where memory
-    /// is refused, or where the arc begins and ends at one node.
-    pub fn follow_back_any(
-        self,
-        alloc: Global,
-        state: &State,
-        edit: &Edit,
-    ) -> Option<ResidualNetwork>
+    /// are taken out from among the others, which takes time for each link. Takes no memory. There is no network where the arc begins and
+    /// ends at one node.
+    pub fn follow_back_any(self, state: &State, edit: &Edit) -> Option<ResidualNetwork>
         requires network { IsNetworkOf state.now self }
         requires stands { Stands edit.now state.now }
         ensures { IfSome result (IsNetworkOf (reverted edit.now state.now)) }
     {
         match *edit {
-            Edit::Add { .. } => self.without_last_arc(alloc, state),
+            Edit::Add { .. } => self.without_last_arc(state),
             _ => self.follow_back(state, edit),
         }
     }
@@ -198,7 +193,7 @@ impl ResidualNetwork {
     }
 
     /// The residual network of the state without its last arc, on which nothing flows. The search for drains has to be made anew for it.
-    fn without_last_arc(self, alloc: Global, state: &State) -> Option<ResidualNetwork>
+    fn without_last_arc(self, state: &State) -> Option<ResidualNetwork>
         requires network { IsNetworkOf state.now self }
         requires last { HasIdleLast state.now }
         ensures { IfSome result (IsNetworkOf (without_last state.now)) }
@@ -210,7 +205,7 @@ impl ResidualNetwork {
         } = self;
         // It has the same links, and they are taken out in place.
         drop(carrying);
-        let search = search.remove(alloc)?;
+        let search = search.remove()?;
         Some(ResidualNetwork {
             search,
             carrying: None,

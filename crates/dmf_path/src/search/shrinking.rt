@@ -1,15 +1,16 @@
 //! A pair is taken out of a search.
-ghost use Rattle.std.specs.Prelude.{◌≡◌, ◌-◌, ◌≤◌, length, remove, IfSome};
+ghost use Rattle.std.specs.Prelude.{◌≡◌, ◌-◌, ◌<◌, ◌≤◌, length, remove, IfSome};
 ghost use Rattle.dmf_path.specs.Links.{ArePlaces, pairs_at};
 ghost use Rattle.dmf_path.specs.LinkTable.{links_of};
 ghost use Rattle.dmf_path.specs.Search.{with_pairs};
+ghost use Rattle.dmf_path.specs.Shrunk.{IsUnplaced};
 
+use crate::grown::Gap;
 use crate::phase::begin_anew;
 use crate::places::Places;
 use crate::push::Links;
 use crate::search::Search;
 use crate::shrunk::gap_of;
-use std::alloc::Global;
 use std::rc::Rc;
 
 /// The links of the pairs that are left, and their places.
@@ -20,10 +21,10 @@ struct Shrunk {
 }
 
 impl Search {
-    /// The search without the pair before the last one, as it was before [`insert`](Search::insert). It takes memory for two small
-    /// blocks, and time for writing all links once in their order. Labelling begins anew. `None` where there is no pair at that index,
-    /// where another search has the same links, or where memory is refused.
-    pub fn remove(self, alloc: Global) -> Option<Search>
+    /// The search without the pair before the last one, as it was before [`insert`](Search::insert). It takes no memory, and time for
+    /// writing all links once in their order. Labelling begins anew. `None` where there is no pair at that index, or where another
+    /// search has the same links.
+    pub fn remove(self) -> Option<Search>
         requires { 2 ≤ length self.pairs }
         ensures { IfSome result (λ search. search ≡ with_pairs self (remove self.pairs (length self.pairs - 2))) }
     {
@@ -35,7 +36,7 @@ impl Search {
             ..
         } = self;
         begin_anew(&mut links, &mut levels, &mut trail);
-        let shrunk = shrink(alloc, links, places)?;
+        let shrunk = shrink(links, places)?;
         let levels = levels.over(&shrunk.links.table);
         Some(Search {
             links: shrunk.links,
@@ -49,7 +50,7 @@ impl Search {
 }
 
 /// The links of the pairs at these places, without those of the pair before the last one.
-fn shrink(alloc: Global, links: Links, places: Rc<Places>) -> Option<Shrunk>
+fn shrink(links: Links, places: Rc<Places>) -> Option<Shrunk>
     requires places { ArePlaces (links_of links.table.value) places.value }
     requires two { 2 ≤ length places.value }
     ensures nodes { IfSome result (λ left. left.links.table.value.nodes ≡ links.table.value.nodes) }
@@ -62,12 +63,17 @@ fn shrink(alloc: Global, links: Links, places: Rc<Places>) -> Option<Shrunk>
     let k = places.len() - 2;
     let place = places.place_of(k)?;
     let gap = gap_of(&links.table, place);
-    let links = links.shrunk(alloc, &gap)?;
-    let Ok(before) = Rc::try_unwrap(places) else {
-        return None;
-    };
-    let Ok(places) = Rc::new(alloc, gap.left_places(before, k)) else {
-        return None;
-    };
+    let links = links.shrunk(&gap)?;
+    let places = places_left(places, k, &gap)?;
     Some(Shrunk { links, places })
+}
+
+/// The places of the pairs but for that at index `k`, whose two links leave this gap. `None` if others have these places too.
+fn places_left(mut places: Rc<Places>, k: usize, gap: &Gap) -> Option<Rc<Places>>
+    requires index { k < length places.value }
+    requires order { gap.now.low ≤ gap.now.high }
+    ensures { IfSome result (λ left. IsUnplaced gap.now k places.value left.value) }
+{
+    Rc::get_mut(&mut places)?.leave_out(k, gap);
+    Some(places)
 }
