@@ -22,6 +22,7 @@ use std::rc::Rc;
 
 mod growing;
 mod making;
+mod shrinking;
 
 pub use making::Ends;
 

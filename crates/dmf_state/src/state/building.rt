@@ -4,10 +4,10 @@ ghost use Rattle.std.specs.Prelude.{IfOk, OnOk, OnErr, IsErrOf, IsOkUnless, Matc
 ghost use Rattle.std.specs.Result.{result_err};
 ghost use Rattle.dmf_node.specs.Node.{is_node};
 ghost use Rattle.dmf_state.specs.Arc.{open_arc};
-ghost use Rattle.dmf_state.specs.FlowSums.{IsNodeFlow};
-ghost use Rattle.dmf_state.specs.FlowFault.{flow_fault};
-ghost use Rattle.dmf_state.specs.NetworkState.{IsState, with_flows, with_idle_arc};
 ghost use Rattle.dmf_state.specs.ArcFault.{arc_fault, net_fault};
+ghost use Rattle.dmf_state.specs.FlowFault.{flow_fault};
+ghost use Rattle.dmf_state.specs.FlowSums.{IsNodeFlow};
+ghost use Rattle.dmf_state.specs.NetworkState.{IsState, with_flows, with_idle_arc};
 
 use crate::arc::Arc;
 use crate::fault::{ArcFault, FlowFault, NetFault, NoMemory};
