@@ -74,7 +74,8 @@ module _ (l : Links) (place : ℕ) (g : Gap) (links : AreLinks l) (filled : IsFi
       → (get_or l.partners q 0 ≢ g.low) × (get_or l.partners q 0 ≢ g.high + 1)
   partner-kept q within low high =
       let back = (links.each q within).partner_back in
-      (λ same. high (sym back ∙ ap (λ r. get_or l.partners r 0) same ∙ filled.opposite), λ same. low (sym back ∙ ap (λ r. get_or l.partners r 0) same ∙ opposite-back))
+      (λ same. high (sym back ∙ ap (λ r. get_or l.partners r 0) same ∙ filled.opposite),
+      λ same. low (sym back ∙ ap (λ r. get_or l.partners r 0) same ∙ opposite-back))
 
   module _ (n : Links) (grown : IsGrown g n l) where
     pub shifted-in : (p : ℕ) → p < length n.heads → shifted g p < length l.heads

@@ -198,7 +198,8 @@ overflow_add-current c =
 
 -- a turn steps back to the tail of the last link
 back_to : (c : After-end_node-node-else-place-end)
-    → c.end_node-node-else-place-end.result ≡ tail_of (residual_of c.loop-node.links).links (slot_at c.loop-node.trail.slots.items (c.loop-node.trail.walked - 1)).place
+    → c.end_node-node-else-place-end.result
+    ≡ tail_of (residual_of c.loop-node.links).links (slot_at c.loop-node.trail.slots.items (c.loop-node.trail.walked - 1)).place
 back_to c =
     let t = turn (goal.at.bounds-current-node-else-place-end c).After-first_admissible-place in
     let some : 0 < c.loop-node.trail.walked = omega (arith, c.if-trail-eq0.false) in
