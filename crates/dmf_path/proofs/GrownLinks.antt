@@ -24,6 +24,7 @@ one-before u v = elim (cases_lt u v) [
   | inr from ↦ cond-false _ _ _ (le-ltb u v from) ∙ omega arith
 ]
 
+-- Before a node's links there is one new link for each of the two nodes that come earlier.
 pub before-sum : (g : Gap) (v : ℕ) → new_before g v ≡ min 1 (v - g.low_node) + min 1 (v - g.high_node)
 before-sum g v = λ i. one-before g.low_node v i + one-before g.high_node v i
 

@@ -24,6 +24,7 @@ use Rattle.dmf_state.specs.Laws.{HasOneBefore, GivesBack}
 take-push : {A : Type 0} (xs : List A) (x : A) → take (length (xs ++ x ∷ []) - 1) (xs ++ x ∷ []) ≡ xs
 take-push xs x = take_at xs (x ∷ []) (length (xs ++ x ∷ []) - 1) (omega (arith, length_push xs x))
 
+-- Without its new arc, a state is as it was.
 pub without_last-idle : (s : NetworkState) (arc : Arc) → without_last (with_idle_arc s arc) ≡ s
 without_last-idle s arc =
     let arcs = take-push s.network.arcs arc in

@@ -117,6 +117,7 @@ decimal-field n small = record {
   all = plain-digits (decimal n) (decimal_is_IsNumeral n small).0.1;
 }
 
+-- A decimal number is read as the number.
 pub number_of-decimal : (n : ℕ) → n < 2 ^ 64 → number_of (decimal n) ≡ Ok n
 number_of-decimal n small =
     let numeral = decimal_is_IsNumeral n small in

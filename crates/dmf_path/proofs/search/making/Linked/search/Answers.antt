@@ -42,7 +42,7 @@ invariant_of-result c =
     let current : AreCurrent l c.make_fresh.new.levels.current.items = subst (AreCurrent l) (sym (ap (λ v. v.items) m.current)) first in (
       ((table.nodes, m.ready), tt, λ e. let no = m.all in absurd (cc)),
       search-new (residual at) c.args.self.places.value (labelling_of c.make_fresh.new.levels) (way at) (way_of c.make_fresh.new.trail)
-      table.are c.requires.places
+          table.are c.requires.places
           c.requires.rooms m.labels current c.requires.start c.requires.goal c.requires.apart
           (omega (arith, rw c.deref-8.ensures at c.in_ok-slots.ensures.capacity)) (omega arith) m.way,
     )
