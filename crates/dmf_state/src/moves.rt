@@ -47,7 +47,9 @@ impl Direction {
 /// Moves that are made, or taken back.
 #[derive(Clone, Copy)]
 pub struct Moving<'a> {
+    /// The moves, in the order of their arcs.
     pub moves: &'a [Move],
+    /// Whether they are made or taken back.
     pub direction: Direction,
 }
 
