@@ -5,7 +5,7 @@ use Rattle.dmf_path.specs.declared.levels.Levels.{Levels}
 use Rattle.dmf_path.specs.declared.frontier.Frontier.{Frontier}
 use Rattle.dmf_path.specs.Labels.{no_label, AreQueued}
 use Rattle.dmf_path.specs.Frontier.{IsClean}
-use Rattle.dmf_path.specs.BothEnds.{AreSound}
+use Rattle.dmf_path.specs.BothEnds.{AreSound, AreWhole}
 use Rattle.dmf_node.specs.Node.{IsNode}
 use Rattle.dmf_path.specs.Links.{Links, LiesAt, AreLinks, ArePlaces, AreRooms, pairs_at}
 use Rattle.dmf_path.specs.Walk.{AreCurrent, ArePassed, AreSkipped, IsTrail, IsWalking, end_of}
@@ -72,9 +72,9 @@ pub record IsSearching (r : Residual) (v : Labelling) (w : Way) : Type 0 where
 abbrev pub MaySkip : Bool → Residual → List ℕ → List ℕ → Type 0
 MaySkip stepped_back r labels current = stepped_back ≡ false → AreSkipped r.links labels r.rooms current
 
--- Labels that another search may keep: they are sound whatever its start is, and it knows which links are passed.
+-- Labels that another search may keep: they are valid whatever its start is, and it knows which links are passed.
 pub record AreLasting (v : Labelling) (stepped_back : Bool) (r : Residual) : Type 0 where
-  pub sound : AreSound r.links v.labels r.rooms no_label
+  pub whole : AreWhole r.links v.labels r.rooms
   pub skipped : MaySkip stepped_back r v.labels v.current
 
 -- They lead to this goal, so that a search from any node with a label may take them up.

@@ -9,7 +9,7 @@ use Rattle.dmf_path.specs.Held.{way_of}
 use Rattle.dmf_path.specs.Residual.{Residual, residual_of}
 use Rattle.dmf_path.specs.Searching.{Sought, labelling_of, begun, fresh, AreLasting, AreKeptFor, IsAimed, IsReady, IsSearching}
 use Rattle.dmf_path.proofs.Beginning.{ready-at}
-use Rattle.dmf_path.proofs.Labelled.{sound-below}
+use Rattle.dmf_path.proofs.Labelled.{sound-below, sound-whole}
 use Rattle.dmf_path.proofs.Settling.{can-settle}
 use Rattle.dmf_path.proofs.SearchTurns.{plainly, searching-settled, searching-free, searching-anew, sought-free, told-settled}
 use Rattle.dmf_path.proofs.phase.aim.Goals as goal
@@ -45,6 +45,7 @@ redirect-requires c =
         passed = subst (λ (x : Residual). ArePassed next.links v.labels x.rooms mid.goal v.current)
             (told-settled (way_of c.args.trail.now) next mid e.way) is.under_way.walking.passed;
       };
+      from = is.aimed.goal_is;
       start = node at c.args.start c.requires.start;
       goal = node at c.args.goal c.requires.goal;
       apart = c.requires.apart;
@@ -57,7 +58,7 @@ kept : (c : After-redirect) → c.redirect.result ≡ true
 kept c can =
     let k = c.redirect.ensures.kept can in (
       k,
-      elim (k.lasting.sound.small.1 c.args.start (node (goal.at.After-redirect c).After-settle c.args.start c.requires.start)) [
+      elim (k.lasting.whole.small.1 c.args.start (node (goal.at.After-redirect c).After-settle c.args.start c.requires.start)) [
         | inl none ↦ absurd (c.redirect.ensures.labelled can none)
         | inr small ↦ small
       ],
@@ -69,7 +70,7 @@ read c can =
     let k = c.redirect.ensures.kept can in
     let start = node (goal.at.After-index c).After-settle c.args.start c.requires.start in
     c.index.ensures ∙ sym (get_or_default c.redirect.new.levels.near.labels.items c.args.start 0 _
-    (omega (arith, k.lasting.sound.small.0, start.to_last)))
+    (omega (arith, k.lasting.whole.small.0, start.to_last)))
 
 pub free-requires : goal.free-requires
 free-requires c =
@@ -91,10 +92,10 @@ returns-then-redirect c =
     let k = both.0 in
     let aimed : IsAimed (plainly next w) v.labels w.capacity = record {
       links = is.aimed.links;
-      one_label_each = k.lasting.sound.small.0;
+      one_label_each = k.lasting.whole.small.0;
       start_label = both.1;
       sound = sound-below next.links v.labels next.rooms (get_or v.labels c.args.start 0) no_label (omega (arith, both.1, is.aimed.links.at_most_nodes))
-          k.lasting.sound;
+          (sound-whole next.links v.labels next.rooms is.aimed.links k.lasting.whole);
       start_is = node at c.args.start c.requires.start;
       goal_is = node at c.args.goal c.requires.goal;
       apart = c.requires.apart;

@@ -119,7 +119,7 @@ invariant_of-self-2 c =
       refl,
       subst (λ (s : Sought). AreLasting v levels.stepped_back s.residual) (sym on.same)
           (lasting-opens v levels.stepped_back (told (residual_of c.find.new.links) (way_of c.find.new.trail)) sent.rooms
-          c.find.ensures.searching.aimed.links opens (c.find.ensures.lasting all)),
+          opens (c.find.ensures.lasting all)),
     ) in
     let of = c.self.inside in (
       (c.find.ensures.ready, subst (λ l. MayBeNumbered l of.places.value of.numbers) (sym links) c.self.invariant.0.1, kept),

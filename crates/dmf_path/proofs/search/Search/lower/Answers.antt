@@ -90,8 +90,7 @@ invariant_of-self c =
       was.0,
       subst (AreLasting (labelling_of of.levels) of.levels.stepped_back) (sym low.told_is)
           (lasting-opens (labelling_of of.levels) of.levels.stepped_back (told (residual_of c.release.new.links) (way_of c.release.new.trail))
-          low.rooms c.release.ensures.searching.aimed.links
-          low.opens (lasting (labelling_of of.levels) of.levels.stepped_back (sought (residual_of c.release.new.links) (way_of c.release.new.trail))
+          low.rooms low.opens (lasting (labelling_of of.levels) of.levels.stepped_back (sought (residual_of c.release.new.links) (way_of c.release.new.trail))
           (sought (residual_of of.links) (way_of of.trail)) c.release.ensures.same was.1)),
     ) in
     let marked = same-mark (residual_of of.links) (labelling_of of.levels) (way_of of.trail) (residual_of c.release.new.links)
