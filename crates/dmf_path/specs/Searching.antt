@@ -1,6 +1,7 @@
 -- What a search keeps.
 -- Private: only contracts inside the crate and proofs use this.
-use Rattle.std.specs.Prelude.{ℕ, ◌≡◌, ◌≢◌, ◌+◌, ◌^◌, ◌<◌, ◌≤◌, ◌⊎◌, Bool, true, false, List, length, replicate, slice_index, slice_set, vec_capacity}
+use Rattle.std.specs.Prelude.{ℕ, ◌≡◌, ◌≢◌, ◌+◌, ◌^◌, ◌<◌, ◌≤◌, ◌⊎◌, Bool, true, false, List, length, replicate, slice_index, slice_set, vec_capacity, Option, IfSome}
+use Rattle.dmf_path.specs.declared.aside.Aside.{Aside}
 use Rattle.dmf_path.specs.declared.levels.Levels.{Levels}
 use Rattle.dmf_path.specs.declared.frontier.Frontier.{Frontier}
 use Rattle.dmf_path.specs.Labels.{no_label, AreQueued}
@@ -120,6 +121,18 @@ pub record IsReady (nodes : ℕ) (near far : Frontier) : Type 0 where
 -- So they can, whatever the number of nodes is.
 abbrev pub AreReady : Levels → Type 0
 AreReady v = (nodes : ℕ) × IsReady nodes v.near v.far
+
+-- Labels that a search may take up in this residual network: they can be taken off, and if all nodes from which paths lead to the goal
+-- have one, they lead there.
+pub record AreUsable (levels : Levels) (r : Residual) (goal : ℕ) : Type 0 where
+  pub ready : IsReady r.links.nodes levels.near levels.far
+  pub goal_is : IsNode r.links.nodes goal
+  pub current_is : AreCurrent r.links levels.current.items
+  pub kept : levels.all ≡ true → AreKeptFor (labelling_of levels) levels.stepped_back r goal
+
+-- Those that are set aside are so for the goal that they had, and no room rises.
+abbrev pub AreAside : Option Aside → Residual → Type 0
+AreAside aside r = IfSome aside (λ a. (r.takes_back ≡ false) × AreUsable a.levels r a.ends.goal)
 
 -- What a search keeps: the places of the pairs, what it has between two paths, and whether it has not begun.
 pub record IsSearch (r : Residual) (places : List ℕ) (v : Labelling) (w : Way) (is_fresh : Bool) : Type 0 where

@@ -45,6 +45,7 @@ impl Search {
             places: grown.places,
             numbers: None,
             levels,
+            aside: None,
             trail,
             is_fresh: true,
         })

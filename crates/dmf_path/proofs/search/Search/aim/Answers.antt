@@ -12,6 +12,7 @@ aim-self-inside-requires c = record {
   searching = c.self.invariant.1.searching;
   ready = c.self.invariant.0.0;
   lasting = λ all. (c.self.invariant.0.2 all).1;
+  aside = c.self.invariant.0.3;
   start = rw (← c.self.view_is) at c.requires.start;
   goal = rw (← c.self.view_is) at c.requires.goal;
   apart = c.requires.apart;
@@ -22,7 +23,7 @@ invariant_of-self c =
     let of = c.self.inside in
     let e = c.aim-self-inside.ensures in
     let links = ap (λ (s : Sought). s.residual.links) e.same in (
-      (e.ready, subst (λ l. MayBeNumbered l of.places.value of.numbers) (sym links) c.self.invariant.0.1, e.kept),
+      (e.ready, subst (λ l. MayBeNumbered l of.places.value of.numbers) (sym links) c.self.invariant.0.1, e.kept, e.aside),
       search-next (residual_of of.links) of.places.value (labelling_of of.levels) (way_of of.trail) (residual_of c.aim-self-inside.new.links)
           (labelling_of c.aim-self-inside.new.levels) (way_of c.aim-self-inside.new.trail) of.is_fresh c.aim-self-inside.result
           c.self.invariant.1 links e.searching e.marked,

@@ -28,7 +28,7 @@ invariant_of-result c =
     let at_first : AreCurrent next.links current = rw c.deref-2.ensures at o.current in
     let found = search-over r v w next places current e.searching e.fresh c.in_ok-grown.ensures.nodes links.table.value.are c.in_ok-grown.ensures.places
     links.rooms_are at_first in (
-      (rw (o.near, o.far) e.ready, tt, λ all. let no = o.all ∙ e.all in absurd (cc)),
+      (rw (o.near, o.far) e.ready, tt, λ all. let no = o.all ∙ e.all in absurd (cc), tt),
       subst (λ (labels : List ℕ). IsSearch next places (record { labels = labels; current = current }) w true)
           (ap (λ near. near.labels.items) (sym o.near)) found,
     )
