@@ -1,6 +1,7 @@
 -- What a search keeps.
 -- Private: only contracts inside the crate and proofs use this.
-use Rattle.std.specs.Prelude.{ℕ, ◌≡◌, ◌≢◌, ◌+◌, ◌^◌, ◌<◌, ◌≤◌, ◌⊎◌, Bool, true, false, List, length, replicate, slice_index, slice_set, vec_capacity, Option, IfSome}
+use Rattle.std.specs.Prelude.{ℕ, ◌≡◌, ◌≢◌, ◌+◌, ◌^◌, ◌<◌, ◌≤◌, ◌⊎◌, Bool, true, false, List, length, replicate, slice_index, slice_set, vec_capacity}
+use Rattle.std.specs.List.{All}
 use Rattle.dmf_path.specs.declared.aside.Aside.{Aside}
 use Rattle.dmf_path.specs.declared.levels.Levels.{Levels}
 use Rattle.dmf_path.specs.declared.frontier.Frontier.{Frontier}
@@ -131,8 +132,8 @@ pub record AreUsable (levels : Levels) (r : Residual) (goal : ℕ) : Type 0 wher
   pub kept : levels.all ≡ true → AreKeptFor (labelling_of levels) levels.stepped_back r goal
 
 -- Those that are set aside are so for the goal that they had, and no room rises.
-abbrev pub AreAside : Option Aside → Residual → Type 0
-AreAside aside r = IfSome aside (λ a. (r.takes_back ≡ false) × AreUsable a.levels r a.ends.goal)
+abbrev pub AreAside : List Aside → Residual → Type 0
+AreAside asides r = All (λ a. (r.takes_back ≡ false) × AreUsable a.levels r a.ends.goal) asides
 
 -- What a search keeps: the places of the pairs, what it has between two paths, and whether it has not begun.
 pub record IsSearch (r : Residual) (places : List ℕ) (v : Labelling) (w : Way) (is_fresh : Bool) : Type 0 where

@@ -31,26 +31,15 @@ impl Ends {
     }
 }
 
-/// Exchanges the labels in use for those set aside, if they were used between ends that share none with the next ones. Answers the ends
-/// between which the labels that are in use then were used.
-pub fn take_up(aside: &mut Option<Aside>, levels: &mut Levels, used: Ends, next: Ends) -> Ends
-    ensures { (r : Residual) → AreUsable levels.old r used.goal → AreAside aside.old r → AreUsable levels.new r result.goal × AreAside aside.new r }
+/// Exchanges the labels in use for the first ones set aside, if they were used between ends that share none with the next ones. Answers
+/// the ends between which the labels that are in use then were used.
+pub fn take_up(asides: &mut [Aside], levels: &mut Levels, used: Ends, next: Ends) -> Ends
+    ensures { (r : Residual) → AreUsable levels.old r used.goal → AreAside asides.old r → AreUsable levels.new r result.goal × AreAside asides.new r }
 {
-    if used.share_one(next) {
+    if asides.is_empty() || used.share_one(next) {
         return used;
     }
-    let Some(aside) = aside else {
-        return used;
-    };
+    let aside = &mut asides[0];
     swap(&mut aside.levels, levels);
     replace(&mut aside.ends, used)
-}
-
-/// Marks the labels that are set aside as dropped, so that they are taken off before they are used again: rooms may have risen.
-pub fn forget(aside: &mut Option<Aside>)
-    ensures { (r next : Residual) → next.links ≡ r.links → next.takes_back ≡ r.takes_back → AreAside aside.old r → AreAside aside.new next }
-{
-    if let Some(aside) = aside {
-        aside.levels.all = false;
-    }
 }

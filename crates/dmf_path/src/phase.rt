@@ -97,21 +97,21 @@ pub fn begin_anew(links: &mut Links, levels: &mut Levels, trail: &mut Trail)
 pub fn aim(
     links: &mut Links,
     levels: &mut Levels,
-    aside: &mut Option<Aside>,
+    asides: &mut [Aside],
     trail: &mut Trail,
     ends: Ends,
 ) -> bool
     requires searching { IsSearching (residual_of links.old) (labelling_of levels.old) (way_of trail.old) }
     requires ready { AreReady levels.old }
     requires lasting { MayLast levels.old (told (residual_of links.old) (way_of trail.old)) }
-    requires aside { AreAside aside.old (told (residual_of links.old) (way_of trail.old)) }
+    requires asides { AreAside asides.old (told (residual_of links.old) (way_of trail.old)) }
     requires start { IsNode links.old.table.value.nodes ends.start }
     requires goal { IsNode links.old.table.value.nodes ends.goal }
     requires apart { ends.start ≢ ends.goal }
     ensures searching { IsSearching (residual_of links.new) (labelling_of levels.new) (way_of trail.new) }
     ensures ready { AreReady levels.new }
     ensures kept { AreKept levels.new result (told (residual_of links.new) (way_of trail.new)) }
-    ensures aside { AreAside aside.new (told (residual_of links.new) (way_of trail.new)) }
+    ensures asides { AreAside asides.new (told (residual_of links.new) (way_of trail.new)) }
     ensures marked { IsMarked (links_of links.new.table.value) levels.new.near.labels.items trail.new.start result }
     ensures same { sought (residual_of links.new) (way_of trail.new)
         ≡ record { residual = told (residual_of links.old) (way_of trail.old); start = ends.start; goal = ends.goal } }
@@ -121,7 +121,7 @@ pub fn aim(
         start: trail.start,
         goal: trail.goal,
     };
-    let used = take_up(aside, levels, before, ends);
+    let used = take_up(asides, levels, before, ends);
     levels.again = used.share_one(ends);
     trail.start = ends.start;
     trail.goal = ends.goal;

@@ -7,7 +7,7 @@ ghost use Rattle.dmf_path.specs.Search.{Augments, HasAlong, along_at, against_at
 ghost use Rattle.dmf_path.specs.Search.{aimed, lowered_along, with_rooms, with_pairs};
 ghost use Rattle.dmf_path.specs.Touched.{AreBelow, Touches};
 
-use crate::aside::{Aside, Ends, forget};
+use crate::aside::{Aside, Ends};
 use crate::levels::Levels;
 use crate::numbers::{have_same_numbers, number_links};
 use crate::phase::{aim, begin_anew, find};
@@ -46,8 +46,8 @@ pub struct Search {
     /// Of each link the index of its pair, once the links are numbered. Searches over the same links share the numbers.
     numbers: Option<Rc<Vec<u32>>>,
     levels: Levels,
-    /// Other labels, once the search keeps two sets: a search that takes nothing back, so that they stay valid while others are in use.
-    aside: Option<Aside>,
+    /// Other labels, if the search keeps two sets. It takes nothing back then, so that they stay valid while others are in use.
+    asides: Vec<Aside>,
     trail: Trail,
     /// Whether no path was looked for since the search began, or began anew: then nothing is held, and no link is passed.
     is_fresh: bool,
@@ -67,7 +67,7 @@ impl Model for Search {
 
     ghost invariant = { λ a. (AreReady a.levels × MayBeNumbered (links_of a.links.table.value) a.places.value a.numbers
         × AreKept a.levels a.is_fresh (told (residual_of a.links) (way_of a.trail))
-        × AreAside a.aside (told (residual_of a.links) (way_of a.trail)))
+        × AreAside a.asides.items (told (residual_of a.links) (way_of a.trail)))
         × IsSearch (residual_of a.links) a.places.value (labelling_of a.levels) (way_of a.trail) a.is_fresh };
 }
 
@@ -164,12 +164,13 @@ impl Search {
         self.links.lower(place, amount);
     }
 
-    /// Keeps two sets of labels from now on, if nothing is taken back: a search that is aimed from one node at many, and at it from many,
-    /// has labels for both. Takes memory for some numbers a node; where two sets are kept already, the call does nothing.
+    /// Keeps two sets of labels until rooms are set from outside, if nothing is taken back: a search that is aimed from one node at many,
+    /// and at it from many, then has labels for both. Takes memory for some numbers a node; where two sets are kept already, the call
+    /// does nothing.
     pub fn keep_two(&mut self, alloc: Global) -> Result<(), AllocError>
         ensures { self.new ≡ self.old }
     {
-        if self.links.takes_back || self.aside.is_some() {
+        if self.links.takes_back || !self.asides.is_empty() {
             return Ok(());
         }
         let links = &self.links;
@@ -178,7 +179,7 @@ impl Search {
             start: self.trail.start,
             goal: self.trail.goal,
         };
-        self.aside = Some(Aside { levels, ends });
+        self.asides.push(Aside { levels, ends })?;
         Ok(())
     }
 
@@ -201,7 +202,7 @@ impl Search {
         self.is_fresh = aim(
             &mut self.links,
             &mut self.levels,
-            &mut self.aside,
+            &mut self.asides,
             &mut self.trail,
             Ends { start, goal },
         );
@@ -214,7 +215,7 @@ impl Search {
         requires fits { along + against < 2 ^ 64 }
         ensures { self.new ≡ with_pairs self.old (with_rooms self.old.pairs k along against) }
     {
-        forget(&mut self.aside);
+        self.asides.clear();
         if !self.is_fresh {
             begin_anew(&mut self.links, &mut self.levels, &mut self.trail);
             self.is_fresh = true;

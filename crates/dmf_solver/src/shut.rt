@@ -62,7 +62,8 @@ pub fn drain_all<W: Watch>(
             carrying: None,
         });
     }
-    let carrying = take_carrying(alloc, state, kept)?;
+    let mut carrying = take_carrying(alloc, state, kept)?;
+    carrying.keep_two(alloc)?;
     drain_all_by(alloc, state, arcs, carrying, watch)
 }
 

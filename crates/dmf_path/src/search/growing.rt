@@ -45,7 +45,7 @@ impl Search {
             places: grown.places,
             numbers: None,
             levels,
-            aside: None,
+            asides: Vec::new(alloc),
             trail,
             is_fresh: true,
         })

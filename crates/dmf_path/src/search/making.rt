@@ -132,7 +132,7 @@ impl Linked {
             places,
             numbers: None,
             levels,
-            aside: None,
+            asides: Vec::new(alloc),
             trail,
             is_fresh: true,
         })

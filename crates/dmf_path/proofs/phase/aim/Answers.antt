@@ -52,9 +52,9 @@ in_use c =
 
 -- as those can that are in use then, and those set aside.
 taken : (c : After-take_up-used) → AreUsable c.take_up-used.new.levels (residual_of c.settle.new.links) c.take_up-used.result.goal
-    × AreAside c.take_up-used.new.aside (residual_of c.settle.new.links)
+    × AreAside c.take_up-used.new.asides (residual_of c.settle.new.links)
 taken c = c.take_up-used.ensures (residual_of c.settle.new.links) (in_use (goal.at.After-take_up-used c).After-settle)
-    (subst (AreAside c.args.aside.now) (sym c.settle.ensures.links) c.requires.aside)
+    (subst (AreAside c.args.asides.now) (sym c.settle.ensures.links) c.requires.asides)
 
 pub redirect-requires : goal.redirect-requires
 redirect-requires c =
@@ -126,7 +126,7 @@ returns-then-redirect c =
       searching = rw c.free.ensures.way searching;
       ready = (c.settle.new.links.table.value.nodes, c.redirect.ensures.ready);
       kept = λ all. (refl, subst (AreLasting v levels.stepped_back) (sym (ap (λ (s : Sought). s.residual) same)) k.lasting);
-      aside = subst (AreAside c.take_up-used.new.aside) (sym (ap (λ (x : Sought). x.residual) same))
+      asides = subst (AreAside c.take_up-used.new.asides) (sym (ap (λ (x : Sought). x.residual) same))
           (taken (goal.at.returns-then-redirect c).After-take_up-used).1;
       marked = begun refl;
       same = same ∙ ap (λ (x : Residual). record { residual = x; start = c.args.ends.start; goal = c.args.ends.goal }) e.links;
@@ -157,7 +157,7 @@ returns c =
       searching = anew.0;
       ready = (c.settle.new.links.table.value.nodes, m.ready);
       kept = λ all. let no = m.all in absurd (cc);
-      aside = subst (AreAside c.take_up-used.new.aside) (sym (ap (λ (x : Sought). x.residual) same)) up.1;
+      asides = subst (AreAside c.take_up-used.new.asides) (sym (ap (λ (x : Sought). x.residual) same)) up.1;
       marked = fresh anew.1;
       same = same
           ∙ ap (λ (x : Residual). record { residual = x; start = c.args.ends.start; goal = c.args.ends.goal }) c.settle.ensures.links;

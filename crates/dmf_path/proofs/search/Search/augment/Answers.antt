@@ -33,7 +33,7 @@ invariant_of-self c =
         e.ready,
         subst (λ l. MayBeNumbered l of.places.value of.numbers) (sym (ap (λ (s : Sought). s.residual.links) e.same)) c.self.invariant.0.1,
         λ all. (refl, e.lasting all),
-        aside-same of.aside (sought (residual_of c.find.new.links) (way_of c.find.new.trail)) (sought (residual_of of.links) (way_of of.trail))
+        aside-same of.asides.items (sought (residual_of c.find.new.links) (way_of c.find.new.trail)) (sought (residual_of of.links) (way_of of.trail))
             e.same c.self.invariant.0.3,
       ),
       search-next (residual_of of.links) of.places.value (labelling_of of.levels) (way_of of.trail) (residual_of c.find.new.links)
@@ -126,10 +126,10 @@ invariant_of-self-2 c =
     ) in
     let of = c.self.inside in
     let never = (can (goal.at.After-split (goal.at.invariant_of-self-2 c).After-split).After-bottleneck-amount).none in
-    let aside : AreAside of.aside (told (residual_of c.split.new.links) (way_of c.split.new.self)) =
-    subst (λ (s : Sought). AreAside of.aside s.residual) (sym on.same)
-    (aside-falls of.aside (told (residual_of c.find.new.links) (way_of c.find.new.trail)) sent.rooms c.find.ensures.searching.aimed.links never
-    (aside-same of.aside (sought (residual_of c.find.new.links) (way_of c.find.new.trail)) (sought (residual_of of.links) (way_of of.trail))
+    let aside : AreAside of.asides.items (told (residual_of c.split.new.links) (way_of c.split.new.self)) =
+    subst (λ (s : Sought). AreAside of.asides.items s.residual) (sym on.same)
+    (aside-falls of.asides.items (told (residual_of c.find.new.links) (way_of c.find.new.trail)) sent.rooms c.find.ensures.searching.aimed.links never
+    (aside-same of.asides.items (sought (residual_of c.find.new.links) (way_of c.find.new.trail)) (sought (residual_of of.links) (way_of of.trail))
     c.find.ensures.same c.self.invariant.0.3)) in (
       (c.find.ensures.ready, subst (λ l. MayBeNumbered l of.places.value of.numbers) (sym links) c.self.invariant.0.1, kept, aside),
       search-next (residual_of of.links) of.places.value (labelling_of of.levels) (way_of of.trail) (residual_of c.split.new.links)

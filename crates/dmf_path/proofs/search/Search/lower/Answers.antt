@@ -97,10 +97,10 @@ invariant_of-self c =
           (told (residual_of c.release.new.links) (way_of c.release.new.trail)).rooms low.rooms low.none) (lasting (labelling_of of.levels) of.levels.stepped_back (sought (residual_of c.release.new.links) (way_of c.release.new.trail))
           (sought (residual_of of.links) (way_of of.trail)) c.release.ensures.same was.1)),
     ) in
-    let aside : AreAside of.aside (told (residual_of c.lower.new.self) (way_of c.release.new.trail)) = subst (AreAside of.aside) (sym low.told_is)
-    (aside-falls of.aside (told (residual_of c.release.new.links) (way_of c.release.new.trail)) low.rooms
+    let aside : AreAside of.asides.items (told (residual_of c.lower.new.self) (way_of c.release.new.trail)) = subst (AreAside of.asides.items) (sym low.told_is)
+    (aside-falls of.asides.items (told (residual_of c.release.new.links) (way_of c.release.new.trail)) low.rooms
     c.release.ensures.searching.aimed.links (λ never. low.none)
-    (aside-same of.aside (sought (residual_of c.release.new.links) (way_of c.release.new.trail)) (sought (residual_of of.links) (way_of of.trail))
+    (aside-same of.asides.items (sought (residual_of c.release.new.links) (way_of c.release.new.trail)) (sought (residual_of of.links) (way_of of.trail))
     c.release.ensures.same c.self.invariant.0.3)) in
     let marked = same-mark (residual_of of.links) (labelling_of of.levels) (way_of of.trail) (residual_of c.release.new.links)
     (way_of c.release.new.trail) of.is_fresh i.marked c.release.ensures.same in (

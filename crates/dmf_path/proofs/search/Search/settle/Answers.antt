@@ -27,7 +27,7 @@ invariant_of-self c =
                   (sought-settled (residual_of of.links) (way_of of.trail) (residual_of c.settle.new.links)
                   (way_of c.settle.new.self) c.settle.ensures.links c.settle.ensures.way) was.1,
             ),
-        aside-same of.aside (sought (residual_of c.settle.new.links) (way_of c.settle.new.self)) (sought (residual_of of.links) (way_of of.trail))
+        aside-same of.asides.items (sought (residual_of c.settle.new.links) (way_of c.settle.new.self)) (sought (residual_of of.links) (way_of of.trail))
             (sought-settled (residual_of of.links) (way_of of.trail) (residual_of c.settle.new.links)
             (way_of c.settle.new.self) c.settle.ensures.links c.settle.ensures.way) c.self.invariant.0.3,
       ),

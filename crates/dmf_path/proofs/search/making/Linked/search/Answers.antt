@@ -6,6 +6,7 @@ use Rattle.dmf_path.specs.Walk.{AreCurrent}
 use Rattle.dmf_path.specs.Held.{Way, way_of}
 use Rattle.dmf_path.specs.Residual.{Residual}
 use Rattle.dmf_path.specs.Searching.{labelling_of, Sought, searched}
+use Rattle.dmf_path.proofs.Asides.{aside-none}
 use Rattle.dmf_path.proofs.SearchTurns.{search-new, sought-free}
 use Rattle.dmf_path.proofs.search.making.Linked.search.Goals as goal
 
@@ -31,7 +32,7 @@ invariant_of-result c =
           c.args.goal;
     } in
     let current : AreCurrent l c.make_fresh.new.levels.current.items = subst (AreCurrent l) (sym (ap (λ v. v.items) m.current)) (rw c.deref-3.ensures at c.in_ok-levels.ensures.current) in (
-      ((table.nodes, m.ready), tt, λ e. let no = m.all in absurd (cc), tt),
+      ((table.nodes, m.ready), tt, λ e. let no = m.all in absurd (cc), aside-none _ _ c.new-2.ensures.items),
       search-new r c.args.self.places.value (labelling_of c.make_fresh.new.levels) w (way_of c.make_fresh.new.trail) table.are c.requires.places
           c.requires.rooms m.labels current c.requires.start c.requires.goal c.requires.apart
           (omega (arith, rw c.deref-4.ensures at c.in_ok-slots.ensures.capacity)) (omega arith) m.way,
