@@ -25,6 +25,7 @@ mod relabel;
 mod release;
 mod room;
 mod search;
+mod shrunk;
 mod table;
 mod touched;
 mod trail;
