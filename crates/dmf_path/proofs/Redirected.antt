@@ -135,12 +135,6 @@ skipped-left l labels rooms current before before_is zero whole current_is skipp
       ]
     ]
 
--- So the current links do.
-pub current-left : (l : Links) (current : List ℕ) (before : ℕ) → AreLinks l → IsNode l.nodes before → AreCurrent l current
-    → AreCurrent l (set current before (get_or l.first before 0))
-current-left l current before links before_is current_is =
-    AreCurrent-set l current before (get_or l.first before 0) current_is before_is (omega arith) (links.ascending before before_is.to_last)
-
 -- No admissible link is passed, where the links to the new goal are not.
 pub skipped-redirected : (l : Links) (labels rooms current new : List ℕ) (goal : ℕ) → AreSmall l.nodes labels → IsNode l.nodes goal
     → ((v : ℕ) → get_or new v 0 ≤ get_or current v 0) → ((v p : ℕ) → LeadsTo l rooms goal v p → get_or new v 0 ≤ p)
