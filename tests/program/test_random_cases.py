@@ -22,7 +22,7 @@ from found import FOUND
 from hypothesis import given
 from hypothesis import strategies as st
 from kept import Found, shown_cases, with_cases
-from oracle import network, session
+from oracle import changes, network, session
 from oracle.network import State, Step
 from random_cases import random_case
 from reduced import reduced
@@ -145,7 +145,8 @@ def shown_case(fault: str) -> Case:
             judge_seeded(Found(case), "", compared(case)[1])
         except AssertionError as failure:
             (shown,) = shown_cases([str(failure)])
-            return eval(shown, {"Found": Found, "Case": Case}).case
+            found: Found = eval(shown, {"Found": Found, "Case": Case})
+            return found.case
     pytest.fail("no case fails")
 
 
@@ -171,17 +172,17 @@ def with_arcs_left(monkeypatch: pytest.MonkeyPatch) -> None:
     def shut(state: State, node: int) -> State:
         for number, arc in enumerate(state.arcs, 1):
             if arc.tail == node and not arc.is_closed:
-                state = session.CHANGES["close"](state, number)
+                state = changes.close(state, number)
         return state
 
-    monkeypatch.setitem(session.CHANGES, "shut", shut)
+    monkeypatch.setattr(session, "CHANGES", {**session.CHANGES, "shut": shut})
 
 
 @pytest.mark.seconds(2)
 @pytest.mark.usefixtures("case_folder")
 @pytest.mark.parametrize("put", [with_later_path, with_arcs_left])
 def test_fault_in_oracle(monkeypatch: pytest.MonkeyPatch, put: Callable[[pytest.MonkeyPatch], None]) -> None:
-    """A fault in the second implementation is found, and shown as a case of less than ten lines."""
+    """A fault in the second implementation is found, and shown as a case of fewer than ten lines."""
     put(monkeypatch)
     assert size(shown_case(put.__name__)) < 10
 
@@ -197,7 +198,7 @@ FAULTY_COPIES = {
 @pytest.mark.usefixtures("case_folder")
 @pytest.mark.parametrize("fault", FAULTY_COPIES)
 def test_fault_in_program(monkeypatch: pytest.MonkeyPatch, fault: str) -> None:
-    """A fault in a copy of the program is found, and shown as a case of less than ten lines."""
+    """A fault in a copy of the program is found, and shown as a case of fewer than ten lines."""
     shutil.copy(built.BUILT, "dmf")
     Path("faulty").write_text(f"#!/bin/sh\n{FAULTY_COPIES[fault]}")
     Path("faulty").chmod(0o755)
