@@ -13,6 +13,7 @@ from client_shared import dmf, is_running, needs, pipes, there
 from oracle.network import smallest_side
 from oracle.session import Session, SolveReply
 from oracle.texts import LARGEST, Fault
+from random_cases import fitting
 from random_cases import network as random_network
 
 SECONDS = 20
@@ -72,7 +73,7 @@ def test_random_sweeps(seed: int) -> None:
     random = Random(f"sweep {seed}")
     state = random_network(random, 12)
     if state.capacity_sum() > LARGEST:
-        return
+        state = fitting(state)
     # The keys are the arcs' numbers.
     rows = [(f"n{arc.tail}", f"n{arc.head}", arc.cap, place) for place, arc in enumerate(state.arcs, 1)]
     nodes = [f"n{node}" for node in range(1, state.nodes + 1)]
