@@ -8,7 +8,7 @@ from collections.abc import Callable
 
 from built import Case
 
-# So many cases are tried for one that fails, at some 3 ms each.
+# So many cases are tried for one that fails, at most, which takes some 10 s.
 MOST_TRIES = 1500
 # Where the lines of a problem, of a solution and of a script name nodes, by their first field.
 NODES = {b"a": (1, 2), b"f": (1, 2), b"n": (1,), b"shut": (1,), b"add": (1, 2)}
