@@ -9,14 +9,14 @@ use std::marker::Model;
 /// Indices in ascending order.
 #[derive(Clone, Copy, Debug)]
 pub enum Indices<'a> {
-    /// All below this number.
+    /// All indices below this number.
     Below(usize),
-    /// Those that are listed.
+    /// The indices of this list.
     Listed(&'a [u32]),
 }
 
 impl Indices<'_> {
-    /// How many there are. Takes no memory.
+    /// How many indices there are. Takes no memory.
     pub fn len(&self) -> usize
         ensures { result ≡ length (indices_of self.now) }
     {
@@ -26,7 +26,7 @@ impl Indices<'_> {
         }
     }
 
-    /// That which is number `i`, counted from 0. Takes no memory.
+    /// Index number `i`, counted from 0. Takes no memory.
     pub fn at(&self, i: usize) -> usize
         requires { i < length (indices_of self.now) }
         ensures { result ≡ slice_index (indices_of self.now) i }
@@ -46,7 +46,7 @@ fn number_at(numbers: &[u32], i: usize) -> usize
     numbers[i] as usize
 }
 
-/// Of each pair the place of its link along, or [`NO_PLACE`].
+/// The place of each pair's link along, or [`NO_PLACE`].
 #[derive(Drop)]
 pub struct Places {
     places: Vec<u32>,
