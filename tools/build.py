@@ -36,14 +36,14 @@ PROGRAM = "dmf"
 FAILED, INTERRUPTED = 70, 130
 # The most memory that proving one crate takes, in GiB.
 MEMORY = 3.5
-# The seconds that each crate took in a first call on four idle processors of 2.5 GHz, side by side. They decide which crate begins
-# first, and predict how long the rest takes.
+# The seconds that each crate took in a first call on four idle processors of 2.5 GHz, side by side: they say which is begun first, and
+# how long the rest takes.
 SECONDS = {
     "dmf_node": 8, "dmf_arguments": 133, "dmf_state": 144, "dmf_history": 68, "dmf_path": 358, "dmf_text": 218, "dmf_solver": 144,
     "dmf_session": 134, "dmf_explain": 190, "dmf_terminal": 60, "dmf_progress": 41, "dmf_runs": 136, "dmf": 158,
 }  # fmt: skip
 UNKNOWN_SECONDS = 60
-# From this slack on, in seconds, a crate is built by one job, at the lowest priority. With less slack the priority is higher.
+# From this slack on, in seconds, a crate is built by one job, and as nice as can be. One with less is as much nicer as it has more of it.
 SLACK_FOR_ONE_JOB = 300
 SECONDS_A_NICENESS = 40
 MOST_NICENESS = 15
@@ -179,8 +179,8 @@ def lay_out(crate: Crate, place: Path, parts: list[str]) -> None:
 
 
 def command_of(crate: Crate, slack: float) -> list[str]:
-    """The command that builds a crate with this slack: it may be so many seconds late without delaying the program. The more slack it
-    has, the more it leaves the processors to others. One job takes a fifth less processor time than several."""
+    """What builds a crate that can be this many seconds late without delaying the program. The more slack it has, the more it leaves
+    the processors to others. One job takes a fifth less processor time than several."""
     if slack < SLACK_FOR_ONE_JOB:
         return ["nice", "-n", str(int(slack / SECONDS_A_NICENESS)), *crate.command]
     return ["nice", "-n", str(MOST_NICENESS), *crate.command, "--jobs", "1"]

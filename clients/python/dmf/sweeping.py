@@ -131,10 +131,10 @@ def sweep(
     Any other error ends the sweep. An error in making the cases comes after the results of the cases before it. If a program is
     killed, another takes its place, and tries its case once more.
 
-    Without an `executor` there are so many `jobs` (by default as many as processors), each with a program here. An `executor` is
-    anything of the form of `concurrent.futures`, such as `Client.get_executor()` of dask.distributed. Each of its processes gets the
-    network, and starts programs of its own: the one that `program` named for the network, or else the one that it finds itself.
-    Functions are pickled for it, and name arcs by their keys or ends. `progress` shows a bar of tqdm, if that is installed.
+    Without an `executor` each of so many `jobs` (as many as there are processors) has a program here. An `executor` is anything of the
+    form of `concurrent.futures`, as `Client.get_executor()` of dask.distributed: each of its processes is sent the network, and begins
+    programs of its own: the one that the network was made with by `program`, or else the one that it finds itself. There functions are
+    pickled, and name arcs by their keys or ends. `progress` shows a bar of tqdm, where that is there.
 
     >>> with Network([("a", "b", 3, "x"), ("a", "b", 4, "y")], source="a", sink="b") as network:
     ...     value = network.solve().value

@@ -1,4 +1,4 @@
-//! The explanation of a fault on a terminal. The arguments say from where the program reads.
+//! What is told on a terminal after a fault. By its words it is known from where the program reads.
 use crate::fault::Fault;
 use crate::words;
 use dmf_arguments::{MAX_HISTORY, Mode, read_words};
@@ -8,7 +8,7 @@ use dmf_explain::{
 use dmf_runs::EngineFault;
 use std::io::IsTerminal;
 
-/// Explains a fault on standard error, if that is a terminal.
+/// Explains a fault on standard error, where that is a terminal.
 pub fn explain(rt: &HostRuntime, fault: &Fault) {
     if !rt.stderr().is_terminal() {
         return;
@@ -44,7 +44,7 @@ fn origin_of<'a>(mode: &'a Mode) -> Origin<'a> {
     }
 }
 
-/// The words before the problem's name, since a check reads two texts.
+/// The words before the problem's name: a check reads two texts.
 fn before_problem(mode: &Mode) -> &'static str {
     match mode {
         Mode::Check { .. } => "in the problem ",
