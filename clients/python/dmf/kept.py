@@ -12,7 +12,7 @@ from itertools import count, islice
 from typing import Any, Generic, NoReturn, SupportsIndex, Union
 
 from .arcs import Added, Arc, Columns, Handles, Node, OpenArcs, one_of
-from .errors import ArcIsClosed, HistoryOutOfRange, NoSuchArc, NotAnArc, NotANumber, NothingToUndo, NumberTooLarge, shown
+from .errors import ArcIsClosed, HistoryOutOfRange, NoSuchArc, NotAnArc, NotANumber, NothingToRedo, NothingToUndo, NumberTooLarge, shown
 from .numbering import AMOUNTS, NODES, WholeNodes
 from .text import LARGEST
 
@@ -310,6 +310,15 @@ class Kept(Generic[Node]):
         """Raises `NothingToUndo` where that would take back what was there before something was tried out."""
         if self.floor is not None and self.place - count < self.floor:
             raise NothingToUndo(f"undo {count}, of {self.place - self.floor} changes that are tried out")
+
+    def judge_redo(self, count: int) -> None:
+        """Raises `NothingToRedo` where not so many changes can be made again."""
+        if count > len(self._undone):
+            raise NothingToRedo(f"redo {count}")
+
+    def forget_undone(self) -> None:
+        """Lets no change be made again that was undone before."""
+        self._undone = []
 
     def copy(self) -> Kept[Node]:
         """The same arcs as they are now, without changes. Handles of these name the arcs of the copy too."""

@@ -257,6 +257,7 @@ class Network(Generic[Node]):
         """Makes the changes again that were taken back last, all of them or none. Returns the value. Raises `NothingToRedo`."""
         with self._child.alone():
             steps = whole(count, "redo")
+            self._kept.judge_redo(steps)
             value = self._stepped(f"redo {steps}")
             self._kept.redo(steps)
             return value
