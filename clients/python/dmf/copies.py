@@ -42,7 +42,7 @@ class _Lines(NamedTuple):
     """What is sent for a case: its commands, a solve, and the steps back; and how many lines these are."""
 
     text: str
-    count: int
+    line_count: int
 
 
 def _try(network: Network[Any], case: Plain, want_cut: bool) -> Answer:
@@ -70,7 +70,7 @@ def _try_together(network: Network[Any], cases: list[_Lines], answers: list[Answ
     child = network._child
     with child.alone(), child.exchange("\n".join(case.text for case in cases)):
         for case in cases:
-            *changed, solved, undone = (line.split() for line in child.lines(case.count).splitlines())
+            *changed, solved, undone = (line.split() for line in child.lines(case.line_count).splitlines())
             if any(fields[1] == b"refused" for fields in changed) or solved[:3] != [b"c", b"solve", b"value"]:
                 raise ValueError
             if undone != [b"c", b"undo", b"value", b"%d" % network.value]:
