@@ -118,10 +118,11 @@ def sweep(
     Any other error ends the sweep. One of what makes the cases comes after the results of those before it. Where a program is killed,
     another takes its place, and its case is tried once more.
 
-    Without an `executor` each of so many `jobs` (as many as there are processors) has a program here. An `executor` is anything of the
-    form of `concurrent.futures`, as `Client.get_executor()` of dask.distributed: each of its processes is sent the network, and begins
-    programs of its own: the one that the network was made with by `program`, or else the one that it finds itself. There functions are
-    pickled, and name arcs by their keys or ends. `progress` shows a bar of tqdm, where that is there.
+    Without an `executor` each of so many `jobs` (as many as there are processors) has a program here. Raises `JobsOutOfRange` where that
+    is no whole number from 1 on. An `executor` is anything of the form of `concurrent.futures`, as `Client.get_executor()` of
+    dask.distributed: each of its processes is sent the network, and begins programs of its own: the one that the network was made with
+    by `program`, or else the one that it finds itself. There functions are pickled, and name arcs by their keys or ends. `progress`
+    shows a bar of tqdm, where that is there.
 
     >>> with Network([("a", "b", 3, "x"), ("a", "b", 4, "y")], source="a", sink="b") as network:
     ...     value = network.solve().value
