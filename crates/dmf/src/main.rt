@@ -1,4 +1,4 @@
-//! The program `dmf`: reads its arguments, opens what a run needs, calls the run, and tells how it ended.
+//! The program `dmf`: reads its arguments, opens what a run needs, calls the run, and reports how it ended.
 #![tactic(auto)]
 
 ghost use Rattle.std.specs.Prelude.{◌≤◌};
@@ -32,7 +32,7 @@ const OUTPUT_BUFFER: usize = 65536;
 fn main(rt: HostRuntime) -> ExitCode {
     let outcome = run(&rt);
     if let Err(fault) = &outcome {
-        // Where this cannot be told, the status still tells it.
+        // If this cannot be written, the exit status still says it.
         let _ = tell(&rt, fault);
         explain::explain(&rt, fault);
     }

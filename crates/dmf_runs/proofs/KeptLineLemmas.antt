@@ -7,7 +7,7 @@ use Rattle.dmf_runs.specs.KeptLine.{Kept, IsKept}
 use Rattle.dmf_runs.specs.CommandText.{command_of}
 use Rattle.dmf_runs.specs.Line.{line_meaning}
 
--- a byte more, where it is kept
+-- one more byte, if the buffer keeps it
 pub IsKept-push : (kept : Kept) (line : List ℕ) (byte : ℕ) → length kept.bytes < 4096 → IsKept kept line
     → IsKept (record { bytes = kept.bytes ++ byte ∷ []; is_long = kept.is_long }) (line ++ byte ∷ [])
 IsKept-push kept line byte space is =
@@ -18,7 +18,7 @@ IsKept-push kept line byte space is =
       long_is = is.long_is ∙ le-ltb _ _ (omega arith) ∙ sym (le-ltb _ _ (omega (arith, length_push line byte)));
     }
 
--- and where it is not
+-- and if it does not
 pub IsKept-full : (kept : Kept) (line : List ℕ) (byte : ℕ) → length kept.bytes ≡ 4096 → IsKept kept line
     → IsKept (record { bytes = kept.bytes; is_long = true }) (line ++ byte ∷ [])
 IsKept-full kept line byte full is =
@@ -28,7 +28,7 @@ IsKept-full kept line byte full is =
       long_is = sym (lt-ltb _ _ (omega (arith, length_push line byte)));
     }
 
--- a line that is not too long is kept whole
+-- the buffer keeps a line whole that is not too long
 pub whole-line : (kept : Kept) (line : List ℕ) → kept.is_long ≡ false → IsKept kept line → kept.bytes ≡ line
 whole-line kept line short is =
     let le : length line ≤ 4096 = ltb-false 4096 (length line) (sym is.long_is ∙ short) in
