@@ -39,7 +39,7 @@ class Answer:
 
 
 class _Lines(NamedTuple):
-    """What is sent for a case: its commands, a solve, and the steps back; and how many lines these are."""
+    """The text that tries a case: its commands, a solve, and the steps back; and how many lines these are."""
 
     text: str
     line_count: int
@@ -50,7 +50,7 @@ def _try(network: Network[Any], case: Plain, want_cut: bool) -> Answer:
     known = network._kept.arc_count
     with network.try_out():
         if callable(case):
-            # What another case did is no business of this one.
+            # A case makes nothing again that another one has undone.
             network._kept.forget_undone()
             case(network)
         else:
@@ -65,8 +65,8 @@ def _try(network: Network[Any], case: Plain, want_cut: bool) -> Answer:
 
 
 def _try_together(network: Network[Any], cases: list[_Lines], answers: list[Answer]) -> None:
-    """Adds what comes of cases that are sent at once. Raises `SessionEnded` where one is refused, since the replies to the others
-    are then of other networks."""
+    """Sends cases at once, and adds what comes of each. Raises `SessionEnded` if one is refused, since the replies after it are of
+    another network."""
     child = network._child
     with child.alone(), child.exchange("\n".join(case.text for case in cases)):
         for case in cases:
@@ -92,8 +92,8 @@ class Copy:
         self.used = time.monotonic()
 
     def answers(self, cases: list[Plain | Error], want_cut: bool) -> list[Answer]:
-        """What comes of cases. Those that no session refuses are sent together, so that the program waits for none of them. Where it
-        ends at one of these, that is tried once more."""
+        """What comes of cases. Sends those together that no session refuses, so that the program need not wait for the next one. If
+        it ends at one of these, tries that once more."""
         answers: list[Answer] = []
         while len(answers) < len(cases):
             together = [] if want_cut else self._together(cases[len(answers) :])
@@ -109,7 +109,7 @@ class Copy:
         return answers
 
     def _answer(self, case: Plain | Error, want_cut: bool, tries: int) -> Answer:
-        """What comes of a case. One whose program ends is tried once more, where so many tries are left."""
+        """What comes of a case. If the program ends, tries it once more, if a try is left."""
         if isinstance(case, Error):
             return Answer(refusal=case)
         for left in reversed(range(tries)):
@@ -124,7 +124,7 @@ class Copy:
         raise AssertionError
 
     def _together(self, cases: list[Plain | Error]) -> list[_Lines]:
-        """The lines of the first cases, as many as may be sent together."""
+        """The lines of the first cases, as many as may go together."""
         found, size = [], 0
         for lines in takewhile(bool, map(self._lines, cases)):
             assert lines
@@ -135,7 +135,7 @@ class Copy:
         return found
 
     def _lines(self, case: Plain | Error) -> _Lines | None:
-        """The lines of a case that no session refuses, unless it has no memory; of another case none."""
+        """The lines of a case that a session can refuse for want of memory alone, and nothing for another case."""
         if isinstance(case, Error) or callable(case):
             return None
         try:
@@ -153,7 +153,7 @@ class Copy:
         return _Lines("\n".join([*lines, "solve", f"undo {len(lines) + 1}"]), len(lines) + 2)
 
     def _in_numbers(self, word: str, *rest: Any) -> tuple[Any, ...]:
-        """A command with the numbers of nodes too. Raises a `Refused` where something in it is none."""
+        """A command with its nodes by number, too. Raises a `Refused` if something in it is no node or no capacity."""
         if word == "add":
             tail, head, capacity = rest
             return word, self._kept.number(tail), self._kept.number(head), whole(capacity, rest)

@@ -312,12 +312,12 @@ class Kept(Generic[Node]):
             raise NothingToUndo(f"undo {count}, of {self.place - self.floor} changes that are tried out")
 
     def judge_redo(self, count: int) -> None:
-        """Raises `NothingToRedo` where not so many changes can be made again."""
+        """Raises `NothingToRedo` if fewer changes can be made again."""
         if count > len(self._undone):
             raise NothingToRedo(f"redo {count}")
 
     def forget_undone(self) -> None:
-        """Lets no change be made again that was undone before."""
+        """Forgets what was undone, so that nothing of it can be made again."""
         self._undone = []
 
     def copy(self) -> Kept[Node]:

@@ -119,8 +119,8 @@ def sweep(
     Any other error ends the sweep. An error in making the cases comes after the results of the cases before it. If a program is
     killed, another takes its place, and tries its case once more.
 
-    Without an `executor` each of so many `jobs` (as many as there are processors) has a program here. Raises `JobsOutOfRange` where that
-    is no whole number from 1 on. An `executor` is anything of the form of `concurrent.futures`, as `Client.get_executor()` of
+    Without an `executor` each of so many `jobs` (as many as there are processors) has a program here. Raises `JobsOutOfRange` if that is
+    no whole number from 1 on. An `executor` is anything of the form of `concurrent.futures`, as `Client.get_executor()` of
     dask.distributed: each of its processes is sent the network, and begins programs of its own: the one that the network was made with
     by `program`, or else the one that it finds itself. There functions are pickled, and name arcs by their keys or ends. `progress`
     shows a bar of tqdm, where that is there.
@@ -225,8 +225,8 @@ def _piece(cases: Iterator[Case], size: int) -> tuple[list[Case], Exception | No
 
 
 class _Tries:
-    """How cases are tried: `size` of them at once, and `most` such pieces before the first is waited for. That begins with `first` of
-    them and goes by how long they take; the pieces that wait have no more cases than were answered before."""
+    """How cases are tried: `size` of them at once, and `most` such pieces before the first is waited for. The size begins with `first`,
+    and follows the time that cases take. After these, the pieces that wait never have more cases than were answered before."""
 
     first = 1
 
@@ -288,7 +288,7 @@ class _Here(_Tries):
 
 
 def _workers(executor: Any) -> int:
-    """How many processes or threads an executor has, as far as it tells; that of dask.distributed by its client."""
+    """How many processes or threads an executor has, as far as it says; the client of dask.distributed says it."""
     workers = getattr(executor, "_max_workers", None)
     if isinstance(workers, int):
         return workers
@@ -322,7 +322,7 @@ class _There(_Tries):
         self._workers = _workers(executor)
         super().__init__(self._workers)
         self._futures: list[Future[Any]] = []
-        # The pieces that are to be sent again where a process answers that it has not the network yet.
+        # The pieces that go out again, with the network, if their process has it not yet.
         self._first: list[_Piece] = []
 
     def begin(self, cases: list[Plain | Error]) -> _Pending:
@@ -332,8 +332,8 @@ class _There(_Tries):
         return lambda: self._answers(piece)
 
     def _answers(self, piece: _Piece) -> list[Answer]:
-        """The answers of a piece. Until they come, every piece that a process had no network for is sent again, so that all of them
-        begin at once."""
+        """The answers of a piece. While it waits for them, it sends the network with every piece whose process lacks it, so that all
+        processes begin at once."""
         from concurrent.futures import FIRST_COMPLETED, wait
 
         while piece in self._first:
@@ -351,7 +351,7 @@ class _There(_Tries):
         return answers
 
     def _send_again(self, piece: _Piece) -> None:
-        """Has a piece tried once more, with the network, where its process had that not yet, or died."""
+        """Sends a piece once more, with the network, if its process had that not yet, or died."""
         try:
             error = piece.future.exception()
             if _is_lost(error) if error else piece.future.result() is None:
@@ -418,7 +418,7 @@ os.register_at_fork(after_in_child=_forget_copies)
 
 
 def _answers_there(name: str, sent: bytes | None, asked: Any) -> tuple[list[Answer], float] | None:
-    """What comes of cases in the process of an executor, and how many seconds that takes; None where the network has to be sent first."""
+    """What comes of cases in the process of an executor, and how many seconds that takes; None if it needs the network first."""
     with _free_lock:
         copies = _free.get(name, [])
         copy = copies.pop() if copies else None
