@@ -9,12 +9,12 @@ use Rattle.dmf_text.specs.declared.fault.SolutionFault.{SolutionFault}
 use Rattle.dmf_text.specs.Solution.{solution_of}
 use Rattle.dmf_text.specs.Writing.{Writes}
 use Rattle.dmf_text.specs.Written.{written_line}
-use Rattle.dmf_runs.specs.declared.fault.Status.{Status}
-use Rattle.dmf_runs.specs.declared.fault.Status.TheVariants.{Well, NotGreatest}
-use Rattle.dmf_runs.specs.declared.fault.EngineFault.{EngineFault}
-use Rattle.dmf_runs.specs.declared.fault.EngineFault.TheVariants as fault
+use Rattle.dmf_streams.specs.declared.fault.Status.{Status}
+use Rattle.dmf_streams.specs.declared.fault.Status.TheVariants.{Well, NotGreatest}
+use Rattle.dmf_streams.specs.declared.fault.EngineFault.{EngineFault}
+use Rattle.dmf_streams.specs.declared.fault.EngineFault.TheVariants as fault
 use Rattle.dmf_text.specs.Streams.{Reader, Writer}
-use Rattle.dmf_runs.specs.Session.{HasGiven, Reads, ReadsProblem}
+use Rattle.dmf_streams.specs.Reading.{HasGiven, Reads, ReadsProblem}
 
 -- ---- what is told of a flow
 

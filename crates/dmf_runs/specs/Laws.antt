@@ -10,8 +10,8 @@ use Rattle.dmf_session.specs.declared.command.Refusal.{Refusal}
 use Rattle.dmf_history.specs.Timeline.{Timeline, start, extended, appended}
 use Rattle.dmf_session.specs.Step.{Steps, Answers}
 use Rattle.dmf_session.specs.Optimal.{IsOptimal, HasOptimalPresent}
-use Rattle.dmf_runs.specs.declared.fault.Status.{Status}
-use Rattle.dmf_runs.specs.declared.fault.EngineFault.{EngineFault}
+use Rattle.dmf_streams.specs.declared.fault.Status.{Status}
+use Rattle.dmf_streams.specs.declared.fault.EngineFault.{EngineFault}
 use Rattle.dmf_text.specs.Streams.{Reader, Writer}
 use Rattle.dmf_runs.specs.Run.{Answering, Runs}
 use Rattle.dmf_runs.specs.Outcome.{RunsAll, line_count}

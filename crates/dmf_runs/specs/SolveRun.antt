@@ -7,13 +7,13 @@ use Rattle.dmf_solver.specs.Change.{Solve, Becomes}
 use Rattle.dmf_state.specs.Side.{CutSide}
 use Rattle.dmf_solver.specs.Planning.{IsSideWanted}
 use Rattle.dmf_text.specs.Writing.{Writes}
-use Rattle.dmf_runs.specs.declared.fault.Status.{Status}
-use Rattle.dmf_runs.specs.declared.fault.Status.TheVariants.{Well}
-use Rattle.dmf_runs.specs.declared.fault.EngineFault.{EngineFault}
-use Rattle.dmf_runs.specs.declared.fault.EngineFault.TheVariants as fault
+use Rattle.dmf_streams.specs.declared.fault.Status.{Status}
+use Rattle.dmf_streams.specs.declared.fault.Status.TheVariants.{Well}
+use Rattle.dmf_streams.specs.declared.fault.EngineFault.{EngineFault}
+use Rattle.dmf_streams.specs.declared.fault.EngineFault.TheVariants as fault
 use Rattle.dmf_runs.specs.Run.{solved_text}
 use Rattle.dmf_text.specs.Streams.{Reader, Writer}
-use Rattle.dmf_runs.specs.Session.{HasGiven, ReadsProblem}
+use Rattle.dmf_streams.specs.Reading.{HasGiven, ReadsProblem}
 
 -- The text stands for a state. The solution of what solving makes of it was written, and where one is wanted the smallest cut
 -- after it, or a front of that where the writer failed.

@@ -1,15 +1,12 @@
 //! Checking a solution, from bytes to bytes.
 ghost use Rattle.std.specs.Prelude.{◌≡◌, ◌≤◌, length, codes, if◌then◌else◌, IfOk, IsOkUnless};
-ghost use Rattle.dmf_runs.specs.Session.{HasGiven};
-ghost use Rattle.dmf_runs.specs.declared.fault.EngineFault.TheVariants as fault;
+ghost use Rattle.dmf_streams.specs.Reading.{HasGiven};
+ghost use Rattle.dmf_streams.specs.declared.fault.EngineFault.TheVariants as fault;
 ghost use Rattle.dmf_runs.specs.CheckRun.{IsVerdict, TellsVerdict, verdict_line, verdict_status, ReadsSolution, RunsCheck};
 
-use crate::fault::{EngineFault, Status};
-use crate::problem::read_state;
-use crate::reply::put_line;
-use crate::whole_text::read_all;
 use dmf_solver::is_greatest;
 use dmf_state::{NoMemory, State};
+use dmf_streams::{EngineFault, Status, put_line, read_all, read_state};
 use dmf_text::LineField::{Number, Text};
 use dmf_text::{LineBuffer, Sink, SolutionFaultKind, Source, line_of, read_solution};
 use std::alloc::Global;

@@ -1,5 +1,5 @@
 //! Replies to command lines. Each is written and flushed.
-ghost use Rattle.std.specs.Prelude.{◌≡◌, [], true, IfOk};
+ghost use Rattle.std.specs.Prelude.{◌≡◌, true, IfOk};
 ghost use Rattle.dmf_text.specs.Writing.{Writes};
 ghost use Rattle.dmf_session.specs.Step.{IsReplyTo};
 ghost use Rattle.dmf_runs.specs.Run as run;
@@ -9,9 +9,10 @@ use crate::command_text::word_of;
 use crate::refusal::refusal_text;
 use dmf_session::{Command, Refusal, Reply};
 use dmf_state::{Side, State};
+use dmf_streams::{flush, put_line, write_line};
 use dmf_text::LineField::{Number, Text};
 use dmf_text::{
-    LineBuffer, Sink, WriteFault, line_of, put_all, write_cut, write_problem, write_solution,
+    LineBuffer, Sink, WriteFault, line_of, write_cut, write_problem, write_solution,
 };
 
 /// What is wanted of the reply to a solve.
@@ -53,14 +54,6 @@ pub fn refuse<W: Sink>(number: u32, refusal: &Refusal, out: &mut W) -> Result<An
     Ok(Answer::Refused)
 }
 
-/// Writes a line, and flushes.
-pub fn put_line<W: Sink>(line: &LineBuffer, out: &mut W) -> Result<(), WriteFault>
-    ensures { Writes (W.written out.old) (W.written out.new) result line.now }
-{
-    write_line(line, out)?;
-    flush(out)
-}
-
 /// Writes the solution of a state, and after it this cut, if there is one, and flushes.
 pub fn put_solved<W: Sink>(
     state: &State,
@@ -87,22 +80,6 @@ pub fn put_reply<W: Sink>(
 {
     write_reply(command, reply, present, brief, out)?;
     flush(out)
-}
-
-/// Flushes what was written.
-fn flush<W: Sink>(out: &mut W) -> Result<(), WriteFault>
-    ensures { Writes (W.written out.old) (W.written out.new) result [] }
-{
-    let Ok(()) = out.flush() else {
-        return Err(WriteFault);
-    };
-    Ok(())
-}
-
-fn write_line<W: Sink>(line: &LineBuffer, out: &mut W) -> Result<(), WriteFault>
-    ensures { Writes (W.written out.old) (W.written out.new) result line.now }
-{
-    put_all(out, line.as_bytes())
 }
 
 fn write_reply<W: Sink>(

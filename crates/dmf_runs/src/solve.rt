@@ -5,12 +5,11 @@ ghost use Rattle.dmf_solver.specs.Planning.{IsSideWanted};
 ghost use Rattle.dmf_runs.specs.SolveRun.{RunsSolve};
 ghost use Rattle.dmf_runs.specs.Laws.{WrittenIsOptimal};
 
-use crate::fault::{EngineFault, Status};
 use crate::laws::written_is_optimal;
-use crate::problem::read_state;
 use crate::reply::put_solved;
 use dmf_solver::{Unwatched, Watch, plan_solve_watched};
 use dmf_state::{NoMemory, Side, State};
+use dmf_streams::{EngineFault, Status, read_state};
 use dmf_text::{Sink, Source};
 use std::alloc::Global;
 

@@ -2,12 +2,12 @@ use Rattle.std.proofs.Common.{◌≡◌, [], Result, Ok, Err, IsOkUnless, inl, i
 use Rattle.std.proofs.KnownBytes.{Consumes-nil}
 use Rattle.std.proofs.lemmas.Result.{err_from_is_err_and}
 use Rattle.dmf_state.specs.NetworkState.{NetworkState}
-use Rattle.dmf_runs.specs.declared.fault.Status.{Status}
-use Rattle.dmf_runs.specs.declared.fault.EngineFault.{EngineFault}
-use Rattle.dmf_runs.specs.declared.fault.EngineFault.TheVariants as fault
+use Rattle.dmf_streams.specs.declared.fault.Status.{Status}
+use Rattle.dmf_streams.specs.declared.fault.EngineFault.{EngineFault}
+use Rattle.dmf_streams.specs.declared.fault.EngineFault.TheVariants as fault
 use Rattle.dmf_runs.specs.CheckRun.{Checked, CheckAnswered, ReadsSolution, WritesVerdict}
-use Rattle.dmf_runs.specs.Session.{ReadsProblem}
-use Rattle.dmf_runs.proofs.Giving.{given}
+use Rattle.dmf_streams.specs.Reading.{ReadsProblem}
+use Rattle.dmf_streams.proofs.Giving.{given}
 use Rattle.dmf_runs.proofs.check.run_check.Goals as goal
 
 -- a run that stops at the problem

@@ -1,8 +1,8 @@
 use Rattle.std.proofs.Common.{Result}
 use Rattle.std.proofs.lemmas.Result.{err_from_is_err_and}
 use Rattle.dmf_text.specs.Writing.{Writes}
-use Rattle.dmf_runs.specs.declared.fault.Status.{Status}
-use Rattle.dmf_runs.specs.declared.fault.EngineFault.{EngineFault}
+use Rattle.dmf_streams.specs.declared.fault.Status.{Status}
+use Rattle.dmf_streams.specs.declared.fault.EngineFault.{EngineFault}
 use Rattle.dmf_runs.specs.Run.{solved_text}
 use Rattle.dmf_runs.specs.SolveRun.{WritesSolved}
 use Rattle.dmf_runs.proofs.solve.run_solve_watched.Given.{Over}
