@@ -6,5 +6,3 @@ pub mod Laws
 pub mod Outcome
 pub mod WrittenLine
 pub mod Session
-pub mod SolveRun
-pub mod CheckRun
