@@ -1,5 +1,5 @@
 -- After a solve the present state is optimal.
-use Rattle.std.proofs.Common.{ℕ, List, ◌≡◌, Bool, pos, arith, sym, ap, ◌∙◌, subst}
+use Rattle.std.proofs.Common.{ℕ, List, ◌≡◌, arith, sym, subst}
 use Rattle.std.proofs.lemmas.Int.{ints}
 use Rattle.std.proofs.lemmas.Option.{slice_get_within}
 use Rattle.dmf_state.specs.Network.{Network, IsNetwork}

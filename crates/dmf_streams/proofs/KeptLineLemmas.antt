@@ -1,5 +1,5 @@
 -- A line as far as it is kept.
-use Rattle.std.proofs.Common.{ℕ, ◌≡◌, ◌<◌, ◌≤◌, List, [], ◌∷◌, ◌++◌, length, ltb, Bool, true, false, arith, sym, ap, ◌∙◌}
+use Rattle.std.proofs.Common.{ℕ, ◌≡◌, ◌<◌, ◌≤◌, List, [], ◌∷◌, ◌++◌, length, true, false, arith, sym, ap, ◌∙◌}
 use Rattle.std.proofs.lemmas.List.{length-take, length_push, take_all, take-append-le}
 use Rattle.std.proofs.lemmas.Bool.{lt-ltb, le-ltb, ltb-false}
 use Rattle.dmf_streams.specs.KeptLine.{Kept, IsKept}
