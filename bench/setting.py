@@ -24,7 +24,7 @@ PACKAGES: dict[str, tuple[str, str, list[str]]] = {
 
 
 def is_there(driver: str) -> bool:
-    """Whether a driver's package is there; a root user gets it installed."""
+    """Whether a driver's package is installed. A root user gets it installed."""
     package, file, _ = PACKAGES[driver]
     if not Path(file).exists() and os.geteuid() == 0 and shutil.which("apt-get"):
         print(f"installing {package}", file=sys.stderr)
@@ -38,7 +38,7 @@ def is_there(driver: str) -> bool:
 
 
 def build(name: str) -> Path:
-    """Compiles a program of this folder, as a packager would, and tells where it is."""
+    """Compiles a program of this folder, as a packager would, and returns its path."""
     source, program = BENCH / f"{name}.cpp", CACHE / name
     sources = [source, *BENCH.glob("*.hpp")]
     if not program.exists() or max(file.stat().st_mtime for file in sources) > program.stat().st_mtime:
@@ -49,7 +49,7 @@ def build(name: str) -> Path:
 
 
 def network(family: str, arcs: int) -> Path:
-    """The file of a network, which is made where it is missing or its maker has changed."""
+    """The file of a network. Makes it if it is missing or its maker has changed."""
     # It takes 4 MB, which bench/client would count to Python.
     import hashlib
 

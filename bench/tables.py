@@ -13,7 +13,7 @@ from pathlib import Path
 Took = tuple[float, int]
 Best = dict[str, Took]
 Results = dict[tuple[str, int], Best]
-# In place of what a run took: the time limit passed.
+# Stands for a run that exceeded the time limit.
 LATE: Took = (math.inf, 0)
 
 
@@ -46,7 +46,7 @@ def time_cell(took: Took | None, best: float, limit: int, name: str) -> str:
 
 
 def solving(best: Best, name: str) -> float | None:
-    """The seconds of a run that solved, if it did."""
+    """The seconds of a run that solved the network, if it did."""
     took = best.get(name, LATE)
     return took[0] if name != "dmf check" and took != LATE else None
 
@@ -70,7 +70,7 @@ def memory_rows(results: Results, names: Sequence[str]) -> Iterator[list[str]]:
 
 
 def text(results: Results, names: Sequence[str], repeat: int, limit: int, patience: int) -> str:
-    """The tables of what was measured, by family and number of arcs and then by solver."""
+    """The tables of the measurements, by family and number of arcs and then by solver."""
     parts = [
         f"Measured on {machine()}",
         f"Seconds to read, solve and write, the least of {repeat} runs (one, where it took more than {patience} s; `> {limit}`: "

@@ -3,15 +3,15 @@
 
     python3 tools/build.py
 
-A crate begins once those are built that it stands on, the one with the longest chain above it first, and several are built side by
-side, as many as processors and memory allow. Standard error shows which are in work and which are built, how long it has taken, and
-how long the rest is likely to take: on a terminal in one line, which is rewritten, and elsewhere in a line for each crate.
+A crate begins once the crates below it are built, the one with the longest chain above it first. Several are built side by side, as
+many as processors and memory allow. Standard error shows which are in work and which are built, how long it has taken, and how long
+the rest is likely to take: on a terminal in one line, which is rewritten, and elsewhere in a line for each crate.
 
-Each crate is built in a folder of its own, beside links to what it stands on, since `rt` lets no two of its calls work over one
-crate. What was built is moved to the crate's out/ once it is whole, so an interrupt leaves nothing half made, and the next call
-goes on with the crates that are missing. Two calls at once wait for one another.
+Each crate is built in a folder of its own, with links to the crates below it, since no two calls of `rt` may work on one crate. The
+result moves to the crate's out/ once it is whole, so an interrupt leaves nothing half made, and the next call goes on with the crates
+that are missing. Of two calls at once, one waits for the other.
 
-The status is 0 where the program is built, 70 where a crate fails, and 130 after an interrupt.
+The status is 0 if the program is built, 70 if a crate fails, and 130 after an interrupt.
 """
 
 from __future__ import annotations
@@ -34,7 +34,7 @@ from typing import IO, NoReturn
 ROOT = Path(__file__).resolve().parents[1]
 PROGRAM = "dmf"
 FAILED, INTERRUPTED = 70, 130
-# What one crate may take of memory, in GiB, when it is proved.
+# The most memory that proving one crate takes, in GiB.
 MEMORY = 3.5
 # The processor seconds that each crate takes by one job, on processors of 2.5 GHz: they say which is begun first, and how long the rest
 # takes. Measured by `/usr/bin/time rt lib --jobs 1`, from nothing, with nothing beside it.
@@ -50,12 +50,12 @@ MOST_NICENESS = 5
 
 
 class Failure(Exception):
-    """A crate that could not be built, with what `rt` said of it."""
+    """A crate could not be built. Has the output of `rt` on it."""
 
 
 @dataclass
 class Crate:
-    """A crate of the repository, with the crates below it that it stands on, directly and by others."""
+    """A crate of the repository, with the crates below it, direct and indirect."""
 
     name: str
     libraries: list[str]
@@ -71,15 +71,15 @@ class Crate:
 
     @property
     def command(self) -> list[str]:
-        """What builds it. `rt run` also runs the program, so it is given a session without commands, which ends with 0. The program is
-        built alone, when all crates below it are built, so it gets all processors; `rt` would take one for so small a crate."""
+        """The command that builds it. `rt run` also runs the program, so it gets a session without commands, which ends with 0. The
+        program is built alone, after all crates below it, so it gets all processors; `rt` would take one for so small a crate."""
         if self.name == PROGRAM:
             return ["rt", "run", "--jobs", str(at_once()), "--", "session", str(ROOT / "examples/a.max")]
         return ["rt", "lib"]
 
 
 def read_crates() -> dict[str, Crate]:
-    """The program's crate and all that it stands on, the lowest first."""
+    """The program's crate and all crates below it, the lowest first."""
     lines = (line.partition("#")[0].partition(":") for line in (ROOT / "crates.txt").read_text().splitlines())
     libraries = {name.strip(): rest.split() for name, _, rest in lines if name.strip()}
     crates: dict[str, Crate] = {}
@@ -122,7 +122,7 @@ class Told:
         print(f"dmf: {text}", file=sys.stderr, flush=True)
 
     def status(self, text: str) -> None:
-        """Writes the line of a terminal anew, as far as it is wide."""
+        """Writes the line of a terminal anew, as far as the width allows."""
         if self.is_terminal:
             width = shutil.get_terminal_size().columns - 1
             print(f"\r{f'dmf: {text}'[:width]}\x1b[K", end="", file=sys.stderr, flush=True)
@@ -134,7 +134,7 @@ class Told:
 
 @dataclass
 class Work:
-    """A crate that is being built: its process, in a folder of its own, and what it says."""
+    """A crate that is being built: its process, in a folder of its own, and its output."""
 
     crate: Crate
     folder: Path
@@ -147,7 +147,7 @@ class Work:
         return time.monotonic() - self.begun
 
     def keep(self) -> None:
-        """Moves what was built to the crate's own folder, in place of what an earlier call built."""
+        """Moves the result to the crate's own folder, in place of an earlier call's."""
         made, out = self.folder / "crates" / self.crate.name / "out", self.crate.folder / "out"
         old = self.folder / "old"
         if out.exists():
@@ -164,7 +164,7 @@ class Work:
 
 
 def link(source: str, to: str) -> None:
-    """A link to a file, or a copy of it where the two places are on different file systems."""
+    """A link to a file, or a copy of it if the two places are on different file systems."""
     try:
         os.link(source, to)
     except OSError:
@@ -193,7 +193,7 @@ def begin(crate: Crate, crates: dict[str, Crate], place: Path, slack: float) -> 
     (folder / "crates.txt").write_text("".join(f"{name}: {' '.join(crates[name].libraries)}\n" for name in names))
     for name in names:
         lay_out(crates[name], folder / "crates" / name, ["src", "specs", "proofs"] + ["out/rlib"] * (name != crate.name))
-    # What an earlier call built of the crate is copied, since `rt` may write to it.
+    # The result of an earlier call is copied, since `rt` may write to it.
     if (crate.folder / "out").is_dir():
         shutil.copytree(crate.folder / "out", folder / "crates" / crate.name / "out")
     said = tempfile.TemporaryFile()
@@ -220,19 +220,19 @@ class Build:
         self.running: list[Work] = []
 
     def chain(self, crate: Crate, left: dict[str, float]) -> float:
-        """The seconds that are left of a crate and of the longest chain of crates that wait for it."""
+        """The seconds left for a crate and for the longest chain of crates that wait for it."""
         above = (it for it in self.crates.values() if crate.name in it.libraries)
         return left[crate.name] + max((self.chain(it, left) for it in above), default=0.0)
 
     def left(self) -> dict[str, float]:
-        """The seconds that are left of each crate, as the machine of the table takes them."""
+        """The seconds left for each crate, on the machine of the table."""
         left = {it.name: 0.0 if it.name in self.took else it.seconds for it in self.crates.values()}
         for work in self.running:
             left[work.crate.name] = max(work.crate.seconds - work.seconds / self.pace(), work.crate.seconds / 20)
         return left
 
     def pace(self) -> float:
-        """How many times as long this machine takes as that of the table, by the crates that are built."""
+        """How many times as long as in the table this machine takes, by the crates that are built."""
         known = sum(self.crates[name].seconds for name in self.took)
         return (sum(self.took.values()) + UNKNOWN_SECONDS) / (known + UNKNOWN_SECONDS)
 
@@ -249,14 +249,14 @@ class Build:
         return sorted(ready, key=lambda it: -self.chain(it, left))
 
     def begin_more(self) -> None:
-        """Begins crates as long as there is room. The longest chain has the first turn at the processors."""
+        """Begins crates as long as there is room. The longest chain gets the processors first."""
         left = self.left()
         longest = max(self.chain(it, left) for it in self.crates.values())
         for crate in self.ready()[: at_once() - len(self.running)]:
             self.running.append(begin(crate, self.crates, self.place, longest - self.chain(crate, left)))
 
     def take_ended(self) -> None:
-        """Keeps what was built, and fails where a crate did not succeed."""
+        """Keeps the results, and fails if a crate did not succeed."""
         for work in [it for it in self.running if it.process.poll() is not None]:
             self.running.remove(work)
             try:
@@ -304,7 +304,7 @@ def wait_for_one(running: list[Work]) -> None:
 
 @contextlib.contextmanager
 def alone(told: Told) -> Iterator[None]:
-    """Keeps other builds of this repository out. Where one is at work, this one waits for it."""
+    """Keeps other builds of this repository out. If one is at work, this one waits for it."""
     folder = os.open(ROOT / "crates", os.O_RDONLY)
     try:
         try:
@@ -318,12 +318,12 @@ def alone(told: Told) -> Iterator[None]:
 
 
 def number_of(file: Path) -> int | None:
-    """The number by which the system knows the file; a file that takes its place has another."""
+    """The number by which the system knows the file. A file that replaces it has another."""
     return file.stat().st_ino if file.exists() else None
 
 
 def build(told: Told) -> None:
-    """Builds the program, but for what is built already, and gives it the time at which the build began: a source that is edited
+    """Builds the program, except what is built already, and gives it the time at which the build began: a source that is edited
     meanwhile is newer."""
     program = ROOT / "crates" / PROGRAM / "out" / PROGRAM
     before = number_of(program)

@@ -1,10 +1,10 @@
 #!/usr/bin/env python3
-"""Prints what each file of definitions and of lemmas has, by the comment at its head, as tables in Markdown.
+"""Prints the contents of each file of definitions and of lemmas, by the comment at its head, as tables in Markdown.
 
     python3 tools/list_files.py [CRATE..]
 
-A file of definitions is public where public contracts use it: who asks what is proved has to read these. A private one serves
-contracts inside the crate, the crates above it, and proofs.
+A file of definitions is public if public contracts use it: who asks what is proved has to read these. A private one serves contracts
+inside the crate, the crates above it, and proofs.
 """
 
 from __future__ import annotations
@@ -20,7 +20,7 @@ CRATES = Path(__file__).resolve().parents[1] / "crates"
 
 
 def first_words(file: Path) -> tuple[str, str]:
-    """The comment at the head of a file: what the file has, and 'public' or 'private' where it says so."""
+    """The comment at the head of a file: its contents, and 'public' or 'private' if it says so."""
     head = takewhile(lambda line: line.startswith("--"), file.read_text().splitlines())
     what, *kind = re.split(r"\s*\b(Public|Private): ", " ".join(line.removeprefix("--").strip() for line in head))
     return what, kind[0].lower() if kind else ""

@@ -40,7 +40,7 @@ def package() -> dict[str, bytes]:
 
 
 def build_wheel(wheel_directory: str, config_settings: Any = None, metadata_directory: Any = None) -> str:
-    """Writes the wheel, and gives its name."""
+    """Writes the wheel, and returns its name."""
     info = f"dmf-{version()}.dist-info"
     files = {**package(), f"{info}/METADATA": metadata(), f"{info}/WHEEL": WHEEL.encode(), f"{info}/LICENSE": licence()}
     record = "".join(f"{name},sha256={_sum(content)},{len(content)}\n" for name, content in files.items())
@@ -57,7 +57,7 @@ def _sum(content: bytes) -> str:
 
 
 def build_sdist(sdist_directory: str, config_settings: Any = None) -> str:
-    """Writes the source archive, and gives its name."""
+    """Writes the source archive, and returns its name."""
     base = f"dmf-{version()}"
     files = {**package(), "PKG-INFO": metadata(), "LICENSE": licence()}
     files.update((name, (HERE / name).read_bytes()) for name in ("pyproject.toml", "build_wheel.py"))

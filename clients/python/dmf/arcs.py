@@ -17,7 +17,7 @@ from .errors import AmbiguousArc, NoSuchArc, NoSuchNode, SessionEnded, shown
 from .numbering import NODES, WholeNodes
 
 Node = TypeVar("Node", bound=Hashable)
-# How many questions about the arcs at nodes are answered by a look at all arcs, before an index of them is made.
+# How many questions about the arcs at a node look at all arcs, before an index of them is made.
 MOST_MISSED = 20
 
 
@@ -49,7 +49,7 @@ class Arc(Generic[Node]):
 
     @property
     def key(self) -> Hashable:
-        """The key that the caller gave, and else the tail and the head."""
+        """The key that the caller gave, or else the pair of tail and head."""
         return (self.tail, self.head) if self.given_key is None else self.given_key
 
     @property
@@ -64,8 +64,8 @@ class Arc(Generic[Node]):
 
     @property
     def flow(self) -> int:
-        """What flows on it now: nothing where it is closed. Raises `NoSuchArc` where the change that added it was undone. The first
-        look at an arc after a change asks the program for all flows."""
+        """The flow on it now, which is 0 if it is closed. Raises `NoSuchArc` if the change that added it was undone. The first look
+        at an arc after a change asks the program for all flows."""
         return self._network().flow_now(self)
 
     def _network(self) -> Owner:
@@ -89,7 +89,8 @@ class Arc(Generic[Node]):
 
 
 class Index:
-    """Numbers by what names them. Of several with one name the last stands in `_last`, and all of them in `_several`."""
+    """Numbers by the names of what they number. `_last` has the last number of each name, and `_several` all numbers of a name with
+    several."""
 
     def __init__(self, names: Callable[[], Iterable[Any]], numbers: Sequence[int]) -> None:
         self._last: dict[Any, int] = dict(zip(names(), numbers))
@@ -100,7 +101,7 @@ class Index:
                     self._several[name].append(number)
 
     def find(self, name: Any) -> list[int]:
-        """The numbers of a name in their order."""
+        """The numbers of a name, in their order."""
         if name in self._several:
             return self._several[name]
         return [self._last[name]] if name in self._last else []
@@ -108,8 +109,8 @@ class Index:
 
 class Columns(Generic[Node]):
     """The arcs of a problem, column by column: the numbers of their tails and heads, from 1 on, and the keys that were given, by the
-    arcs' numbers. `numbers` has the number of each node, in order. Nothing of it changes. The keys may be made by a function, which is
-    called when one is first asked for."""
+    arcs' numbers. `numbers` has the number of each node, in order. Nothing of it changes. A function may make the keys when one is
+    first asked for."""
 
     def __init__(
         self,
@@ -158,13 +159,14 @@ class Columns(Generic[Node]):
         return self._by_ends.find(tail * (len(self.numbers) + 1) + head)
 
     def number(self, node: Node) -> int:
-        """The number of a node. Raises `NoSuchNode`, also for what cannot be hashed."""
+        """The number of a node. Raises `NoSuchNode`, also for a value that cannot be hashed."""
         with contextlib.suppress(KeyError, TypeError):
             return self.numbers[node]
         raise NoSuchNode(shown(node))
 
     def named(self, key: Hashable) -> list[int]:
-        """The numbers of the arcs of a key, or of a pair of ends, in their order. Raises `NoSuchArc` for what cannot be hashed."""
+        """The numbers of the arcs of a key, or of a pair of ends, in their order. Raises `NoSuchArc` for a value that cannot be
+        hashed."""
         try:
             found = self._by_key.find(key)
         except TypeError:
@@ -177,11 +179,11 @@ class Columns(Generic[Node]):
 
     @functools.cached_property
     def _at_nodes(self) -> tuple[tuple[array[int], array[int]], tuple[array[int], array[int]]]:
-        """The arcs in the order of their tails, and of their heads; and at which place those of each node begin."""
+        """The arcs in the order of their tails, and of their heads; and the places at which the arcs of each node begin."""
         return _grouped(self.tails, len(self.numbers)), _grouped(self.heads, len(self.numbers))
 
     def _is_indexed(self) -> bool:
-        """Whether the index of the arcs at each node is there. It is made when it has been missed some times."""
+        """Whether the index of the arcs at each node is made. This happens after it was missed some times."""
         self._missed += 1
         return self._missed > MOST_MISSED
 
@@ -276,7 +278,7 @@ def _keys(arc: Arc[Node]) -> list[Hashable]:
 
 
 def one_of(found: list[Arc[Node]], key: Hashable, state: str = "open") -> Arc[Node]:
-    """The one arc that was found. Raises `NoSuchArc` and `AmbiguousArc` where there is none, or several."""
+    """The only arc among those found. Raises `NoSuchArc` if there is none, and `AmbiguousArc` if there are several."""
     if not found:
         raise NoSuchArc(shown(key))
     if len(found) > 1:
@@ -286,8 +288,7 @@ def one_of(found: list[Arc[Node]], key: Hashable, state: str = "open") -> Arc[No
 
 
 class OpenArcs(Generic[Node]):
-    """The open arcs of a network at one time, in their order: those of the problem that are not closed, and then those that were
-    added."""
+    """The open arcs of a network at one time, in their order: those of the problem that are not closed, and then the added ones."""
 
     def __init__(self, handles: Handles[Node], added: tuple[Arc[Node], ...], closed: Iterable[int]) -> None:
         self.handles = handles
@@ -364,7 +365,7 @@ class OpenArcs(Generic[Node]):
         return [self.columns.names[node - 1] for node in self.ends()[1]]
 
     def keys(self) -> list[Hashable]:
-        """The keys that were given to the open arcs, None where none was."""
+        """The keys of the open arcs; None for an arc that was given none."""
         return [self.columns.keys.get(n) if n <= len(self.columns) else self.handle(n).given_key for n in self.numbers()]
 
     def ends(self) -> tuple[array[int], array[int]]:
@@ -376,7 +377,7 @@ class OpenArcs(Generic[Node]):
         return self.chosen(tails), self.chosen(heads)
 
     def chosen(self, column: array[int]) -> array[int]:
-        """What a column of all arcs has for the open ones."""
+        """The entries of the open arcs in a column of all arcs."""
         if not self.closed:
             return column
         return array(column.typecode, [column[number - 1] for number in self.numbers()])

@@ -35,12 +35,12 @@ def package(name: str, why: str) -> Any:
 
 
 def loaded() -> Any:
-    """numpy, where the caller has loaded it already: for what is quicker with it, but does not need it."""
+    """numpy, if the caller has loaded it already: for work that it speeds up but does not need."""
     return sys.modules.get("numpy")
 
 
 def problem_lines(columns: Columns[Any], capacities: array[int]) -> Iterator[bytes]:
-    """The arc lines of a problem, many at once. After its capacities may stand those of arcs that were added."""
+    """The arc lines of a problem, many at once. The capacities may be followed by those of added arcs."""
     np, count = loaded(), len(columns)
     size = PLAIN_PIECE if np is None else PIECE
     for begin in range(0, count, size):
@@ -88,7 +88,7 @@ def _four_digits(np: Any) -> Any:
 
 
 def numpy_for(count: int) -> Any:
-    """numpy, where it is loaded, or where it is there and so many arcs are read that it is worth loading."""
+    """numpy, if it is loaded, or if it is installed and there are enough arcs to make it worth loading."""
     if count >= MOST_PLAIN:
         with contextlib.suppress(ImportError):
             return importlib.import_module("numpy")
@@ -96,7 +96,7 @@ def numpy_for(count: int) -> Any:
 
 
 def read_lines(lines: bytes, np: Any) -> tuple[array[int], array[int], array[int]]:
-    """The tails, the heads and the capacities of arc lines, by numpy where that is given. Raises a ValueError for other lines."""
+    """The tails, the heads and the capacities of arc lines, by numpy if it is given. Raises a ValueError for other lines."""
     count = lines.count(b"\n")
     # The letters of the lines are left out, so that numbers alone remain.
     text = lines.replace(b"a", b"")
@@ -114,7 +114,7 @@ def read_lines(lines: bytes, np: Any) -> tuple[array[int], array[int], array[int
 
 
 def flows(text: bytes, count: int) -> array[int] | None:
-    """The flows of a solution's text, and None where it does not have so many."""
+    """The flows of a solution's text, or None if it does not have so many."""
     try:
         found = array(AMOUNTS, (int(match[1]) for match in _FLOW.finditer(text)))
     except (OverflowError, ValueError):
@@ -135,7 +135,7 @@ def _last_numbers(np: Any, text: bytes, count: int) -> Any:
     column = np.zeros(count, np.uint64)
     begin, done = text.find(b"\n") + 1, 0
     while begin < len(text):
-        # So much as the processor's cache holds, in whole lines.
+        # As many lines as the processor's cache holds.
         end = text.rfind(b"\n", begin, begin + LETTERS) + 1
         ends = np.flatnonzero(letters[begin:end] == ord("\n"))
         if not ends.size or done + ends.size > count:
@@ -153,7 +153,7 @@ def _add_last_numbers(np: Any, letters: Any, ends: Any, column: Any) -> None:
     rows, places, scale = np.arange(len(ends)), ends - 1, 1
     while rows.size:
         digits = letters[places] - np.uint8(ord("0"))
-        # Before the first digit stands a space, which is less.
+        # A space stands before the first digit, and is less than one.
         within = digits < 10
         if not within.all():
             rows, places, digits = rows[within], places[within], digits[within]
@@ -205,7 +205,7 @@ def _plain(column: Any) -> Any:
 
 
 def _kind(column: Any) -> str:
-    """The kind of numbers of an array of numpy, and nothing for other columns."""
+    """The kind of numbers of an array of numpy, or nothing for another column."""
     return str(column.dtype.kind) if hasattr(column, "dtype") else ""
 
 
@@ -219,7 +219,7 @@ def _known(value: Any) -> Any:
 
 
 def is_unbounded(capacity: object) -> bool:
-    """Whether a capacity is none: None, no number, or infinite."""
+    """Whether a capacity is missing or has no bound: None, NaN, or infinite."""
     return is_missing(capacity) or not hasattr(capacity, "__len__") and capacity == float("inf")
 
 
@@ -247,7 +247,7 @@ def _of_numbers(
 
 
 def _known_nodes(np: Any, given: list[Any], names: list[int], places: Any) -> tuple[Mapping[Any, int], Any]:
-    """The numbers of the nodes that were given and then of these names; and an array of such numbers, out of places among the names."""
+    """The numbers of the given nodes and then of these names; and an array of such numbers, from places among the names."""
     if not given and 0 <= min(names, default=0) and max(names, default=0) < LARGEST_NODE * places.size:
         return WholeNodes.of(names), places.astype(np.uint32)
     known: dict[Any, int] = {}
@@ -257,13 +257,13 @@ def _known_nodes(np: Any, given: list[Any], names: list[int], places: Any) -> tu
 
 
 def _numbered(np: Any, ends: Any) -> tuple[list[int], Any]:
-    """The different numbers of an array in the order in which they come first, and for each of the array its place among them, from 1
-    on."""
+    """The different numbers of an array in the order in which they come first, and for each entry of the array its place among them,
+    from 1 on."""
     if not ends.size:
         return [], ends
     low, width = int(ends.min()), int(ends.max()) - int(ends.min()) + 1
     if width <= 4 * ends.size:
-        # Of several that are put at one place the last counts, which is here the first of the array.
+        # If several are put at one place, the last counts, which is here the first of the array.
         first = np.full(width, ends.size)
         first[ends[::-1] - low] = np.arange(ends.size)[::-1]
         used = np.flatnonzero(first < ends.size)

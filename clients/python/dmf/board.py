@@ -1,9 +1,8 @@
 """The server of a board: one page in the browser, on this machine alone, over one desk.
 
-Each address begins with a token that only the one who started the board gets. The server refuses a request with 403 where its token is
-another, where it names another host, or where a page of another origin made it; with 400 where it has not the form of one that the
-page makes; with 409 where the desk refuses what it asks for; and with 410 where the session has ended. Requests come to the desk
-one after the other.
+Each address begins with a token that only the one who started the board gets. The server refuses a request with 403 if its token is
+wrong, if it names another host, or if a page of another origin made it; with 400 if it does not have the form that the page gives it;
+with 409 if the desk refuses what it asks for; and with 410 if the session has ended. Requests come to the desk one after the other.
 
 The page holds a connection open, `life`. Once no page has held one for a while, the board ends.
 """
@@ -36,11 +35,11 @@ from .tables import whole_number
 
 LOOPBACK = "127.0.0.1"
 LONGEST_BODY = 1 << 16
-# How long a board lives on without a page, in seconds: as long as a reload takes.
+# How long a board runs on without a page, in seconds: as long as a reload takes.
 GRACE = 3.0
-# How long a request may sweep before it answers with what it has, in seconds.
+# How long a request may sweep before it answers with the results so far, in seconds.
 PORTION = 0.25
-# How long a sweep waits for the next such request before its copies of the network are ended, in seconds.
+# How long a sweep waits for the next such request before it ends its copies of the network, in seconds.
 PATIENCE = 5.0
 MOST_LISTED, MOST_SIDE, MOST_FOUND, MOST_SWEPT = 300, 30, 20, 5_000
 LONGEST_TEXT = 4_000
@@ -48,12 +47,12 @@ Json = dict[str, Any]
 
 
 class WrongForm(Exception):
-    """Why a request is not one that the page makes."""
+    """Why a request does not have the form that the page gives it."""
 
 
 @dataclass(frozen=True)
 class Answer:
-    """What is answered to a request."""
+    """The answer to a request."""
 
     status: int
     kind: str
@@ -67,13 +66,12 @@ def answer(content: Json, status: int = 200) -> Answer:
 
 
 class Board:
-    """What a board shows of a desk, and does for its page. All numbers of flows are texts, since a script takes the larger ones for
-    others."""
+    """What a board shows of a desk, and does for its page. All numbers of flows are texts, since a script rounds the larger ones."""
 
     def __init__(self, desk: Desk) -> None:
         self.desk = desk
         self.picture = Picture(desk)
-        # A sweep that is not at its end, and the arcs that it has not tried yet.
+        # A sweep that has not ended, and the arcs that it has not tried yet.
         self._sweep: Generator[Trial, None, None] | None = None
         self._left: list[int] = []
         self._sweep_lock = threading.Lock()
@@ -124,7 +122,7 @@ class Board:
         return self._judged(lambda: self._done(what, content))
 
     def _judged(self, make: Callable[[], Answer]) -> Answer:
-        """What is answered, or why it is refused."""
+        """The answer, or why the request is refused."""
         try:
             return make()
         except (DeskFault, NoPicture) as fault:
@@ -233,7 +231,7 @@ class Board:
         return Answer(200, "image/svg+xml", svg.encode(), "plan.svg")
 
     def _found(self, text: str) -> Answer:
-        """The places and arcs whose names have a text."""
+        """The places and arcs whose names contain a text."""
         wanted, names = text.casefold(), self.desk.names
         found: list[Json] = []
         for label, place in names.places.items():
@@ -249,7 +247,7 @@ class Board:
         return answer({"found": found})
 
     def end_sweep(self) -> None:
-        """Ends the sweep that is not at its end, if there is one."""
+        """Ends the sweep that has not ended, if there is one."""
         with self._sweep_lock:
             self._sweep_end.cancel()
             if self._sweep:
@@ -257,8 +255,8 @@ class Board:
             self._sweep, self._left = None, []
 
     def _portion(self, numbers: list[int]) -> list[Trial]:
-        """What each of the first arcs means, as many as the time of a portion allows. The next portion goes on with the same copies of
-        the network, where it is asked for in time."""
+        """The results for the first arcs, as many as the time of a portion allows. The next portion goes on with the same copies of
+        the network, if it is asked for in time."""
         if not self._left or numbers[: len(self._left)] != self._left:
             self.end_sweep()
         until = time.monotonic() + PORTION
@@ -266,7 +264,7 @@ class Board:
             self._sweep_end.cancel()
             going_on = self._sweep or self.desk.sweep(numbers)
             left = self._left or numbers
-            # Where this raises, the sweep is over.
+            # If this raises, the sweep is over.
             self._sweep, self._left = None, []
             trials: list[Trial] = []
             for trial in going_on:
@@ -281,14 +279,14 @@ class Board:
         return trials
 
     def _swept(self, numbers: list[int]) -> Json:
-        """What each of the first arcs means."""
+        """The result for each of the first arcs."""
         trials = self._portion(numbers)
         doubled = ("" if trial.doubled is None else str(trial.doubled) for trial in trials)
         rows = [{**self._arc(it.arc), "closed": str(it.closed), "doubled": second} for it, second in zip(trials, doubled)]
         return {"value": str(self.desk.value), "trials": rows, "left": numbers[len(trials) :]}
 
 
-# What may be done, and the fields that are wanted for it.
+# The requests, with the fields that each needs.
 FORMS: dict[str, dict[str, type]] = {
     "close": {"arc": int},
     "open": {"arc": int},
@@ -318,14 +316,14 @@ def _amount(text: str) -> int:
 
 
 class Server(ThreadingHTTPServer):
-    """The server of a board. `address` is where its page is; `opening` leads there too, once, so that the words of a browser's process,
-    which others on this machine may read, give nobody the token."""
+    """The server of a board. `address` is where its page is. `opening` leads there too, once: other users of this machine may read
+    the words of a browser's process, and these give them no token."""
 
     daemon_threads = True
     allow_reuse_address = False
 
     def __init__(self, board: Board, port: int = 0) -> None:
-        """Raises an OSError where the port is taken."""
+        """Raises an OSError if the port is taken."""
         super().__init__((LOOPBACK, port), Handler)
         self.board = board
         self.lock = threading.Lock()
@@ -341,13 +339,13 @@ class Server(ThreadingHTTPServer):
         self._counted = threading.Condition()
 
     def hold(self) -> None:
-        """A page is there."""
+        """A page has come."""
         with self._counted:
             self._pages += 1
             self._counted.notify_all()
 
     def let_go(self) -> None:
-        """A page has gone. Where it was the last one and none comes in time, the board ends."""
+        """A page has gone. If it was the last one and none comes in time, the board ends."""
         with self._counted:
             self._pages -= 1
             if not self._pages and not self._counted.wait_for(lambda: self._pages, GRACE):
@@ -362,7 +360,7 @@ class Server(ThreadingHTTPServer):
             return is_right
 
     def handle_error(self, request: object, client_address: object) -> None:
-        """A page that goes away in mid-answer is no fault."""
+        """A page that goes away during an answer is no fault."""
 
 
 def _policy(page: str) -> str:
@@ -421,7 +419,7 @@ class Handler(BaseHTTPRequestHandler):
             self._send(made)
 
     def _refusal(self) -> Answer | None:
-        """Why the one who asks may not, if so."""
+        """Why the sender may not ask this, if so."""
         why = ""
         hosts = self.headers.get_all("Host") or []
         if len(hosts) != 1 or hosts[0] not in self.server.hosts:

@@ -16,7 +16,7 @@ from .picture import CUT, SIDE, UNUSED, drawn_line, quoted
 SVG = "http://www.w3.org/2000/svg"
 # How long Graphviz may take, in seconds.
 PATIENCE = 20
-# What is as wide as any number of an arc is, while its capacity has so many digits.
+# A text as wide as any number of an arc, while its capacity has so many digits.
 WIDEST, CLOSED = "8", "closed"
 STYLE = f"""
 text {{ font-family: Helvetica, Arial, sans-serif; }}
@@ -31,7 +31,7 @@ text {{ font-family: Helvetica, Arial, sans-serif; }}
 .shut ellipse {{ stroke: {UNUSED}; }}
 .part ellipse {{ stroke-dasharray: 5 2; }}
 """
-# What XML has no place for, and `display` lets stand.
+# Characters that XML does not allow, and that `display` leaves as they are.
 _NO_XML = re.compile("[\ufffe\uffff]")
 
 
@@ -52,7 +52,7 @@ def _label(text: str) -> str:
 
 
 class Picture:
-    """The pictures of a desk. Each keeps the layout of the one before, where that fits."""
+    """The pictures of a desk. Each keeps the layout of the one before, if that fits."""
 
     def __init__(self, desk: Desk) -> None:
         self._desk = desk
@@ -60,7 +60,7 @@ class Picture:
         self._layout = ""
 
     def svg(self, nodes: tuple[int, ...], arcs: list[int], *, to_take: bool = False) -> str:
-        """The picture of these arcs, and of these nodes though they have none. One to take along has its style within it. Raises
+        """The picture of these arcs, and of these nodes even if they have none. A picture to take along has its style in it. Raises
         `NoPicture`."""
         shape = self._shape_of(arcs, nodes)
         if shape != self._shape:
@@ -130,7 +130,7 @@ class Picture:
 
 
 def spoken(desk: Desk, number: int) -> str:
-    """What flows on an arc, in words."""
+    """The flow on an arc, in words."""
     line, flow = desk.line(number), desk.flow(number)
     return CLOSED if line.is_closed else f"{flow} of {line.capacity}{', full' if flow and flow == line.capacity else ''}"
 

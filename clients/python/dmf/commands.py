@@ -1,4 +1,4 @@
-"""The command lines of a session: what each asks for, or why its form alone has it refused. docs/FORMATS.md has the commands."""
+"""The command lines of a session: what each asks for, or why its form alone gets it refused. docs/FORMATS.md has the commands."""
 
 from __future__ import annotations
 
@@ -43,8 +43,8 @@ def ended(line: bytes) -> bytes:
 
 
 def read_command(line: bytes) -> Command | None:
-    """What a line asks for, which has its line feed if it was read with one. None for a blank line and a comment. Raises the
-    `Fault` for which a session refuses it whatever its network is."""
+    """What a line asks for; it may still have its line feed. None for a blank line and a comment. Raises the `Fault` for which a
+    session refuses it whatever its network is."""
     if len(line.removesuffix(b"\n")) > LONGEST_LINE:
         raise Fault("line too long")
     found = fields(ended(line))

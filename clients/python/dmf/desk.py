@@ -1,8 +1,8 @@
 """A planner's desk: a network by its names, the steps that were tried on it, and sweeps.
 
-A step is one thing that a planner does, as to close a place that is limited, and may be several changes of the network; it is
-undone as a whole. Arcs go by their numbers here, as `dmf-names` prints them, and `Names` finds the number of a name. Steps are kept
-as what was asked for, so they can be made again after a sweep, and on a new session where one has ended.
+A step is one thing that a planner does, such as closing a place with a limit. It may be several changes of the network, and is undone
+as a whole. Arcs go by their numbers here, as `dmf-names` prints them, and `Names` finds the number of a name. A step is kept as the
+request, so it can be made again after a sweep, or on a new session if one has ended.
 """
 
 from __future__ import annotations
@@ -30,11 +30,11 @@ ARROWS = (" -> ", "->", " - ", "-")
 
 
 class DeskFault(Exception):
-    """Why the desk refuses what was asked. It changes nothing."""
+    """Why the desk refuses a request. It changes nothing."""
 
 
 class Place(NamedTuple):
-    """A place: arcs into it enter the node `entry`, and arcs out of it leave the node `exit`. The two differ where the place has a
+    """A place: arcs into it enter the node `entry`, and arcs out of it leave the node `exit`. The two differ if the place has a
     limit."""
 
     entry: int
@@ -54,7 +54,7 @@ class Line(NamedTuple):
 
 
 class Was(NamedTuple):
-    """What an arc was before a change; one that was added was nothing."""
+    """An arc before a change; None if the change added it."""
 
     number: int
     line: Line | None
@@ -115,8 +115,8 @@ class Step:
 
 @dataclass(frozen=True)
 class Trial:
-    """The greatest values where an arc is closed, and where a second one of its capacity lies beside it: None where the sum of the
-    capacities would pass 64 bits."""
+    """The greatest values if an arc is closed, and if a second one of its capacity lies beside it. The second is None if the sum of
+    the capacities would exceed 64 bits."""
 
     arc: int
     closed: int
@@ -124,7 +124,7 @@ class Trial:
 
 
 class Names:
-    """How places and arcs are called, and which are meant by a text."""
+    """The names of places and arcs, and which of them a text means."""
 
     def __init__(self, node_names: dict[int, str], handles: dict[int, Handle[Node]], nodes: Sequence[Node]) -> None:
         self._handles = handles
@@ -176,7 +176,7 @@ class Names:
         return self._labels[number - 1]
 
     def arc_name(self, number: int) -> str:
-        """The name that an arc was given, or nothing."""
+        """The name of an arc, or nothing."""
         key = self._handles[number].given_key
         return display(key) if isinstance(key, str) else ""
 
@@ -185,7 +185,7 @@ class Names:
         return f"{self.node(tail)} -> {self.node(head)}"
 
     def arc(self, number: int) -> str:
-        """An arc by its name and its ends. One that joins the two halves of a place has its name alone."""
+        """An arc by its name and its ends. An arc that joins the two halves of a place goes by its name alone."""
         name = self.arc_name(number)
         tail, head = self._ends(number)
         return self.ends(number) if not name else name if self.node(tail) == self.node(head) else f"{name}, {self.ends(number)}"
@@ -195,7 +195,7 @@ class Names:
         return self.arc_name(number) or self.ends(number)
 
     def place(self, text: str) -> Place:
-        """The place that is called so. Raises a `DeskFault`."""
+        """The place with this name. Raises a `DeskFault`."""
         name = cleaned(text)
         if name in self.places:
             return self.places[name]
@@ -208,7 +208,7 @@ class Names:
         raise DeskFault(f"no place is called {shown(name)}{near(name, self.places)}")
 
     def place_of(self, node: int) -> Place:
-        """The place of a node. Raises a `DeskFault` where there is none of this number."""
+        """The place of a node. Raises a `DeskFault` if no node has this number."""
         if not 1 <= node <= len(self._labels):
             raise DeskFault(f"there is no place #{node}")
         place = self.places.get(cleaned(self.node(node)), Place(node, node))
@@ -224,8 +224,8 @@ class Names:
         return int(digits) if name[:1] == "#" and digits.isascii() and digits.isdigit() and len(digits) < 12 else 0
 
     def arcs(self, text: str) -> list[int]:
-        """The arcs, open or closed, that are called so: by their name, by their ends, as in `Mill-Town` or `Mill Town`, or by their
-        number, as in `#7`. Raises a `DeskFault` where there are none."""
+        """The arcs, open or closed, that a text names: by their name, by their ends, as in `Mill-Town` or `Mill Town`, or by their
+        number, as in `#7`. Raises a `DeskFault` if there are none."""
         name = cleaned(text)
         number = self._numbered(name)
         found = {number: None} if number in self._handles else {}
@@ -254,11 +254,11 @@ class Names:
         return f"no arc is called {shown(name)}{near(name, self.spoken())}"
 
     def spoken(self) -> Iterator[str]:
-        """A text for each arc by which it can be meant."""
+        """For each arc a text that means it."""
         return map(self.called, self._handles)
 
     def called(self, number: int) -> str:
-        """A text by which an arc can be meant: its name, or else its ends."""
+        """A text that means an arc: its name, or else its ends."""
         tail, head = self._ends(number)
         return self.arc_name(number) or f"{self.node(tail)}-{self.node(head)}"
 
@@ -269,7 +269,7 @@ class Names:
 
 @dataclass
 class _Seen:
-    """What was asked of the present state, and answered."""
+    """The answers about the present state so far."""
 
     flow: Solution[Node] | None = None
     cut: Cut[Node] | None = None
@@ -335,7 +335,7 @@ class Desk:
         """Ends the session."""
         self._network.end()
 
-    # What is known of the present state.
+    # The answers about the present state so far.
 
     @property
     def value(self) -> int:
@@ -400,14 +400,14 @@ class Desk:
         return self._seen.side
 
     def flow(self, number: int) -> int:
-        """What flows on an arc. On one that is closed nothing does."""
+        """The flow on an arc, which is 0 if it is closed."""
         if self.line(number).is_closed:
             return 0
         self._seen.flow = self._seen.flow or self._network.flow()
         return self._seen.flow[self._handles[number]]
 
     def line(self, number: int) -> Line:
-        """An arc as it is. Raises a `DeskFault` where there is none of this number."""
+        """An arc as it is. Raises a `DeskFault` if there is none of this number."""
         if not 1 <= number <= len(self.lines):
             raise DeskFault(f"there is no arc #{number}")
         return self.lines[number - 1]
@@ -419,7 +419,7 @@ class Desk:
     # What can be done.
 
     def solve(self) -> Step:
-        """Makes the flow a greatest one."""
+        """Makes the flow a maximum flow."""
         return self._do("solve", [Solve()])
 
     def close(self, number: int) -> Step:
@@ -450,14 +450,14 @@ class Desk:
         return self._do(f"shut {self.names.node(place.entry)}", [Shut(node) for node in dict.fromkeys(place)])
 
     def open(self, number: int) -> Step:
-        """Opens an arc that is closed, with the capacity that it had. It is a new arc to the network, and has a new number."""
+        """Opens a closed arc, with the capacity that it had. To the network it is a new arc with a new number."""
         line = self.line(number)
         if not line.is_closed or line.is_replaced:
             raise DeskFault(f"{self.names.arc(number)} is open")
         return self._do(f"open {self.names.short(number)}", [Reopen(number)])
 
     def open_place(self, place: Place) -> Step:
-        """Opens the arcs that were closed when a place was shut, but for those to places that are shut too."""
+        """Opens the arcs that were closed when a place was shut, except those to places that are shut too."""
         label = self.names.node(place.entry)
         if not self.shut_nodes & set(place):
             raise DeskFault(f"{shown(label)} is not shut")
@@ -472,7 +472,7 @@ class Desk:
         return self._do(f"open {label}", [Reopen(number) for number in closed])
 
     def undo(self, count: int = 1) -> None:
-        """Takes back the last steps, all of them or none."""
+        """Undoes the last steps, all of them or none."""
         if count > self.at:
             raise DeskFault(f"there {_are(self.at, 'step')} to undo")
         if self._time.floors and self.at - count < self._time.floors[-1]:
@@ -480,7 +480,7 @@ class Desk:
         self._undo(count)
 
     def redo(self, count: int = 1) -> None:
-        """Makes again the steps that were taken back last, all of them or none."""
+        """Redoes the steps that were undone last, all of them or none."""
         if count > len(self._time.undone):
             raise DeskFault(f"there {_are(len(self._time.undone), 'step')} to redo")
         for _ in range(count):
@@ -507,7 +507,7 @@ class Desk:
         self._time.floors.pop()
 
     def drop(self) -> None:
-        """Ends the trial that began last, and takes back what was done. `redo` would do it again."""
+        """Ends the trial that began last, and undoes what was done in it. `redo` can do it again."""
         self._refuse_no_trial()
         self._undo(self.at - self._time.floors[-1])
         self._time.floors.pop()
@@ -518,7 +518,7 @@ class Desk:
 
     @contextlib.contextmanager
     def aside(self) -> Iterator[None]:
-        """Takes back what is done inside, and keeps no step of it."""
+        """Undoes at its end what the block did, and keeps no step of it."""
         at, undone = self.at, list(self._time.undone)
         try:
             yield
@@ -529,16 +529,16 @@ class Desk:
             self._time.undone = undone
 
     def sweep(self, numbers: Iterable[int]) -> Generator[Trial, None, None]:
-        """What each of these arcs means for the greatest value: where it alone is closed, and where it alone has a second one beside
-        it. Each is tried on a copy of the network, on all processors. The flow is a greatest one, and the arcs are open, else this raises
-        a `DeskFault`; it is not to change meanwhile."""
+        """What each of these arcs means for the greatest value: if it alone is closed, and if it alone has a second one beside it.
+        Tries each on a copy of the network, on all processors. Raises a `DeskFault` unless the flow is greatest and the arcs are
+        open. The network must not change meanwhile."""
         if not self.is_greatest:
             raise DeskFault("the flow is not greatest, so nothing can be compared with it; `solve` first")
         cut, wanted = set(self.cut_arcs()), list(numbers)
         for number in wanted:
             self._open_line(number)
-        # A closed arc that carries nothing leaves the flow as it is. Beside an arc that is not of the cut, a second one leaves the cut
-        # as it is, and the cut is the limit.
+        # Closing an arc that carries nothing leaves the flow as it is. A second arc beside one that is not in the cut leaves the cut
+        # as it is, and so the value.
         carrying = {number for number in wanted if self.flow(number)}
         cases: list[list[tuple[object, ...]]] = []
         for number in wanted:
@@ -556,7 +556,7 @@ class Desk:
                 yield Trial(number, closed, doubled)
 
     def the_arc(self, text: str, *, is_closed: bool = False) -> int:
-        """The arc that a text means: the open one, or the closed one. Raises a `DeskFault` where there is none, or more than one."""
+        """The arc that a text means: the open one, or else the closed one. Raises a `DeskFault` if it means none, or several."""
         meant = self.names.arcs(text)
         found = [number for number in meant if not self.lines[number - 1].is_replaced]
         if not found:
@@ -571,7 +571,7 @@ class Desk:
         raise DeskFault(f"{arcs} is open" if is_closed else f"{arcs} is closed; `open` opens it")
 
     def _replacing(self, number: int) -> int:
-        """The arc as which one was opened again, which is the last with its name and its ends."""
+        """The arc that replaced one when it was opened again: the last with its name and its ends."""
         line, name = self.lines[number - 1], self.names.arc_name(number)
         return max(
             other
@@ -587,7 +587,7 @@ class Desk:
 
     @contextlib.contextmanager
     def _whole(self) -> Iterator[None]:
-        """Ends the session where what is done inside is broken off, so that it never has other changes than the steps tell."""
+        """Ends the session if an error breaks off the block, so that its changes are always those of the steps."""
         try:
             yield
         except Refused:
@@ -627,7 +627,7 @@ class Desk:
         return self._time.done[-1]
 
     def _change(self, change: Close | Cap | Add | Reopen | Shut) -> list[Was]:
-        """Makes a change of the network, and gives what the arcs were that it changed."""
+        """Makes a change of the network, and returns the arcs that it changes, as they were before."""
         if isinstance(change, Add):
             return [self._added(Line(change.tail, change.head, change.capacity), change.name)]
         if isinstance(change, Reopen):
@@ -671,7 +671,7 @@ class Desk:
         return at_node
 
     def _take_back(self, before: Iterable[Was], shut_before: frozenset[int]) -> None:
-        """Gives back to arcs what they were."""
+        """Restores arcs as they were."""
         for number, line in reversed(list(before)):
             if line is None:
                 self.names.drop(number)
@@ -684,7 +684,7 @@ class Desk:
         self.shut_nodes = shut_before
 
     def _undo(self, count: int) -> None:
-        """Takes back so many steps, which are there."""
+        """Undoes so many steps, which exist."""
         if not count:
             return
         undone = self._time.done[self.at - count :]
@@ -698,7 +698,7 @@ class Desk:
 
 
 def _greatest(result: SweepResult[Node]) -> int | None:
-    """The greatest value of a case, and None where the sum of the capacities would pass 64 bits."""
+    """The greatest value of a case, or None if the sum of the capacities would exceed 64 bits."""
     if result.refusal is None or isinstance(result.refusal, (CapacitiesPast64Bits, TooManyArcs)):
         return result.value
     raise DeskFault(f"what was tried came to no end: {result.refusal}")

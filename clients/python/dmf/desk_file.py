@@ -1,4 +1,4 @@
-"""What `dmf-plan` and `dmf-board` are given: a problem's file, or a table of arcs as `dmf-problem` takes it."""
+"""The input of `dmf-plan` and `dmf-board`: a problem's file, or a table of arcs as `dmf-problem` takes it."""
 
 from __future__ import annotations
 
@@ -22,8 +22,8 @@ FAULT, UNREADABLE = 3, 4
 
 @dataclass(frozen=True)
 class Subject:
-    """A problem with names in comments, as `dmf-problem` writes it. `unit` is what the table calls its amounts and `noun` what it
-    calls an arc, where its titles say so; `notes` are what looks like a mistake, and what was taken for granted."""
+    """A problem with names in comments, as `dmf-problem` writes it. `unit` is the table's word for its amounts and `noun` its word
+    for an arc, if its titles have them. `notes` say what looks like a mistake, and what was assumed."""
 
     path: str
     text: bytes
@@ -48,7 +48,7 @@ def words_of(parser: argparse.ArgumentParser, given: list[str]) -> argparse.Name
 
 
 def read_subject(words: argparse.Namespace) -> Subject:
-    """What the words name. Raises a `ToolFault`."""
+    """The problem that the words name. Raises a `ToolFault`."""
     try:
         data = read_file(words.path, UNREADABLE)
         if is_problem(words.path, data):
@@ -92,7 +92,7 @@ def _of_table(words: argparse.Namespace, data: bytes) -> Subject:
 
 
 def _only(plan: Plan, kind: str, end: int) -> Terminal:
-    """The one place from which arcs leave and that none enters, or the other way round. Raises a `TableFault` where there is not one."""
+    """The only place that arcs leave and none enters, or the other way round. Raises a `TableFault` if there is not exactly one."""
     rows = [record.places for record in plan.arcs.records if record.places[0] != record.places[1]]
     others = {places[1 - end] for places in rows} | ({places[end] for places in rows} if plan.both_ways else set())
     found = [place for place in dict.fromkeys(places[end] for places in rows) if place not in others]
@@ -103,7 +103,7 @@ def _only(plan: Plan, kind: str, end: int) -> Terminal:
 
 
 def _which(kind: str, found: Sequence[str], places: Sequence[str]) -> str:
-    """The message where the table does not name its source or its sink."""
+    """The message if the table does not name its source or its sink."""
     way = "leads to" if kind == "source" else "leads away from"
     where = "does it flow from" if kind == "source" else "does it flow to"
     choice = found or places
@@ -121,5 +121,5 @@ def _titles(table: Table, named: dict[str, str]) -> dict[str, str]:
 
 
 def _spoken(title: str) -> str:
-    """A title, where it says what its cells are."""
+    """A title, if it says what its cells are."""
     return title if title.casefold() not in PLAIN_TITLES and len(title) <= LONGEST_TITLE and title.isprintable() else ""

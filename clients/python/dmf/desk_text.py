@@ -1,4 +1,4 @@
-"""What is made of a desk to take along: its plan as a table, its problem, and its picture as a text for Graphviz."""
+"""Texts of a desk to take along: its plan as a table, its problem, and its picture for Graphviz."""
 
 from __future__ import annotations
 
@@ -16,8 +16,8 @@ MOST_DRAWN = 300
 
 
 def table(desk: Desk) -> str:
-    """The open arcs as a table for a spreadsheet, with the titles that `dmf-names --csv` writes. Where the flow is not greatest,
-    nothing stands in the column of the cut."""
+    """The open arcs as a table for a spreadsheet, with the titles that `dmf-names --csv` writes. If the flow is not greatest, the
+    column of the cut is empty."""
     crossing = desk.cut_arcs() if desk.is_greatest else None
     written = io.StringIO()
     rows = csv.writer(written, lineterminator="\n")
@@ -60,7 +60,7 @@ def drawing(desk: Desk) -> Drawing:
 
 
 def arcs_of(lines: list[Line]) -> list[timeline.Arc]:
-    """Lines as a drawing takes arcs: what it reads of an arc, a line has too."""
+    """Lines as arcs of a drawing: a line has all that a drawing reads of an arc."""
     return cast("list[timeline.Arc]", lines)
 
 
@@ -70,7 +70,7 @@ def picture_text(desk: Desk) -> str:
 
 
 def near(desk: Desk, nodes: tuple[int, ...], most: int = MOST_DRAWN) -> list[int]:
-    """The numbers of so many arcs: those nearest to these nodes, or to the cut where none are given."""
+    """The numbers of the nearest arcs: nearest to these nodes, or to the cut if none are given."""
     numbers = [number for number, line in enumerate(desk.lines, 1) if not line.is_replaced]
     if len(numbers) <= most:
         return numbers

@@ -1,4 +1,4 @@
-"""What the package raises of its own. Each reason for which `dmf` refuses a command or a problem is a class of its own."""
+"""The exceptions of the package. Each reason for which `dmf` refuses a command or a problem is a class of its own."""
 
 from __future__ import annotations
 
@@ -7,7 +7,7 @@ from typing import Any, ClassVar
 
 
 def shown(thing: object) -> str:
-    """How a message shows what a caller gave: its repr, also where Python refuses to write one of its numbers."""
+    """A value of the caller in a message: its repr, also if Python refuses to write one of its numbers."""
     try:
         return repr(thing)
     except ValueError:
@@ -15,19 +15,19 @@ def shown(thing: object) -> str:
 
 
 class Error(Exception):
-    """What this package raises of its own."""
+    """The base of the exceptions of this package."""
 
 
 class SessionEnded(Error):
-    """The program has ended: it was killed, it failed, or the session was ended. Nothing can be asked any more."""
+    """The program has ended: it was killed, it failed, or the session was ended. The network can answer nothing any more."""
 
 
 class AmbiguousArc(Error, LookupError):
-    """Several arcs have this key, or these ends, which are open, or are all closed. Each has a handle, by which it can be named."""
+    """Several open arcs, or several closed arcs and no open one, have this key or these ends. Each has a handle that names it."""
 
 
 class ArcIsOpen(Error, ValueError):
-    """An arc was to be opened that is open. Nothing was added."""
+    """The arc to open is open. Nothing was added."""
 
 
 class NotAnArc(Error, ValueError):
@@ -39,11 +39,11 @@ class NoCapacity(Error, LookupError):
 
 
 class HistoryOutOfRange(Error, ValueError):
-    """The most changes that can be undone is no whole number from 0 to 1,000,000."""
+    """The number of changes that can be undone must be a whole number from 0 to 1,000,000."""
 
 
 class NameNotWritable(Error, ValueError):
-    """A name cannot stand in a comment of a problem: `dmf.read` would give another one back."""
+    """A name cannot stand in a comment of a problem: `dmf.read` would read it as another one."""
 
 
 class UsedByTwoThreads(Error, RuntimeError):
@@ -51,13 +51,13 @@ class UsedByTwoThreads(Error, RuntimeError):
 
 
 class UsedByTwoProcesses(Error, RuntimeError):
-    """A process that was forked off used a network of the process before it. The call did nothing, and the session goes on."""
+    """A forked process used a network of its parent process. The call did nothing, and the session goes on."""
 
 
 class Refused(Error):
-    """The program refuses a command, or a problem. Each of its reasons is a class of its own; one that this package does not
-    know is a plain `Refused`. `text` is the reason in the program's words, `what` was refused, and `line` is the line of the
-    problem that has the fault, where the problem was read from a file."""
+    """The program refuses a command, or a problem. Each of its reasons is a class of its own; a reason that this package does not
+    know is a plain `Refused`. `text` is the reason in the program's words, `what` is what it refused, and `line` is the faulty line
+    of the problem, if that was read from a file."""
 
     text = "refused"
     line: int | None = None
@@ -84,7 +84,7 @@ class Refused(Error):
         refused.text = text
         return refused
 
-    # That of a KeyError puts quotation marks around the message.
+    # The `__str__` of a KeyError puts quotation marks around the message.
     __str__ = Exception.__str__
 
 
@@ -101,27 +101,27 @@ class ArcIsClosed(Refused):
 
 
 class NotANumber(Refused, ValueError):
-    """Something is no whole number from 0 on."""
+    """The value is not a whole number from 0 on."""
 
 
 class NumberTooLarge(Refused, ValueError):
-    """A number is past 2^64 - 1."""
+    """A number exceeds 2^64 - 1."""
 
 
 class CapacitiesPast64Bits(Refused, OverflowError):
-    """The sum of all capacities would be past 2^64 - 1."""
+    """The sum of all capacities would exceed 2^64 - 1."""
 
 
 class NothingToUndo(Refused):
-    """There were not so many changes, or some of them are forgotten. None of them is undone."""
+    """There are fewer changes than that, or some of them are forgotten. None of them is undone."""
 
 
 class NothingToRedo(Refused):
-    """Not so many changes were undone. None of them is made again."""
+    """Fewer changes than that were undone. None of them is redone."""
 
 
 class FlowIsNotGreatest(Refused):
-    """A cut was asked for where some flow has a larger value. `solve` comes first."""
+    """There is no minimum cut yet, since some flow has a larger value. Call `solve` first."""
 
 
 class NoMemory(Refused, MemoryError):
@@ -137,14 +137,14 @@ class UnknownCommand(Refused):
 
 
 class TooManyArcs(Refused):
-    """An arc was added to 134,217,728 arcs, or a problem has more arc lines than it says."""
+    """The network has 134,217,728 arcs already, or a problem has more arc lines than it says."""
 
 
 class SourceAndSinkAreTheSame(Refused, ValueError):
     """One node cannot be both the source and the sink."""
 
 
-# What else the program says of a problem's text, or of a line of a session: each says it by its name.
+# The other reasons for which the program refuses a problem's text, or a line of a session. Each has its own class.
 class LineTooLong(Refused): ...
 class WrongNumberOfFields(Refused): ...
 class ProblemLineExpected(Refused): ...

@@ -1,4 +1,4 @@
-"""What is kept of a network beside the program, which knows numbers alone: names, which arcs are open, and the changes."""
+"""What is kept of a network outside the program, which knows only numbers: names, which arcs are open, and the changes."""
 
 from __future__ import annotations
 
@@ -18,15 +18,15 @@ from .text import LARGEST
 
 # A whole number, which may also come as a float without a fraction.
 Whole = Union[SupportsIndex, float]
-# How many rows are taken together: so many that what they refer to stays in the processor's cache.
+# How many rows are taken together: the objects that they refer to fit the processor's cache.
 PIECE = 1 << 8
-# How many rows are expected where nobody says so, and how large nodes that are whole numbers may be for each row.
+# How many rows are expected if nobody says so, and how large nodes that are whole numbers may be for each row.
 USUAL, LARGEST_NODE = 1 << 18, 4
 WANTED = "wanted is (tail, head, capacity) or (tail, head, capacity, key), of which all but the capacity can be hashed"
 
 
 def whole(number: Any, at: object) -> int:
-    """The whole number from 0 to 2^64 - 1 that this is. Raises `NotANumber` and `NumberTooLarge`, which say that it stands in
+    """This value as a whole number from 0 to 2^64 - 1. Raises `NotANumber` and `NumberTooLarge`, whose messages say that it stands in
     `at`."""
     try:
         # A float of Python or of numpy, of any width.
@@ -59,7 +59,7 @@ def columns_of(rows: Iterable[Any], nodes: Iterable[Node]) -> tuple[Columns[Node
 
 
 def is_missing(value: object) -> bool:
-    """Whether a value of a table is none: None, or what is not equal to itself, as NaN and the NA of pandas."""
+    """Whether a value of a table is missing: None, or a value that is not equal to itself, such as NaN and the NA of pandas."""
     try:
         return value is None or bool(value != value)
     except TypeError:
@@ -70,7 +70,7 @@ def is_missing(value: object) -> bool:
 
 
 def _judge_nodes(columns: Columns[Any], capacities: array[int]) -> None:
-    """Raises `NotAnArc` where a node is not equal to itself, since it could not be found again."""
+    """Raises `NotAnArc` if a node is not equal to itself, since it could not be found again."""
     numbers = columns.numbers
     if isinstance(numbers, WholeNodes):
         return
@@ -93,8 +93,8 @@ def refuse_node(columns: Columns[Any], capacities: array[int], node: object) -> 
 
 
 class _Taken:
-    """The columns of the rows that were taken, of so many that are expected. `numbers` gives each node that is new the next number. It is
-    a dictionary from the first node on that is no whole number, or so large that a dictionary is smaller."""
+    """The columns of the rows so far, of so many that are expected. `numbers` gives each new node the next number. It becomes a
+    dictionary at the first node that is no whole number, or so large that a dictionary takes less memory."""
 
     def __init__(self, nodes: Iterable[Hashable], expected: int) -> None:
         self.numbers: WholeNodes | defaultdict[Any, int] = WholeNodes()
@@ -104,7 +104,7 @@ class _Taken:
         self._numbers_of(list(nodes))
 
     def _numbers_of(self, nodes: list[Any]) -> array[int]:
-        """The numbers of nodes. Raises a TypeError where one cannot be hashed."""
+        """The numbers of nodes. Raises a TypeError if one cannot be hashed."""
         if isinstance(self.numbers, WholeNodes):
             numbers = self.numbers.take(nodes, self._most)
             if numbers is not None:
@@ -113,8 +113,8 @@ class _Taken:
         return array(NODES, map(self.numbers.__getitem__, nodes))
 
     def take_together(self, rows: list[Any]) -> bool:
-        """Takes rows of one form column by column, which is several times as quick. Says whether it did so: where
-        one has another form, or something in it is odd, none is taken."""
+        """Takes rows of the same form column by column, which is several times as fast. Returns whether it did: if one has another
+        form, or a value in it is odd, it takes none."""
         if not set(map(type, rows)) <= {tuple, list} or not set(map(len, rows)) in ({3}, {4}):
             return False
         tails, heads, amounts, *others = zip(*rows)
@@ -157,30 +157,30 @@ class _Taken:
 
 @dataclass(frozen=True)
 class Change(Generic[Node]):
-    """What a change did to capacities: each arc's number with its capacity before and after; and the arc that it added, with its
-    capacity and the number of the closed arc whose place it took, if it did. A closed arc has no capacity."""
+    """What a change did to capacities: the number of each arc with its capacity before and after; and the arc that it added, with its
+    capacity and the number of the closed arc that it replaces, if it does. A closed arc has no capacity."""
 
     capacities: list[tuple[int, int | None, int | None]] = field(default_factory=list)
     added: tuple[Arc[Node], int, int | None] | None = None
 
 
 class Kept(Generic[Node]):
-    """The arcs of a network with the capacities that they have, or had when they were closed; which are closed; those that were
-    added; and the changes that can be undone and made again, of which there are never more than `most`."""
+    """The arcs of a network with the capacities that they have, or had when they were closed; which arcs are closed; the added arcs;
+    and the changes that can be undone or redone, of which there are at most `most`."""
 
     def __init__(self, columns: Columns[Node], capacities: array[int], source: Node, sink: Node, most: int) -> None:
-        """Raises `NoSuchNode` where the source or the sink is no node."""
+        """Raises `NoSuchNode` if the source or the sink is no node."""
         self.columns = columns
         self.handles = Handles(columns)
         self.capacities = capacities
         self.closed: set[int] = set()
         self.added: list[Arc[Node]] = []
-        # For each of these the number of the closed arc whose place it took.
+        # For each of these the number of the closed arc that it replaces.
         self.replaced: list[int | None] = []
-        # The arcs of the network that this one was copied of, whose handles name the arcs here too.
+        # The arcs of the network from which this one was copied. Their handles name the arcs here too.
         self.origin: OpenArcs[Node] | None = None
         self.most = most
-        # How many changes led to the present state, also those that are forgotten, and how many of them may not be undone now.
+        # How many changes led to the present state, forgotten ones counted, and how many of them may not be undone now.
         self.place = 0
         self.floor: int | None = None
         self._added_index: Added[Node] = Added()
@@ -212,7 +212,7 @@ class Kept(Generic[Node]):
         return self._opened
 
     def handle(self, number: int) -> Arc[Node]:
-        """The handle of a number that is there."""
+        """The handle of an existing arc's number."""
         return self.handles.of(number) if number <= len(self.columns) else self.added[number - len(self.columns) - 1]
 
     def arc(self, key: Hashable) -> Arc[Node]:
@@ -230,7 +230,7 @@ class Kept(Generic[Node]):
         return one_of([self.handle(number) for number in numbers if number not in self.replaced], key, "closed")
 
     def has(self, arc: Arc[Any]) -> bool:
-        """Whether a handle is that of an arc here, open or closed."""
+        """Whether a handle names an arc here, open or closed."""
         if arc.number <= len(self.columns):
             return self.handles.has(arc)
         place = arc.number - len(self.columns) - 1
@@ -267,7 +267,7 @@ class Kept(Generic[Node]):
         self.redo(1)
 
     def redo(self, count: int) -> None:
-        """Makes so many changes again, which are there."""
+        """Redoes so many changes, which exist."""
         for _ in range(count):
             change = self._undone.pop()
             self._done.append(change)
@@ -280,7 +280,7 @@ class Kept(Generic[Node]):
         self._opened = None
 
     def undo(self, count: int) -> None:
-        """Takes so many changes back, which are there."""
+        """Undoes so many changes, which exist."""
         for _ in range(count):
             change = self._done.pop()
             self._undone.append(change)
@@ -301,18 +301,18 @@ class Kept(Generic[Node]):
                 self.capacities[number - 1] = capacity
 
     def judge_change(self) -> None:
-        """Raises `HistoryOutOfRange` where one more change could not be taken back at the end of what is tried out."""
+        """Raises `HistoryOutOfRange` if one more change could not be undone at the end of the trial."""
         if self.floor is not None and self.place - self.floor >= self.most:
             why = f"history out of range: of what is tried out, {self.most} changes can be taken back, and not one more"
             raise HistoryOutOfRange(why)
 
     def judge_undo(self, count: int) -> None:
-        """Raises `NothingToUndo` where that would take back what was there before something was tried out."""
+        """Raises `NothingToUndo` if that would undo a change from before the trial."""
         if self.floor is not None and self.place - count < self.floor:
             raise NothingToUndo(f"undo {count}, of {self.place - self.floor} changes that are tried out")
 
     def copy(self) -> Kept[Node]:
-        """The same arcs as they are now, without changes. Handles of these name the arcs of the copy too."""
+        """The same arcs as they are now, without changes. The handles of these arcs name the arcs of the copy too."""
         copy = Kept(self.columns, self.capacities[:], self.source, self.sink, self.most)
         copy.closed = set(self.closed)
         copy.origin = self.origin or self.opened()
@@ -321,7 +321,7 @@ class Kept(Generic[Node]):
         return copy
 
     def put_added(self, arc: Arc[Node], replaced: int | None) -> None:
-        """Takes in an arc that was added before, in the place of this closed one if there is one; its capacity is there."""
+        """Takes in an arc that was added before. It replaces this closed one, if there is one; its capacity is there."""
         self.added.append(arc)
         self.replaced.append(replaced)
         self._added_index.put(arc)

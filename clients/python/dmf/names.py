@@ -10,9 +10,8 @@ from .text import ARC, NODE, read_names
 
 
 def comments(nodes: Mapping[int, Hashable], arcs: Mapping[int, Hashable]) -> str:
-    """The comments that give nodes and arcs their names, which stand here by their numbers: each name as `str` writes it. A node
-    that is called by its own number and a blank name are left out. Raises `NameNotWritable` where a name would come back as
-    another one."""
+    """The comments that give nodes and arcs their names. The names come by number, and each is written by `str`. A node whose name is
+    its own number gets no comment, nor does a blank name. Raises `NameNotWritable` if a name would come back as another one."""
     node_names = {number: str(name) for number, name in nodes.items() if type(name) is not int or name != number}
     names = {NODE: _not_blank(node_names), ARC: _not_blank({number: str(key) for number, key in arcs.items()})}
     for kind, named in names.items():
@@ -33,7 +32,7 @@ def _comment(kind: str, number: int, name: str) -> str:
 
 
 def _judge(kind: str, number: int, name: str) -> None:
-    """Raises `NameNotWritable` where the comment of a name would be read as another one."""
+    """Raises `NameNotWritable` if the comment of a name would be read as another name."""
     if name.isprintable() and name == name.strip():
         return
     try:

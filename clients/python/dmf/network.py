@@ -19,23 +19,23 @@ from .process import Child, Program, bound, session_words, start
 from .solution import Cut, Flows, Solution
 from .text import display
 
-# An arc as the caller gives it: its tail, its head, its capacity and, where it has one, its key.
+# An arc as the caller gives it: its tail, its head, its capacity and, if it has one, its key.
 Row = Union[Tuple[Node, Node, Whole], Tuple[Node, Node, Whole, Hashable]]
 
 
 class Network(Generic[Node]):
-    """A network with a flow on it, and its changes. At the beginning nothing flows.
+    """A network with a flow on it, and its changes. At the beginning the flow is 0.
 
     The arcs are `(tail, head, capacity)` or `(tail, head, capacity, key)`, any number of them between two nodes. Capacities are whole
-    numbers from 0 on, with a sum below 2^64, in any unit. The nodes are the ends of the arcs, and those that `nodes` names
-    beside. An arc is named by its handle, which `arcs` and `add` give; by its key, where one was given; or by `(tail, head)`,
-    where no other open arc has these ends. To a type checker, arcs are rows of the type `dmf.Row`, as in `dmf.Row[str]`.
+    numbers from 0 on, with a sum below 2^64, in any unit. The nodes are the ends of the arcs, and the further ones in `nodes`. An arc
+    goes by its handle, which `arcs` and `add` return; by its key, if it was given one; or by `(tail, head)`, if no other open arc has
+    these ends. To a type checker, arcs are rows of the type `dmf.Row`, as in `dmf.Row[str]`.
 
     `program` is the path of the program, and `history` the most changes that can be undone, from 0 to 1,000,000.
 
-    Raises a `Refused` where the problem has a fault, `NotAnArc` for a row of another form, `HistoryOutOfRange`, `SessionEnded`
-    where the program fails, and an OSError where it is not found. Each method that asks the program raises `SessionEnded` where
-    that has ended, and `UsedByTwoThreads` where another thread is asking it.
+    Raises a `Refused` if the problem has a fault, `NotAnArc` for a row of another form, `HistoryOutOfRange`, `SessionEnded` if the
+    program fails, and an OSError if it is not found. Each method that asks the program raises `SessionEnded` if the program has
+    ended, and `UsedByTwoThreads` if another thread is using the network.
     """
 
     def __init__(
@@ -66,11 +66,11 @@ class Network(Generic[Node]):
         program: Program = None,
         history: int | None = None,
     ) -> Network[Node]:
-        """The network of `zip(tail, head, capacity)`, with `key` as the arcs' keys where that is given. The columns may be lists,
-        arrays of numpy, series of pandas and whatever else has a length; arrays of whole numbers are taken together, which is several
-        times as quick. The nodes of an array are the numbers or texts of Python that stand in it. `infinite` is the capacity of
-        arcs whose capacity is infinite, None or no number. The other arguments are those of `Network`, and it raises the same, with
-        `NotAnArc` where the columns have several lengths, or where a node is missing: None, NaN, or hidden by a mask."""
+        """The network of `zip(tail, head, capacity)`, with `key` as the arcs' keys if it is given. The columns may be lists, arrays
+        of numpy, series of pandas and anything else with a length; arrays of whole numbers are read together, which is several times
+        as fast. The nodes of an array are its entries as numbers or texts of Python. `infinite` is the capacity of arcs whose
+        capacity is infinite, None or NaN. The other arguments are those of `Network`. Raises what `Network` raises, and `NotAnArc` if
+        the columns differ in length, or if a node is missing: None, NaN, or hidden by a mask."""
         most = bound(history)
         made = cls.__new__(cls)
         made._make(*arrays.columns_of_arrays(tail, head, capacity, key, nodes, infinite), source, sink, program, most)
@@ -92,9 +92,9 @@ class Network(Generic[Node]):
         program: Program = None,
         history: int | None = None,
     ) -> Network[Node]:
-        """The network of a frame of pandas, or of anything else that gives its columns by their names, with an arc for each row. `key`
-        names the column of the arcs' keys; where a row has none there, its arc has no key. The other arguments are those of
-        `from_arrays`. Raises a KeyError where the frame has no such column."""
+        """The network of a frame of pandas, or of anything else that gives its columns by their names, with an arc for each row.
+        `key` names the column of the arcs' keys; an arc without a value there has no key. The other arguments are those of
+        `from_arrays`. Raises a KeyError if the frame lacks a column."""
         columns = [frame[column] for column in (tail, head, capacity)]
         keys = None if key is None else frame[key]
         return cls.from_arrays(
@@ -117,7 +117,7 @@ class Network(Generic[Node]):
         self._child = child
         self._kept = kept
         self._value = 0
-        # The present flow, while somebody has it or it was told.
+        # The present flow, while somebody has it or its text was read.
         self._present: weakref.ref[Flows[Node]] | None = None
         self._told: Flows[Node] | None = None
         owner: weakref.ref[Owner] = weakref.ref(self)
@@ -126,8 +126,8 @@ class Network(Generic[Node]):
             arc._owner = owner
 
     def _copy(self) -> Network[Node]:
-        """Another network of the same arcs as they are now, which names of these name too; nothing flows on it, and no change of it
-        can be undone."""
+        """Another network of the same arcs as they are now, whose handles name these arcs too. Its flow is 0, and it has no change to
+        undo."""
         kept = self._kept.copy()
         program: Any = self._child.process.args
         return Network._of_copy(kept, program[0])
@@ -142,7 +142,7 @@ class Network(Generic[Node]):
 
     @property
     def value(self) -> int:
-        """The value of the present flow: what flows from the source to the sink."""
+        """The value of the present flow, from the source to the sink."""
         return self._value
 
     @property
@@ -157,7 +157,7 @@ class Network(Generic[Node]):
 
     @property
     def nodes(self) -> list[Node]:
-        """All nodes: those that `nodes` named, and then the ends of the arcs, in their order."""
+        """All nodes: those in `nodes`, and then the ends of the arcs, in their order."""
         return list(self._kept.columns.numbers)
 
     @property
@@ -166,8 +166,8 @@ class Network(Generic[Node]):
         return list(self._kept.opened())
 
     def arc(self, key: Hashable) -> Arc[Node]:
-        """The arc of a key, or of a pair `(tail, head)`. Where several have it, it is the open one; where all are closed, the one in whose
-        place none was opened. Raises `NoSuchArc` and, where several are left, `AmbiguousArc`."""
+        """The arc of a key, or of a pair `(tail, head)`. If several arcs have it, it is the open one; if all are closed, it is the
+        one that none replaces. Raises `NoSuchArc` and, if several are left, `AmbiguousArc`."""
         return self._kept.arc(key)
 
     def capacity(self, arc: Hashable) -> int:
@@ -175,8 +175,8 @@ class Network(Generic[Node]):
         return self._kept.capacity(self._kept.arc(arc))
 
     def cap(self, arc: Hashable, capacity: Whole) -> int:
-        """Gives an arc another capacity. Where more flows on it, that much is taken off it, and off ways that lead over it. Returns
-        the value of the flow that is left.
+        """Gives an arc another capacity. If its flow is larger, takes the difference off the arc, and off paths through it. Returns
+        the value of the remaining flow.
 
         Raises `ArcIsClosed`, `CapacitiesPast64Bits`, `NotANumber`, `NumberTooLarge`, and what `arc` raises."""
         with self._child.alone():
@@ -187,8 +187,8 @@ class Network(Generic[Node]):
             return value
 
     def close(self, arc: Hashable) -> int:
-        """Closes an arc: nothing may flow on it any more, and only `undo` opens it again; `open` adds another one in its place. Returns
-        the value of the flow that is left. Raises `ArcIsClosed`, and what `arc` raises."""
+        """Closes an arc: it carries nothing any more, and only `undo` opens it again; `open` adds another one in its place. Returns
+        the value of the remaining flow. Raises `ArcIsClosed`, and what `arc` raises."""
         with self._child.alone():
             found = self._kept.arc(arc)
             value = self._changed(f"close {found.number}", found)
@@ -196,14 +196,14 @@ class Network(Generic[Node]):
             return value
 
     def shut(self, node: Node) -> int:
-        """Closes every open arc at a node, as one change. Returns the value of the flow that is left. Raises `NoSuchNode`."""
+        """Closes every open arc at a node, as one change. Returns the value of the remaining flow. Raises `NoSuchNode`."""
         with self._child.alone():
             value = self._changed(f"shut {self._kept.number(node)}", node)
             self._kept.note_capacities(self._kept.at(node), None)
             return value
 
     def add(self, tail: Node, head: Node, capacity: Whole, key: Hashable = None) -> Arc[Node]:
-        """Adds an arc, on which nothing flows yet, between two nodes that are there. Returns its handle.
+        """Adds an arc without flow between two nodes of the network. Returns its handle.
 
         Raises `NoSuchNode`, `CapacitiesPast64Bits`, `TooManyArcs`, `NotANumber` and `NumberTooLarge`."""
         hash(key)
@@ -211,11 +211,11 @@ class Network(Generic[Node]):
             return self._add(tail, head, whole(capacity, (tail, head)), key, None)
 
     def open(self, arc: Hashable) -> Arc[Node]:
-        """Opens a closed arc: adds it again, with its ends, its key and the capacity that it had when it was closed. To the program that
-        is a new arc with a new number, after all others, on which nothing flows yet; `undo` takes it away. Returns its handle. The key
-        and the ends name the new arc from now on, while the old handle still names the arc that is closed.
+        """Opens a closed arc: adds it again, with its ends, its key and the capacity that it had when it was closed. To the program
+        it is a new arc with a new number, after all others, and without flow; `undo` removes it. Returns its handle. The key and the
+        ends name the new arc from now on, while the old handle still names the arc that is closed.
 
-        Raises `ArcIsOpen` where the arc is open, `TooManyArcs`, `CapacitiesPast64Bits`, and what `arc` raises."""
+        Raises `ArcIsOpen` if the arc is open, `TooManyArcs`, `CapacitiesPast64Bits`, and what `arc` raises."""
         with self._child.alone():
             found = self._kept.arc(arc)
             if found.number not in self._kept.closed:
@@ -229,8 +229,7 @@ class Network(Generic[Node]):
         return arc
 
     def solve(self) -> Solution[Node]:
-        """Makes the flow a greatest one, going on from the present flow, and returns it. That is a change, which `undo` takes
-        back."""
+        """Makes the flow a maximum flow, going on from the present flow, and returns it. That is a change, which `undo` reverts."""
         with self._child.alone():
             self._changed("solve")
             self._kept.note(Change())
@@ -244,8 +243,8 @@ class Network(Generic[Node]):
             return Solution(self._flows())
 
     def undo(self, count: int = 1) -> int:
-        """Takes back the last changes, all of them or none, `solve` among them. Flows, too, are as they were. Returns the value.
-        Raises `NothingToUndo`."""
+        """Undoes the last changes, all of them or none; a `solve` is one of them. Flows, too, are restored. Returns the value. Raises
+        `NothingToUndo`."""
         with self._child.alone():
             steps = whole(count, "undo")
             self._kept.judge_undo(steps)
@@ -254,7 +253,7 @@ class Network(Generic[Node]):
             return value
 
     def redo(self, count: int = 1) -> int:
-        """Makes the changes again that were taken back last, all of them or none. Returns the value. Raises `NothingToRedo`."""
+        """Redoes the changes that were undone last, all of them or none. Returns the value. Raises `NothingToRedo`."""
         with self._child.alone():
             steps = whole(count, "redo")
             value = self._stepped(f"redo {steps}")
@@ -263,8 +262,8 @@ class Network(Generic[Node]):
 
     @contextlib.contextmanager
     def try_out(self) -> Iterator[Network[Node]]:
-        """A block in which changes are tried out. At its end the network is as it was before, also where the block raises, or undoes
-        and makes again some of its changes; `redo` makes them once more after that.
+        """A block that tries out changes. At its end the network is as it was before, also if the block raises, or undoes and redoes
+        some of its changes; `redo` can make them once more after that.
 
             with network.try_out():
                 network.close("canal")
@@ -285,10 +284,10 @@ class Network(Generic[Node]):
                 self.undo(kept.place - inner)
 
     def cut(self) -> Cut[Node]:
-        """The smallest minimum cut. Raises `FlowIsNotGreatest` where some flow has a larger value than the present one, as before
+        """The smallest minimum cut. Raises `FlowIsNotGreatest` if some flow has a larger value than the present one, as before
         `solve`."""
         with self._child.alone():
-            # A cut is as long as it is; what is answered to `undo 0`, which changes nothing, stands after its end.
+            # A cut does not say how long it is. The reply to `undo 0`, which changes nothing, marks its end.
             with self._child.exchange("print cut\nundo 0"):
                 lines = self._child.lines_before(b"c undo value ").split(b"\n")[:-1]
                 capacity = int(self._begun(lines[0].split(), "print cut", [b"c", b"cut"])[2])
@@ -301,11 +300,11 @@ class Network(Generic[Node]):
 
     def problem(self, *, names: bool = True) -> str:
         """The problem of the open arcs as a text in the DIMACS format. With `names`, comments before it name nodes and arcs: each
-        node that is not called by its own number, and each key that was given, as `str` writes it. `dmf.read` gives the same names
-        back, as texts; but a blank name is left out.
+        node whose name is not its own number, and each key, as `str` writes it. `dmf.read` reads the same names again, as texts,
+        except blank ones.
 
-        Raises `NameNotWritable` where a name would come back as another one: where it has a line feed or blanks around it, or
-        where two nodes are called the same."""
+        Raises `NameNotWritable` if `dmf.read` would read a name as another one: if it has a line feed or blanks around it, or if two
+        nodes have the same name."""
         with self._child.alone():
             opened = self._kept.opened()
             before = ""
@@ -319,7 +318,7 @@ class Network(Generic[Node]):
 
     def to_networkx(self) -> Any:
         """A MultiDiGraph of networkx with an edge for each open arc. Its key is the arc's number, and its attributes are `capacity`,
-        `flow`, and `name` where a key was given. Raises an ImportError where networkx is not there."""
+        `flow`, and `name` if the arc has a key. Raises an ImportError if networkx is not installed."""
         graph = arrays.package("networkx", "a graph")
         flow = self.flow()
         made = graph.MultiDiGraph()
@@ -330,7 +329,7 @@ class Network(Generic[Node]):
         return made
 
     def end(self) -> None:
-        """Ends the session. Nothing can be asked after that."""
+        """Ends the session. The network answers nothing after that."""
         if self._child.is_owned and self._child.end.alive:
             with self._child.alone():
                 with contextlib.suppress(SessionEnded):
@@ -371,8 +370,8 @@ class Network(Generic[Node]):
         return Look(flows.arcs, ends, flows.numbers(), flows.capacities(), side)
 
     def _begun(self, fields: list[bytes], line: str, begin: list[bytes], at: object = None) -> list[bytes]:
-        """The fields of the first line of a reply, which begins with these. Raises a `Refused` that names the line, or the thing that
-        it was about, and a ValueError for another reply."""
+        """The fields of the first line of a reply, which begins with these words. Raises a `Refused` that names the line, or the
+        thing that the command was about, and a ValueError for another reply."""
         if fields[:2] == [b"c", b"refused"]:
             raise Refused.of(display(b" ".join(fields[3:]).decode()), line if at is None else shown(at))
         if fields[: len(begin)] != begin:
@@ -380,12 +379,12 @@ class Network(Generic[Node]):
         return fields
 
     def _answered(self, line: str, at: object = None) -> int:
-        """The value that is answered to a command."""
+        """The value in the reply to a command."""
         with self._child.exchange(line):
             return int(self._begun(self._child.line(), line, [b"c", line.split()[0].encode()], at)[-1])
 
     def _stepped(self, line: str, at: object = None) -> int:
-        """The value that is answered to a command that changes the network. Flows that somebody has are taken before."""
+        """The value in the reply to a command that changes the network. Reads the flows that somebody has before the change."""
         self._part()
         self._value = self._answered(line, at)
         self._present = self._told = None
@@ -409,7 +408,7 @@ class Network(Generic[Node]):
             return text
 
     def _flows(self) -> Flows[Node]:
-        """The present flow. Where nobody has looked at it, only its value is known so far."""
+        """The present flow. If nobody has looked at it, only its value is known so far."""
         flows = None if self._present is None else self._present()
         if flows is None:
             flows = Flows(self._value, self._kept.opened(), self._kept.capacities, self._ask_flow)
@@ -417,12 +416,12 @@ class Network(Generic[Node]):
         return flows
 
     def _ask_flow(self) -> bytes:
-        """The text of the present flow, for someone who looks at it later than it was given."""
+        """The text of the present flow, for a caller who looks at it later than it was returned."""
         with self._child.alone():
             return self._asked_flow()
 
     def _part(self) -> None:
-        """Has the present flow take its text before a change, where somebody still has the flow."""
+        """Makes the present flow take its text before a change, if somebody still has the flow."""
         flows = None if self._present is None else self._present()
         if flows is not None:
             flows.part(self._asked_flow)
@@ -437,12 +436,12 @@ class Network(Generic[Node]):
         return self._kept.has(arc) and arc.number not in self._kept.closed
 
     def flow_now(self, arc: Arc[Any]) -> int:
-        """What flows on an arc, for its handle."""
+        """The flow on an arc, for its handle."""
         self._judge_arc(arc)
         if arc.number in self._kept.closed:
             return 0
         with self._child.alone():
-            # It is kept until the next change, for the next arc that is asked.
+            # It is kept until the next change, for the next arc.
             self._told = self._flows()
             self._told.settle(self._asked_flow)
         return Solution(self._told)[arc]

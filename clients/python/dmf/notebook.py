@@ -15,7 +15,7 @@ from .picture import Drawing, picture
 from .text import Problem
 from .timeline import Arc
 
-# Of more arcs than these a table is shown, since nobody would find an arc in a picture of them.
+# A network with more arcs than these is shown as a table, since nobody would find an arc in a picture of it.
 MOST_DRAWN = 300
 # How many rows of a table are shown.
 MOST_ROWS = 20
@@ -24,19 +24,19 @@ PATIENCE = 20
 
 
 class Look:
-    """A network at one time, with its flow, and the side of its cut where it has one."""
+    """A network at one time, with its flow, and the side of its cut if it has one."""
 
     def __init__(
         self, arcs: OpenArcs[Any], ends: tuple[int, int], flows: Sequence[int], capacities: Sequence[int], side: set[int]
     ) -> None:
-        """`ends` are the source and the sink, and `flows` and `capacities` those of the open arcs."""
+        """`ends` are the source and the sink, and `flows` and `capacities` belong to the open arcs."""
         drawn = list(zip(*arcs.ends(), capacities))
         keys = {place: key for place, key in enumerate(arcs.keys(), 1) if key is not None}
         problem = Problem(len(arcs.columns.numbers), *ends, drawn, *picture_names(arcs.columns.names, keys))
         self.drawing = Drawing(problem, [Arc(*row) for row in drawn], list(flows), side)
 
     def svg(self) -> str | None:
-        """The picture, where Graphviz is there."""
+        """The picture, if Graphviz is installed."""
         dot = shutil.which("dot")
         if not dot:
             return None

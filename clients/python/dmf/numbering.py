@@ -10,12 +10,12 @@ from typing import Any
 
 # The types of the columns: numbers of nodes, and capacities and flows.
 NODES, AMOUNTS = "I", "Q"
-# The number of what is no node: no column of nodes takes it.
+# The number that stands for no node: no column of nodes accepts it.
 NO_NODE = -1
 
 
 class WholeNodes(Mapping[Any, int]):
-    """Nodes that are whole numbers from 0 on, each with its number: from 1 on, in the order in which they were taken. It answers as a
+    """Nodes that are whole numbers from 0 on, each with its number: from 1 on, in the order in which they came. It works as a
     dictionary does, in a tenth of the memory and time."""
 
     def __init__(self) -> None:
@@ -26,7 +26,7 @@ class WholeNodes(Mapping[Any, int]):
 
     @classmethod
     def of(cls, names: list[int]) -> WholeNodes:
-        """The numbers of nodes that differ."""
+        """The numbers of nodes that all differ."""
         made = cls()
         made.names.extend(names)
         made._make_room(max(names, default=0))
@@ -35,8 +35,8 @@ class WholeNodes(Mapping[Any, int]):
         return made
 
     def take(self, nodes: list[Any], most: int) -> array[int] | None:
-        """The numbers of these nodes. Each that is new gets the next number. Where one is no whole number from 0 to `most`, none is
-        taken, and there is no answer."""
+        """The numbers of these nodes. Each new node gets the next number. If one is no whole number from 0 to `most`, takes none, and
+        returns None."""
         if not nodes or set(map(type, nodes)) != {int} or min(nodes) < 0:
             return None if nodes else array(NODES)
         try:
@@ -53,7 +53,7 @@ class WholeNodes(Mapping[Any, int]):
         return array(NODES, map(self._numbers.__getitem__, nodes))
 
     def _make_room(self, highest: int) -> None:
-        """Makes room for nodes up to this one, and for as many as there were, so that it is seldom made."""
+        """Makes room for nodes up to this one, and for as many again, so that it is seldom called."""
         room = len(self._numbers)
         if highest >= room:
             self._numbers.extend(array("i", [NO_NODE]) * (max(highest + 1, 2 * room) - room))

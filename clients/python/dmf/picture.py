@@ -14,8 +14,8 @@ FULL, UNUSED, CUT, SIDE = "2.5", "#8f8f8f", "#c62828", "#d3e4f5"
 
 @dataclass
 class Drawing:
-    """What is drawn: the arcs as they are, the flow on each where it is known, the nodes on the source's side of the cut (none where
-    there is no cut), the nodes that are shut, and notes."""
+    """The contents of a picture: the arcs as they are, the flow on each if it is known, the nodes on the source's side of the cut
+    (none if there is no cut), the nodes that are shut, and notes."""
 
     problem: Problem
     arcs: list[Arc]
@@ -32,7 +32,7 @@ class Drawing:
 
 
 def nearest(drawing: Drawing, most: int) -> list[int]:
-    """The places of so many arcs, those of the cut first, and then those that are fewest steps away from them."""
+    """The places of the nearest arcs: those of the cut first, and then those that are fewest steps away from them."""
     at_node: dict[int, list[int]] = defaultdict(list)
     for place, arc in enumerate(drawing.arcs):
         at_node[arc.tail].append(place)
@@ -52,9 +52,9 @@ def nearest(drawing: Drawing, most: int) -> list[int]:
 
 
 def quoted(*parts: str) -> str:
-    """A label of these lines, which is shown as they are: Graphviz reads entities, backslashes and quotation marks otherwise."""
+    """A label of these lines, shown as they are: Graphviz would read entities, backslashes and quotation marks otherwise."""
     shown = (display(part).replace("\\", "\\\\").replace('"', '\\"').replace("&", "&amp;") for part in parts)
-    # The line feed of a label is written as a backslash and an n.
+    # A line feed in a label is written as a backslash and an n.
     return '"' + "\\n".join(shown) + '"'
 
 
@@ -93,7 +93,7 @@ def arc_line(drawing: Drawing, place: int) -> str:
 
 
 def picture(drawing: Drawing, most: int) -> Iterator[str]:
-    """The lines of the picture's text. Of more arcs than `most` those nearest the cut are drawn."""
+    """The lines of the picture's text. If there are more arcs than `most`, it has those nearest the cut."""
     arcs = drawing.arcs
     is_whole = len(arcs) <= most
     places: Sequence[int] = range(len(arcs)) if is_whole else nearest(drawing, most)

@@ -73,7 +73,7 @@ CHANGES = ("close", "open", "cap", "add", "shut")
 
 
 class Word(NamedTuple):
-    """A word of a line, the place where it begins, and whether a quote was left open in it."""
+    """A word of a line, the place where it begins, and whether its quote was left open."""
 
     text: str
     start: int
@@ -81,7 +81,7 @@ class Word(NamedTuple):
 
 
 def split(line: str) -> list[Word]:
-    """The words of a line. One that begins with a double quote goes on to the next, and two quotes in it stand for one."""
+    """The words of a line. A word that begins with a double quote goes on to the next, and two quotes in it stand for one."""
     words = []
     at = 0
     while at < len(line):
@@ -121,7 +121,7 @@ def quoted(name: str) -> str:
 
 
 class Plan(cmd.Cmd):
-    """The session. `is_typed` says that a person types, who sees a prompt and may complete names; else lines are a script's."""
+    """The session. `is_typed` says that a person types, who sees a prompt and may complete names; else the lines are a script's."""
 
     def __init__(self, desk: Desk, *, is_typed: bool, write: Callable[[str], None]) -> None:
         super().__init__()
@@ -143,7 +143,7 @@ class Plan(cmd.Cmd):
     # How lines come and how they are answered.
 
     def onecmd(self, line: str) -> bool:
-        """Carries out a line. Gives whether the session is to end."""
+        """Carries out a line. Returns whether the session should end."""
         self.line_number += 1
         if line == "EOF":
             return True
@@ -173,7 +173,7 @@ class Plan(cmd.Cmd):
         return self._do[word]
 
     def refuse(self, why: str) -> None:
-        """Tells why a line is refused. Nothing has changed."""
+        """Says why a line is refused. Nothing has changed."""
         self.refused += 1
         where = "" if self.is_typed else f"dmf-plan: line {self.line_number}: "
         sys.stderr.write(display(where + why) + "\n")
@@ -227,7 +227,7 @@ class Plan(cmd.Cmd):
         return f"{trial}{self.desk.value}{', greatest' if self.desk.is_greatest else ', not greatest'}> "
 
     def _value(self, before: int | None = None) -> str:
-        """The present value, and what was won or lost against the one before."""
+        """The present value, and its difference to the one before."""
         value = self.desk.value
         moved = f", {value - before} more" if before is not None and value > before else ""
         moved = f", {before - value} less" if before is not None and value < before else moved
@@ -261,7 +261,7 @@ class Plan(cmd.Cmd):
             self._change(lambda: desk.open(number))
 
     def _last_closed(self) -> Callable[[], object]:
-        """What opens what was closed or shut last, and is so still."""
+        """Opens the arc or the place that was closed or shut last, and still is."""
         desk = self.desk
         for step in reversed(desk.steps[: desk.at]):
             for number, line in reversed(step.before):
@@ -285,11 +285,11 @@ class Plan(cmd.Cmd):
         self._change(lambda: self.desk.add(tail, head, capacity, name))
 
     def _new_arc(self, words: list[str]) -> tuple[Place, Place, int, str]:
-        """The places, the capacity and the name that the words of `add` mean, where they can mean one thing alone."""
+        """The places, the capacity and the name that the words of `add` mean, if they can mean one thing only."""
         places = self.desk.names
         found = []
         if "->" in words[1:] and not any(map(_is_number, words[: words.index("->")])):
-            # As arcs are told.
+            # In the words by which arcs are listed.
             words = [*words[: words.index("->")], *words[words.index("->") + 1 :]]
         for at in range(2, len(words)):
             if not _is_number(words[at]):
@@ -304,7 +304,7 @@ class Plan(cmd.Cmd):
             raise DeskFault("this can mean several things; put the names in quotes")
         if len(words) < 3:
             raise DeskFault(f"wanted is: {COMMANDS['add'].form}")
-        # What is wrong with it as it was meant most likely, each name being one word.
+        # The fault of the likeliest meaning, in which each name is one word.
         return places.place(words[0]), places.place(words[1]), _number(words[2]), " ".join(words[3:])
 
     def _shut(self, words: list[str]) -> None:
@@ -430,7 +430,7 @@ class Plan(cmd.Cmd):
         self._put(path, (table(self.desk) if path.endswith(".csv") else problem(self.desk)).encode())
 
     def _new_file(self, words: list[str], command: str, endings: list[str]) -> str:
-        """The path of a file that may be written: of one that this session did not write nothing is lost."""
+        """The path of a file that may be written: if this session did not write it, it must be new."""
         path = os.path.expanduser(_wanted(words, command))
         if Path(path).suffix not in endings:
             raise DeskFault(f"the name of the file ends with one of {', '.join(endings)}")
@@ -474,19 +474,19 @@ class Plan(cmd.Cmd):
         return self._matches[state] if state < len(self._matches) else None
 
     def matches(self, line: str, text: str) -> list[str]:
-        """What may take the place of `text`, with which the line ends: the rest of each word that begins so."""
+        """What may replace `text` at the end of the line: the rest of each word that begins so."""
         words = split(line)
         if not words or words[-1].start + len(words[-1].text) < len(line) and not words[-1].is_open and line[-1] in " \t":
             words.append(Word("", len(line)))
         *before, last = words
         begun = last.text.casefold()
         found = dict.fromkeys(name for name in self._candidates([word.text for word in before]) if name.casefold().startswith(begun))
-        # What is typed of the word before `text` stays, since readline replaces `text` alone.
+        # The part of the word before `text` stays, since readline replaces `text` alone.
         typed = len(line) - len(text) - last.start
         return sorted(f"{_typed_form(name, last.is_open)} "[typed:] for name in found)
 
     def _candidates(self, before: list[str]) -> Iterator[str]:
-        """What may stand after these words."""
+        """The words that may stand after these."""
         desk, names = self.desk, self.desk.names
         if before[:1] == ["what-if"]:
             if len(before) == 1:
@@ -520,7 +520,7 @@ def _nothing(_: str) -> None:
 
 
 def _moved(before: int, after: int) -> str:
-    """What is won or lost."""
+    """What is gained or lost."""
     return f"{after - before} more" if after > before else f"{before - after} less" if after < before else "no change"
 
 
@@ -530,7 +530,7 @@ def _none(words: list[str], command: str) -> None:
 
 
 def _wanted(words: list[str], command: str) -> str:
-    """What stands after a command, which is one name."""
+    """The rest of the line after a command, which is one name."""
     name = cleaned(" ".join(words))
     if not name:
         raise DeskFault(f"wanted is: {COMMANDS[command].form}")
@@ -561,7 +561,7 @@ def _spoken(refused: Refused) -> str:
 
 @contextlib.contextmanager
 def _history() -> Iterator[None]:
-    """Keeps the lines that are typed in a file, from one session to the next, where that can be written."""
+    """Keeps the typed lines in a file, from one session to the next, if that can be written."""
     if readline is None:
         yield
         return

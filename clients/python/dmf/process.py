@@ -24,13 +24,13 @@ FilePath = Union[str, bytes, "os.PathLike[str]", "os.PathLike[bytes]"]
 Program = Optional[FilePath]
 # Where this package can lie in a repository, and where `./install` puts it, with the place of the program above that.
 PLACES = {("clients", "python", "dmf"): "dmf", ("share", "dmf", "python", "dmf"): "bin/dmf"}
-# The most changes that a session can be told to keep.
+# The largest number of changes that a session can keep.
 MOST_KEPT = 1_000_000
-# How long the program may take to end by itself once its input has ended, in seconds.
+# How long the program may take to end after its input has ended, in seconds.
 SECONDS = 2
-# How much is shown of what a program told on standard error, in bytes.
+# How much of the program's standard error is shown, in bytes.
 MOST_TOLD = 1 << 16
-# How much is read of an answer at once, in bytes.
+# How much of an answer is read at once, in bytes.
 PIECE = 1 << 20
 _TOLD = re.compile(r"dmf: (?:line ([0-9]{1,10}): )?(.*)")
 
@@ -39,9 +39,9 @@ class Child:
     """A running session of the program, and the lines that go to it and come from it."""
 
     def __init__(self, words: list[str | bytes]) -> None:
-        """Starts a program. Raises an OSError where it cannot be started."""
+        """Starts a program. Raises an OSError if it cannot be started."""
         pipe = subprocess.PIPE
-        # In a file, standard error has room for whatever a program tells, and nobody has to read it meanwhile.
+        # In a file, standard error has room for all that a program writes, and nobody has to read it meanwhile.
         self._told = tempfile.TemporaryFile(prefix="dmf-")
         try:
             # In a session of its own: Ctrl-C at a terminal is for the caller alone.
@@ -62,13 +62,13 @@ class Child:
         self._rest = b""
         # How many lines were sent.
         self.line_count = 0
-        # The program, where the caller named it.
+        # The program, if the caller named it.
         self.program: Program = None
 
     @contextlib.contextmanager
     def alone(self) -> Iterator[None]:
-        """Keeps the program, and what is kept beside it, for one caller. Raises `UsedByTwoThreads` where another one has it, and
-        `UsedByTwoProcesses` in a process that was forked off."""
+        """Gives the program, and what is kept beside it, to one caller. Raises `UsedByTwoThreads` if another one has it, and
+        `UsedByTwoProcesses` in a forked process."""
         if not self.is_owned:
             raise UsedByTwoProcesses("used by two processes at once: a process that was forked off needs a network of its own")
         if not self._lock.acquire(blocking=False):
@@ -85,8 +85,8 @@ class Child:
 
     @contextlib.contextmanager
     def exchange(self, lines: str) -> Iterator[None]:
-        """Sends lines, and lets the caller read what is answered. Where that is broken off the session ends, since the rest of the
-        answer would be taken for that of the next command."""
+        """Sends lines, and lets the caller read the answer. If an error breaks that off, the session ends, since the rest of the
+        answer would be read as that of the next command."""
         if not self.end.alive:
             raise self.ended()
         try:
@@ -106,11 +106,11 @@ class Child:
             raise
 
     def line(self) -> list[bytes]:
-        """The fields of the next line that is answered. Raises an EOFError where none comes."""
+        """The fields of the next line of the answer. Raises an EOFError if none comes."""
         return self.lines(1).split()
 
     def lines(self, count: int) -> bytes:
-        """The next lines that are answered, so many. Raises an EOFError where they do not come."""
+        """The next lines of the answer, so many. Raises an EOFError if they do not come."""
         pieces, found = [self._rest], self._rest.count(b"\n")
         while found < count:
             pieces.append(self._read())
@@ -131,7 +131,7 @@ class Child:
         return text[:end]
 
     def lines_before(self, begin: bytes) -> bytes:
-        """The lines that are answered before the next one that begins so, which is the last of all that is answered."""
+        """The lines of the answer before the next one that begins so, which is the last of the whole answer."""
         pieces = [self._rest]
         last = self._rest
         while not (last.endswith(b"\n") and last[last.rfind(b"\n", 0, -1) + 1 :].startswith(begin)):
@@ -150,15 +150,15 @@ class Child:
 
     @property
     def is_owned(self) -> bool:
-        """Whether this is the process that began the program, and none that was forked off."""
+        """Whether this process began the program, rather than its parent process."""
         return os.getpid() == self._owner
 
     def ended(self) -> SessionEnded:
-        """Why nothing can be asked any more."""
+        """Why the program can answer nothing any more."""
         return SessionEnded(self._why_ended)
 
     def close(self) -> None:
-        """Ends the program, where nobody is asking it. A process that was forked off leaves it alone."""
+        """Ends the program, if nobody is using it. A forked process leaves it alone."""
         if self.is_owned:
             with self.alone():
                 self.end()
@@ -178,7 +178,7 @@ class Child:
         self.end()
 
     def _fault(self) -> Error:
-        """Why the program has ended: the refusal that it told, or else all that it told, with its status."""
+        """Why the program has ended: the refusal on its standard error, or else all that it wrote there, with its status."""
         status = self._status()
         self._told.seek(0)
         told = self._told.read(MOST_TOLD).decode(errors="replace").strip()
@@ -193,7 +193,8 @@ class Child:
         return SessionEnded(self._why_ended)
 
     def _status(self) -> int | None:
-        """The status of the program once it has ended, and None where it goes on without taking or giving lines: it is killed."""
+        """The status of the program once it has ended. A program that goes on without reading or writing lines is killed, and gives
+        None."""
         try:
             return self.process.wait(SECONDS)
         except subprocess.TimeoutExpired:
@@ -214,7 +215,7 @@ def _ended(status: int | None) -> str:
 
 
 def _end(process: subprocess.Popen[bytes], told: IO[bytes], owner: int) -> None:
-    """Ends a program: its input ends, and it is killed where that is not enough. No process but the owner does that."""
+    """Ends a program: ends its input, and kills it if that is not enough. Only the owner process does so."""
     if os.getpid() != owner:
         return
     assert process.stdin and process.stdout
@@ -230,7 +231,7 @@ def _end(process: subprocess.Popen[bytes], told: IO[bytes], owner: int) -> None:
 
 
 def bound(history: int | None) -> int:
-    """The most changes that can be undone. Raises `HistoryOutOfRange`."""
+    """The largest number of changes that can be undone. Raises `HistoryOutOfRange`."""
     if history is None:
         return MOST_KEPT
     try:
@@ -243,14 +244,14 @@ def bound(history: int | None) -> int:
 
 
 def session_words(most: int) -> list[str | bytes]:
-    """The words that ask for a session in which so many changes can be undone, and a solve is answered by its value alone."""
+    """The words for a session in which so many changes can be undone, and whose replies to solves are brief."""
     words: list[str | bytes] = ["session", "--brief"]
     return words if most == MOST_KEPT else [*words, "--history", str(most)]
 
 
 def start(path: str, program: Program, words: list[str | bytes]) -> Child:
-    """A session that these words ask for, on the problem's file, once it has read the problem. Raises a `Refused` where the problem
-    has a fault, `SessionEnded` where the program fails, and an OSError where it is not found."""
+    """A session with these words, on the problem's file, once it has read the problem. Raises a `Refused` if the problem has a fault,
+    `SessionEnded` if the program fails, and an OSError if it is not found."""
     child = Child([os.fspath(_program() if program is None else program), *words, "--", path])
     child.program = program
     with child.exchange("undo 0"):
@@ -260,15 +261,15 @@ def start(path: str, program: Program, words: list[str | bytes]) -> Child:
 
 
 def _program() -> str:
-    """The program, where the caller names none."""
+    """The program, if the caller names none."""
     return os.environ.get("DMF") or shutil.which("dmf") or _beside()
 
 
 @functools.cache
 def _beside() -> str:
     """The program of the repository, or of the install, that this package lies in. In a repository the first call proves and builds
-    it, and shows on standard error how far it is. Raises a FileNotFoundError where there is none, and `SessionEnded` where it
-    cannot be built."""
+    it, and reports on standard error how far it is. Raises a FileNotFoundError if there is none, and `SessionEnded` if it cannot be
+    built."""
     package = Path(__file__).resolve().parent
     for place, program in PLACES.items():
         above = Path(*package.parts[: -len(place)])

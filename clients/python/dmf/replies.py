@@ -1,4 +1,4 @@
-"""The replies of a session, and of `dmf solve`: what each is once it was read, and how it is read line by line."""
+"""The replies of a session, and of `dmf solve`: their kinds, and how they are read line by line."""
 
 from __future__ import annotations
 
@@ -13,7 +13,7 @@ from .text import MOST_ARCS, Fault, Problem, TextFault, number, read_problem
 from .timeline import Arc
 
 
-# What a line may be, by its form alone.
+# The kinds of a line, by its form alone.
 Kind = Enum("Kind", "VALUE FLOW CUT SIDE PROBLEM TERMINAL ARC CHANGED SOLVED REFUSED COMMAND OTHER")
 
 
@@ -56,7 +56,7 @@ class Asked:
 
 @dataclass(frozen=True)
 class Changed:
-    """A change that was made, and the value after it. The command is None where it is not known."""
+    """A change that was made, and the value after it. The command is None if it is not known."""
 
     line: bytes
     command: Command | None
@@ -73,9 +73,9 @@ class Refused:
 
 @dataclass(frozen=True)
 class Solution:
-    """The flows on the open arcs, in their order: the arcs' numbers, the arcs as they were, and the flows. Where the flows' lines
-    were left out, as in the brief reply to a solve (or have not come yet, of a network that is not known), the three are empty and
-    `is_told` is false. `serial` is the number of the state that it is the flow of."""
+    """The flows on the open arcs, in their order: the arcs' numbers, the arcs as they were, and the flows. If the lines of the flows
+    were left out, as in the brief reply to a solve, or have not come yet, of a network that is not known, the three are empty and
+    `is_told` is false. `serial` is the number of the state with this flow."""
 
     value: int
     is_told: bool
@@ -87,7 +87,7 @@ class Solution:
 
 @dataclass(frozen=True)
 class Flow:
-    """What flows on an arc, of which no more than its ends is known."""
+    """The flow on an arc, of which only the ends are known."""
 
     tail: int
     head: int
@@ -96,8 +96,8 @@ class Flow:
 
 @dataclass(frozen=True)
 class Cut:
-    """The smallest minimum cut: its capacity, the nodes on the source's side, and its arcs by their numbers, which are None in a
-    network that is not known. `line` is the one that it begins in, and `serial` the number of the state that it is a cut of."""
+    """The smallest minimum cut: its capacity, the nodes on the source's side, and its arcs by their numbers, which are None if the
+    network is not known. `line` is its first line, and `serial` the number of the state with this cut."""
 
     capacity: int
     side: list[int]
@@ -108,7 +108,7 @@ class Cut:
 
 @dataclass(frozen=True)
 class Printed:
-    """A printed problem: the lines, and the number that each of its arcs has in the session; None where these are not known."""
+    """A printed problem: the lines, and the number that each of its arcs has in the session; None if these are not known."""
 
     lines: list[bytes]
     problem: Problem
@@ -131,14 +131,14 @@ class SolutionReading:
         self.flows: list[int] = []
 
     def is_whole_with(self, more: int) -> bool:
-        """Whether no flow is missing once so many more were read."""
+        """Whether no flow is missing after so many more are read."""
         return len(self.flows) + more == len(self.arcs)
 
     def is_whole(self) -> bool:
         return self.is_whole_with(0)
 
     def take(self, found: list[bytes]) -> None:
-        """Takes in a line of a flow. Raises a `Fault` where it is not that of the next open arc."""
+        """Takes in a line of a flow. Raises a `Fault` if it does not belong to the next open arc."""
         tail, head, flow = flow_of(found)
         number, arc = self.numbers[len(self.flows)], self.arcs[len(self.flows)]
         if (tail, head) != (arc.tail, arc.head):
@@ -150,7 +150,7 @@ class SolutionReading:
         self.flows.append(flow)
 
     def judge(self, source: int, sink: int) -> None:
-        """Raises a `Fault` where the flows are none of this value from the source to the sink."""
+        """Raises a `Fault` if the flows are not a flow of this value from the source to the sink."""
         excesses: Counter[int] = Counter()
         for arc, flow in zip(self.arcs, self.flows):
             if flow:
@@ -164,8 +164,8 @@ class SolutionReading:
 
 
 class CutReading:
-    """The lines of a cut. In a known network it is known at once when its side is whole: the smallest minimum cut has no smaller
-    minimum cut inside it."""
+    """The lines of a cut. In a known network the end of its side is known at once: the smallest minimum cut has no smaller minimum
+    cut inside it."""
 
     GOES_ON = (Kind.SIDE,)
 
@@ -195,7 +195,7 @@ class CutReading:
             self._carry(node, self.arcs)
 
     def _carry(self, node: int, arcs: list[Arc]) -> None:
-        """Adds the arcs that leave the side now, and takes off those that do no more."""
+        """Adds the arcs that leave the side now, and removes those that no longer leave it."""
         if not self.at_node:
             self.at_node = defaultdict(list)
             for place, arc in enumerate(arcs):
@@ -210,7 +210,7 @@ class CutReading:
                 self.carried -= capacity
 
     def judge(self) -> None:
-        """Raises a `Fault` where the side is none of a cut, or its arcs do not carry what was told."""
+        """Raises a `Fault` if the side is not that of a cut, or if the capacity of its arcs differs from the one in the reply."""
         if self.problem.source not in self.side or self.problem.sink in self.side:
             raise Fault("the side of this cut has not the source, or has the sink")
         if self.arcs is not None and self.carried != self.capacity:
@@ -243,7 +243,7 @@ class ProblemReading:
         return len(self.lines) == self.line_count
 
     def read(self) -> Problem:
-        """The problem. Raises its `TextFault`, with the line of the whole answer."""
+        """The problem. Raises its `TextFault`, with the number of the line in the whole answer."""
         try:
             return read_problem(b"\n".join(self.lines))
         except TextFault as fault:

@@ -17,28 +17,28 @@ Other = TypeVar("Other")
 
 class Flows(Generic[Node]):
     """The flow of one state of a network. It asks the program for its text when somebody looks at it, and at the latest before the
-    network changes. It keeps the text as it is, and reads it when somebody looks at a flow."""
+    network changes. It keeps the text, and reads it when somebody looks at a flow."""
 
     def __init__(self, value: int, arcs: OpenArcs[Node], capacities: array[int], ask: Callable[[], bytes]) -> None:
         self.value = value
         self.arcs = arcs
-        # Those of the network, until it changes.
+        # These belong to the network until it changes.
         self._capacities = capacities
         self._ask: Callable[[], bytes] | None = ask
         self._text = b""
         self._numbers: array[int] | None = None
 
     def settle(self, ask: Callable[[], bytes] | None = None) -> None:
-        """Takes the text, where it was not asked for yet. A caller who has the program already gives how it is asked."""
+        """Takes the text, if it was not asked for yet. A caller who is using the program passes the function that asks for it."""
         own = self._ask
         if own:
             text = (ask or own)()
-            # Another thread that changed the network meanwhile took the text before it did so.
+            # Another thread that changed the network meanwhile took the text first.
             if self._ask:
                 self._text, self._ask = text, None
 
     def part(self, ask: Callable[[], bytes]) -> None:
-        """Takes all that the network no longer has once it has changed."""
+        """Takes all that the network no longer has after a change."""
         self.settle(ask)
         self._capacities = self._capacities[:]
 
@@ -48,7 +48,7 @@ class Flows(Generic[Node]):
         return self._text
 
     def numbers(self) -> array[int]:
-        """What flows on each open arc. Raises `SessionEnded` where the program answered something else."""
+        """The flow on each open arc. Raises `SessionEnded` if the program answered something else."""
         if self._numbers is None:
             self._numbers = arrays.flows(self.text(), len(self.arcs))
             if self._numbers is None:
@@ -72,7 +72,7 @@ def _settled(value: int, arcs: OpenArcs[Any], capacities: array[int], numbers: a
 
 
 class _Values(ValuesView[int]):
-    """The flows in the order of the arcs, for which no arc is looked up."""
+    """The flows in the order of the arcs. Looks up no arc."""
 
     def __init__(self, solution: Solution[Any]) -> None:
         super().__init__(solution)
@@ -83,7 +83,7 @@ class _Values(ValuesView[int]):
 
 
 class _Items(ItemsView[Arc[Node], int]):
-    """The arcs with their flows, for which no arc is looked up."""
+    """The arcs with their flows. Looks up no arc."""
 
     def __init__(self, solution: Solution[Node]) -> None:
         super().__init__(solution)
@@ -94,17 +94,17 @@ class _Items(ItemsView[Arc[Node], int]):
 
 
 class Solution(Mapping[Arc[Node], int], Generic[Node]):
-    """A flow: what flows on each open arc of a network, in their order. `value` is what flows from the source to the sink.
+    """A flow: the flow on each open arc of a network, in their order. `value` is the flow from the source to the sink.
 
-    `solution[arc]` looks an arc up by its handle, by its key, or by `(tail, head)`. It raises `NoSuchArc` where no open arc is named
-    so, and `AmbiguousArc` where several are:
+    `solution[arc]` looks an arc up by its handle, by its key, or by `(tail, head)`. It raises `NoSuchArc` if that names no open arc,
+    and `AmbiguousArc` if it names several:
 
     >>> with Network([("a", "b", 3), ("a", "b", 4), ("b", "c", 5, "pipe")], source="a", sink="c") as network:
     ...     solution = network.solve()
     >>> solution["pipe"], solution["b", "c"], solution.between("a", "b"), solution.value
     (5, 5, 5, 5)
 
-    The program is asked for the flows when one is looked at, and at the latest before the network changes or ends; so a value alone
+    The program sends the flows when somebody looks at one, and at the latest before the network changes or ends; so a value alone
     costs nothing more.
     """
 
@@ -113,7 +113,7 @@ class Solution(Mapping[Arc[Node], int], Generic[Node]):
 
     @property
     def value(self) -> int:
-        """What flows from the source to the sink."""
+        """The value of the flow, from the source to the sink."""
         return self._flows.value
 
     def __getitem__(self, arc: Hashable) -> int:
@@ -127,7 +127,7 @@ class Solution(Mapping[Arc[Node], int], Generic[Node]):
     def get(self, arc: Hashable, /, default: int | Other) -> int | Other: ...
 
     def get(self, arc: Hashable, /, default: Any = None) -> Any:
-        """As `solution[arc]`, but where no open arc is named so, it is `default`."""
+        """As `solution[arc]`, but returns `default` if that names no open arc."""
         try:
             return self[arc]
         except NoSuchArc:
@@ -157,29 +157,29 @@ class Solution(Mapping[Arc[Node], int], Generic[Node]):
         return _Values(self)
 
     def items(self) -> ItemsView[Arc[Node], int]:
-        """Each arc with what flows on it."""
+        """Each arc with its flow."""
         return _Items(self)
 
     def between(self, tail: Node, head: Node) -> int:
-        """What flows on all arcs from one node to another together. Raises `NoSuchNode`."""
+        """The flow on all arcs from one node to another together. Raises `NoSuchNode`."""
         arcs = self._flows.arcs
         numbers = arcs.between(tail, head)
         flows = self._flows.numbers()
         return sum(flows[arcs.place(number)] for number in numbers)
 
     def array(self) -> Any:
-        """The flows as an array of numpy, in the order of the arcs: of whole numbers with a sign in 64 bits, or without one where
-        a flow is 2^63 or more. Raises an ImportError where numpy is not there."""
+        """The flows as an array of numpy, in the order of the arcs: signed integers of 64 bits, or unsigned ones if a flow is 2^63 or
+        more. Raises an ImportError if numpy is not installed."""
         return arrays.flow_array(self._flows.text() if self._flows._numbers is None else self._flows.numbers(), len(self))
 
     def frame(self) -> Any:
-        """A frame of pandas with a row for each open arc: its number, tail, head and key, what flows on it, and the capacity that it
-        had. Raises an ImportError where pandas or numpy is not there."""
+        """A frame of pandas with a row for each open arc: its number, tail, head and key, its flow, and the capacity that it had.
+        Raises an ImportError if pandas or numpy is not installed."""
         return arrays.frame(self._flows.arcs, self.array(), self._flows.capacities())
 
     def flow_matrix(self) -> Any:
-        """A sparse matrix of scipy: row i and column j have what flows from node i to node j on all arcs together, where the nodes are
-        counted from 0 in the order of `Network.nodes`. Raises an ImportError where scipy or numpy is not there."""
+        """A sparse matrix of scipy: row i and column j have the flow from node i to node j on all arcs together. Nodes are counted
+        from 0 in the order of `Network.nodes`. Raises an ImportError if scipy or numpy is not installed."""
         return arrays.flow_matrix(self._flows.arcs, self.array())
 
     def __repr__(self) -> str:
@@ -195,9 +195,9 @@ class Solution(Mapping[Arc[Node], int], Generic[Node]):
 
 @dataclass(frozen=True)
 class Cut(Generic[Node]):
-    """The smallest minimum cut: `capacity` is what it can carry, `side` the nodes that every minimum cut has on the side of the
-    source, and `arcs` the open arcs that lead out of these, in their order. In a notebook it shows itself as a picture, where
-    Graphviz is there and the network is not large, and else as a table."""
+    """The smallest minimum cut: `capacity` is its capacity, `side` the nodes that every minimum cut has on the side of the source,
+    and `arcs` the open arcs that lead out of these, in their order. A notebook shows it as a picture if Graphviz is installed and the
+    network is not large, and else as a table."""
 
     capacity: int
     side: frozenset[Node]

@@ -1,4 +1,4 @@
-"""What networks are made of beside rows of arcs: problems in files, graphs of networkx, and matrices of scipy."""
+"""Networks from other sources than rows of arcs: problems in files, graphs of networkx, and matrices of scipy."""
 
 from __future__ import annotations
 
@@ -18,18 +18,18 @@ from .text import ARC, NODE, names_in, naming_pieces
 
 
 def read(path: FilePath, *, program: Program = None, history: int | None = None) -> Network[int | str]:
-    """The network of a problem's file in the DIMACS format, which is read once. Its nodes are the numbers from 1 on; but those
-    that comments `c node 3 Reservoir` name are called by their names, where no other has the same: the two nodes of a place with
-    a limit have one name, so they keep their numbers. A comment `c arc 5 Mill Street` gives the key of an arc. `program` and
-    `history` are those of `Network`.
+    """The network of a problem's file in the DIMACS format, which is read once. Its nodes are the numbers from 1 on. A comment
+    `c node 3 Reservoir` gives a node its name, if no other node has the same: the two nodes of a place with a limit have one name,
+    so they keep their numbers. A comment `c arc 5 Mill Street` gives the key of an arc. `program` and `history` are those of
+    `Network`.
 
-    Raises a `Refused` with the number of the line where the file has a fault, an OSError where it cannot be read, and what
-    `Network` raises.
+    Raises a `Refused` with the number of the line if the file has a fault, an OSError if it cannot be read, and what `Network`
+    raises.
     """
     most = bound(history)
     with open(os.fspath(path), "rb") as file:
         text = file.read()
-    # The program is given a copy: a pipe is empty now, a file may have changed, and /dev/stdin is another file to the program.
+    # The program reads a copy: a pipe is empty by now, a file may have changed, and /dev/stdin is another file to the program.
     with tempfile.NamedTemporaryFile(prefix="dmf-", suffix=".max") as copy:
         copy.write(text)
         copy.flush()
@@ -40,7 +40,7 @@ def read(path: FilePath, *, program: Program = None, history: int | None = None)
 
 
 def _kept(child: Child, text: bytes, most: int) -> Kept[int | str]:
-    """What is kept of the problem that a session has read of a text. The names of arcs are read when one is asked for."""
+    """The arcs and names of a problem that a session has read. The names of arcs are read when one is first needed."""
     tails, heads, capacities = array(NODES), array(NODES), array(AMOUNTS)
     with child.exchange("print problem"):
         node_count, arc_count = map(int, child.line()[2:])
@@ -78,11 +78,11 @@ def from_networkx(
     program: Program = None,
     history: int | None = None,
 ) -> Network[Node]:
-    """The network of a graph of networkx: each edge is an arc, or two opposite ones where the graph is undirected, and its
-    attribute `capacity` is the capacity. In a multigraph the key of an arc is `(u, v, k)`. `infinite` is the capacity of edges that
-    lack the attribute, or whose capacity is infinite, None or no number. `program` and `history` are those of `Network`.
+    """The network of a graph of networkx: each edge is an arc, or two opposite ones if the graph is undirected, and its attribute
+    `capacity` is the capacity. In a multigraph the key of an arc is `(u, v, k)`. `infinite` is the capacity of edges that lack the
+    attribute, or whose capacity is infinite, None or NaN. `program` and `history` are those of `Network`.
 
-    Raises `NoCapacity` where an edge lacks the attribute and there is no `infinite`, and what `Network` raises.
+    Raises `NoCapacity` if an edge lacks the attribute and there is no `infinite`, and what `Network` raises.
     """
     rows: list[tuple[Any, Any, Any, Any]] = []
     edges = graph.edges(keys=True, data=True) if graph.is_multigraph() else graph.edges(data=True)
@@ -107,9 +107,9 @@ def from_scipy(
     program: Program = None,
     history: int | None = None,
 ) -> Network[int]:
-    """The network of a sparse matrix of scipy: what is stored in row i and column j is the capacity of an arc from node i to node j,
-    where the nodes are counted from 0. `infinite` is the capacity of arcs whose capacity is infinite or no number. `program` and
-    `history` are those of `Network`, which says what is raised."""
+    """The network of a sparse matrix of scipy: the entry of row i and column j is the capacity of an arc from node i to node j,
+    counted from 0. `infinite` is the capacity of arcs whose capacity is infinite or NaN. `program` and `history` are those of
+    `Network`. Raises what `Network` raises."""
     entries = matrix.tocoo()
     return Network.from_arrays(
         entries.row,

@@ -44,9 +44,9 @@ COMMANDS = {"cap": 2, "close": 1, "open": 1, "shut": 1, "add": 3}
 
 @dataclass(frozen=True)
 class SweepResult(Generic[Node]):
-    """What came of a case: the greatest value after it, and how much that is above the network's value before the sweep, or below it;
-    and the arcs of the smallest minimum cut, where these were wanted. Of a case that was refused none of these is known, but
-    `refusal` is the error. An arc of the cut that the case added has a handle that no network knows."""
+    """The result of a case: the greatest value after it, and its difference to the network's value before the sweep; and the arcs of
+    the smallest minimum cut, if they were wanted. If the case was refused, `refusal` is the error, and the others are None. An arc of
+    the cut that the case added has a handle that no network knows."""
 
     case: Case
     value: int | None = None
@@ -65,7 +65,7 @@ class _Answer:
 
 
 class _Each(Iterator[Case]):
-    """A case for each of these things, made when it is needed. How many are left is known, where it is known of the things."""
+    """A case for each of these things, made when it is needed. The number of cases left is known if that of the things is."""
 
     def __init__(self, make: Callable[[Any], Case], things: Iterable[Any]) -> None:
         self._cases = map(make, things)
@@ -81,12 +81,12 @@ class _Each(Iterator[Case]):
 
 
 def each_arc_closed(arcs: Iterable[Hashable] | None = None) -> Callable[[Network[Any]], Iterator[Case]]:
-    """The cases in which each open arc is closed, or each of these."""
+    """For each open arc, or for each of these, the case in which it is closed."""
     return lambda network: _Each(lambda arc: [("close", arc)], network.arcs if arcs is None else arcs)
 
 
 def each_node_shut(nodes: Iterable[Hashable] | None = None) -> Callable[[Network[Any]], Iterator[Case]]:
-    """The cases in which each node but the source and the sink is shut, or each of these."""
+    """For each node but the source and the sink, or for each of these, the case in which it is shut."""
 
     def cases(network: Network[Any]) -> Iterator[Case]:
         ends = network.source, network.sink
@@ -96,11 +96,11 @@ def each_node_shut(nodes: Iterable[Hashable] | None = None) -> Callable[[Network
 
 
 def each_capacity_raised(by: Whole, arcs: Iterable[Hashable] | None = None) -> Callable[[Network[Any]], Iterator[Case]]:
-    """The cases in which the capacity of each open arc, or of each of these, is raised by so much."""
+    """For each open arc, or for each of these, the case in which its capacity is raised by so much."""
 
     def cases(network: Network[Any]) -> Iterator[Case]:
         more = whole(by, "each_capacity_raised")
-        # As the network is now, whatever becomes of it while the cases are taken.
+        # The network as it is now, whatever becomes of it while the cases are taken.
         kept = network._kept.copy()
         return _Each(lambda arc: [("cap", arc, kept.capacity(kept.arc(arc)) + more)], network.arcs if arcs is None else arcs)
 
@@ -108,7 +108,7 @@ def each_capacity_raised(by: Whole, arcs: Iterable[Hashable] | None = None) -> C
 
 
 def each_pair_added(pairs: Iterable[tuple[Hashable, Hashable]], capacity: Whole) -> Callable[[Network[Any]], Iterator[Case]]:
-    """The cases in which an arc of this capacity is added from the first to the second of each of these pairs of nodes."""
+    """For each of these pairs of nodes the case that adds an arc of this capacity from the first to the second."""
     return lambda network: _Each(lambda pair: [("add", *pair, capacity)], pairs)
 
 
@@ -121,14 +121,15 @@ def sweep(
     jobs: int | None = None,
     progress: bool = False,
 ) -> Generator[SweepResult[Node], None, None]:
-    """The result of each case in order, as it comes. Each case is tried on a solved copy of the network as it is now, and taken back;
-    the network itself is not changed, and can be used meanwhile. Cases are taken as they are needed, so there may be any number.
+    """Yields the result of each case in order, as it comes. Tries each case on a solved copy of the network as it is now, and undoes
+    it there; the network itself does not change, and can be used meanwhile. Cases are taken when they are needed, so there may be any
+    number.
 
-    A case is a list of commands, as in `[("close", "canal"), ("add", "lake", "sea", 7)]`, or a function that is given a network and
-    changes it. A case that is refused, and one whose function raises an error of this package, has a result that says so.
+    A case is a list of commands, as in `[("close", "canal"), ("add", "lake", "sea", 7)]`, or a function that gets a network and
+    changes it. If a case is refused, or its function raises an error of this package, its result says so.
 
-    Any other error ends the sweep. One of what makes the cases comes after the results of those before it. Where a program is killed,
-    another takes its place, and its case is tried once more.
+    Any other error ends the sweep. An error in making the cases comes after the results of the cases before it. If a program is
+    killed, another takes its place, and tries its case once more.
 
     Without an `executor` each of so many `jobs` (as many as there are processors) has a program here. An `executor` is anything of the
     form of `concurrent.futures`, as `Client.get_executor()` of dask.distributed: each of its processes is sent the network, and begins
@@ -152,7 +153,8 @@ def sweep(
 
 
 class _Swept(Generic[Node]):
-    """A network as it is when a sweep is asked for, whatever becomes of it meanwhile. In the copies any number of changes can be undone."""
+    """A network as it is at the start of a sweep, whatever becomes of it meanwhile. In the copies any number of changes can be
+    undone."""
 
     def __init__(self, kept: Kept[Node], value: int) -> None:
         self.opened = kept.opened()
@@ -172,7 +174,7 @@ class _Swept(Generic[Node]):
             return error
 
     def _plain_command(self, command: Command) -> Command:
-        """A command with the number of its arc in place of what names it."""
+        """A command, with its arc by number."""
         if not isinstance(command, (tuple, list)) or not command or COMMANDS.get(command[0]) != len(command) - 1:
             raise UnknownCommand(f"{shown(command)} in a sweep")
         word, *rest = command
@@ -211,7 +213,7 @@ def _results(
 
 
 def _piece(cases: Iterator[Case], size: int) -> tuple[list[Case], Exception | None]:
-    """The next cases, so many, and the error that came in the place of one: what was tried before that is told first."""
+    """The next cases, so many, and the error that came in place of one: the results of the cases before it come first."""
     piece: list[Case] = []
     try:
         piece.extend(islice(cases, size))

@@ -1,9 +1,9 @@
 """Makes a problem text of a table of arcs: nodes by the names of places, several sources and sinks, and limits of places.
 
-Nodes are numbered as their places come first in the table, and arcs as their rows. After them stand what is added:
+Nodes are numbered in the order in which their places come in the table, and arcs in the order of their rows. After them stand
 
 - the second half of each place with a limit, which has the same name. Arcs into the place enter its first half, arcs out of it leave
-  its second half, and the arc between them, `limit of Depot`, carries the limit;
+its second half, and the arc between them, `limit of Depot`, carries the limit;
 - a node before several sources, `all sources`, with an arc to each, `supply of Mill`; one after several sinks, `all sinks`,
   with an arc from each, `demand of Town`. These carry as much as the arcs at the place, or the limit of the source or the sink.
 """
@@ -23,7 +23,7 @@ from .tables import LARGEST, Table, TableFault, cleaned, shown, whole_number
 
 MOST_NODES = 16_777_216
 MOST_ARCS = 134_217_728
-# How many names a warning tells; among how many a near one is looked for, and how long a name is for which one is.
+# How many names a warning names; among how many a near one is looked for, and how long a name is for which one is.
 MOST_TOLD = 10
 MOST_COMPARED = 20_000
 LONGEST_COMPARED = 200
@@ -32,7 +32,7 @@ TOO_MUCH = f"the capacities are together past {LARGEST}"
 
 @dataclass(frozen=True)
 class Terminal:
-    """A source or a sink: its place, what it gives or takes at most where that is limited, and where a table names it."""
+    """A source or a sink: its place, the most that it gives or takes if that is limited, and where a table names it."""
 
     place: str
     limit: Optional[int] = None
@@ -49,8 +49,8 @@ class Arc(NamedTuple):
 
 @dataclass
 class Plan:
-    """What a problem is made of: the arcs of a table, sources and sinks, the limits of places where a table has them. `both_ways`
-    makes two opposite arcs of each row."""
+    """The contents of a problem: the arcs of a table, sources and sinks, the limits of places if a table has them. `both_ways` makes
+    two opposite arcs of each row."""
 
     arcs: Table
     sources: Sequence[Terminal]
@@ -65,7 +65,7 @@ class Plan:
 
 
 def near(name: str, places: Iterable[str]) -> str:
-    """What a message says of the places whose names are near one that no place has."""
+    """The words of a message about the places whose names are near to one that no place has."""
     if len(name) > LONGEST_COMPARED:
         return ""
     folded = {place.casefold(): place for place in islice(places, MOST_COMPARED) if len(place) <= LONGEST_COMPARED}
@@ -99,7 +99,7 @@ class _Network:
         self.node_names = list(plan.places)
         self.arcs: list[Arc] = []
         self.total = 0
-        # By place: the node that arcs into it enter, and the one that arcs out of it leave.
+        # By place: the node that arcs into it enter, and the node that arcs out of it leave.
         self.entries = plan.places
         self.exits = dict(plan.places)
 
@@ -143,7 +143,7 @@ class _Network:
         return next(it for it in (name, *(f"{name} {count}" for count in range(2, len(names) + 3))) if it not in names)
 
     def join(self, terminals: Sequence[Terminal], *, are_sources: bool) -> int:
-        """The source of the problem, or its sink: the node of the one there is, or else a node that is joined to each of them."""
+        """The source of the problem, or its sink: its only node, or a node that is joined to each of several."""
         outer, inner = (self.entries, self.exits) if are_sources else (self.exits, self.entries)
         if len(terminals) == 1 and terminals[0].limit is None:
             return outer[terminals[0].place]
@@ -161,7 +161,7 @@ class _Network:
 
 
 def check(plan: Plan) -> None:
-    """Raises a `TableFault` where a source or a sink is no place, or is named twice."""
+    """Raises a `TableFault` if a source or a sink is no place, or is named twice."""
     plan.arcs.refuse_dropped(plan.places)
     if plan.limits:
         plan.limits.refuse_dropped(plan.places)
@@ -206,7 +206,7 @@ def _told(names: Sequence[str]) -> str:
 
 
 def _seen(name: str) -> str:
-    """A name without what can hardly be seen: case, how letters are composed, and characters that show nothing."""
+    """A name without what readers hardly see: case, how letters are composed, and characters that show nothing."""
     if name.isascii():
         return name.casefold()
     letters = unicodedata.normalize("NFKC", name).casefold()
@@ -222,7 +222,7 @@ def _look_alike(plan: Plan) -> Iterator[list[str]]:
 
 
 def _lone_first_row(plan: Plan) -> Iterator[str]:
-    """What is said of a first row that was taken for an arc, and whose ends occur nowhere else."""
+    """The warning about a first row that was read as an arc, and whose ends occur nowhere else."""
     if not plan.arcs.begins_bare:
         return
     first, *others = plan.arcs.records
@@ -233,7 +233,7 @@ def _lone_first_row(plan: Plan) -> Iterator[str]:
 
 
 def warnings(plan: Plan) -> Iterator[str]:
-    """What looks like a mistake in a plan that a problem can be made of."""
+    """What looks like a mistake in a valid plan."""
     yield from _lone_first_row(plan)
     for table in filter(None, (plan.arcs, plan.limits)):
         if table.respelled:

@@ -18,7 +18,7 @@ def encoding(word: str) -> str:
     try:
         b"A".decode(word)
     except UnicodeDecodeError:
-        # It is an encoding of text in which one byte is no character.
+        # It must be an encoding of text in which some byte is no character.
         pass
     except (LookupError, UnicodeError):
         raise argparse.ArgumentTypeError(f"no encoding of text: {word}") from None
@@ -26,7 +26,7 @@ def encoding(word: str) -> str:
 
 
 def scale(word: str) -> Decimal:
-    """What decimal numbers are multiplied by."""
+    """The factor by which decimal numbers are multiplied."""
     if not re.fullmatch(r"[0-9]{1,20}(\.[0-9]{1,20})?", word) or not Decimal(word):
         raise argparse.ArgumentTypeError(f"no decimal number above 0: {word}")
     return Decimal(word)
@@ -50,11 +50,11 @@ def add_options(parser: argparse._ActionsContainer) -> None:
 
 
 def parsed(parser: argparse.ArgumentParser, given: list[str], fixed: int = 0) -> argparse.Namespace:
-    """The words that were given, of which `places` takes those that are no options; so many of these stand before the source and
-    the sink. Words that do not go together are refused."""
+    """The arguments, of which `places` gets those that are no options; so many of these stand before the source and the sink.
+    Arguments that do not go together are refused."""
     end = given.index("--") if "--" in given else len(given)
     words = parser.parse_intermixed_args(given[:end])
-    # After -- no word is an option, so a place there may begin with a dash.
+    # After -- no argument is an option, so a place there may begin with a dash.
     places = [*words.places, *given[end + 1 :]]
     words.fixed, words.places = places[:fixed], places[fixed:]
     if words.places and names_terminals(words) or len(words.places) not in (0, 2):
@@ -71,12 +71,12 @@ def parsed(parser: argparse.ArgumentParser, given: list[str], fixed: int = 0) ->
 
 
 def names_terminals(words: argparse.Namespace) -> bool:
-    """Whether a source or a sink is named."""
+    """Whether the arguments name a source or a sink."""
     return any((words.source, words.sink, words.sources, words.sinks))
 
 
 def read(path: str | None, form: Form, words: argparse.Namespace) -> Table:
-    """The table in a file, or on standard input where there is no path."""
+    """The table in a file, or on standard input if there is no path."""
     data = standard_input().read() if path is None else read_file(path)
     try:
         text = decoded(data, words.encoding)
@@ -87,7 +87,7 @@ def read(path: str | None, form: Form, words: argparse.Namespace) -> Table:
 
 
 def plan_of(words: argparse.Namespace, arcs: Table) -> Plan:
-    """What the words ask for, of a table of arcs."""
+    """The plan that the arguments ask for, with a table of arcs."""
     plan = Plan(arcs, [], [], None, words.both_ways)
 
     def terminals(named: list[str], path: str | None) -> list[Terminal]:

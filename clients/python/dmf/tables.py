@@ -1,8 +1,8 @@
 """Reads tables as spreadsheets write them (CSV): tables of arcs, and of places with an amount each. `tools/dmf-problem` makes
 problems of them.
 
-Commas, semicolons or tabs part columns, whichever part the first rows best. Blank rows do not count, and messages name rows with
-quoted ends of lines by their first line. White space of any kind inside a name is one space, and none is around it.
+Commas, semicolons or tabs separate columns, whichever fits the first rows best. Blank rows do not count, and messages name a row with
+quoted ends of lines by its first line. White space of any kind inside a name becomes one space, and around it none.
 """
 
 from __future__ import annotations
@@ -20,10 +20,10 @@ from typing import NamedTuple, Optional
 
 LARGEST = 2**64 - 1
 LONGEST_NUMBER = len(str(LARGEST))
-# The most characters of a cell; what is longer has most often a quote that is not closed.
+# The most characters of a cell. A longer one mostly has a quote that is not closed.
 LONGEST_CELL = 131_072
 DELIMITERS = ",;\t"
-# How many rows are looked at to find the delimiter.
+# How many rows the search for the delimiter reads.
 SAMPLE = 20
 MARKS = {
     codecs.BOM_UTF32_LE: "utf-32",
@@ -37,7 +37,7 @@ _MARKED = re.compile(r"[0-9]+(?:[\s.,'\u2019][0-9]+)+")
 
 
 class TableFault(Exception):
-    """Why a table is refused: the reason, the line, counted from 1, and the path of its file, where they are known."""
+    """Why a table is refused: the reason, the line, counted from 1, and the path of its file, if they are known."""
 
     def __init__(self, reason: str, line: int = 0, path: str = "") -> None:
         super().__init__(reason, line, path)
@@ -51,17 +51,17 @@ class TableFault(Exception):
 
 @dataclass(frozen=True)
 class Form:
-    """The columns of a table in their order: those of places, that of an amount, and one of names, which rows may lack."""
+    """The columns of a table in their order: those of places, one of an amount, and one of names, which rows may lack."""
 
     places: tuple[str, ...]
     amount: str
     label: str = ""
-    # What is said beside where the first row is taken for no titles, and is refused.
+    # A hint for a refused first row that was not read as titles.
     hint: str = ""
 
     @property
     def columns(self) -> dict[str, int]:
-        """The place of each column where titles do not say it."""
+        """The place of each column if titles do not say it."""
         return {column: place for place, column in enumerate((*self.places, self.amount, *filter(None, [self.label])))}
 
 
@@ -79,7 +79,7 @@ class Row(NamedTuple):
 
 
 class Record(NamedTuple):
-    """What a row says: its places, its amount and its name, which may be empty; and the line in which it begins."""
+    """The contents of a row: its places, its amount and its name, which may be empty; and the line in which it begins."""
 
     line: int
     places: tuple[str, ...]
@@ -89,9 +89,8 @@ class Record(NamedTuple):
 
 @dataclass
 class Table:
-    """The rows below the titles. `heading` is the first row where it was taken for titles though nobody named any, and
-    `begins_bare` says that it was taken for none. `respelled` has for each name that the table writes with other spaces too one of
-    these other ways."""
+    """The rows below the titles. `heading` is the first row if it was read as titles although nobody named any, and `begins_bare`
+    says that it was not. `respelled` has for each name that the table also writes with other spaces one of these other ways."""
 
     path: str
     form: Form
@@ -104,25 +103,25 @@ class Table:
         return TableFault(reason, line, self.path)
 
     def refuse_dropped(self, places: Mapping[str, int]) -> None:
-        """Refuses a first row that was taken for titles, where it has the name of a place."""
+        """Refuses a first row that was read as titles, if it has the name of a place."""
         if self.heading and any(cleaned(cell) in places for cell in self.heading.cells[: len(self.form.places)]):
             cell = self.heading.cells[self.form.columns[self.form.amount]]
             raise self.fault(f"the {self.form.amount} {shown(cell)} is no whole number{self.form.hint}", self.heading.line)
 
 
 def cleaned(text: str) -> str:
-    """A text without white space around it, and with one space for each run of white space in it. A mark of the order of bytes, as
-    each of several files may begin with, is white space too."""
+    """A text without white space around it, and with one space for each run of white space in it. A byte order mark, which each of
+    several joined files may have, is white space too."""
     return " ".join(text.replace("\ufeff", " ").split())
 
 
 def shown(text: str) -> str:
-    """A text in quotes as messages show it: on one line, without controls, and cut where it is long."""
+    """A text in quotes as messages show it: on one line, without control characters, and cut if it is long."""
     return repr(text if len(text) <= 60 else text[:57] + "...")
 
 
 def decoded(data: bytes, encoding: Optional[str] = None) -> str:
-    """The text that bytes write: by default in UTF-8, with a mark of the order of bytes or without. Raises a `TableFault`."""
+    """The text of these bytes: by default in UTF-8, with a byte order mark or without. Raises a `TableFault`."""
     if not encoding:
         _refuse_wide(data)
     try:
@@ -136,7 +135,7 @@ def decoded(data: bytes, encoding: Optional[str] = None) -> str:
 
 
 def _refuse_wide(data: bytes) -> None:
-    """Refuses what begins with the mark of an encoding of two or four bytes, or has a NUL at every other byte."""
+    """Refuses bytes that begin with the mark of an encoding of two or four bytes, or have a NUL at every other place."""
     for mark, name in MARKS.items():
         if data.startswith(mark):
             raise TableFault(f"the text begins as {name.upper()} does: --encoding {name}")
@@ -147,12 +146,12 @@ def _refuse_wide(data: bytes) -> None:
 
 
 def is_blank(cell: str) -> bool:
-    """Whether a cell has nothing but white space, or delimiters, as it has where another one was guessed."""
+    """Whether a cell has only white space or delimiters, since another delimiter may have been guessed."""
     return not cell or not cell.strip(DELIMITERS + " ") or cell.isspace()
 
 
 def rows_of(text: str, delimiter: str) -> Iterator[Row]:
-    """The rows of a table that are not blank. Raises a `TableFault` where a quote is wrong."""
+    """The rows of a table that are not blank. Raises a `TableFault` if a quote is wrong."""
     csv.field_size_limit(max(csv.field_size_limit(), len(text) + 1))
     reader = csv.reader(io.StringIO(text, newline=""), delimiter=delimiter, strict=True)
     line = 1
@@ -167,8 +166,8 @@ def rows_of(text: str, delimiter: str) -> Iterator[Row]:
 
 
 def delimiter_of(text: str, width: int) -> str:
-    """What parts the columns of a table that has at least so many: the delimiter with which most of its first rows have them, and
-    then that with which most of their cells are numbers."""
+    """The delimiter of a table that has at least so many columns: the one with which most of its first rows have them, and among
+    several the one with which most of their cells are numbers."""
 
     def score(delimiter: str) -> tuple[int, int, int]:
         sample: list[list[str]] = []
@@ -214,7 +213,7 @@ def whole_number(text: str, scale: Optional[Decimal] = None) -> int:
 
 
 def name_of(cell: str) -> str:
-    """The name that a cell writes. Raises a ValueError where it has a control character, or half a character."""
+    """The name in a cell. Raises a ValueError if it has a control character, or half a character."""
     name = cleaned(cell)
     for letter in name if not name.isprintable() else "":
         if unicodedata.category(letter) in ("Cc", "Cs"):
@@ -223,7 +222,7 @@ def name_of(cell: str) -> str:
 
 
 def columns_of(first: Row, form: Form, titles: Mapping[str, str]) -> dict[str, int]:
-    """The place of each column in a row: by the titles that are named for them, or in the form's order where none are."""
+    """The place of each column in a row: by the titles that are named for them, or in the form's order if none are."""
     if not titles:
         return form.columns
     found = [cleaned(cell) for cell in first.cells]
@@ -236,13 +235,13 @@ def columns_of(first: Row, form: Form, titles: Mapping[str, str]) -> dict[str, i
 
 
 def is_heading(cell: str) -> bool:
-    """Whether the first row is one of titles, as far as its cell of an amount tells: its first letter or digit is a letter."""
+    """Whether the first row has titles, judged by its cell of an amount: its first letter or digit is a letter."""
     first = next((letter for letter in cell if letter.isalnum()), "0")
     return not first.isnumeric()
 
 
 class _Reader:
-    """What makes records of rows. `width` is how many columns have titles, if titles are known."""
+    """Makes records of rows. `width` is the number of columns with titles, if titles are known."""
 
     def __init__(self, form: Form, columns: dict[str, int], scale: Optional[Decimal], width: Optional[int]) -> None:
         self.form = form
@@ -311,9 +310,9 @@ class _Reader:
 def read_table(
     text: str, form: Form, path: str = "", titles: Optional[Mapping[str, str]] = None, scale: Optional[Decimal] = None
 ) -> Table:
-    """The table that a text writes. `titles` has the title of each column, by its name in the form; where it is empty, the columns
-    stand in the form's order, and the first row has titles if its amount begins with a letter. With a scale, amounts are decimal
-    numbers, times the scale. Raises a `TableFault` for the first row that is refused, and where there is none."""
+    """The table in a text. `titles` has the title of each column, by its name in the form. If it is empty, the columns stand in the
+    form's order, and the first row has titles if its amount begins with a letter. With a scale, amounts are decimal numbers, times
+    the scale. Raises a `TableFault` for the first row that is refused, and if there is none."""
     table = Table(path, form)
     try:
         rows = rows_of(text, delimiter_of(text, len(form.places) + 1))
@@ -339,7 +338,7 @@ def read_table(
 
 
 def _first_record(reader: _Reader, first: Row) -> Record:
-    """What the first row says where it has no titles."""
+    """The contents of the first row if it has no titles."""
     try:
         return reader.record(first)
     except TableFault as fault:

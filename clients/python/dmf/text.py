@@ -24,21 +24,21 @@ NODE, ARC = "node", "arc"
 FIELD_COUNTS = {b"p": 4, b"n": 3, b"a": 4}
 
 _FIELD = re.compile(rb"[^ \t]+")
-# A line feed, and then a comment that names: what, its number, and the rest of the line, which may be blank.
+# A line feed, and then a comment that names something: what, its number, and the rest of the line, which may be blank.
 _NAMING = re.compile(rb"\n[ \t]*c[ \t]+(node|arc)[ \t]+([0-9]+)([ \t][^\n]*|\r?(?=\n)|\Z)")
-# The same by what it names, in a text without carriage returns, where the name is not blank.
+# The same for nodes or for arcs, in a text without carriage returns, if the name is not blank.
 _NAMED = {
     kind: re.compile(rf"^[ \t]*c[ \t]+{kind}[ \t]+0*([0-9]{{1,19}})[ \t]+([^ \t\n](?:[^\n]*[^ \t\n])?)", re.MULTILINE)
     for kind in (NODE, ARC)
 }
-# In how large pieces a text is looked through for names, in bytes.
+# The size of the pieces that are searched for names, in bytes.
 PIECE = 1 << 16
-# Controls of a terminal, ends of lines, and marks that turn the direction in which text is shown; halves of characters.
+# Control characters of a terminal, ends of lines, and marks that turn the direction in which text is shown; halves of characters.
 _UNSHOWN = re.compile("[\x00-\x1f\x7f-\x9f\u061c\u200e\u200f\u2028-\u202e\u2066-\u2069\ud800-\udfff]")
 
 
 class Fault(Exception):
-    """Why a field or a line is refused: `reason` is the text that `dmf` has for it, and `field` the field that it is about, if one is."""
+    """Why a field or a line is refused: `reason` is the text that `dmf` has for it, and `field` the faulty field, if there is one."""
 
     def __init__(self, reason: str, about: bytes = b"") -> None:
         super().__init__(reason)
@@ -74,7 +74,7 @@ class Problem:
 
 
 class Naming(NamedTuple):
-    """A comment that names: what it names, `node` or `arc`, by which number's field, and how. `start` is the place in the text at
+    """A comment that gives a name: to what, `node` or `arc`, by which number's field, and which. `start` is the place in the text at
     which its line begins."""
 
     start: int
@@ -84,8 +84,8 @@ class Naming(NamedTuple):
 
 
 def lines(text: bytes) -> list[bytes]:
-    """The lines of a text, without their line feeds and without one carriage return directly before a line feed. An empty rest
-    after the last line feed is no line."""
+    """The lines of a text, without their line feeds and without one carriage return directly before a line feed. What follows the
+    last line feed is a line unless it is empty."""
     pieces = text.split(b"\n")
     rest = pieces.pop()
     if b"\r" in text:
@@ -99,7 +99,7 @@ def fields(line: bytes) -> list[bytes]:
 
 
 def number(digits: bytes) -> int:
-    """The number that a field writes, from 0 to 2^64 - 1. Raises a `Fault` that says `not a number` or `number too large`."""
+    """The number in a field, from 0 to 2^64 - 1. Raises a `Fault` that says `not a number` or `number too large`."""
     if not digits.isdigit():
         raise Fault("not a number", digits)
     if len(digits) < LONGEST:
@@ -111,8 +111,8 @@ def number(digits: bytes) -> int:
 
 
 def display(name: str) -> str:
-    """A text as it can be shown: what would steer a terminal, end a line or turn the direction of the text is written as `\\x1b`,
-    and so on."""
+    """A text in a form that can be shown: a character that would steer a terminal, end a line or turn the direction of the text is
+    written as `\x1b`, and so on."""
     return _UNSHOWN.sub(_escaped, name)
 
 
@@ -132,13 +132,14 @@ def namings(text: bytes) -> Iterator[Naming]:
 
 
 def read_names(text: bytes) -> tuple[dict[int, str], dict[int, str]]:
-    """The names that the comments of a problem text give to nodes and to arcs. Of two names for one the last counts. The rest of
-    the text is not judged, and a comment of another form names nothing, nor does one whose number is past 10^19, as none of these is."""
+    """The names that the comments of a problem text give to nodes and to arcs. If one gets two names, the last counts. The rest of
+    the text is not judged. A comment of another form gives no name, nor does one whose number is past 10^19, since nothing has such a
+    number."""
     return names_in(naming_pieces(text, NODE), NODE), names_in(naming_pieces(text, ARC), ARC)
 
 
 def naming_pieces(text: bytes, kind: str) -> list[bytes]:
-    """Pieces of whole lines of a text, which have all comments that name nodes, or arcs."""
+    """Pieces of whole lines of a text that together have all comments that name nodes, or arcs."""
     found, begin = [], 0
     while begin < len(text):
         end = text.find(b"\n", begin + PIECE) + 1 or len(text)
@@ -150,11 +151,11 @@ def naming_pieces(text: bytes, kind: str) -> list[bytes]:
 
 
 def names_in(pieces: Iterable[bytes], kind: str) -> dict[int, str]:
-    """The names that the comments of such pieces give to nodes, or to arcs, but for blank ones."""
+    """The names that the comments of such pieces give to nodes, or to arcs, except blank ones."""
     names: dict[int, str] = {}
     for piece in pieces:
         if b"\r" not in piece:
-            # Without a carriage return all are found at once, which is several times as quick.
+            # Without a carriage return one search finds all, which is several times as fast.
             for significant, name in _NAMED[kind].findall(piece.decode(errors="replace")):
                 names[int(significant)] = name
             continue
@@ -169,7 +170,7 @@ def read_problem(text: bytes) -> Problem:
     """The problem that a text stands for, with its names. Raises a `TextFault` for its first fault, the one that `dmf` reports."""
     reading = _Reading()
     read = lines(text)
-    # Where none of these bytes is in the text, what parts fields is the white space of `split`, which is quicker.
+    # If none of these bytes is in the text, fields stand between what `split` takes for white space, which is faster.
     is_plain = not any(odd in text for odd in (b"\r", b"\x0b", b"\x0c"))
     line = 0
     try:

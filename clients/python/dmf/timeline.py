@@ -12,7 +12,7 @@ from .text import LARGEST, MOST_ARCS, Fault, Problem
 
 
 class Arc(NamedTuple):
-    """An arc from node `tail` to node `head`. One that is closed has the capacity 0."""
+    """An arc from node `tail` to node `head`. A closed arc has capacity 0."""
 
     tail: int
     head: int
@@ -21,7 +21,7 @@ class Arc(NamedTuple):
 
 
 class Edit(NamedTuple):
-    """What becomes of the arc of a number. Before it is added there is none."""
+    """A change of the arc with this number. Before it is added there is none."""
 
     number: int
     before: Arc | None
@@ -30,7 +30,7 @@ class Edit(NamedTuple):
 
 @dataclass(frozen=True)
 class Step:
-    """A change: its number among all changes that were made, its command, its edits, and the flow's value before and after it."""
+    """A change: its number among all changes so far, its command, its edits, and the flow's value before and after it."""
 
     serial: int
     command: Command
@@ -41,8 +41,8 @@ class Step:
 
 @dataclass
 class Timeline:
-    """A network, the steps that led to it, and those that were undone, the last undone at the end. `begins_known` says whether the
-    first of the steps is the first change of all: where it is not, more can be undone than is known here."""
+    """A network, the steps that led to it, and the undone ones, the last undone at the end. `begins_known` says whether the first
+    step is the first change of all: if not, more can be undone than is known here."""
 
     problem: Problem
     value: int = 0
@@ -62,7 +62,7 @@ class Timeline:
 
     @property
     def serial(self) -> int:
-        """The present state's number: that of the step that led to it. It is the same again after an undo and a redo."""
+        """The number of the present state: that of the step that led to it. It comes back after an undo and a redo."""
         return self.done[-1].serial if self.done else self._first
 
     def shut_nodes(self) -> set[int]:
@@ -73,12 +73,12 @@ class Timeline:
         return shut
 
     def begin_anew(self, value: int) -> None:
-        """Forgets the steps, of which it is not known any more what they are, since something unknown may have been one."""
+        """Forgets the steps, since something unknown may have been one of them."""
         self.done, self.undone = [], []
         self.value, self.begins_known, self._first = value, False, next(self._serials)
 
     def refusal(self, command: Command) -> str | None:
-        """Why this network has a command refused, if it has; where the steps' begin is unknown, an undo or a redo may be right."""
+        """Why this network refuses a command, if it does; if earlier steps are unknown, an undo or a redo may be accepted."""
         word, numbers = command
         if word in ("cap", "close") and not 1 <= numbers[0] <= len(self.arcs):
             return "no such arc"
@@ -100,12 +100,12 @@ class Timeline:
         return self.arcs[command.numbers[0] - 1].capacity if command.word == "cap" else 0
 
     def knows(self, command: Command) -> bool:
-        """Whether the steps that an undo or a redo steps over are known; of another command nothing need be."""
+        """Whether the steps that an undo or a redo steps over are known; any other command needs none."""
         steps = {UNDO: self.done, REDO: self.undone}.get(command.word)
         return steps is None or command.numbers[0] <= len(steps)
 
     def carry_out(self, command: Command, value: int) -> None:
-        """Makes a change that is not refused, or steps, after which the flow has this value. Raises a `Fault` where it cannot."""
+        """Makes a change that is not refused, or steps, after which the flow has this value. Raises a `Fault` if it cannot."""
         if command.word in (UNDO, REDO):
             self._step(command.word, command.numbers[0])
             if value != self.value:

@@ -1,4 +1,4 @@
-"""What the tools beside the program share: how they read files and standard input, and how they end."""
+"""What the tools beside the program share: reading files and standard input, and ending."""
 
 from __future__ import annotations
 
@@ -13,7 +13,7 @@ from typing import BinaryIO, NoReturn
 from .text import display
 
 INTERRUPTED = 130
-# How long the next line of a file is waited for, in seconds, where the file was written to within that time.
+# How long to wait for the next line of a file, in seconds, if the file was written to within that time.
 PATIENCE = 1.0
 
 
@@ -26,8 +26,8 @@ class ToolFault(Exception):
 
 
 def run(name: str, main: Callable[[], int]) -> NoReturn:
-    """Runs a tool to its end. It ends with what `main` gives, or with the status of a `ToolFault`, which it prints in one line. At
-    Ctrl-C it ends with 130, and where nobody reads on it ends by the signal of that, as other filters do."""
+    """Runs a tool to its end. It ends with the result of `main`, or with the status of a `ToolFault`, which it prints in one line. At
+    Ctrl-C it ends with 130. If nobody reads its output any more, it ends by the signal for that, as other filters do."""
     signal.signal(signal.SIGPIPE, signal.SIG_DFL)
     if signal.getsignal(signal.SIGINT) is not signal.SIG_IGN:
         signal.signal(signal.SIGINT, lambda *_: os._exit(INTERRUPTED))
@@ -44,7 +44,7 @@ def run(name: str, main: Callable[[], int]) -> NoReturn:
     except OSError as error:
         status = 4
         _tell(name, cannot("write", "standard output", error))
-    # All is written, and nothing is left that could tell more.
+    # All output is written, and nothing is left to report.
     os._exit(status)
 
 
@@ -53,7 +53,7 @@ def _tell(name: str, fault: ToolFault) -> None:
 
 
 def warn(name: str, text: str) -> None:
-    """Tells a line on standard error."""
+    """Writes a line to standard error."""
     if sys.stderr:
         line = display(f"{name}: {text}").encode(errors="replace") + b"\n"
         sys.stderr.buffer.write(line)
@@ -121,7 +121,7 @@ class CommandLines:
         return line
 
     def _is_written(self) -> bool:
-        """Whether the file may have more in a moment."""
+        """Whether more may come from the file in a moment."""
         if self.is_ended or not self._file:
             return False
         now = os.fstat(self._file.fileno())

@@ -1,7 +1,7 @@
-"""Follows a session by its commands and its replies: what the network is after each reply, and what each reply says.
+"""Follows a session by its commands and its replies: the network after each reply, and the contents of each reply.
 
-The commands are given beside the replies, or stand among them, as a terminal shows a session. An answer of `dmf solve` is a
-session without commands. Where commands and replies do not fit together a `TranscriptFault` says where: nothing is guessed.
+The commands come beside the replies, or stand among them, as a terminal shows a session. An answer of `dmf solve` is a session
+without commands. If commands and replies do not fit together, a `TranscriptFault` says where: nothing is guessed.
 """
 
 from __future__ import annotations
@@ -33,13 +33,13 @@ from .text import Fault, Problem, TextFault, display, fields, number
 from .timeline import Timeline
 
 ANSWER, COMMANDS = "answer", "commands"
-# Why a command may be refused whatever is known of the network: more was forgotten than is kept, and what no text tells.
+# Why a command may be refused whatever is known about the network: by what the history forgot, and by what no text shows.
 UNFORESEEN = {UNDO: {"nothing to undo"}, PRINT_CUT: {"flow is not greatest"}}
 Reading = Union[SolutionReading, CutReading, ProblemReading]
 
 
 class TranscriptFault(TextFault):
-    """Commands and replies, or a reply and the network, do not fit together: the text, `answer` or `commands`, and the line."""
+    """Commands and replies, or a reply and the network, do not fit together. Names the text, `answer` or `commands`, and the line."""
 
     def __init__(self, text: str, line: int, reason: str, about: bytes = b"") -> None:
         super().__init__(line, reason, about)
@@ -48,8 +48,8 @@ class TranscriptFault(TextFault):
 
 @dataclass(frozen=True)
 class Pending:
-    """A command that is not answered yet: the text that it stands in, its line there, that line's content, and what it asks for,
-    or why its form has it refused."""
+    """A command without a reply so far: the text that it stands in, its line there, that line's content, and what it asks for, or why
+    its form gets it refused."""
 
     text: str
     line: int
@@ -59,7 +59,7 @@ class Pending:
 
     @staticmethod
     def of(text: str, line: int, read: bytes) -> Pending | None:
-        """That of a line as it was read, or None where it is a comment or blank."""
+        """The command of a line, or None if it is a comment or blank."""
         content = display(ended(read)[:80].decode(errors="replace"))
         try:
             command = read_command(read)
@@ -72,11 +72,11 @@ class Pending:
 
 
 class Follower:
-    """Takes the lines of an answer one after the other. `timeline` has the present network, unless `is_known` is false: then
-    commands that are not known changed it. `is_numbered` is false where no more than a printed problem is known of it, in which
-    the arcs may have other numbers. `solution` and `cut` are the last ones; the solution is None where its flows are not
-    known, as after the brief reply to a solve, or not on a known network. `solves_are_brief` says whether a solve is answered by its
-    value alone (`--brief`), and is None where that is not known."""
+    """Takes the lines of an answer one after the other. `timeline` has the present network, unless `is_known` is false: then unknown
+    commands changed it. `is_numbered` is false if only a printed problem is known of the network, in which the arcs may have other
+    numbers. `solution` and `cut` are the last ones. The solution is None if its flows are not known, as after the brief reply to a
+    solve, or do not belong to a known network. `solves_are_brief` says whether the reply to a solve is only its value (`--brief`),
+    and is None if that is not known."""
 
     def __init__(self, problem: Problem, commands: Iterator[bytes] | None = None) -> None:
         self.timeline = Timeline(problem)
@@ -89,13 +89,13 @@ class Follower:
         self._command_line = 0
         self._waiting: deque[Pending] = deque()
         self._reading: Reading | None = None
-        # Whether a cut comes with each solve (`--cut`), where that is known; whether the last reply was that of a `solve`, so that
-        # its cut may follow; and whether a cut was taken for one of a solve that may be the reply to `print cut`.
+        # Whether a cut comes with each solve (`--cut`), if that is known; whether the last reply was that of a `solve`, so that its
+        # cut may follow; and whether a cut was read as that of a solve although it may be the reply to `print cut`.
         self._solves_have_cuts: bool | None = None
         self._awaits_cut = self._is_in_doubt = False
 
     def take(self, line: bytes) -> list[Event]:
-        """What a line tells, which has its line feed if it was read with one. Raises a `TranscriptFault`."""
+        """The contents of a line, which may still have its line feed. Raises a `TranscriptFault`."""
         self.line += 1
         reading = self._reading
         try:
@@ -108,7 +108,7 @@ class Follower:
             raise self._located(fault) from None
 
     def end(self) -> list[Event]:
-        """What is told by the answer's end. Raises a `TranscriptFault` where something is missing."""
+        """What the end of the answer completes. Raises a `TranscriptFault` if something is missing."""
         self.line += 1
         try:
             return list(self._end())
@@ -163,7 +163,7 @@ class Follower:
     # Commands and their replies.
 
     def _head(self) -> Pending | None:
-        """The oldest command that is not answered."""
+        """The oldest command without a reply."""
         while not self._waiting and self._given is not None:
             line = next(self._given, b"")
             if not line:
@@ -174,8 +174,8 @@ class Follower:
         return self._waiting[0] if self._waiting else None
 
     def _settle(self, is_answered: Callable[[Pending], bool]) -> Pending | None:
-        """The oldest command that is not answered, where another reply than a cut has come. Whether solves have cuts is known
-        then: a cut in doubt was the reply to `print cut` where one still waits that this reply does not answer."""
+        """The oldest command without a reply, when another reply than a cut has come. It is then known whether solves have cuts: a
+        cut in doubt was the reply to `print cut` if one still waits that this reply does not answer."""
         if self._awaits_cut and self._solves_have_cuts:
             raise Fault("the cut of this solve is missing")
         if self._awaits_cut:
@@ -191,8 +191,8 @@ class Follower:
         return head
 
     def _asked(self, *words: str) -> Command | None:
-        """The command that a reply answers, one of these words, or None where no commands are known. Raises a `Fault` where the
-        oldest command that is not answered is another one, or is to be refused."""
+        """The command that a reply answers, one of these words, or None if no commands are known. Raises a `Fault` if the oldest
+        command without a reply is another one, or should be refused."""
         head = self._settle(lambda head: False) if words != (PRINT_CUT,) else self._head()
         if head is None:
             if self._given is not None:
@@ -207,7 +207,7 @@ class Follower:
         return head.command
 
     def _refuse(self, line: int, reason: str) -> None:
-        """Takes a refusal of the command line of this number for that of the oldest command that is not answered."""
+        """Takes a refusal of the command line with this number as the reply to the oldest command without one."""
         head = self._settle(lambda head: self._may_refuse(head, line, reason))
         if head is None:
             if self._given is not None:
@@ -219,7 +219,7 @@ class Follower:
             raise Fault(f"this does not answer {head}")
 
     def _may_refuse(self, head: Pending, line: int, reason: str) -> bool:
-        """Whether this may be the refusal of a command. The lines of a transcript are not all known, nor so their numbers."""
+        """Whether this may be the refusal of a command. A transcript may lack lines, so their numbers are uncertain."""
         if self._given is not None and line != head.line:
             return False
         if head.command is None:
@@ -247,7 +247,7 @@ class Follower:
     # Solutions, cuts and printed problems.
 
     def _answers_solve(self, is_brief: bool) -> None:
-        """Takes note of how a solve is answered. Raises a `Fault` where an earlier one was answered in the other form."""
+        """Notes the form of the reply to a solve. Raises a `Fault` if an earlier one had the other form."""
         if self.solves_are_brief not in (None, is_brief):
             raise Fault("brief and whole replies to solve in one answer")
         self.solves_are_brief = is_brief
@@ -321,7 +321,7 @@ class Follower:
         is_told = reading.is_whole()
         if is_told:
             reading.judge(timeline.problem.source, timeline.problem.sink)
-        # Where solves are answered briefly, a solution answers `print flow`.
+        # If the replies to solves are brief, a solution answers `print flow`.
         if reading.command is None and not self.solves_are_brief:
             timeline.begin_anew(reading.value)
         elif reading.command == Command(SOLVE):

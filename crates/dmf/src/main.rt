@@ -1,4 +1,4 @@
-//! The program `dmf`: reads its arguments, opens what a run needs, calls the run, and tells how it ended.
+//! The program `dmf`: reads its arguments, opens what a run needs, calls the run, and reports how it ended.
 #![tactic(auto)]
 
 ghost use Rattle.std.specs.Prelude.{◌≤◌};
@@ -20,7 +20,7 @@ const _: () = prove!(MAX_HISTORY == MAX_BOUND);
 fn main(rt: HostRuntime) -> ExitCode {
     let outcome = run(&rt);
     if let Err(fault) = &outcome {
-        // Where this cannot be told, the status still tells it.
+        // If this cannot be written, the exit status still says it.
         let _ = tell(&rt, fault);
         explain(&rt, fault);
     }

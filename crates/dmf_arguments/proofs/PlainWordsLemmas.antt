@@ -1,4 +1,4 @@
--- What clap's definition of a parse comes to on plain words.
+-- What clap's definition of a parse gives for plain words.
 use Rattle.std.proofs.Common.{◌≡◌, ◌≢◌, Bool, true, false, List, [], ◌∷◌, codes, refl, sym}
 use Rattle.std.specs.Str.{bytes_eq}
 use Rattle.std.proofs.lemmas.Slice.Eq.{bytes_eq-Decides}
@@ -7,7 +7,7 @@ use Rattle.clap.specs.declared.error.kind.ErrorKind.TheVariants.{InvalidSubcomma
 use Rattle.clap.proofs.OnLiterals.{clap_on_literals}
 use Rattle.dmf_arguments.specs.PlainWords.{HasFaults, IsNoCommand, IsPlain, IsTaken, PlainWords, check_of, session_of}
 
--- texts that are not the same are told apart
+-- two texts that are not the same differ
 told_apart : (name word : Text) → word ≢ name → bytes_eq name word ≡ false
 told_apart name word differ = go (bytes_eq name word) refl
   where

@@ -1,4 +1,4 @@
--- From what clap's parse finds to what the words ask for.
+-- From the result of clap's parse to what the words ask for.
 use Rattle.std.proofs.Common.{ℕ, ◌≡◌, ◌⊎◌, ap, inl, inr, refl, subst, Bool, true, false, [], ◌∷◌, Err, List, Option, Some, None, codes, option_map}
 use Rattle.std.specs.Prelude.{option_and_then}
 use Rattle.clap.specs.Kinds.{IsAmong, Kinds}
@@ -12,7 +12,7 @@ use Rattle.dmf_arguments.specs.Words.{Asks, IsToldOf, Tells, holding}
 use Rattle.dmf_arguments.specs.declared.words.WordsFault.{WordsFault}
 use Rattle.dmf_arguments.specs.declared.words.WordsFault.TheVariants.{NoMemory}
 
--- the command line is one of which clap defines what a parse makes of words
+-- the command line is of a form for which clap defines the result of a parse
 pub line_is_simple : is_simple arguments ≡ true
 unfolding clap_on_literals
 line_is_simple = refl
@@ -21,14 +21,14 @@ pub line_is_free : is_simple_and_free arguments ≡ true
 unfolding clap_on_literals
 line_is_free = refl
 
--- a list of no kinds has no first one
+-- an empty list of kinds has no first one
 pub no_kinds : {k : ErrorKind} {ks : Kinds} → [] ≡ k ∷ ks → ⊥
 no_kinds e = cc
 
--- The words were not taken, for want of memory or one of these kinds of fault.
+-- Reading failed, for want of memory or with one of these kinds of fault.
 module _ (kinds : Kinds) (kind : ErrorKind) (fault : WordsFault) (among : (kind ≡ OutOfMemory) ⊎ IsAmong kind kinds)
     (tells : Tells kind fault) where
-  -- without a fault, only memory can be wanted
+  -- if the words have no fault, reading can fail only for want of memory
   pub short : (asked : Asked) → kinds ≡ [] → Asks asked (Err fault)
   short asked clean =
       let memory : fault ≡ NoMemory = elim among [ inl e ↦ tells.memory e | inr one ↦ absurd (subst (IsAmong kind) clean one) ] in (
@@ -41,7 +41,7 @@ module _ (kinds : Kinds) (kind : ErrorKind) (fault : WordsFault) (among : (kind 
   pub told : (first : ErrorKind) (others : Kinds) → kinds ≡ first ∷ others → IsToldOf (first ∷ others) fault
   told first others are = elim among [ inl e ↦ inl (tells.memory e) | inr one ↦ inr (kind, subst (IsAmong kind) are one, tells) ]
 
--- What was asked of the rows of a command that was found.
+-- What the arguments of a parsed command ask for.
 pub record AskedRows (rows : List Row) (flag brief progress bound path : Option Text) : Type 0 where
   pub flag_is : one_of (codes "cut") rows ≡ flag
   pub brief_is : one_of (codes "brief") rows ≡ brief
@@ -49,7 +49,7 @@ pub record AskedRows (rows : List Row) (flag brief progress bound path : Option 
   pub bound_is : one_of (codes "history") rows ≡ bound
   pub path_is : first_of (codes "problem") rows ≡ path
 
--- the name of a command that was found, and the texts of what stood after it
+-- the name of a parsed command, and the texts of its arguments
 abbrev Parts : Type 0
 Parts = Text × Option Text × Option Text × Option Text × Option Text × Option Text
 

@@ -1,5 +1,5 @@
--- The program's command line: its commands, their options and paths, as they are described to clap.
--- What clap's definition of a parse makes of words on it.
+-- The program's command line, as the program describes it to clap: its commands, their options and paths. What clap's definition of a
+-- parse makes of words on it.
 -- Public: the contracts of the public calls cite it.
 use Rattle.std.specs.Prelude.{◌≡◌, List, [], ◌∷◌, Option, Some, codes, false, true, pos, option_map}
 use Rattle.clap.specs.Words.{App, Kinds, Row, Rule, Text, app_of, fault_of, first_of, new_app, new_rule, one_of, rule_of, subcommand_of, with_rule}
@@ -11,11 +11,11 @@ use Rattle.clap.specs.declared.builder.arg.Arg.{Arg}
 use Rattle.clap.specs.declared.builder.command.Command.{Command}
 use Rattle.clap.specs.declared.builder.command.Command.TheViews.{out-Command as fields_of}
 
--- An option without a value: it is there, or it is not.
+-- An option without a value, which is there or not.
 abbrev pub flag_rule : Text → Rule
 flag_rule name = record (new_rule name) { long = Some name; action = Some SetTrue }
 
--- `--history N`, N from 0 to 1,000,000, which is also what stands for it where it is absent
+-- `--history N`, with N from 0 to 1,000,000; the default is 1,000,000
 abbrev pub history_rule : Rule
 history_rule =
     record (new_rule (codes "history")) {
@@ -25,7 +25,7 @@ history_rule =
       parser = Some (Signed (pos 0) (pos 1000000));
     }
 
--- the path of the problem's file, which must be there
+-- the path of the problem's file, which is required
 abbrev pub problem_rule : Rule
 problem_rule = record (new_rule (codes "problem")) { value_names = 1; required = true }
 
@@ -48,15 +48,15 @@ abbrev pub arguments : App
 arguments =
     with_subcommand (with_subcommand (with_subcommand program_line solve_line.top) session_line.top) check_line.top
 
--- The argument is of this rule, and of its command alone.
+-- The argument has this rule, and belongs to its command alone.
 abbrev pub IsRule : Rule → Arg → Type 0
 IsRule rule arg = (rule_of arg ≡ rule) × (arg.global ≡ false)
 
--- The command is this one, and has no argument that its commands share.
+-- The command is this one, and shares no argument with another.
 abbrev pub IsLine : App → Command → Type 0
 IsLine line made = (app_of made ≡ line) × ((fields_of made).has_globals ≡ false)
 
--- the command that is found, with the texts of its three flags, of its bound and of its path, where it has them
+-- the command that a parse finds, with the texts of its three flags, of its bound and of its path, where it has them
 abbrev pub Asked : Type 0
 Asked = Option (Text × Option Text × Option Text × Option Text × Option Text × Option Text)
 
@@ -74,6 +74,6 @@ asked_of = option_map (λ found. (
 abbrev pub asked_in : List Text → Asked
 asked_in words = asked_of (subcommand_of arguments words)
 
--- the kinds of fault that it may find in them: help and the version are such faults too
+-- the kinds of fault that a parse may find in these words: help and the version count as faults too
 abbrev pub faults_in : List Text → Kinds
 faults_in words = fault_of arguments words

@@ -1,5 +1,5 @@
--- What clap's definition of a parse makes of plain words on the program's command line: of the calls of every day, and of words that
--- the program does not take.
+-- What clap's definition of a parse makes of plain words on the program's command line: the usual calls, and words that the program
+-- refuses.
 -- Public: the law `plain_words_are_read` says it.
 use Rattle.std.specs.Prelude.{◌≡◌, ◌≢◌, ◌==◌, Bool, true, false, List, [], ◌∷◌, Some, None, codes, ⊤}
 use Rattle.std.specs.List.{AllByRecursion}
@@ -14,7 +14,7 @@ abbrev pub IsPlain : Text → Type 0
 IsPlain [] = ⊤
 IsPlain (byte ∷ rest) = (byte == 45) ≡ false
 
--- The word names no command: it is none of the three, nor `help`.
+-- The word is no command: none of the three, nor `help`.
 pub record IsNoCommand (word : Text) : Type 0 where
   pub plain : IsPlain word
   pub solve : word ≢ codes "solve"
@@ -22,11 +22,11 @@ pub record IsNoCommand (word : Text) : Type 0 where
   pub check : word ≢ codes "check"
   pub help : word ≢ codes "help"
 
--- Whatever the program's name, these words have just these kinds of fault.
+-- Whatever the program's name, the faults of these words are of just these kinds.
 abbrev pub HasFaults : Kinds → List Text → Type 0
 HasFaults kinds words = (name : Text) → faults_in (name ∷ words) ≡ kinds
 
--- They have none, and this is found.
+-- They have no fault, and a parse finds this.
 abbrev pub IsTaken : List Text → Asked → Type 0
 IsTaken words asked = HasFaults [] words × ((name : Text) → asked_in (name ∷ words) ≡ asked)
 

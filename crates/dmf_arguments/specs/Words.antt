@@ -1,4 +1,4 @@
--- The words of the program's arguments: what they ask for.
+-- What the words of the program's arguments ask for.
 -- Public: a public contract says no more than this and the command line.
 use Rattle.std.specs.Prelude.{ℕ, ◌≡◌, ◌≢◌, ◌⊎◌, ◌≤◌, Bool, false, List, [], ◌∷◌, Option, Some, None, Result, Ok, Err, MatchResult, IsErrAnd, codes, ⊤}
 use Rattle.std.specs.Str.Parse.{IsNumeral, digits_value, without_leading_plus}
@@ -13,9 +13,9 @@ use Rattle.dmf_arguments.specs.declared.words.Mode.TheVariants as mode
 use Rattle.dmf_arguments.specs.declared.words.WordsFault.{WordsFault}
 use Rattle.dmf_arguments.specs.declared.words.WordsFault.TheVariants.{Help, Usage, NoMemory}
 
--- what the program is asked to do, with the path of the problem's file: of a solve and of a session, whether the cut is wanted,
--- and whether progress is told also where standard error is no terminal; of a session, between these two, whether a solve is
--- answered briefly, and after them the bound of its history
+-- The task of the program, with the path of the problem's file. A solve and a session say whether the cut is wanted, and whether
+-- progress is wanted where standard error is no terminal. A session also says, between these two, whether a reply to a solve is brief,
+-- and after them the bound of its history.
 pub data Task : Type 0 where
   solving : Bool → Bool → Task
   holding : Bool → Bool → Bool → ℕ → Text → Task
@@ -45,7 +45,7 @@ pub record IsBound (text : Text) (bound : ℕ) : Type 0 where
   pub value : bound ≡ digits_value 10 (without_leading_plus text)
   pub at_most : bound ≤ 1000000
 
--- ---- what is found asks for a task: each flag by its text, `true` or `false`
+-- ---- what a parse finds asks for a task: each flag by its text, `true` or `false`
 
 -- No command asks to solve, without the cut and without progress.
 abbrev pub AsksNothing : Asked → Result Arguments WordsFault → Type 0
@@ -68,7 +68,7 @@ AsksCheck asked result = (cut brief progress text : Option Text) (path : Text)
 abbrev pub Asks : Asked → Result Arguments WordsFault → Type 0
 Asks asked result = AsksNothing asked result × AsksSolve asked result × AsksSession asked result × AsksCheck asked result
 
--- ---- what is told of words that ask for no task
+-- ---- the answer to words that ask for no task
 
 abbrev pub IsHelp : WordsFault → Type 0
 IsHelp (Help text) = ⊤
@@ -80,29 +80,29 @@ IsUsage (Help text) = ⊥
 IsUsage (Usage text) = ⊤
 IsUsage NoMemory = ⊤
 
--- A fault of this kind is told so: help and the version are texts that were asked for, any other fault is one of the words. In
--- place of each memory may be refused.
+-- The answer to a fault of this kind. Help and the version are texts that the words ask for; any other fault is a fault of the words.
+-- In place of each, memory may be refused.
 pub record Tells (kind : ErrorKind) (fault : WordsFault) : Type 0 where
   pub memory : kind ≡ OutOfMemory → fault ≡ NoMemory
   pub help : kind ≡ DisplayHelp → IsHelp fault
   pub version : kind ≡ DisplayVersion → IsHelp fault
   pub usage : kind ≢ DisplayHelp → kind ≢ DisplayVersion → IsUsage fault
 
--- What is told is one of these kinds of fault, or that memory was refused.
+-- The answer is the one to a fault of these kinds, or memory was refused.
 abbrev pub IsToldOf : Kinds → WordsFault → Type 0
 IsToldOf kinds fault = (fault ≡ NoMemory) ⊎ ((kind : ErrorKind) × IsAmong kind kinds × Tells kind fault)
 
--- What reading the program's words gives, of every list of them. The first word is the program's name.
+-- What reading the program's words gives, for every list of them. The first word is the program's name.
 pub record ReadsWords (words : List Text) (result : Result Arguments WordsFault) : Type 0 where
-  -- words without a fault are taken, and give what they ask for
+  -- words without a fault give the task that they ask for
   pub taken : faults_in words ≡ [] → Asks (asked_in words) result
-  -- and others are not
+  -- and other words fail
   pub refused : (kind : ErrorKind) (kinds : Kinds) → faults_in words ≡ kind ∷ kinds → IsErrAnd result (IsToldOf (kind ∷ kinds))
 
 abbrev pub mode_of : Result Arguments WordsFault → Result Mode WordsFault
 mode_of (Ok asked) = Ok asked.mode
 mode_of (Err fault) = Err fault
 
--- What reading gives of the run alone: the mode of what the words ask for, or why they ask for none.
+-- The run alone: the mode of the task that the words ask for, or why they ask for none.
 abbrev pub ReadsMode : List Text → Result Mode WordsFault → Type 0
 ReadsMode words result = (asked : Result Arguments WordsFault) × ReadsWords words asked × (result ≡ mode_of asked)

@@ -1,6 +1,6 @@
 //! The texts that the help adds to what clap makes of the program's arguments.
 
-/// What `dmf --version` tells after the program's name.
+/// The version, which `dmf --version` writes after the program's name.
 pub const VERSION: &str = "0.1.0";
 
 /// What the program is for.

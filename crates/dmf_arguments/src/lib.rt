@@ -1,4 +1,4 @@
-//! The program's arguments: what they ask for, and what is told where they ask for no run.
+//! The program's arguments: which run they ask for, or why they ask for none.
 #![tactic(auto)]
 
 pub use laws::plain_words_are_read;

@@ -13,15 +13,15 @@ use std::alloc::{AllocError, Global};
 /// The largest number that `--history` takes. It is the largest bound of a session's history, too, so each history can be asked for.
 pub const MAX_HISTORY: u32 = 1_000_000;
 
-/// The run that the arguments ask for.
+/// A run that the arguments ask for.
 #[derive(Debug, Drop, PartialEq, Eq)]
 pub enum Mode {
-    /// Solve the problem on standard input, with the cut after its solution where that is wanted.
+    /// Solve the problem on standard input. The cut follows the solution if it is wanted.
     Solve {
         cut: bool,
     },
-    /// Hold a session on the problem in the file at this path, with the cut after each solution where that is wanted, and with at
-    /// most so many states kept before the present one.
+    /// Hold a session on the problem in the file at this path. The cut follows each solution if it is wanted, and at most so many
+    /// states are kept before the present one.
     Session {
         cut: bool,
         history: u32,
@@ -33,8 +33,8 @@ pub enum Mode {
     },
 }
 
-/// All that the arguments ask for: a run, whether it tells its progress also where standard error is no terminal, and of a session
-/// whether it answers a solve by its value in place of the solution.
+/// All that the arguments ask for: a run; whether it reports progress even if standard error is no terminal; and for a session whether
+/// it answers a solve with the value instead of the solution.
 #[derive(Debug, Drop, PartialEq, Eq)]
 pub struct Arguments {
     pub mode: Mode,
@@ -64,7 +64,7 @@ impl From<AllocError> for WordsFault {
     }
 }
 
-/// Reads the run that the program's arguments ask for: that of [`read_arguments`], without what else they ask for.
+/// Reads which run the program's arguments ask for, as [`read_arguments`] does, without `--progress` and `--brief`.
 #[inline(never)]
 pub fn read_words(alloc: Global, words: Vec<String>) -> Result<Mode, WordsFault>
     ensures words { ReadsMode (map (λ word. word.bytes.items) words.items) result }
@@ -78,12 +78,13 @@ pub fn read_words(alloc: Global, words: Vec<String>) -> Result<Mode, WordsFault>
 
 /// Reads the program's arguments, of which the first is its name.
 ///
-/// No words after it, or `solve`, ask for [`Mode::Solve`]; `session PROBLEM` asks for [`Mode::Session`], and
-/// `check PROBLEM` for [`Mode::Check`]. The flags `--cut` and `--progress` may stand after `solve` and `session`, `--brief` and
-/// `--history N` after `session` alone, N a number up to [`MAX_HISTORY`], which is what stands for it where it is absent, and `--help`
-/// after each command and alone: it is answered by [`WordsFault::Help`], and so are `help`, alone or before a command, and `--version`
-/// alone. A PROBLEM that begins with a dash stands after `--`. All other words are refused by [`WordsFault::Usage`]; the texts are
-/// those of `clap`. [`WordsFault::NoMemory`] may come in place of any answer.
+/// No words after it, or `solve`, ask for [`Mode::Solve`]. `session PROBLEM` asks for [`Mode::Session`], and `check PROBLEM` for
+/// [`Mode::Check`]. The flags `--cut` and `--progress` may stand after `solve` and `session`. `--brief` and `--history N` may stand
+/// after `session` alone. N is a number up to [`MAX_HISTORY`], which is its default. `--help` may stand after each command or alone. A
+/// PROBLEM that begins with a dash stands after `--`.
+///
+/// `--help` gives [`WordsFault::Help`], and so do `help`, alone or before a command, and `--version` alone. All other words give
+/// [`WordsFault::Usage`]. The texts are those of `clap`. [`WordsFault::NoMemory`] may come in place of any answer.
 #[inline(never)]
 pub fn read_arguments(alloc: Global, words: Vec<String>) -> Result<Arguments, WordsFault>
     ensures words { ReadsWords (map (λ word. word.bytes.items) words.items) result }
@@ -197,7 +198,7 @@ fn problem<'a>(alloc: Global) -> Arg<'a>
         .help(help::PROBLEM)
 }
 
-/// What the words that the program takes ask for.
+/// What the parsed words ask for.
 fn arguments_of(alloc: Global, matches: &ArgMatches<'_>) -> Result<Arguments, WordsFault>
     ensures nothing { AsksNothing (asked_of (subcommand_rows_of matches.now)) result }
     ensures solve { AsksSolve (asked_of (subcommand_rows_of matches.now)) result }
@@ -237,7 +238,7 @@ fn arguments_of(alloc: Global, matches: &ArgMatches<'_>) -> Result<Arguments, Wo
     }
 }
 
-/// The bound of a session's history. It has a default, and the parser lets no larger number through.
+/// The bound of a session's history. It has a default, and the parser accepts no larger number.
 fn bound_of(matches: &ArgMatches<'_>) -> u32
     ensures value { (text : Text) (bound : ℕ) → one_text (found_of matches.now) (codes "history") ≡ Some text
         → IsBound text bound → result ≡ bound }
@@ -257,7 +258,7 @@ fn path_of(alloc: Global, matches: &ArgMatches<'_>) -> Result<String, AllocError
     String::from_str(alloc, matches.get_str("problem").unwrap_or(""))
 }
 
-/// Why the words were not taken.
+/// Why the program does not take the words.
 fn fault_of(alloc: Global, error: &Error) -> WordsFault
     ensures { Tells (kind_of error.now) result }
 {

@@ -1,9 +1,9 @@
-//! What is wrong with a number's field, whatever the text.
+//! What is wrong with the field of a number, in any text.
 use crate::fields::{Placed, Places, field_at, first_fault};
 use crate::part::{Parts, about, no_number, words};
 use dmf_text::NumberFault;
 
-/// An explanation of a fault: which field of the line has it, counted from 1, or 0 where the whole line or text has; and what was
+/// An explanation of a fault: which field of the line has it, counted from 1, or 0 if the whole line or text has it; and what was
 /// expected.
 #[derive(Clone, Copy)]
 pub struct Advice<'a> {
@@ -30,7 +30,7 @@ impl<'a> Advice<'a> {
         }
     }
 
-    /// These words after the field at a place of the line, and others where there is no such line.
+    /// These words after the field at this place of the line, or the other words if there is no such line.
     pub fn at(
         line: Option<&'a [u8]>,
         place: usize,
@@ -44,7 +44,7 @@ impl<'a> Advice<'a> {
     }
 }
 
-/// Explains a field that is no number. `on_names` is said of a word that stands where a node belongs.
+/// Explains a field that is no number. `on_names` follows a word that stands where a node belongs.
 pub fn not_a_number<'a>(line: Option<&'a [u8]>, on_names: &'a str) -> Advice<'a> {
     let Some(placed) = line.and_then(|line| faulty(line, NumberFault::NotANumber)) else {
         return Advice::saying(
@@ -84,7 +84,7 @@ fn faulty(line: &[u8], fault: NumberFault) -> Option<Placed<'_>> {
     first_fault(line, Places::of_numbers(kind), fault)
 }
 
-/// What to write in place of a field that is no number.
+/// What to write instead of a field that is no number.
 pub fn way_on<'a>(field: &[u8]) -> &'a str {
     if is_infinite(field) {
         "; there is no infinite capacity: write a large number"

@@ -1,5 +1,5 @@
-//! Tells on standard error, where that is a terminal, why a run failed or its words are not taken. Where this cannot be told,
-//! nothing is said.
+//! Explains on standard error, if that is a terminal, why a run failed or the program refuses its words. What cannot be written is left
+//! out.
 ghost use Rattle.std.specs.Prelude.{◌≡◌, ◌≢◌, Err, IsTrue};
 ghost use Rattle.dmf_text.specs.Problem.{problem_of, out_of_memory};
 
@@ -18,7 +18,7 @@ use std::rt::HostRuntime;
 /// The path of the file on standard input.
 const INPUT: &str = "/proc/self/fd/0";
 
-/// A text of so many bytes is read again to explain its fault.
+/// A text of at most so many bytes is read again to explain its fault.
 const MOST_READ: u64 = 1_073_741_824;
 
 /// Where a text came from.
@@ -30,8 +30,8 @@ pub enum Origin<'a> {
     Input,
 }
 
-/// Explains a fault of a problem text. The words `before` stand before the name of the text. Its lines are looked at only where the
-/// text can be read again and still has the fault.
+/// Explains a fault of a problem text. The words `before` stand before the name of the text. Looks at its lines only if the text can be
+/// read again and still has the fault.
 pub fn explain_problem(
     rt: &HostRuntime,
     before: &'static str,
@@ -53,7 +53,7 @@ pub fn explain_problem(
     let _ = eprintln!(rt; "{place}{advice}");
 }
 
-/// Explains a fault of a solution on standard input, of the problem that comes from there.
+/// Explains a fault of a solution on standard input. `problem` says where its problem comes from.
 pub fn explain_solution(rt: &HostRuntime, problem: Origin<'_>, fault: SolutionFault) {
     let read = text_of(rt, Origin::Input, MOST_READ);
     let text = match &read {
@@ -74,7 +74,7 @@ pub fn explain_solution(rt: &HostRuntime, problem: Origin<'_>, fault: SolutionFa
     let _ = eprintln!(rt; "{place}{advice}");
 }
 
-/// Explains why a problem's file cannot be opened.
+/// Explains why the file of a problem cannot be opened.
 pub fn explain_open(rt: &HostRuntime, origin: Origin<'_>) {
     let path = path_of(origin);
     let shown = Shown(path.as_bytes());
@@ -83,7 +83,7 @@ pub fn explain_open(rt: &HostRuntime, origin: Origin<'_>) {
     }
 }
 
-/// Explains why a read failed, where it was one of a folder.
+/// Explains why a read failed, if what was read is a folder.
 pub fn explain_read(rt: &HostRuntime, origin: Origin<'_>) {
     let path = path_of(origin);
     let is_folder = matches!(fs::metadata(rt, path), Ok(told) if told.is_dir());
@@ -99,8 +99,8 @@ pub fn explain_read(rt: &HostRuntime, origin: Origin<'_>) {
     let _ = eprintln!(rt; "{shown} is a folder");
 }
 
-/// Tells what may have been meant by words that are not taken. A file that is named where no file belongs has to be there, unless
-/// it stands after `solve`.
+/// Explains words that the program refuses, by what they may mean. A file named where no file belongs has to exist, unless it stands
+/// after `solve`.
 pub fn explain_words(rt: &HostRuntime, words: &[String], most: u32) {
     if let Some(meant) = meant_by(words, most) {
         if is_likely(rt, words, meant) {
@@ -109,7 +109,7 @@ pub fn explain_words(rt: &HostRuntime, words: &[String], most: u32) {
     }
 }
 
-/// Whether the words mean that: an only word is a file that is there.
+/// Whether the words have this meaning. If there is one word only, it has to be a file that exists.
 fn is_likely(rt: &HostRuntime, words: &[String], meant: Meant<'_>) -> bool {
     match meant {
         Meant::Solve { file, .. } if words.len() == 2 => {
@@ -119,7 +119,7 @@ fn is_likely(rt: &HostRuntime, words: &[String], meant: Meant<'_>) -> bool {
     }
 }
 
-/// Says that a problem is read from the terminal, where it is.
+/// Says that the program reads a problem from the terminal, if it does.
 pub fn invite(rt: &HostRuntime) {
     if rt.stdin().is_terminal() && rt.stderr().is_terminal() {
         let _ = eprintln!(rt;
@@ -135,7 +135,7 @@ fn path_of<'a>(origin: Origin<'a>) -> &'a str {
     }
 }
 
-/// How many bytes a regular file has.
+/// The size of a regular file, in bytes.
 fn file_size(rt: &HostRuntime, origin: Origin<'_>) -> Option<u64> {
     match fs::metadata(rt, path_of(origin)) {
         Ok(told) if told.is_file() => Some(told.len()),
@@ -151,7 +151,7 @@ pub fn text_of(rt: &HostRuntime, origin: Origin<'_>, most: u64) -> Option<Vec<u8
     fs::read(rt, path_of(origin)).ok()
 }
 
-/// Whether the problem text has this fault as its first.
+/// Whether this is the first fault of the problem text.
 fn has_fault(rt: &HostRuntime, text: &[u8], fault: ProblemFault) -> bool
     ensures { IsTrue result → fault ≢ out_of_memory → problem_of text.now ≡ Err fault }
 {
@@ -161,7 +161,7 @@ fn has_fault(rt: &HostRuntime, text: &[u8], fault: ProblemFault) -> bool
     }
 }
 
-/// Whether the solution text has this fault as its first, as one of the problem that comes from there.
+/// Whether this is the first fault of the solution text, for the problem that comes from there.
 fn has_solution_fault(
     rt: &HostRuntime,
     problem: Origin<'_>,
@@ -180,7 +180,7 @@ fn has_solution_fault(
     }
 }
 
-/// The name of the file on standard input, if the text is that of a file.
+/// The name of the file on standard input, if the text is the content of a file.
 fn input_name(rt: &HostRuntime, origin: Origin<'_>, is_file: bool) -> Option<PathBuf> {
     match origin {
         Origin::Input if is_file => fs::read_link(rt, INPUT).ok(),
@@ -188,7 +188,7 @@ fn input_name(rt: &HostRuntime, origin: Origin<'_>, is_file: bool) -> Option<Pat
     }
 }
 
-/// The name under which a text is told: its path, or the last part of the path of the file on standard input.
+/// The name of a text in an explanation: its path, or the last part of the path of the file on standard input.
 fn name_of<'a>(origin: Origin<'a>, input: &'a Option<PathBuf>) -> Option<&'a str> {
     match (origin, input) {
         (Origin::File(path), _) => Some(path),
@@ -197,7 +197,7 @@ fn name_of<'a>(origin: Origin<'a>, input: &'a Option<PathBuf>) -> Option<&'a str
     }
 }
 
-/// What stands after the last slash of a path.
+/// The part of a path after its last slash.
 fn last_part(path: &str) -> &str {
     match path.rsplit_once('/') {
         Some((_, last)) => last,

@@ -87,7 +87,7 @@ pub fn first_outside<'a>(
     None
 }
 
-/// Whether the field is no number from the least to the most.
+/// Whether the field is not a number from the least to the most.
 fn is_outside(field: &[u8], least: u64, most: u64) -> bool {
     match number(field) {
         Ok(number) => number < least || number > most,

@@ -1,7 +1,7 @@
-//! What the lines of a problem text say before the one with a fault.
+//! What the lines of a problem text before the faulty one say.
 use dmf_text::{Fields, Lines, number};
 
-/// What the lines before a fault say. A line's number is 0 where there is no such line.
+/// What the lines before a fault say. A line number is 0 if there is no such line.
 #[derive(Clone, Copy)]
 pub struct Front {
     /// The counts of the problem line.
@@ -23,7 +23,7 @@ impl Front {
         arc_lines: 0,
     };
 
-    /// The front of a text before the line with this number, and that line, if there is one.
+    /// The part of a text before the line with this number, and that line, if there is one.
     pub fn of(text: &[u8], end: u64) -> (Front, Option<&[u8]>) {
         let mut front = Front::EMPTY;
         for (number, line) in Lines::new(text) {

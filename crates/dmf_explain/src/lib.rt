@@ -1,4 +1,4 @@
-//! Explanations of faults: what is wrong with an argument, a file or a line of a text, as a terminal tells it.
+//! Explanations for a terminal: what is wrong with an argument, a file or a line of a text.
 #![tactic(auto)]
 
 mod advice;

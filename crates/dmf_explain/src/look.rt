@@ -1,6 +1,6 @@
-//! What a text looks like that is no problem text.
+//! What a text that is no problem text looks like.
 
-/// What the first bytes of a text tell of it.
+/// What the first bytes of a text show.
 pub fn look_of(text: &[u8]) -> Option<&'static str> {
     if text.starts_with(b"\xef\xbb\xbf") {
         Some("the text begins with a byte order mark: save it as UTF-8 without one")
@@ -25,7 +25,7 @@ fn is_packed(text: &[u8]) -> bool {
         || text.starts_with(b"\x28\xb5\x2f\xfd")
 }
 
-/// Whether a line looks like one of a table, whose columns are parted by commas or semicolons.
+/// Whether a line looks like a row of a table, with commas or semicolons between its columns.
 pub fn is_of_table(line: &[u8]) -> bool {
     line.contains(&b',') || line.contains(&b';')
 }

@@ -9,14 +9,14 @@ pub enum Thing {
     Arc,
 }
 
-/// What has a name: the number of the first such thing in the text, and whether it is the only one.
+/// What a name stands for: the number of the first thing with this name in the text, and whether it is the only one.
 #[derive(Clone, Copy)]
 pub struct Named {
     pub number: u64,
     pub is_only: bool,
 }
 
-/// What the comments of a problem text call so. A thing keeps the first name that it is given.
+/// The thing to which the comments of a problem text give this name. A thing keeps its first name.
 pub fn find_named(text: &[u8], thing: Thing, name: &[u8]) -> Option<Named> {
     let mut found: Option<Named> = None;
     for (_, line) in Lines::new(text) {
@@ -27,7 +27,7 @@ pub fn find_named(text: &[u8], thing: Thing, name: &[u8]) -> Option<Named> {
     found
 }
 
-/// What was found, with one thing more.
+/// The result so far, with one more thing of this name.
 fn also(found: Option<Named>, number: u64) -> Named {
     match found {
         None => Named {
@@ -41,7 +41,7 @@ fn also(found: Option<Named>, number: u64) -> Named {
     }
 }
 
-/// The number of the thing that this line calls so, if it is a comment that names such a thing.
+/// The number of the thing to which this line gives the name, if the line is a comment that names such a thing.
 fn numbered_as(line: &[u8], thing: Thing, name: &[u8]) -> Option<u64> {
     let mut fields = Fields::new(line);
     if !names(&mut fields, thing) {
@@ -55,13 +55,13 @@ fn numbered_as(line: &[u8], thing: Thing, name: &[u8]) -> Option<u64> {
     }
 }
 
-/// Takes the first two fields of a line, and tells whether they begin a comment that names such a thing.
+/// Takes the first two fields of a line, and returns whether they begin a comment that names such a thing.
 fn names(fields: &mut Fields<'_>, thing: Thing) -> bool {
     fields.next() == Some(b"c".as_slice()) && fields.next() == Some(thing.word())
 }
 
 impl Thing {
-    /// The word for it in comments.
+    /// The word for such a thing in comments.
     fn word(self) -> &'static [u8] {
         match self {
             Thing::Node => b"node",
@@ -70,17 +70,17 @@ impl Thing {
     }
 }
 
-/// The two nodes that an arc is to lead from and to.
+/// The two nodes of an arc: from the tail to the head.
 #[derive(Clone, Copy)]
 pub struct Ends {
     pub tail: u64,
     pub head: u64,
 }
 
-/// Two names of more fields than this are not parted.
+/// Two names of together more fields than this are not taken apart.
 const MOST_FIELDS: u64 = 12;
 
-/// The two nodes whose names or numbers stand one after the other, where they can be parted in one way alone.
+/// The two nodes whose names or numbers stand one after the other, if there is just one way to take them apart.
 pub fn find_ends(text: &[u8], names: &[u8]) -> Option<Ends> {
     let mut found: Option<Ends> = None;
     for fields in 1..count(names).min(MOST_FIELDS) {
@@ -94,7 +94,7 @@ pub fn find_ends(text: &[u8], names: &[u8]) -> Option<Ends> {
     found
 }
 
-/// The two nodes, where the name of the first has so many fields.
+/// The two nodes, if the name of the first has so many fields.
 fn ends_at(text: &[u8], names: &[u8], fields: usize) -> Option<Ends> {
     let head = behind(names, fields);
     let end = names.len().saturating_sub(head.len());
@@ -118,7 +118,7 @@ fn node_of(text: &[u8], name: &[u8]) -> Option<u64> {
     }
 }
 
-/// What stands before the last field, without the blanks around it.
+/// What stands before the last field, without leading and trailing blanks.
 pub fn without_last_field(bytes: &[u8]) -> &[u8] {
     let mut end = 0;
     for (i, byte) in bytes.iter().enumerate() {
@@ -130,7 +130,7 @@ pub fn without_last_field(bytes: &[u8]) -> &[u8] {
     (&bytes[..end]).trim_ascii()
 }
 
-/// What stands after so many fields of a line, without the blanks around it.
+/// What stands after so many fields of a line, without leading and trailing blanks.
 pub fn behind(line: &[u8], fields: usize) -> &[u8] {
     let mut rest = line.trim_ascii();
     for _ in 0..fields {
@@ -139,7 +139,7 @@ pub fn behind(line: &[u8], fields: usize) -> &[u8] {
     rest
 }
 
-/// The bytes after the field with which they begin.
+/// The bytes after the field with which these bytes begin.
 fn without_field(bytes: &[u8]) -> &[u8] {
     for (i, byte) in bytes.iter().enumerate() {
         if *byte == b' ' || *byte == b'\t' {

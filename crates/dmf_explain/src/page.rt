@@ -1,12 +1,12 @@
-//! The help on a terminal: it speaks of the manual page only where that is found.
+//! The help on a terminal, which names the manual page only if it is installed.
 use std::io::IsTerminal;
 use std::rt::HostRuntime;
 use std::{env, fs};
 
-/// How a text of help ends.
+/// The last sentence of a help text.
 const SENTENCE: &str = "man dmf has the formats.\n";
 
-/// A text of help without its last sentence and the blanks before it, where that is to be left out.
+/// A help text without its last sentence and the blanks before it, if no manual page is found. `None` if the text stays as it is.
 pub fn help_without_page<'a>(rt: &HostRuntime, text: &'a str) -> Option<&'a str> {
     let front = text.strip_suffix(SENTENCE)?;
     if rt.stdout().is_terminal() && !has_page(rt) {

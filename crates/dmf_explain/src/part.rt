@@ -1,23 +1,23 @@
-//! Pieces of which explanations are put together.
+//! The pieces that make an explanation.
 use bstr::ByteSlice;
 use std::fmt;
 
-/// So many characters of a field or a name are shown, and two points for the rest.
+/// So many characters of a field or a name are shown, and two points stand for the rest.
 const MOST_SHOWN: usize = 60;
 
 /// A piece of an explanation.
 #[derive(Clone, Copy)]
 pub enum Part<'a> {
-    /// The program's own words.
+    /// Words of the program.
     Words(&'a str),
-    /// What somebody else wrote, between quotes.
+    /// Text of somebody else, between quotes.
     Quoted(&'a [u8]),
     /// The same without quotes.
     Shown(&'a [u8]),
     Number(u64),
 }
 
-/// The pieces of an explanation, in order. Those that are not needed are empty words.
+/// The pieces of an explanation, in order. Pieces that are not needed are empty.
 pub type Parts<'a> = [Part<'a>; 5];
 
 const NOTHING: Part<'static> = Part::Words("");
@@ -71,7 +71,7 @@ impl fmt::Display for Part<'_> {
     }
 }
 
-/// Writes what somebody else wrote, between quotes.
+/// Writes text of somebody else, between quotes.
 fn quote<W: fmt::Write>(bytes: &[u8], f: &mut fmt::Formatter<W>) -> fmt::Result {
     let shown = Shown(bytes);
     write!(f, "'{shown}'")
@@ -90,7 +90,7 @@ impl fmt::Display for Said<'_> {
     }
 }
 
-/// Bytes as a terminal may be given them: no control character among them, and cut where they are many.
+/// Bytes in a form that a terminal may show: without control characters, and cut if they are many.
 #[derive(Clone, Copy)]
 pub struct Shown<'a>(pub &'a [u8]);
 
@@ -106,7 +106,7 @@ impl fmt::Display for Shown<'_> {
     }
 }
 
-/// Writes a character, a control character by its number.
+/// Writes a character. A control character is written as its number.
 fn show<W: fmt::Write>(character: char, f: &mut fmt::Formatter<W>) -> fmt::Result {
     if character.is_control() {
         let number = character as u32;

@@ -8,7 +8,7 @@ use std::fmt;
 pub struct Place<'a> {
     /// Words before its name, with a blank after them.
     pub before: &'static str,
-    /// The file's name; none, where the text came from no file.
+    /// The file's name, or `None` if the text came from no file.
     pub name: Option<&'a str>,
     pub line: u64,
 }

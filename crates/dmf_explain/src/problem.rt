@@ -13,7 +13,7 @@ const PROBLEM_LINE: &str =
 const ON_NAMES: &str =
     "; nodes go by number (tools/dmf-problem makes a problem of a table with names)";
 
-/// What explains a fault of a problem text. The text is given where it can be read again.
+/// The explanation of a fault of a problem text. The text is given if it can be read again.
 pub fn problem_advice<'a>(fault: ProblemFault, text: Option<&'a [u8]>) -> Advice<'a> {
     let Some(text) = text else {
         return line_advice(fault.kind, Front::EMPTY, None);
@@ -27,7 +27,7 @@ pub fn problem_advice<'a>(fault: ProblemFault, text: Option<&'a [u8]>) -> Advice
     line_advice(fault.kind, front, line)
 }
 
-/// What explains a fault of a line, with what stands before it.
+/// The explanation of a fault of a line, by what the lines before it say.
 fn line_advice<'a>(kind: ProblemFaultKind, front: Front, line: Option<&'a [u8]>) -> Advice<'a> {
     match kind {
         ProblemFaultKind::ProblemLineExpected => Advice::saying(PROBLEM_LINE),
@@ -68,7 +68,7 @@ fn wrong_number<'a>(line: Option<&'a [u8]>) -> Advice<'a> {
     not_a_number(line, on_names)
 }
 
-/// What to write in place of a word that stands for a node.
+/// What to write instead of a word that stands for a node.
 fn way_with_names<'a>(line: &[u8]) -> &'a str {
     match (field_at(line, 1), field_at(line, 2)) {
         (Some(b"n"), Some(b"s" | b"t")) => "; the number stands before the letter, as in n 1 s",
@@ -96,12 +96,12 @@ fn unknown_line<'a>(front: Front, line: Option<&'a [u8]>) -> Advice<'a> {
     Advice::about(Placed { place: 1, field }, unknown_field(field, is_table))
 }
 
-/// The first field of a line; nothing, where it has none.
+/// The first field of a line, or empty if it has none.
 fn first_field(line: &[u8]) -> &[u8] {
     field_at(line, 1).unwrap_or(&[])
 }
 
-/// What may be meant by a first field that begins no line of a problem, where the line may be one of a table.
+/// What a first field that begins no line of a problem may mean, if the line may be the row of a table.
 fn unknown_field<'a>(field: &[u8], is_table: bool) -> &'a str {
     match field {
         b"P" => ": lower case: p",
@@ -158,7 +158,7 @@ fn arc_form<'a>(line: &[u8]) -> &'a str {
     }
 }
 
-/// The form that was expected, and how many fields there are.
+/// The expected form, and how many fields there are.
 pub fn found<'a>(form: &'a str, count: u64) -> Parts<'a> {
     [
         Part::Words(form),

@@ -6,7 +6,7 @@ use crate::part::{Part, numbered};
 use crate::problem::found;
 use dmf_text::{Lines, SolutionFault, SolutionFaultKind};
 
-/// What explains a fault of a solution text. The text is given where it can be read again.
+/// The explanation of a fault of a solution text. The text is given if it can be read again.
 pub fn solution_advice<'a>(fault: SolutionFault, text: Option<&'a [u8]>) -> Advice<'a> {
     let Some(text) = text else {
         return line_advice(fault.kind, None);
@@ -87,7 +87,7 @@ fn field_count<'a>(line: Option<&'a [u8]>) -> Advice<'a> {
     Advice::of_line(found(form, count(line)))
 }
 
-/// Words before the two nodes of a flow line, where it is there, and after them.
+/// These words, then the two nodes of the flow line if it is there, then the other words.
 fn between<'a>(line: Option<&'a [u8]>, before: &'a str, behind: &'a str) -> Advice<'a> {
     let tail = line.and_then(|line| field_at(line, 2));
     let head = line.and_then(|line| field_at(line, 3));

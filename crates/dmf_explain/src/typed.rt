@@ -1,20 +1,20 @@
-//! The command lines that were read last, so that a refusal can be explained by the line that it is about.
+//! The command lines that were read last, from which a refusal can be explained.
 use dmf_text::Lines;
 use std::alloc::{AllocError, Global};
 
-/// No more of a line is kept: a longer one is refused for its length.
+/// The most bytes of a line that are kept. A longer line is refused for its length.
 const MOST_KEPT: usize = 4096;
 
-/// The lines of the piece that was read last. The first is whole: what earlier pieces had of it is kept.
+/// The lines of the piece that was read last. The first is whole, since the end of the piece before it is kept.
 #[derive(Drop)]
 pub struct TypedLines {
     text: Vec<u8>,
-    /// The number of the first line. Where memory was refused it is the largest number, so that no line is found.
+    /// The number of the first line. If memory was refused, it is the largest number, so no line is found.
     first: u64,
 }
 
 impl TypedLines {
-    /// No line was read.
+    /// No line yet.
     pub fn new(alloc: Global) -> TypedLines {
         TypedLines {
             text: Vec::new(alloc),
@@ -22,7 +22,7 @@ impl TypedLines {
         }
     }
 
-    /// Takes the piece that was read next, and drops the lines that were answered.
+    /// Takes the next piece that was read, and drops the lines that have their replies.
     pub fn take(&mut self, piece: &[u8]) {
         self.drop_whole_lines();
         self.text.truncate(MOST_KEPT);

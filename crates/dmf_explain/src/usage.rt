@@ -1,12 +1,12 @@
-//! What may have been meant by words that the program does not take.
+//! What words that the program refuses may mean.
 use crate::part::Shown;
 use dmf_text::number;
 use std::fmt;
 
-/// What may have been meant.
+/// What the words may mean.
 #[derive(Clone, Copy)]
 pub enum Meant<'a> {
-    /// To solve the problem in this file: it is read from standard input.
+    /// To solve the problem in this file, which has to come from standard input.
     Solve { with_cut: bool, file: &'a str },
     /// A bound of the history.
     History { most: u32 },
@@ -25,7 +25,7 @@ impl fmt::Display for Meant<'_> {
     }
 }
 
-/// What may have been meant by these words, of which the first is the program's name.
+/// What these words may mean. The first is the program's name.
 pub fn meant_by<'a>(words: &'a [String], most: u32) -> Option<Meant<'a>> {
     if has_wrong_history(words, u64::from(most)) {
         return Some(Meant::History { most });
@@ -42,7 +42,7 @@ pub fn meant_by<'a>(words: &'a [String], most: u32) -> Option<Meant<'a>> {
     }
 }
 
-/// What is to be solved by the words after `solve`: they have one file beside the flags, whose name needs no quotes.
+/// The solve that the words after `solve` may mean: they have one file beside the flags, whose name needs no quotes.
 fn solve_of(words: &[String]) -> Option<Meant<'_>> {
     let mut with_cut = false;
     let mut meant: Option<&str> = None;
@@ -61,7 +61,7 @@ fn solve_of(words: &[String]) -> Option<Meant<'_>> {
     Some(Meant::Solve { with_cut, file })
 }
 
-/// Whether a shell takes the word as it stands.
+/// Whether a shell passes the word on unchanged.
 fn is_plain(word: &str) -> bool {
     let mut is_plain = !word.is_empty();
     for byte in word.as_bytes() {
@@ -70,7 +70,7 @@ fn is_plain(word: &str) -> bool {
     is_plain
 }
 
-/// Whether a word after `--history` is no number up to the most.
+/// Whether the word after `--history` is not a number up to the most.
 fn has_wrong_history(words: &[String], most: u64) -> bool {
     let mut is_bound = false;
     for word in words {

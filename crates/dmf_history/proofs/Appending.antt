@@ -1,4 +1,4 @@
--- The present state, what is appended to it, and what is kept of the states before it.
+-- The present state, what is appended to it, and which states before it are kept.
 use Rattle.std.proofs.Common.{◌≡◌, ◌+◌, ◌-◌, ◌<◌, ◌≤◌, List, ◌∷◌, [], ◌++◌, length, get_or, take, drop, Some, arith, sym, ap, ◌∙◌, subst, ⊎_elim}
 use Rattle.std.proofs.lemmas.Bool.{cases_lt}
 use Rattle.std.proofs.lemmas.Bool.Decides.{nat_tests}
@@ -16,22 +16,22 @@ one-present t s p a b = cc
 
 -- ---- what is kept within the bound
 
--- Within the bound nothing is forgotten.
+-- Within the bound the history forgets no state.
 pub within_bound-all : (t : Timeline) → t.place ≤ t.bound → within_bound t ≡ t
 within_bound-all t within = grind (arith, nat_tests)
 
--- Past it the oldest state is forgotten.
+-- Past the bound it forgets the oldest state.
 pub within_bound-past : (t : Timeline) → t.bound < t.place → within_bound t ≡ forgotten t
 within_bound-past t past = grind (arith, nat_tests)
 
--- What is so of a timeline is so of it within the bound, where it stays so when the oldest state is forgotten.
+-- A property of a timeline holds of it within the bound, if forgetting the oldest state keeps the property.
 pub within_bound-keeps : (P : Timeline → Type 0) (t : Timeline) → P t → (t.bound < t.place → P (forgotten t)) → P (within_bound t)
 within_bound-keeps P t whole rest = ⊎_elim
     (λ past. subst P (sym (within_bound-past t past)) (rest past))
     (λ within. subst P (sym (within_bound-all t within)) whole)
     (cases_lt t.bound t.place)
 
--- The present state stays present where the oldest one is forgotten.
+-- Forgetting the oldest state leaves the present state present.
 pub forgotten-present : (t : Timeline) (s : NetworkState) → IsPresent t s → 0 < t.place → IsPresent (forgotten t) s
 forgotten-present t s present past =
     let within : t.place < length t.states = slice_get_within t.states t.place s present in
@@ -39,7 +39,7 @@ forgotten-present t s present past =
     slice_get-get_or (drop 1 t.states) (t.place - 1) s (omega (arith, within, past, length-drop 1 t.states))
     ∙ ap (λ x. Some x) (get_or-drop 1 t.states (t.place - 1) s ∙ ap (λ n. get_or t.states n s) same ∙ get_or_from_slice_get t.states t.place s s present)
 
--- ---- what was appended
+-- ---- the appended state
 
 extended-present : (t : Timeline) (s : NetworkState) → t.place < length t.states → IsPresent (extended t s) s
 extended-present t s within =
@@ -47,7 +47,7 @@ extended-present t s within =
     let long : length front ≡ t.place + 1 = length-take-le (t.place + 1) t.states (omega arith) in
     slice_get-get_or (front ++ s ∷ []) (t.place + 1) s (omega (arith, length_push front s, long)) ∙ ap (λ x. Some x) (get_or_at front s [] s (t.place + 1) long)
 
--- One step back from it the state is present that was present before.
+-- One step back from it leads to the state that was present before.
 pub before-extended : (t : Timeline) (s new : NetworkState) → IsPresent t s → IsPresent (back (extended t new) 1) s
 before-extended t s new present =
     let front : List NetworkState = take (t.place + 1) t.states in
@@ -59,18 +59,18 @@ before-extended t s new present =
     ∙ ap (λ x. Some x) (get_or_append_left front (new ∷ []) s t.place (omega (arith, long)) ∙ get_or-take (t.place + 1) t.states t.place s
     (omega arith) ∙ get_or_from_slice_get t.states t.place s s present))
 
--- What was appended is present.
+-- The appended state is the present one.
 pub appended-present : (t : Timeline) (s : NetworkState) → t.place < length t.states → IsPresent (appended t s) s
 appended-present t s within =
     let last = extended-present t s within in
     within_bound-keeps (λ u. IsPresent u s) (extended t s) last (λ past. forgotten-present (extended t s) s last (omega (arith, past)))
 
--- What an edit makes is appended where the bound allows one state more before the present one.
+-- The state that an edit makes is appended, if the bound allows one more state before the present one.
 pub appends-all : (edit : Edit) (t : Timeline) (s : NetworkState) → IsPresent t s → t.place < t.bound → Appends edit t (extended t (applied edit s))
 appends-all edit t s present fewer =
     record { state = s; present = present; gives = sym (within_bound-all (extended t (applied edit s)) (omega (arith, fewer))) }
 
--- And where it leaves none, the oldest state is forgotten, and the place stays.
+-- If it does not, the oldest state is forgotten, and the place stays.
 pub appends-past : (edit : Edit) (t : Timeline) (s : NetworkState) → IsPresent t s → t.bound ≤ t.place
     → Appends edit t (record { states = drop 1 (take (t.place + 1) t.states ++ applied edit s ∷ []); place = t.place; bound = t.bound })
 appends-past edit t s present full =
@@ -83,11 +83,11 @@ appends-past edit t s present full =
           ∙ sym (within_bound-past (extended t (applied edit s)) (omega (arith, full)));
     }
 
--- What was appended of a timeline whose present state is `s` is what the edit makes of `s`.
+-- If the present state of a timeline is `s`, the appended state is what the edit makes of `s`.
 pub appends-applied : (t u : Timeline) (s : NetworkState) (edit : Edit) → IsPresent t s → Appends edit t u → u ≡ appended t (applied edit s)
 appends-applied t u s edit present appends = appends.gives ∙ ap (λ x. appended t (applied edit x)) (one-present t appends.state s appends.present present)
 
--- And it is the present state then.
+-- It is the present state then.
 pub now-present : (t u : Timeline) (s p : NetworkState) (edit : Edit) → IsPresent t s → Appends edit t u → IsPresent u p → p ≡ applied edit s
 now-present t u s p edit present appends shown =
     let new = applied edit s in

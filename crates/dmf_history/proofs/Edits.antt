@@ -28,7 +28,7 @@ states_from-at [] s (suc k) h = absurd (omega (arith, h))
 states_from-at (edit ∷ edits) s zero h = refl
 states_from-at (edit ∷ edits) s (suc k) h = states_from-at edits (applied edit s) k (omega (arith, h))
 
--- the states where an edit is put in the place of those past a place
+-- the states, where an edit replaces those past a place
 states_from-put : (edits : List Edit) (s : NetworkState) (k : ℕ) (edit : Edit) → k ≤ length edits
     → states_from s (take k edits ++ edit ∷ []) ≡ take (suc k) (states_from s edits) ++ applied edit (after (take k edits) s) ∷ []
 states_from-put [] s zero edit h = refl
@@ -58,7 +58,7 @@ before-next : (edits : List Edit) (s : NetworkState) (k : ℕ) (edit : Edit) →
     → before (take (k + 1) edits) s ≡ before (take k edits) (reverted edit s)
 before-next edits s k edit is = ap (λ es. before es s) (next edits k edit is) ∙ before-push (take k edits) edit s
 
--- the first edits, and one put after them
+-- the first edits, and one edit after them
 length-put : (edits : List Edit) (k : ℕ) (edit : Edit) → k ≤ length edits → length (take k edits ++ edit ∷ []) ≡ k + 1
 length-put edits k edit h = omega (arith, length_push (take k edits) edit, length-take-le k edits h)
 
@@ -66,7 +66,7 @@ take-put : (edits : List Edit) (k j : ℕ) (edit : Edit) → k ≤ length edits 
 take-put edits k j edit h le =
     take-append-le j (take k edits) (edit ∷ []) (omega (arith, length-take-le k edits h, le)) ∙ take-take j k edits le
 
--- each of them fits
+-- each of these edits fits
 put-fit : (edits : List Edit) (k : ℕ) (new : Edit) (s : NetworkState) → k ≤ length edits
     → ((j : ℕ) (edit : Edit) → slice_get edits j ≡ Some edit → Fits edit (after (take j edits) s)) → Fits new (after (take k edits) s) → (j : ℕ) (edit : Edit)
     → slice_get (take k edits ++ new ∷ []) j ≡ Some edit → Fits edit (after (take j (take k edits ++ new ∷ [])) s)
@@ -86,13 +86,13 @@ put-fit edits k new s h fit fits j edit is =
     rw same (subst (λ n. Fits edit (after (take n edits) s)) (sym e) (subst (λ f. Fits f (after (take k edits) s)) here fits)) in
     ⊎_elim earlier (λ ge. last (omega (arith, ge, up_to))) (cases_lt j k)
 
--- What a queue of edits tells at a place is the edit that stands there.
+-- A read of a queue of edits gives the edit at that place.
 pub found : (edits : List Edit) (k : ℕ) (told : Option (Bor Edit)) → MatchOption told (length edits ≤ k)
     (λ x. (k < length edits) × HoldsAt (λ edit. x.now ≡ edit) edits k) → IfSome told (λ x. slice_get edits k ≡ Some x.now)
 found edits k None m = tt
 found edits k (Some x) m = slice_get-get_or edits k x.now m.0 ∙ ap (λ e. Some e) (sym (m.1 x.now))
 
--- It tells none just past the last one.
+-- It gives none just past the last edit.
 pub none-past : (edits : List Edit) (k : ℕ) (told : Option (Bor Edit))
     → MatchOption told (length edits ≤ k) (λ x. (k < length edits) × HoldsAt (λ edit. x.now ≡ edit) edits k) → (told ≡ None) ↔ (length edits ≤ k)
 none-past edits k None m = (λ e. m, λ past. refl)
@@ -108,7 +108,7 @@ more-arcs (Solve moves) s adds = absurd adds
 
 -- ---- the oldest edit is dropped
 
--- Edits that fit are taken back to where they began.
+-- Edits that fit can be reverted, which leads back to the first state.
 before-after : GivesBack → (edits : List Edit) (s : NetworkState) (k : ℕ)
     → ((j : ℕ) (edit : Edit) → slice_get edits j ≡ Some edit → Fits edit (after (take j edits) s)) → before (take k edits) (after (take k edits) s) ≡ s
 before-after law [] s zero fit = refl
@@ -117,7 +117,7 @@ before-after law (edit ∷ edits) s zero fit = refl
 before-after law (edit ∷ edits) s (suc k) fit =
     ap (reverted edit) (before-after law edits (applied edit s) k (λ j e is. fit (suc j) e is)) ∙ law edit s (fit zero edit refl)
 
--- The edits after the oldest one are taken back to what it makes of the first state.
+-- Reverting the edits after the oldest one leads to what that one makes of the first state.
 forgotten-first : GivesBack → (present : NetworkState) (place : ℕ) (edit : Edit) (edits : List Edit) (are : AreEdits present (edit ∷ edits) (suc place))
     → before (take place edits) present ≡ applied edit are.first
 forgotten-first law present place edit edits are =
@@ -136,7 +136,7 @@ forgotten-next law present place (edit ∷ edits) are =
       present_is = are.present_is;
     }
 
--- What the edits after the oldest one are.
+-- Dropping the oldest edit leaves edits of the present state, and forgets the oldest state of the timeline.
 forgotten-edits : GivesBack → (present : NetworkState) (place : ℕ) (edits : List Edit) (next : ℕ) → next ≡ suc place → AreEdits present edits next
     → AreEdits present (drop 1 edits) place
 forgotten-edits law present place edits next is are = forgotten-next law present place edits (subst (AreEdits present edits) is are)
@@ -188,7 +188,7 @@ module _ (present : NetworkState) (edits : List Edit) (place bound : ℕ) (are :
   -- ---- one step back
 
   module _ (k : ℕ) (edit : Edit) (last : place ≡ k + 1) (is : slice_get edits k ≡ Some edit) where
-    -- what the edit made is the present state
+    -- the edit made the present state
     made : applied edit (after (take k edits) are.first) ≡ present
     made = sym (after-next edits are.first k edit is) ∙ ap (λ n. after (take n edits) are.first) (sym last) ∙ are.present_is
 
@@ -203,7 +203,7 @@ module _ (present : NetworkState) (edits : List Edit) (place bound : ℕ) (are :
     same-first : before (take place edits) present ≡ before (take k edits) (reverted edit present)
     same-first = ap (λ n. before (take n edits) present) last ∙ before-next edits present k edit is
 
-    -- what it was made of
+    -- of this state before it
     unmade : GivesBack → after (take k edits) are.first ≡ reverted edit present
     unmade law = sym (law edit (after (take k edits) are.first) (are.fit k edit is)) ∙ ap (reverted edit) made
 
@@ -277,7 +277,7 @@ module _ (present : NetworkState) (edits : List Edit) (place bound : ℕ) (are :
           more = more-arcs edit present adds;
         }
 
-  -- ---- an edit in the place of those past the present state
+  -- ---- an edit replaces those past the present state
 
   module _ (edit : Edit) (accepted : FitsPresent edit (timeline_of present edits place bound)) where
     pub fits-present : Fits edit present
@@ -332,14 +332,14 @@ module _ (present : NetworkState) (edits : List Edit) (place bound : ℕ) (are :
         ∙ ap (λ s. take (place + 1) (states_from s edits) ++ applied edit present ∷ []) (sym are.first_is) in
         λ i. record { states = gives i; place = place + 1; bound = bound }
 
-    -- It is appended where the bound allows one state more before the present one.
+    -- The edit is appended, if the bound allows one more state before the present one.
     pub put-appends : GivesBack → place < bound → Appends edit (timeline_of present edits place bound)
         (timeline_of (applied edit present) put (place + 1) bound)
     put-appends law fewer =
         subst (Appends edit (timeline_of present edits place bound)) (sym (put-extends law))
         (appends-all edit (timeline_of present edits place bound) present is-present fewer)
 
-    -- And where it leaves none, the oldest edit is dropped.
+    -- If it does not, the oldest edit is dropped.
     pub put-forgets : GivesBack → bound ≤ place → Appends edit (timeline_of present edits place bound)
         (timeline_of (applied edit present) (drop 1 put) place bound)
     put-forgets law full = record {

@@ -7,12 +7,12 @@ use Rattle.dmf_state.specs.Edit.{applied, Fits}
 use Rattle.dmf_state.specs.Revert.{reverted}
 use Rattle.dmf_history.specs.Timeline.{Timeline}
 
--- the state before these edits, by taking them back from `s`, the last one first
+-- the state before these edits, which reverts them from `s` on, the last one first
 abbrev pub before : List Edit → NetworkState → NetworkState
 before [] s = s
 before (edit ∷ edits) s = reverted edit (before edits s)
 
--- the state after these edits, by applying them to `s`, one after the other
+-- the state after these edits, which applies them from `s` on, one after the other
 abbrev pub after : List Edit → NetworkState → NetworkState
 after [] s = s
 after (edit ∷ edits) s = after edits (applied edit s)
@@ -22,14 +22,13 @@ abbrev pub states_from : NetworkState → List Edit → List NetworkState
 states_from s [] = s ∷ []
 states_from s (edit ∷ edits) = s ∷ states_from (applied edit s) edits
 
--- the timeline of a present state and the edits before and after it: taking back those before the place leads to the oldest
--- state that is kept
+-- the timeline of a present state and the edits before and after it: reverting those before the place leads to the oldest kept state
 abbrev pub timeline_of : NetworkState → List Edit → ℕ → ℕ → Timeline
 timeline_of present edits place bound =
     record { states = states_from (before (take place edits) present) edits; place = place; bound = bound }
 
--- The edits lead from a first state on, each fits the state that those before it make of the first, and the present state is
--- what those before the place make of it.
+-- The edits begin at a first state. Each fits the state that the edits before it make, and the present state is what the edits before
+-- the place make.
 pub record AreEdits (present : NetworkState) (edits : List Edit) (place : ℕ) : Type 0 where
   pub within : place ≤ length edits
   pub first : NetworkState
@@ -38,7 +37,7 @@ pub record AreEdits (present : NetworkState) (edits : List Edit) (place : ℕ) :
   pub fit : (k : ℕ) (edit : Edit) → slice_get edits k ≡ Some edit → Fits edit (after (take k edits) first)
   pub present_is : after (take place edits) first ≡ present
 
--- They are such edits, and no more than the bound, which is at most 1,000,000.
+-- They are such edits, and there are no more than the bound, which is at most 1,000,000.
 pub record AreWithinBound (present : NetworkState) (edits : List Edit) (place bound : ℕ) : Type 0 where
   pub are : AreEdits present edits place
   pub at_most : length edits ≤ bound

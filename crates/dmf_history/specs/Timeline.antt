@@ -1,4 +1,4 @@
--- What a history stands for: a list of whole states, the place of the present one, and how many are kept before it.
+-- What a history stands for: a list of whole states, the place of the present one, and how many states are kept before it.
 -- Public: a public contract says no more than this.
 use Rattle.std.specs.Prelude.{ℕ, ◌≡◌, ◌+◌, ◌-◌, ◌<◌, ◌≤◌, List, [], ◌∷◌, ◌++◌, length, take, drop, slice_get, Some, nat_lt, if◌then◌else◌}
 use Rattle.dmf_state.specs.declared.edit.Edit.{Edit}
@@ -6,14 +6,14 @@ use Rattle.dmf_state.specs.NetworkState.{NetworkState}
 use Rattle.dmf_state.specs.Edit.{applied, Fits}
 use Rattle.dmf_state.specs.Revert.{reverted, Stands}
 
--- the states, the oldest first; the place of the present one, counted from 0; and the bound, which is the largest number of
--- states that are kept before the present one
+-- the states, the oldest first; the place of the present one, counted from 0; and the bound: the largest number of states that are kept
+-- before the present one
 pub record Timeline : Type 0 where
   pub states : List NetworkState
   pub place : ℕ
   pub bound : ℕ
 
--- The place is in the list, and beside one state the list has no more than the bound, which is at most 1,000,000.
+-- The place is in the list, and the list has at most one state more than the bound, which is at most 1,000,000.
 pub record IsTimeline (t : Timeline) : Type 0 where
   pub place : t.place < length t.states
   pub at_most : length t.states ≤ t.bound + 1
@@ -27,11 +27,11 @@ IsPresent t s = slice_get t.states t.place ≡ Some s
 abbrev pub future_of : Timeline → ℕ
 future_of t = length t.states - (t.place + 1)
 
--- one state, which is the present one
+-- one state, the present one
 abbrev pub start : ℕ → NetworkState → Timeline
 start bound s = record { states = s ∷ []; place = 0; bound = bound }
 
--- The states past the place are dropped, and the new one is put after the others and is the present one.
+-- The states past the place are dropped. The new state is appended and becomes the present one.
 abbrev pub extended : Timeline → NetworkState → Timeline
 extended t s = record { states = take (t.place + 1) t.states ++ s ∷ []; place = t.place + 1; bound = t.bound }
 
@@ -39,12 +39,12 @@ extended t s = record { states = take (t.place + 1) t.states ++ s ∷ []; place 
 abbrev pub forgotten : Timeline → Timeline
 forgotten t = record { states = drop 1 t.states; place = t.place - 1; bound = t.bound }
 
--- Where more states than the bound stand before the present one, the oldest is forgotten.
+-- If more states than the bound stand before the present one, the oldest is forgotten.
 abbrev pub within_bound : Timeline → Timeline
 within_bound t = if nat_lt t.bound t.place then forgotten t else t
 
--- The states past the place are dropped, and the new one is appended and is the present one; no more than the bound are
--- kept before it.
+-- The states past the place are dropped. The new state is appended and becomes the present one, with at most the bound of states kept
+-- before it.
 abbrev pub appended : Timeline → NetworkState → Timeline
 appended t s = within_bound (extended t s)
 
@@ -62,7 +62,7 @@ pub record FitsPresent (edit : Edit) (t : Timeline) : Type 0 where
   pub present : IsPresent t state
   pub fits : Fits edit state
 
--- `u` is the timeline `t` with what the edit makes of its present state appended.
+-- `u` is the timeline `t` with the state appended that the edit makes of its present state.
 pub record Appends (edit : Edit) (t u : Timeline) : Type 0 where
   pub state : NetworkState
   pub present : IsPresent t state
@@ -76,8 +76,7 @@ pub record AddsArcs (t : Timeline) (place : ℕ) : Type 0 where
   pub after_is : slice_get t.states (place + 1) ≡ Some after
   pub more : length before.network.arcs < length after.network.arcs
 
--- The edit made the present state of the one before it: it stands in the present state, and what is there once it is taken
--- back is the state one step back.
+-- The edit made the present state of the one before it: it stands in the present state, and reverting it gives the state one step back.
 pub record LeadsBack (edit : Edit) (t : Timeline) : Type 0 where
   pub state : NetworkState
   pub present : IsPresent t state
@@ -85,8 +84,7 @@ pub record LeadsBack (edit : Edit) (t : Timeline) : Type 0 where
   pub stands : Stands edit state
   pub before : IsPresent (back t 1) (reverted edit state)
 
--- The edit makes the next state of the present one: it fits the present state, and what it makes of that is the state one
--- step forward.
+-- The edit makes the next state of the present one: it fits the present state, and applying it gives the state one step forward.
 pub record LeadsOn (edit : Edit) (t : Timeline) : Type 0 where
   pub state : NetworkState
   pub present : IsPresent t state

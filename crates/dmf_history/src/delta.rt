@@ -43,7 +43,7 @@ impl DeltaHistory {
         requires { bound ≤ 1000000 }
         ensures { result ≡ start bound state }
     {
-        // The contract of a reader says that this is a state, as each state of a timeline has to be.
+        // The contract of the reader says that this is a state, as each state of a timeline has to be.
         let _nodes = state.nodes();
         DeltaHistory {
             present: state,

@@ -5,7 +5,7 @@ use std::alloc::Allocator;
 use std::collections::VecDeque;
 use thiserror::Error;
 
-/// The largest bound of a history: the largest number of states before the present one that any history keeps.
+/// The largest bound of a history: the most states that any history keeps before the present one.
 pub const MAX_BOUND: u32 = 1_000_000;
 
 /// There is no change before the present state.
@@ -24,8 +24,8 @@ pub enum RedoFault {
     NoMemory,
 }
 
-/// A list of states and the place of the present one, however the history keeps them. Nothing alters a history's bound: the most states
-/// that it keeps before the present one.
+/// A list of states and the place of the present one, however the history keeps them. The bound of a history, which nothing changes, is
+/// the most states that it keeps before the present one.
 pub trait History {
     ghost use Rattle.std.specs.Prelude.{◌≡◌, ◌<◌, ◌↔◌, Ok, Err, IfSome, OnOk, OnErr, IsOk};
     ghost use Rattle.dmf_history.specs.declared.history.RedoFault.TheVariants as redo;
@@ -49,7 +49,7 @@ pub trait History {
         ensures count { result ≡ future_of (timeline self.now) }
         ensures timeline { IsTimeline (timeline self.now) };
 
-    /// The largest number of states that are kept before the present one. Takes no memory.
+    /// The bound: the most states that the history keeps before the present one. Takes no memory.
     fn bound(&self) -> u32
         ensures count { result ≡ (timeline self.now).bound }
         ensures timeline { IsTimeline (timeline self.now) };

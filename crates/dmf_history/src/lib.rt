@@ -1,4 +1,4 @@
-//! Histories of networks' states: what a what-if session steps back and forth in.
+//! Histories of network states: a what-if session steps back and forth in one.
 #![tactic(auto)]
 
 pub use delta::DeltaHistory;

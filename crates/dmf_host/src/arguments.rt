@@ -15,7 +15,7 @@ pub fn words(rt: &HostRuntime) -> Result<Vec<String>, Fault> {
     }
 }
 
-/// Why the words cannot be read: one of them is no text, or a request for memory was refused.
+/// Why the words cannot be read: one of them is not UTF-8, or memory was refused.
 fn fault_of(kind: ErrorKind) -> Fault {
     if kind == ErrorKind::OutOfMemory {
         Fault::NO_MEMORY

@@ -7,6 +7,6 @@ pub record IsNode (nodes v : ℕ) : Type 0 where
   pub from_one : 1 ≤ v
   pub to_last : v ≤ nodes
 
--- the same as a test
+-- whether `v` is one of these nodes
 abbrev pub is_node : ℕ → ℕ → Bool
 is_node nodes v = nat_le 1 v && nat_le v nodes

@@ -1,2 +1,2 @@
-//! What a node is: one definition, on which the networks and the search for paths both stand. There is no code here.
+//! What a node is: one definition, for the networks and for the search for paths. There is no code here.
 #![tactic(auto)]

@@ -1,4 +1,4 @@
--- Where a search begins: what its labels and current links say.
+-- The beginning of a search: what its labels and current links say.
 use Rattle.std.proofs.Common.{ℕ, ◌≡◌, ◌≢◌, ◌+◌, ◌<◌, inl, inr, List, length, get_or, set, replicate, subst, ◌∙◌, arith}
 use Rattle.std.proofs.lemmas.List.{get_or_default, get_or-replicate, length-replicate, get_or-set_same, get_or-set_other, length-set}
 use Rattle.dmf_node.specs.Node.{IsNode}
@@ -11,7 +11,7 @@ use Rattle.dmf_path.specs.Searching.{AreReady, IsFresh, IsReady, fresh_labels}
 use Rattle.dmf_path.proofs.LinkPlaces.{lies-within}
 use Rattle.dmf_path.proofs.Spreading.{cases-set}
 
--- No admissible link is passed where the current link of each node with a label is its first one: from a node without one nothing falls.
+-- No admissible link is passed if the current link of each node with a label is its first one: from a node without a label nothing falls.
 pub skipped-first : (l : Links) (labels rooms current : List ℕ) → AreLinks l → AreSmall l.nodes labels
     → ((v : ℕ) → IsNode l.nodes v → get_or labels v 0 ≢ no_label → get_or current v 0 ≡ get_or l.first v 0) → AreSkipped l labels rooms current
 skipped-first l labels rooms current links small first v p node lies before admissible = elim (small.1 v node) [
@@ -22,7 +22,7 @@ skipped-first l labels rooms current links small first v p node lies before admi
   | inr least ↦ omega (arith, first v node (λ none. omega (arith, none, least, links.at_most_nodes)), lies.from, before)
 ]
 
--- Nor is it in a fresh search, where nothing falls at all.
+-- Nor is one passed in a fresh search, where nothing falls at all.
 pub passed-fresh : (l : Links) (labels rooms : List ℕ) (start goal : ℕ) (current : List ℕ) → AreLinks l → IsFresh l labels start
     → ArePassed l labels rooms goal current
 passed-fresh l labels rooms start goal current links fresh v p ps node lies before walk =
@@ -82,7 +82,7 @@ begins-fresh l start goal start_is goal_is apart =
       };
     }
 
--- The queue has all nodes with labels, and its nodes begin with their first links: so do all nodes with labels.
+-- The queue has all nodes with labels, and the current links of its nodes are first ones: so all nodes with labels have theirs there.
 pub first-queued : (l : Links) (labels queue current : List ℕ) → length labels ≡ l.nodes + 1 → AreQueued labels queue
     → ((i : ℕ) → i < length queue → get_or current (get_or queue i 0) 0 ≡ get_or l.first (get_or queue i 0) 0)
     → (v : ℕ) → IsNode l.nodes v → get_or labels v 0 ≢ no_label → get_or current v 0 ≡ get_or l.first v 0
@@ -92,7 +92,7 @@ first-queued l labels queue current long queued first v node has =
     let P : ℕ → Type 0 = λ u. get_or current u 0 ≡ get_or l.first u 0 in
     subst P is (first at.0 at.1)
 
--- Levels that are ready are so for the number of nodes that have labels.
+-- Levels that are ready are ready for the number of nodes that have labels.
 pub ready-at : (nodes : ℕ) (levels : Levels) → AreReady levels → length levels.near.labels.items ≡ nodes + 1 → IsReady nodes levels.near levels.far
 ready-at nodes levels ready long =
     let same : ready.0 ≡ nodes = omega (arith, long, ready.1.one_label_each) in

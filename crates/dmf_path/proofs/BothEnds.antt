@@ -1,4 +1,4 @@
--- Where two searches have met, their joined labels are valid, and a walk leads from the start to the goal.
+-- After two searches have met, their joined labels are valid, and a walk leads from the start to the goal.
 use Rattle.std.proofs.Common.{ℕ, ◌≡◌, ◌≢◌, ◌+◌, ◌-◌, ◌<◌, ◌≤◌, ◌⊎◌, ◌==◌, false, List, [], ◌∷◌, length, get_or, zero, suc, ap, sym, refl, subst, ◌∙◌, arith}
 use Rattle.std.proofs.Common.{inl, inr}
 use Rattle.std.proofs.lemmas.Bool.{cases_lt, ne_eqb}
@@ -13,13 +13,13 @@ use Rattle.dmf_path.proofs.LinkPlaces.{lies-within, lies-partner}
 use Rattle.dmf_path.proofs.Flags.{room-of_flag, flag-of_room}
 use Rattle.dmf_path.proofs.Reaching.{AreOpen}
 
--- Of a node with the labels `g` and `s`: how large they are, where they are labels, and that both together are just so many.
+-- The labels `g` and `s` of a node: their bounds where they are labels, and their sum.
 record AreNear (near far g s : ℕ) : Type 0 where
   goal : (g ≡ no_label) ⊎ (g ≤ near + 1)
   start : (s ≡ no_label) ⊎ (s ≤ far + 1)
   both : (g ≡ no_label) ⊎ ((s ≡ no_label) ⊎ (g + s ≡ near + far + 1))
 
--- What the joined and filled label of a node is.
+-- The joined and filled label of a node.
 data Stands (near far g s : ℕ) : Type 0 where
   at_goal : g ≢ no_label → g ≤ near + 1 → (s ≡ no_label) ⊎ (g + s ≡ near + far + 1)
       → filled_label (near + 1) (joined_label (near + far + 1) g s) ≡ g → Stands near far g s
@@ -31,17 +31,17 @@ data Stands (near far g s : ℕ) : Type 0 where
 filled-label : (beyond label : ℕ) → label ≢ no_label → filled_label beyond label ≡ label
 filled-label beyond label other = let no : (label == no_label) ≡ false = ne_eqb label no_label other in rw no refl
 
--- the joined label of a node that has one of the goal's side
+-- the joined label of a node that has a label of the goal's side
 pub joined-goal : (long g s : ℕ) → g ≢ no_label → joined_label long g s ≡ g
 joined-goal long g s other = let no : (g == no_label) ≡ false = ne_eqb g no_label other in rw no refl
 
--- and of one that has it of the start's side alone
+-- and of a node that has only a label of the start's side
 pub joined-start : (long g s : ℕ) → g ≡ no_label → s ≢ no_label → joined_label long g s ≡ long - s
 joined-start long g s none other =
     let no : (s == no_label) ≡ false = ne_eqb s no_label other in
     ap (λ u. joined_label long u s) none ∙ rw no refl
 
--- and of one that has it of the start's side, whatever it has of the goal's
+-- and of a node that has a label of the start's side, with or without one of the goal's
 joined-both : (long g s : ℕ) → s ≢ no_label → (g ≡ no_label) ⊎ ((s ≡ no_label) ⊎ (g + s ≡ long)) → joined_label long g s ≡ long - s
 joined-both long g s has both = elim (eqb_tells g no_label) [
   | inl none ↦ joined-start long g s none.1 has
@@ -75,7 +75,7 @@ stands near far g s small is = elim (eqb_tells g no_label) [
   ]
 ]
 
--- No step falls by more than one.
+-- No step falls by more than one label.
 falls-by_one : (near far gv sv gw sw : ℕ) → near + far + 2 < no_label → AreNear near far gv sv → AreNear near far gw sw → (gw < near → gv ≤ gw + 1)
     → (sv < far → sw ≤ sv + 1)
     → filled_label (near + 1) (joined_label (near + far + 1) gv sv) ≤ filled_label (near + 1) (joined_label (near + far + 1) gw sw) + 1
@@ -118,11 +118,11 @@ falls-by_one near far gv sv gw sw small v w on_goal on_start = elim (stands near
   ]
 ]
 
--- the joined label of a node without any
+-- the joined label of a node without labels
 pub joined-none : (long g s : ℕ) → g ≡ no_label → s ≡ no_label → joined_label long g s ≡ no_label
 joined-none long g s none unset = ap (λ u. joined_label long u s) none ∙ ap (λ u. joined_label long no_label u) unset
 
--- A node that a step leads to from one that lies before the last level of the start's side has a label.
+-- If a step leads from a node before the last level of the start's side, its head has a label.
 no-label_here : (near far gv sv gw sw : ℕ) → near + far + 2 < no_label → AreNear near far gw sw → sv < far → (sv < far → sw ≤ sv + 1)
     → joined_label (near + far + 1) gw sw ≢ no_label
 no-label_here near far gv sv gw sw small w before on_start none = elim (eqb_tells gw no_label) [
@@ -155,9 +155,9 @@ closed-joined near far gv sv gw sw small v w on_start is none = elim (eqb_tells 
   ]
 ]
 
--- ---- of all nodes
+-- ---- all nodes
 
--- Two searches have met over the links with room: one backwards from the goal, by flags, one forwards from the start.
+-- Two searches over the links with room have met: one backwards from the goal, by flags, one forwards from the start.
 record AreMeeting (l : Links) (rooms flags opens : List ℕ) (start goal near far at : ℕ) (to_goal from_start labels : List ℕ) : Type 0 where
   links : AreLinks l
   flagged : AreFlags l rooms flags
@@ -189,7 +189,7 @@ filled-of l rooms flags opens start goal near far at g s labels are v node =
     get_or-map (filled_label (near + 1)) labels v 0 0 (omega (arith, node.to_last, are.joined.one_each, are.goal_side.one_each)) ∙ ap
     (filled_label (near + 1)) (label-of l rooms flags opens start goal near far at g s labels are v node)
 
--- what a link with room tells of the labels of the goal's side
+-- what a link with room says about the labels of the goal's side
 near-goal : (l : Links) (rooms flags opens : List ℕ) (start goal near far at : ℕ) (g s labels : List ℕ)
     → AreMeeting l rooms flags opens start goal near far at g s labels → (v p : ℕ) → IsNode l.nodes v → LiesAt l v p → 0 < get_or rooms p 0
     → get_or g (get_or l.heads p 0) 0 < near → get_or g v 0 ≤ get_or g (get_or l.heads p 0) 0 + 1
@@ -202,7 +202,7 @@ near-goal l rooms flags opens start goal near far at g s labels are v p node lie
     let most = are.goal_side.near (get_or l.heads p 0) partner link.head (lies-partner l p are.links within) told below in
     omega (arith, most, ap (λ u. get_or g u 0) (are.links.at_tail v p node lies))
 
--- and of those of the start's side
+-- and about the labels of the start's side
 near-start : (l : Links) (rooms flags opens : List ℕ) (start goal near far at : ℕ) (g s labels : List ℕ)
     → AreMeeting l rooms flags opens start goal near far at g s labels → (v p : ℕ) → IsNode l.nodes v → LiesAt l v p → 0 < get_or rooms p 0
     → get_or s v 0 < far → get_or s (get_or l.heads p 0) 0 ≤ get_or s v 0 + 1
@@ -270,7 +270,7 @@ walk-goal l rooms flags opens start goal near far at g s labels are (suc n) v is
       (p ∷ on.0, (record { lies = lies; room = room; falls = omega (arith, here, there, back.label) }, on.1))
 ]
 
--- Where a walk leads to the goal from a node that has a label of the start's side, and whose joined label it is, one leads from the start.
+-- If a walk leads to the goal from a node whose joined label is its label of the start's side, one leads from the start.
 walk-start : (l : Links) (rooms flags opens : List ℕ) (start goal near far at : ℕ) (g s labels : List ℕ)
     → AreMeeting l rooms flags opens start goal near far at g s labels → (n v : ℕ) (ps : List ℕ) → get_or s v 0 ≡ n → IsNode l.nodes v
     → get_or s v 0 ≢ no_label → get_or labels v 0 + n ≡ near + far + 1 → IsWalk l labels rooms goal v ps
@@ -301,7 +301,7 @@ walk-start l rooms flags opens start goal near far at g s labels are (suc n) v p
       (record { lies = link.lies; room = room; falls = falls }, next)
 ]
 
--- how long a shortest path is, where they have met
+-- the length of a shortest path, after the searches have met
 pub met-sum : (nodes near far at : ℕ) (g s : List ℕ) → HaveMet nodes near far at g s → get_or g at 0 + get_or s at 0 ≡ near + far + 1
 met-sum nodes near far at g s met = elim (met.both at met.node) [
   | inl unset ↦ absurd (met.goal_label unset)
@@ -341,7 +341,7 @@ small-joined l rooms flags opens start goal near far at g s labels are few = (
       ],
 )
 
--- Where two searches have met, the start is labelled once their labels are joined.
+-- After two searches have met, the start has a joined label.
 pub labelled-met : (l : Links) (rooms flags opens : List ℕ) (start goal at long : ℕ) (g s labels : List ℕ) → AreLinks l → AreFlags l rooms flags
     → AreOpen l rooms opens → IsNode l.nodes start → IsNode l.nodes goal
     → HasMetAt l flags opens start goal at g s → long ≡ get_or g at 0 + get_or s at 0 → AreJoined long g s labels → IsLabelled l rooms labels start goal

@@ -1,4 +1,4 @@
--- Indices that cover all but what may be left out.
+-- Indices that cover all but those that may be left out.
 use Rattle.std.proofs.Common.{ℕ, ◌≡◌, ◌≢◌, ◌+◌, ◌<◌, ◌≤◌, zero, suc, inl, inr, List, length, get_or, ap, ⊎_elim, arith}
 use Rattle.std.proofs.lemmas.Bool.{cases_eq, cases_lt}
 use Rattle.std.specs.List.{range_with_len}
@@ -16,7 +16,7 @@ covers-below n P =
       others = λ k h. inr (k, omega (arith, h, long), at k h);
     }
 
--- Where more may be left out, they cover it too.
+-- If more may be left out, they cover that too.
 pub Covers-weaker : (n : ℕ) (P Q : ℕ → Type 0) (indices : List ℕ) → ((k : ℕ) → k < n → P k → Q k) → Covers n P indices → Covers n Q indices
 Covers-weaker n P Q indices weaker covers = record {
   below = covers.below;
@@ -28,7 +28,7 @@ Covers-weaker n P Q indices weaker covers = record {
       (covers.others k h);
 }
 
--- the index after the first `i` of these
+-- the index after the first `i` of these indices
 abbrev pub index_behind : List ℕ → ℕ → ℕ
 index_behind indices zero = 0
 index_behind indices (suc i) = get_or indices i 0 + 1
@@ -48,7 +48,7 @@ module _ (count : ℕ) (P : ℕ → Type 0) (indices : List ℕ) (covers : Cover
   not-before zero h = omega arith
   not-before (suc i) h = let up = covers.ascending i (suc i) (omega arith) h in omega (arith, up)
 
-  -- and what stands between is left out.
+  -- and the indices between are left out.
   pub is-out : (i k : ℕ) → i ≤ length indices → index_behind indices i ≤ k → (i < length indices → k < get_or indices i 0) → k < count → P k
   is-out i k within behind before below =
       ⊎_elim

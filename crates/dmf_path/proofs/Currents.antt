@@ -1,4 +1,4 @@
--- The current links of some nodes are made their first ones.
+-- Making the first link of some nodes their current one.
 use Rattle.std.proofs.Common.{ℕ, ◌≡◌, ◌+◌, ◌≤◌, List, length, get_or, take, ap, ◌∙◌, arith}
 use Rattle.std.proofs.lemmas.List.{get_or-take, length-take-le}
 use Rattle.dmf_path.specs.Links.{Links, AreLinks}

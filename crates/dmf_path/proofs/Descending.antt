@@ -1,4 +1,4 @@
--- Links that fall, each from a lower label than the one before: no two are the same, and none is opposite to another.
+-- Links that fall, each from a lower label than the one before: no two of them are the same or opposite.
 use Rattle.std.proofs.Common.{ℕ, ◌≡◌, ◌≢◌, ◌+◌, ◌<◌, ◌≤◌, List, [], ◌∷◌, ◌++◌, length, get_or, ap, sym, ◌∙◌, arith}
 use Rattle.dmf_node.specs.Node.{IsNode}
 use Rattle.dmf_path.specs.Links.{Links, AreLinks, tail_of}
@@ -12,7 +12,7 @@ pub record FallsBelow (l : Links) (labels : List ℕ) (top p : ℕ) : Type 0 whe
   pub label : get_or labels (get_or l.heads p 0) 0 + 1 ≡ get_or labels (tail_of l p) 0
   pub below : get_or labels (tail_of l p) 0 ≤ top
 
--- These links fall, each from where the one before ends or lower, from `top` or lower to `bottom` or higher.
+-- These links fall, each from where the one before ends or lower, from `top` or lower down to `bottom` or higher.
 abbrev pub Descends : Links → List ℕ → ℕ → ℕ → List ℕ → Type 0
 Descends l labels top bottom [] = bottom ≤ top
 Descends l labels top bottom (p ∷ ps) = FallsBelow l labels top p × Descends l labels (get_or labels (get_or l.heads p 0) 0) bottom ps
@@ -66,7 +66,7 @@ descends-le l labels top bottom [] descends = descends
 descends-le l labels top bottom (p ∷ ps) descends =
     omega (arith, descends-le l labels (get_or labels (get_or l.heads p 0) 0) bottom ps descends.1, descends.0.below, descends.0.label)
 
--- nor is one from a lower label,
+-- nor is a link from a lower label,
 pub off-below : (l : Links) (labels : List ℕ) (top bottom p : ℕ) (ps : List ℕ) → Descends l labels top bottom ps → get_or labels (tail_of l p) 0 ≤ bottom
     → IsOff p ps
 off-below l labels top bottom p [] descends low = tt
@@ -81,7 +81,7 @@ off-below l labels top bottom p (q ∷ qs) descends low = (
   off-below l labels (get_or labels (get_or l.heads q 0) 0) bottom p qs descends.1 low,
 )
 
--- nor one that does not fall.
+-- nor a link that does not fall.
 pub off-rising : (l : Links) (labels : List ℕ) (top bottom p : ℕ) (ps : List ℕ) → Descends l labels top bottom ps
     → get_or labels (get_or l.heads p 0) 0 + 1 ≢ get_or labels (tail_of l p) 0 → IsOff p ps
 off-rising l labels top bottom p [] descends rises = tt
@@ -90,7 +90,7 @@ off-rising l labels top bottom p (q ∷ qs) descends rises = (
   off-rising l labels (get_or labels (get_or l.heads q 0) 0) bottom p qs descends.1 rises,
 )
 
--- The opposite of a link that falls does not.
+-- The opposite of a link that falls does not fall.
 pub partner-rises : (l : Links) (labels : List ℕ) (p : ℕ) → AreLinks l → p < length l.heads
     → get_or labels (get_or l.heads p 0) 0 + 1 ≡ get_or labels (tail_of l p) 0 →
     get_or labels (get_or l.heads (get_or l.partners p 0) 0) 0 + 1 ≢ get_or labels (tail_of l (get_or l.partners p 0)) 0

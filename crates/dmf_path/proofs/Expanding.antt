@@ -11,7 +11,7 @@ use Rattle.dmf_path.specs.Frontier.{AreSpread, Expands, IsAtRest, AreApart, Meet
 use Rattle.dmf_path.proofs.Labelling.{queue-short, queued-at}
 use Rattle.dmf_path.proofs.LabellingTurn.{node-read}
 
--- The nodes of a level are expanded in turn: those that wait are on that level or one beyond it, and so are all others at most.
+-- The nodes of a level are expanded in turn. The waiting nodes are on that level or one beyond it, and no other node is further.
 pub record IsLevel (l : Links) (opens : List ℕ) (root level : ℕ) (labels queue : List ℕ) (done : ℕ) : Type 0 where
   pub so_far : AreSpread l opens root labels queue done
   pub from : (k : ℕ) → done ≤ k → k < length queue → level ≤ get_or labels (get_or queue k 0) 0
@@ -51,7 +51,7 @@ level-next l opens root level labels queue done new after are so_far ahead is ne
       most = λ j within. omega (arith, next.close done j (omega arith) long within, kept, is);
     }
 
--- As far as the level, all is labelled.
+-- All nodes up to the level have labels.
 pub level-labels : (l : Links) (opens : List ℕ) (root level : ℕ) (labels queue : List ℕ) (done : ℕ) → AreLinks l
     → IsLevel l opens root level labels queue done → AreLevels l opens root level labels
 level-labels l opens root level labels queue done are so_far =
@@ -75,7 +75,7 @@ level-labels l opens root level labels queue done are so_far =
       backed = spread.backed;
     }
 
--- After a turn a label of a node that has one of the other search too is one level beyond, and the node was given it in this turn.
+-- After a turn, a node with labels of both searches is one level beyond, and this turn gave it one of them.
 record IsMet (labels fresh new others : List ℕ) (level v : ℕ) : Type 0 where
   given : Contains fresh v
   beyond : get_or new v 0 ≡ level + 1
@@ -95,7 +95,7 @@ pub beyond-next : (l : Links) (opens labels queue : List ℕ) (done : ℕ) (new 
 beyond-next l opens labels queue done new after others level expands apart is long v within has other =
     (met-given l opens labels queue done new after others level v expands apart is (omega (arith, within, long)) has other).beyond
 
--- Where none of the nodes that are queued in a turn has a label of the other search, the searches are still apart.
+-- If no node that a turn queues has a label of the other search, the searches are still apart.
 pub apart-next : (l : Links) (opens labels queue : List ℕ) (done : ℕ) (new after others : List ℕ) → Expands l opens labels queue done new after
     → AreApart labels others → length new ≡ length labels
     → ((i : ℕ) → i < length after - length queue → get_or others (get_or after (length queue + i) 0) 0 ≡ no_label) → AreApart new others
@@ -114,7 +114,7 @@ apart-next l opens labels queue done new after others expands apart long none v 
   ]
 ]
 
--- What is read of the node that is next is its label.
+-- What is read for the next node is its label.
 pub level-read : (l : Links) (opens : List ℕ) (root : ℕ) (labels queue : List ℕ) (done node level : ℕ) → AreLinks l
     → AreSpread l opens root labels queue done → done < length queue → node ≡ get_or queue done node → level ≡ get_or labels node level
     → get_or labels (get_or queue done 0) 0 ≡ level

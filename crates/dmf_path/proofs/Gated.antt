@@ -1,5 +1,5 @@
--- Labels of which nodes without one count as one level: a walk along what they count as is one along the labels, and pushes keep
--- both facts.
+-- Labels with one level for the nodes without one: a walk along these filled labels is a walk along the labels, and pushes keep both
+-- facts.
 use Rattle.std.proofs.Common.{ℕ, ◌≡◌, ◌≢◌, ◌==◌, inl, inr, List, [], ◌∷◌, get_or, refl, ap, ◌∙◌, arith, false}
 use Rattle.std.proofs.lemmas.Bool.{ne_eqb}
 use Rattle.std.proofs.lemmas.Bool.Decides.{eqb_tells}
@@ -12,7 +12,7 @@ use Rattle.dmf_path.specs.BothEnds.{IsGated, AreSmall, AreSound, filled, filled_
 use Rattle.dmf_path.proofs.LinkPlaces.{lies-within}
 use Rattle.dmf_path.proofs.Pushed.{OpensUpwards, AreValid-opens}
 
--- what a node counts as
+-- the filled label of a node
 data Counts (beyond : ℕ) (labels : List ℕ) (v : ℕ) : Type 0 where
   set : get_or labels v 0 ≢ no_label → get_or (filled beyond labels) v 0 ≡ get_or labels v 0 → Counts beyond labels v
   unset : get_or labels v 0 ≡ no_label → get_or (filled beyond labels) v 0 ≡ beyond → Counts beyond labels v
@@ -26,7 +26,7 @@ counts nodes beyond labels v small node =
       | inr other ↦ set other.1 (read ∙ (let no : (get_or labels v 0 == no_label) ≡ false = ne_eqb (get_or labels v 0) no_label other.1 in rw no refl))
     ]
 
--- A node with a label counts as what it says.
+-- The filled label of a node with a label is its label.
 pub counts-set : (nodes beyond : ℕ) (labels : List ℕ) (v : ℕ) → AreSmall nodes labels → IsNode nodes v → get_or labels v 0 ≢ no_label
     → get_or (filled beyond labels) v 0 ≡ get_or labels v 0
 counts-set nodes beyond labels v small node has = elim (counts nodes beyond labels v small node) [
@@ -34,7 +34,7 @@ counts-set nodes beyond labels v small node has = elim (counts nodes beyond labe
   | unset none is ↦ absurd (has none)
 ]
 
--- A walk along what the nodes count as is one along the labels, where it begins at a node with a label.
+-- A walk along the filled labels is a walk along the labels, if it begins at a node with a label.
 pub walk-labels : (l : Links) (labels rooms : List ℕ) (beyond goal v : ℕ) (ps : List ℕ) → AreLinks l → AreSmall l.nodes labels
     → IsGated l labels rooms beyond → IsNode l.nodes v → get_or labels v 0 ≢ no_label → IsWalk l (filled beyond labels) rooms goal v ps
     → IsWalk l labels rooms goal v ps

@@ -1,4 +1,4 @@
--- With two more links, the links of a table are links still.
+-- After two links are put among those of a table, the result is a table of links.
 use Rattle.std.proofs.Common.{ℕ, ◌≡◌, ◌≢◌, ◌+◌, ◌-◌, ◌^◌, ◌<◌, ◌≤◌, List, length, get_or, ltb, cond, ap, sym, ◌∙◌, subst, arith, inl, inr}
 use Rattle.std.specs.Prelude.{min}
 use Rattle.std.proofs.lemmas.Bool.{cases_lt, cases_eq, lt-ltb, le-ltb, cond-true, cond-false}
@@ -27,7 +27,7 @@ one-before u v = elim (cases_lt u v) [
 before-sum : (g : Gap) (v : ℕ) → new_before g v ≡ min 1 (v - g.low_node) + min 1 (v - g.high_node)
 before-sum g v = λ i. one-before g.low_node v i + one-before g.high_node v i
 
--- What a link and its opposite say of each other.
+-- How a link and its opposite refer to each other.
 pub record AreOpposite (n : Links) (q r v w : ℕ) : Type 0 where
   pub within : r < length n.heads
   pub leads : get_or n.heads q 0 ≡ w
@@ -51,7 +51,7 @@ is-link n q r v w a =
       no_loop = λ same. a.apart (sym tail ∙ same ∙ a.leads);
     }
 
--- A link is one that was there, shifted, or one of the two new ones.
+-- A link is an old one, shifted, or one of the two new ones.
 pub data IsSomeLink (g : Gap) (count q : ℕ) : Type 0 where
   old : (p : ℕ) → p < count → q ≡ shifted g p → IsSomeLink g count q
   low : q ≡ g.low → IsSomeLink g count q
@@ -90,14 +90,14 @@ module _ (l : Links) (places : List ℕ) (k : ℕ) (g : Gap) (links : AreLinks l
   pub shift-is : (p : ℕ) → shifted g p ≡ p + min 1 (p + 1 - g.low) + min 1 (p + 1 - g.high)
   shift-is p = shifted-sum g p in-order
 
-  -- A link after a new one is not one of an earlier node,
+  -- A link after a new one does not belong to an earlier node,
   slot-from : (u s v p : ℕ) → IsSlot l places k u s → v ≤ l.nodes → get_or l.first v 0 ≤ p → min 1 (v - u) ≤ min 1 (p + 1 - s)
   slot-from u s v p slot node from = elim (cases_lt u v) [
     | inl before ↦ omega (arith, slot.to, first-before l u v links before (omega arith), from)
     | inr not_before ↦ omega arith
   ]
 
-  -- nor one before it one of a later node.
+  -- nor a link before it to a later node.
   slot-to : (u s v p : ℕ) → IsSlot l places k u s → u ≤ l.nodes → p < get_or l.first (v + 1) 0 → min 1 (p + 1 - s) ≤ min 1 (v + 1 - u)
   slot-to u s v p slot node below = elim (cases_lt v u) [
     | inl before ↦ omega (arith, slot.from, first-before l v u links before (omega arith), below)
@@ -108,7 +108,7 @@ module _ (l : Links) (places : List ℕ) (k : ℕ) (g : Gap) (links : AreLinks l
     first-is : (v : ℕ) → v ≤ l.nodes + 1 → get_or n.first v 0 ≡ get_or l.first v 0 + (min 1 (v - g.low_node) + min 1 (v - g.high_node))
     first-is v within = grown.first v (omega (arith, links.first_long)) ∙ ap (λ b. get_or l.first v 0 + b) (before-sum g v)
 
-    -- A shifted link lies at the node at which it lay.
+    -- A shifted link lies at the same node as before.
     pub lies-shifted : (v p : ℕ) → v ≤ l.nodes → LiesAt l v p → LiesAt n v (shifted g p)
     lies-shifted v p node lies =
         let from : get_or n.first v 0 ≤ shifted g p =
@@ -227,7 +227,7 @@ module _ (l : Links) (places : List ℕ) (k : ℕ) (g : Gap) (links : AreLinks l
       | inr last ↦ let same : v ≡ l.nodes = omega (arith, node) in omega (arith, lies.below, ap (λ u. get_or n.first (u + 1) 0) same, last-is)
     ]
 
-    -- So they are links.
+    -- So these are links.
     pub AreLinks-grown : length l.heads + 2 < 2 ^ 31 → AreLinks n
     AreLinks-grown few = record {
       first_long = omega (arith, grown.first_long, grown.nodes, links.first_long);

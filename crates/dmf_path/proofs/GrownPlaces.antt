@@ -1,4 +1,4 @@
--- With two more links, and a place more, the places are those of pairs still.
+-- After two links and a place are put among the others, the places are those of pairs.
 use Rattle.std.proofs.Common.{ℕ, ◌≡◌, ◌≢◌, ◌+◌, ◌-◌, ◌^◌, ◌<◌, ◌≤◌, ◌⊎◌, List, length, get_or, refl, ap, sym, ◌∙◌, subst, arith, inl, inr}
 use Rattle.std.specs.Prelude.{min}
 use Rattle.std.proofs.lemmas.Bool.{cases_lt, cases_eq, lt-ltb, le-ltb, cond-true, cond-false, eq-eqb, ne_eqb}
@@ -14,7 +14,7 @@ counted-sum k j = elim (cases_lt j k) [
   | inr from ↦ cond-false _ _ _ (le-ltb j k from) ∙ omega arith
 ]
 
--- A pair is one that was there, or the new one.
+-- A pair is an old one, or the new one.
 pub data IsSomeIndex (k count j : ℕ) : Type 0 where
   was : (i : ℕ) → i < count → j ≡ counted k i → IsSomeIndex k count j
   new : j ≡ k → IsSomeIndex k count j
@@ -31,7 +31,7 @@ some-index k count j most within = elim (cases_lt j k) [
 module _ (l : Links) (places : List ℕ) (k : ℕ) (g : Gap) (links : AreLinks l) (gap : IsGap l places k g) (n : Links) (grown : IsGrown g l n)
     (place : ℕ) (after : List ℕ) (placed : IsPlaced g k place places after) (are : ArePlaces l places) (index : k ≤ length places)
     (own : (place ≡ g.low) ⊎ (place ≡ g.high + 1)) where
-  -- A pair that was there has its place, shifted, or none.
+  -- An old pair has its place, shifted, or none.
   pub place-was : (j : ℕ) → j < length places → get_or places j 0 ≢ no_place → get_or after (counted k j) 0 ≡ shifted g (get_or places j 0)
   place-was j within there = placed.kept j within ∙ cond-false _ _ _ (ne_eqb (get_or places j 0) no_place there)
 
@@ -47,7 +47,7 @@ module _ (l : Links) (places : List ℕ) (k : ℕ) (g : Gap) (links : AreLinks l
   partner-was : (p : ℕ) → p < length l.heads → get_or n.partners (shifted g p) 0 ≡ shifted g (get_or l.partners p 0)
   partner-was p within = grown.partners.kept p (omega (arith, within, links.partners_long))
 
-  -- A link is, shifted, one of the pair of which it was one,
+  -- A shifted link belongs to the same pair,
   of-shifted : (p j : ℕ) → IsOf l places p j → IsOf n after (shifted g p) (counted k j)
   of-shifted p j of =
       let below = are.within j of.0 of.1 in
@@ -60,7 +60,7 @@ module _ (l : Links) (places : List ℕ) (k : ℕ) (g : Gap) (links : AreLinks l
         ],
       )
 
-  -- and the new ones are of the new pair.
+  -- and the new links belong to the new pair.
   new-in : k < length after
   new-in = omega (arith, placed.long, index)
 
@@ -87,7 +87,7 @@ module _ (l : Links) (places : List ℕ) (k : ℕ) (g : Gap) (links : AreLinks l
     ],
   )
 
-  -- Of which pair a link is.
+  -- The pair of a link.
   data IsOwned (q j : ℕ) : Type 0 where
     of_old : (p i : ℕ) → p < length l.heads → q ≡ shifted g p → j ≡ counted k i → IsOf l places p i → IsOwned q j
     of_new : (q ≡ g.low) ⊎ (q ≡ g.high + 1) → j ≡ k → IsOwned q j
@@ -156,7 +156,7 @@ module _ (l : Links) (places : List ℕ) (k : ℕ) (g : Gap) (links : AreLinks l
       sym (ap (λ x. get_or n.heads x 0) o.partner ∙ o.leads_back)
       ∙ at-tail l places k g links gap n grown v (g.high + 1) node lies (omega (arith, gap-within l places k g links gap, grown.heads.long))
 
-  -- Before a new link lie those of the pairs before it, and after it the others.
+  -- Before a new link lie the links of the pairs before its pair, and after it the others.
   before-new : (v p a q : ℕ) → IsNode n.nodes v → p < length l.heads → LiesAt n v (shifted g p) → LiesAt n v q → IsOf l places p a
       → (q ≡ g.low) ⊎ (q ≡ g.high + 1) → shifted g p < q → a < k
   before-new v p a q node below p_lies q_lies of at before = elim at [
@@ -239,7 +239,7 @@ module _ (l : Links) (places : List ℕ) (k : ℕ) (g : Gap) (links : AreLinks l
         | high same ↦ (k, subst (λ x. IsOf n after x k) (sym same) of-high)
       ]
 
-  -- So they are places.
+  -- So these are the places of pairs.
   pub ArePlaces-grown : length places ≤ 2 ^ 27 → ArePlaces n after
   ArePlaces-grown few = record {
     at_most = omega (arith, placed.long, few);

@@ -1,4 +1,4 @@
--- With two more links, the rooms, the flags and the pairs are those that were there, and those of the new pair.
+-- After two links are put among the others, the rooms, the flags and the pairs are the old ones and those of the new pair.
 use Rattle.std.proofs.Common.{ℕ, ◌≡◌, ◌≢◌, ◌+◌, ◌^◌, ◌<◌, ◌≤◌, ◌⊎◌, List, length, get_or, Some, None, ap, sym, ◌∙◌, subst, arith, inl, inr}
 use Rattle.std.specs.Prelude.{insert}
 use Rattle.std.proofs.lemmas.Bool.{cases_lt, cases_eq, lt-ltb, le-ltb, cond-true, cond-false, eq-eqb, ne_eqb}
@@ -12,7 +12,7 @@ use Rattle.dmf_path.specs.Grown.{shifted, shifted_place, counted, with_two, IsGa
 use Rattle.dmf_path.proofs.GrownLinks.{old, low, high, some-link, in-order, gap-within, shift-is}
 use Rattle.dmf_path.proofs.GrownPlaces.{was, new, some-index}
 
--- What is put at two places stands there, and all else as it stood.
+-- Two insertions: each new element stands at its place, and the others stand shifted.
 module _ {A : Type 0} (g : Gap) (first second : A) (xs : List A) (d : A) (order : g.low ≤ g.high) (within : g.high ≤ length xs) where
   two-long : length (with_two g first second xs) ≡ length xs + 2
   two-long =
@@ -130,7 +130,7 @@ module _ (l : Links) (places : List ℕ) (k : ℕ) (made : NewPair) (links : Are
   abbrev g : Gap
   g = made.gap
 
-  -- A pair that was there is as it was,
+  -- An old pair is as it was,
   pair-was : (i : ℕ) → i < length places → pair_at n given (get_or after (counted k i) 0) ≡ pair_at l rooms (get_or places i 0)
   pair-was i within = elim (cases_eq (get_or places i 0) no_place) [
     | inl none ↦
@@ -154,7 +154,7 @@ module _ (l : Links) (places : List ℕ) (k : ℕ) (made : NewPair) (links : Are
         ∙ sym (cond-false _ _ _ (ne_eqb p no_place there))
   ]
 
-  -- and the new one is the one that was to go in.
+  -- and the new one is the pair that was put in.
   pair-new : (p : Pair) → IsOfPair p made → pair_at n given (get_or after k 0) ≡ Some p
   pair-new p (rising t h at a b) =
       let some : g.low ≢ no_place = λ none. omega (arith, none, in-order l places k g links gap, gap-within l places k g links gap, links.at_most) in
@@ -176,7 +176,7 @@ module _ (l : Links) (places : List ℕ) (k : ℕ) (made : NewPair) (links : Are
       ∙ cond-false _ _ _ (ne_eqb (g.high + 1) no_place some)
       ∙ (λ i. Some (record { tail = tail i; head = head i; along = along i; against = against i }))
 
-  -- So the pairs are those that were there, with the new one.
+  -- So the pairs are the old ones, with the new one.
   pub pairs-grown : (p : Pair) → IsOfPair p made → pairs_at n after given ≡ insert (pairs_at l places rooms) k (Some p)
   pairs-grown p of =
       let was_long : length (pairs_at l places rooms) ≡ length places = length-map places (pair_at l rooms) in

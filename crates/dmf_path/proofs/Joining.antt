@@ -10,7 +10,7 @@ use Rattle.dmf_path.specs.BothEnds.{AreJoined, joined_label}
 use Rattle.dmf_path.proofs.Spreading.{unlabelled_count-set, cases-set}
 use Rattle.dmf_path.proofs.BothEnds.{joined-goal, joined-start, joined-none}
 
--- The labels of the first `k` nodes are joined, those of the others may be.
+-- The labels of the first `k` nodes are joined; those of the others may be.
 pub record AreJoining (long : ℕ) (old others nodes : List ℕ) (k : ℕ) (new queue : List ℕ) (capacity : ℕ) : Type 0 where
   pub one_each : length new ≡ length old
   pub each : (v : ℕ) → v < length new → (get_or new v 0 ≡ get_or old v 0) ⊎ (get_or new v 0 ≡ joined_label long (get_or old v 0) (get_or others v 0))
@@ -18,14 +18,14 @@ pub record AreJoining (long : ℕ) (old others nodes : List ℕ) (k : ℕ) (new 
   pub queued : AreQueued new queue
   pub room : length queue + unlabelled_count new ≤ capacity
 
--- a node whose label of the start's side is none keeps the one that it has
+-- a node without a label of the start's side keeps the label that it has
 joined-unset : (long g s : ℕ) → s ≡ no_label → joined_label long g s ≡ g
 joined-unset long g s unset = elim (eqb_tells g no_label) [
   | inl none ↦ joined-none long g s none.1 unset ∙ sym none.1
   | inr other ↦ joined-goal long g s other.1
 ]
 
--- A node that has a label already
+-- A node that already has a label,
 pub joining-skip : (long : ℕ) (old others nodes : List ℕ) (k : ℕ) (new queue : List ℕ) (capacity : ℕ) → AreJoining long old others nodes k new queue capacity
     → get_or nodes k 0 < length new → get_or new (get_or nodes k 0) 0 ≢ no_label → AreJoining long old others nodes (k + 1) new queue capacity
 joining-skip long old others nodes k new queue capacity so_far within has = record {
@@ -58,7 +58,7 @@ queued-next labels queue v label queued inside =
       ];
     }
 
--- One that has none gets what is left of the length.
+-- and a node without one, which gets the rest of the length.
 pub joining-next : (long : ℕ) (old others nodes : List ℕ) (k : ℕ) (new queue : List ℕ) (capacity : ℕ) → AreJoining long old others nodes k new queue capacity
     → get_or nodes k 0 < length new → get_or new (get_or nodes k 0) 0 ≡ no_label → get_or others (get_or nodes k 0) 0 ≤ long → long < no_label
     → AreJoining long old others nodes (k + 1) (set new (get_or nodes k 0) (long - get_or others (get_or nodes k 0) 0))
@@ -95,7 +95,7 @@ joining-next long old others nodes k new queue capacity so_far within unset most
       room = omega (arith, so_far.room, length_push queue v, unlabelled_count-set new v label within unset has);
     }
 
--- Once this is done for all, the labels are joined.
+-- Once this is done for all nodes, the labels are joined.
 pub joining-last : (long : ℕ) (old others nodes : List ℕ) (k : ℕ) (new queue : List ℕ) (capacity : ℕ) → AreJoining long old others nodes k new queue capacity
     → length nodes ≤ k → length old ≡ length others → AreQueued others nodes → AreJoined long old others new
 joining-last long old others nodes k new queue capacity so_far all one_each queued = record {

@@ -1,5 +1,5 @@
--- What labels found backwards from the goal tell of links with room: no link falls by more than one, and from each node with
--- a label a walk leads to the goal.
+-- What labels found backwards from the goal say about links with room: no link falls by more than one, and from each node with a label
+-- a walk leads to the goal.
 use Rattle.std.proofs.Common.{ℕ, ◌≡◌, ◌≢◌, ◌<◌, ◌≤◌, inl, inr, ⊎_elim, List, [], ◌∷◌, length, slice_index, zero, suc, ap, sym, refl, subst, ◌∙◌, arith}
 use Rattle.std.proofs.Common.{◌==◌, true, false}
 use Rattle.std.proofs.lemmas.Bool.Decides.{eqb_tells}
@@ -55,7 +55,7 @@ walk-labelled : (l : Links) (rooms flags labels : List ℕ) (start goal : ℕ) �
 walk-labelled l rooms flags labels start goal are flagged labelled v node has =
     walk-from l rooms flags labels start goal are flagged labelled (slice_index labels v) v refl node has
 
--- Where no label is made up for nodes without one, each node counts as its label.
+-- If nodes without a label count as `no_label`, the filled label of each node is its label.
 filled_label-none : (label : ℕ) → filled_label no_label label ≡ label
 filled_label-none label = ⊎_elim
     (λ (none : ((label == no_label) ≡ true) × (label ≡ no_label)). ap (filled_label no_label) none.1 ∙ sym none.1)
@@ -88,7 +88,7 @@ sound-labelled l rooms flags labels stop goal are flagged labelled = record {
   ];
 }
 
--- Labels that are sound are so below a label that is less.
+-- Labels that are sound below a label are sound below each smaller one.
 pub sound-below : (l : Links) (labels rooms : List ℕ) (low top : ℕ) → low ≤ top → AreSound l labels rooms top → AreSound l labels rooms low
 sound-below l labels rooms low top less sound = record {
   beyond = sound.beyond;

@@ -11,14 +11,14 @@ use Rattle.dmf_path.specs.Labels.{no_label, unlabelled_count, AreLabels, AreQueu
 use Rattle.dmf_path.specs.Frontier.{AreSpread}
 use Rattle.dmf_path.proofs.Spreading.{unlabelled_count-set, cases-set}
 
--- Number 0 is never in the queue, so that its capacity is enough for the nodes.
+-- Number 0 is never in the queue, so the queue has room for all nodes.
 pub queue-short : (l : Links) (opens : List ℕ) (root : ℕ) (labels queue : List ℕ) (done : ℕ) → AreSpread l opens root labels queue done → length queue ≤ l.nodes
 queue-short l opens root labels queue done so_far =
     let one : 1 + unlabelled_count (set labels 0 0) ≡ unlabelled_count labels =
     unlabelled_count-set labels 0 0 (omega (arith, so_far.one_each)) so_far.zero (λ e. absurd (omega arith)) in
     omega (arith, one, so_far.counted)
 
--- A node with a label stands in the queue, at a place no less than its label.
+-- A node with a label stands in the queue, at a place not below its label.
 pub queued-at : (l : Links) (opens : List ℕ) (root : ℕ) (labels queue : List ℕ) (done v : ℕ) → AreSpread l opens root labels queue done → IsNode l.nodes v
     → slice_index labels v ≢ no_label → (k : ℕ) × (k < length queue) × (slice_index queue k ≡ v) × (slice_index labels v ≤ k)
 queued-at l opens root labels queue done v so_far node has =
@@ -92,7 +92,7 @@ label-node l opens root labels queue done v spread within has = record {
   to_last = within;
 }
 
--- No label is more than what stands for none.
+-- No label exceeds the number that stands for none.
 label-most : (l : Links) (opens : List ℕ) (root : ℕ) (labels queue : List ℕ) (done v : ℕ) → AreLinks l → AreSpread l opens root labels queue done
     → v ≤ l.nodes → slice_index labels v ≤ no_label
 label-most l opens root labels queue done v are spread within =
@@ -113,7 +113,7 @@ left-first labels queue queued v within has =
     let here = queued.listed v within has in
     (here.0, omega arith, here.1, get_or_default queue here.0 0 v here.1 ∙ here.2)
 
--- The label of the next one is taken off.
+-- The label of the next node is removed.
 pub left-next : (labels queue : List ℕ) (k : ℕ) → slice_index queue k < length labels → AreLeft labels queue k
     → AreLeft (set labels (slice_index queue k) no_label) queue (k + 1)
 left-next labels queue k inside left v within has =
@@ -136,7 +136,7 @@ left-last labels queue k all left =
     (eqb_tells (slice_index labels v) no_label) in
     none ∙ sym (get_or-replicate (length labels) v no_label 0 within))
 
--- The labels once the queue is used up, or the node `stop` has a label.
+-- The labels after the queue is used up, or after the node `stop` has a label.
 pub labels-spread : (l : Links) (opens : List ℕ) (root stop : ℕ) (labels queue : List ℕ) (done : ℕ) → AreLinks l → AreSpread l opens root labels queue done
     → stop ≤ l.nodes → (done ≡ length queue) ⊎ (slice_index labels stop ≢ no_label) → AreLabels l opens root stop labels
 labels-spread l opens root stop labels queue done are spread within ended =

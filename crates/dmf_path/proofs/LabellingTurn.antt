@@ -1,4 +1,4 @@
--- One turn of spreading labels from a root: the node that is next in the queue.
+-- One turn of spreading labels from a root: the next node in the queue.
 use Rattle.std.proofs.Common.{ℕ, ◌≡◌, ◌≢◌, ◌+◌, ◌-◌, ◌*◌, ◌^◌, ◌≤◌, ◌<◌, ◌⊎◌, ⊎_elim, inl, inr, List, ◌++◌, length, slice_index, get_or, refl, ap, sym, subst}
 use Rattle.std.proofs.Common.{◌∙◌, arith, true, false, ◌==◌, Contains}
 use Rattle.std.proofs.lemmas.Bool.Decides.{eqb_tells}
@@ -12,7 +12,7 @@ use Rattle.dmf_path.proofs.LinkPlaces.{lies-within}
 use Rattle.dmf_path.specs.Frontier.{IsQueued, AreSpread, Expands}
 use Rattle.dmf_path.proofs.Labelling.{queue-short, queued-at}
 
--- One turn: the open links of the node that is next in the queue are looked at.
+-- One turn looks at the open links of the next node in the queue.
 pub record Turn : Type 0 where
   pub l : Links
   pub opens : List ℕ
@@ -29,7 +29,7 @@ pub record Turn : Type 0 where
   pub spreads : Spreads l.heads opens (slice_index l.first (slice_index queue done)) (slice_index l.first (slice_index queue done + 1))
       (slice_index old (slice_index queue done) + 1) old new fresh
 
--- the node that is next
+-- the next node
 next_node : (t : Turn) → IsNode t.l.nodes (slice_index t.queue t.done)
 next_node t = (t.so_far.queued t.done t.ahead).node
 
@@ -37,14 +37,14 @@ next_node t = (t.so_far.queued t.done t.ahead).node
 label-is_one : (t : Turn) (k v : ℕ) → k < length t.queue → slice_index t.old v ≤ k → slice_index t.old v ≢ no_label
 label-is_one t k v within small none = absurd (omega (arith, queue-short t.l t.opens t.root t.old t.queue t.done t.so_far, t.are.at_most_nodes))
 
--- the open link that leads to a node which is given a label
+-- the open link that leads to a node which gets a label
 led-place : (t : Turn) (v : ℕ) → Contains t.fresh v → (p : ℕ) × LiesAt t.l (slice_index t.queue t.done) p × (slice_index t.l.heads p ≡ v)
     × (slice_index t.opens p ≡ 1)
 led-place t v among =
     let led = t.spreads.led_to v among in
     (led.place, record { from = led.from_first; below = led.to_last }, led.leads, led.opened)
 
--- A node that is given a label is a node.
+-- A node that gets a label is a node.
 fresh-node : (t : Turn) (v : ℕ) → Contains t.fresh v → IsNode t.l.nodes v
 fresh-node t v among =
     let led = led-place t v among in
@@ -57,7 +57,7 @@ record StoodAt (t : Turn) (k : ℕ) : Type 0 where
   same : slice_index (t.queue ++ t.fresh) k ≡ slice_index t.queue k
   label : slice_index t.new (slice_index (t.queue ++ t.fresh) k) ≡ slice_index t.old (slice_index t.queue k)
 
--- A place of the queue that is new.
+-- A new place of the queue.
 record ComesAt (t : Turn) (k : ℕ) : Type 0 where
   behind : length t.queue ≤ k
   among : Contains t.fresh (slice_index (t.queue ++ t.fresh) k)
@@ -86,7 +86,7 @@ place-cases t k within =
     inr (record { behind = behind; among = among; label = t.spreads.labelled (slice_index (t.queue ++ t.fresh) k) among }))
     (cases_lt k (length t.queue))
 
--- A node with a label had it before, or is given it.
+-- A node with a label had it before, or gets it.
 label-cases : (t : Turn) (v : ℕ) → v ≤ t.l.nodes → slice_index t.new v ≢ no_label
     → ((slice_index t.old v ≢ no_label) × (slice_index t.new v ≡ slice_index t.old v))
     ⊎ ((slice_index t.old v ≡ no_label) × Contains t.fresh v × (slice_index t.new v ≡ slice_index t.old (slice_index t.queue t.done) + 1))
@@ -157,7 +157,7 @@ close-next t i j from within_i within_j =
     (place-cases t j within_j))
     (place-cases t i within_i)
 
--- the label of a node to which an open link of a node leads that is looked at
+-- the label of the node to which an open link leads, after the turn looked at the link
 label-next : (t : Turn) (k p : ℕ) → k < t.done + 1 → LiesAt t.l (slice_index t.queue k) p → slice_index t.opens p ≡ 1
     → slice_index t.new (slice_index t.l.heads p) ≤ slice_index t.old (slice_index t.queue k) + 1
 label-next t k p before lies opened =
@@ -213,7 +213,7 @@ backed-next t v node other has =
     })
     (label-cases t v node.to_last has)
 
--- What a turn leaves.
+-- The result of a turn.
 pub spread-next : (t : Turn) → AreSpread t.l t.opens t.root t.new (t.queue ++ t.fresh) (t.done + 1)
 spread-next t = record {
   one_each = t.long ∙ t.so_far.one_each;
@@ -229,7 +229,7 @@ spread-next t = record {
   backed = backed-next t;
 }
 
--- What is read of the queue is the node that is next, and its label and one more is a label.
+-- What is read of the queue is the next node, and its label plus one is a label.
 pub node-read : (l : Links) (opens : List ℕ) (root : ℕ) (labels queue : List ℕ) (done node : ℕ) → AreLinks l → AreSpread l opens root labels queue done
     → done < length queue → node ≡ get_or queue done node → (slice_index queue done ≡ node) × IsNode l.nodes node × (slice_index labels node + 1 < no_label)
 node-read l opens root labels queue done node are so_far ahead read =
@@ -247,7 +247,7 @@ node-read l opens root labels queue done node are so_far ahead read =
       ),
     )
 
--- How many links are looked at by the end of a turn.
+-- The number of links that a turn looks at.
 pub looked-next : (l : Links) (opens : List ℕ) (root : ℕ) (labels queue : List ℕ) (done from end looked : ℕ) → AreLinks l
     → AreSpread l opens root labels queue done → done < length queue → end ≤ length l.heads
     → looked ≤ done * 2 ^ 31 → (looked + (end - from) ≤ (done + 1) * 2 ^ 31) × ((done + 1) * 2 ^ 31 < 2 ^ 62)

@@ -8,11 +8,11 @@ use Rattle.dmf_path.specs.Searching.{Labelling, Sought, AreLasting}
 use Rattle.dmf_path.proofs.Gated.{sound-opens}
 use Rattle.dmf_path.proofs.Pushed.{OpensUpwards, admissible-before}
 
--- They are kept in what is sought, however that is held.
+-- They are kept for the search, however the pushes are held.
 pub lasting : (v : Labelling) (stepped_back : Bool) (s t : Sought) → s ≡ t → AreLasting v stepped_back t.residual → AreLasting v stepped_back s.residual
 lasting v stepped_back s t same is = subst (λ (x : Sought). AreLasting v stepped_back x.residual) (sym same) is
 
--- A push opens no link that falls.
+-- A push gives room to no link that falls.
 skipped-opens : (l : Links) (labels old new current : List ℕ) → OpensUpwards l labels old new → AreSkipped l labels old current
     → AreSkipped l labels new current
 skipped-opens l labels old new current opens skipped v p node lies before admissible =

@@ -1,5 +1,5 @@
--- A trail to the goal is the least path: no path is shorter than the labels fall, those that are just so long are walks, and
--- none of them begins with a link that was passed.
+-- A trail to the goal is the least path: no path is shorter than the labels fall, paths of that length are walks, and none of them
+-- begins with a passed link.
 use Rattle.std.proofs.Common.{ℕ, ◌≡◌, ◌≢◌, ◌+◌, ◌<◌, ◌≤◌, List, [], ◌∷◌, length, get_or, ap, sym, subst, ◌∙◌, ⊎_elim, inl, inr, arith}
 use Rattle.std.proofs.lemmas.Bool.{cases_lt, cases_order}
 use Rattle.std.proofs.lemmas.List.{length-map}
@@ -16,7 +16,7 @@ use Rattle.dmf_path.proofs.Steps.{rank_of, step_on, path_on}
 use Rattle.dmf_path.proofs.Ranks.{rank_of-ascends}
 use Rattle.dmf_path.proofs.OpenPaths.{IsOpenPath, head-node, path-of_links, links-of_path}
 
--- No path to the goal is shorter than the label, as far as labels are valid.
+-- No path to the goal is shorter than the label, if the labels are valid.
 label-at_most : (l : Links) (rooms labels : List ℕ) (top goal v : ℕ) (ps : List ℕ) → AreLinks l → AreValid l labels rooms top → IsNode l.nodes v
     → IsOpenPath l rooms goal v ps → length ps + get_or labels goal 0 < top → get_or labels v 0 ≤ length ps + get_or labels goal 0
 label-at_most l rooms labels top goal v [] links valid node leads below = omega (arith, ap (λ u. get_or labels u 0) leads)
@@ -25,7 +25,7 @@ label-at_most l rooms labels top goal v (p ∷ ps) links valid node leads below 
     label-at_most l rooms labels top goal (get_or l.heads p 0) ps links valid (head-node l v p links node leads.0) leads.2 (omega (arith, below)) in
     omega (arith, next, below, valid v p node leads.0 leads.1 (omega (arith, next, below)))
 
--- A path to the goal that is as long as the label falls is a walk.
+-- A path to the goal that is as long as the label is a walk.
 walk-from_label : (l : Links) (rooms labels : List ℕ) (top goal v : ℕ) (ps : List ℕ) → AreLinks l → AreValid l labels rooms top → IsNode l.nodes v
     → IsOpenPath l rooms goal v ps → length ps + get_or labels goal 0 ≡ get_or labels v 0 → get_or labels v 0 ≤ top → IsWalk l labels rooms goal v ps
 walk-from_label l rooms labels top goal v [] links valid node leads long below = leads
@@ -42,7 +42,7 @@ walk-from_label l rooms labels top goal v (p ∷ ps) links valid node leads long
       walk-from_label l rooms labels top goal head ps links valid head_is leads.2 (omega (arith, long, falls)) (omega (arith, falls, below)),
     )
 
--- A walk is as long as the label falls.
+-- A walk is as long as its first label.
 walk-long : (l : Links) (rooms labels : List ℕ) (goal v : ℕ) (ps : List ℕ) → IsWalk l labels rooms goal v ps
     → length ps + get_or labels goal 0 ≡ get_or labels v 0
 walk-long l rooms labels goal v [] walk = omega (arith, ap (λ u. get_or labels u 0) walk)
@@ -59,7 +59,7 @@ walk-trail : (l : Links) (rooms labels current : List ℕ) (goal v : ℕ) (trail
 walk-trail l rooms labels current goal v [] is ends = ends
 walk-trail l rooms labels current goal v (p ∷ ps) is ends = (is.0, walk-trail l rooms labels current goal (get_or l.heads p 0) ps is.2 ends)
 
--- A link of a node is known by its rank, and lies before those of a higher one.
+-- The rank of a link determines it, and the links of a node lie in the order of their ranks.
 place-before : (l : Links) (places : List ℕ) (v q p : ℕ) → AreLinks l → ArePlaces l places → IsNode l.nodes v → LiesAt l v q → LiesAt l v p
     → rank_of l places q < rank_of l places p → q < p
 place-before l places v q p links are node at_q at_p lower = elim (cases_order q p) [
@@ -76,7 +76,7 @@ place-by_rank l places v q p links are node at_q at_p equal = elim (cases_order 
   | inr (inr more) ↦ absurd (omega (arith, equal, rank_of-ascends l places v p q links are node at_p at_q more))
 ]
 
--- No walk comes before the trail: where it leaves the trail, it goes on with a link that lies before the current one.
+-- No walk comes before the trail: where it leaves the trail, it takes a link after the current one.
 none-before : (l : Links) (places rooms labels current : List ℕ) (goal v : ℕ) (trail qs : List ℕ) → AreLinks l → ArePlaces l places
     → ArePassed l labels rooms goal current → IsNode l.nodes v → IsTrail l labels rooms current v trail → IsWalk l labels rooms goal v qs
     → ¬ ComesBefore (ranks (path_on l places rooms qs)) (ranks (path_on l places rooms trail))
@@ -94,7 +94,7 @@ none-before l places rooms labels current goal v (p ∷ ps) (q ∷ qs) links are
     none-before l places rooms labels current goal head ps qs links are passed (head-node l v p links node is.0.lies) is.2 rest later.1)
     before
 
--- A path to the goal is as long as the label falls, or longer.
+-- A path to the goal is as long as the label, or longer.
 path-long : (l : Links) (rooms labels : List ℕ) (start goal : ℕ) (ps : List ℕ) → AreLinks l → AreValid l labels rooms (get_or labels start 0)
     → IsNode l.nodes start → IsOpenPath l rooms goal start ps → get_or labels start 0 ≤ length ps + get_or labels goal 0
 path-long l rooms labels start goal ps links valid node leads = ⊎_elim

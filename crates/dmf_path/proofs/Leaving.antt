@@ -1,4 +1,4 @@
--- Links leave their slots: what is held for them is put on, and the settled rooms stay.
+-- Links leave their slots: their held pushes are applied, and the settled rooms stay.
 use Rattle.std.proofs.Common.{ℕ, ◌≡◌, ◌+◌, ◌-◌, ◌<◌, Bool, true, false, List, [], ◌∷◌, ◌++◌, length, get_or, set, drop, refl, ap, sym, ◌∙◌, subst, arith}
 use Rattle.std.proofs.Common.{get_or-set_other}
 use Rattle.std.proofs.lemmas.List.{drop_more}
@@ -11,7 +11,7 @@ use Rattle.dmf_path.proofs.Pushing.{length-pushed_once}
 use Rattle.dmf_path.proofs.Descending.{Descends, between, off-append, off-partner}
 use Rattle.dmf_path.proofs.Settled.{places-append, settled-leave}
 
--- Putting on what is held, as far as it has come: what is left to put on makes of the rooms what putting on all makes.
+-- Settling so far: applying the remaining held pushes gives what applying all of them gives.
 pub record IsPutting (r : Residual) (sent : ℕ) (slots : List Slot) (whole : Residual) : Type 0 where
   pub goes_on : put_each_on r sent slots ≡ whole
   pub can : CanPut r.links r.takes_back sent slots r.rooms
@@ -28,7 +28,7 @@ HaveLeft-split sent rooms (s ∷ slots) others have =
     let later = HaveLeft-split sent rooms slots others have.2 in
     ((have.0, have.1, later.0), later.1)
 
--- Another room of a link that is in none of these slots leaves them as they are,
+-- Another room for a link in none of these slots leaves their rooms,
 pub HaveLeft-set : (sent p x : ℕ) (rooms : List ℕ) (slots : List Slot) → IsOff p (places_of slots) → HaveLeft sent rooms slots
     → HaveLeft sent (set rooms p x) slots
 HaveLeft-set sent p x rooms [] off have = tt

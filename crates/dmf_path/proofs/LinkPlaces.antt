@@ -23,7 +23,7 @@ last-within l v are within =
     ap (λ u. get_or l.first u 0) (let e : v + 1 + n ≡ l.nodes + 1 = omega arith in e) in
     omega (arith, later, same, are.last)
 
--- The same, where the end is read under a name of its own.
+-- The same, with another name for the end.
 pub end-within : (l : Links) (v end : ℕ) → AreLinks l → v ≤ l.nodes → end ≡ get_or l.first (v + 1) end → end ≤ length l.heads
 end-within l v end are within read =
     let is : get_or l.first (v + 1) 0 ≡ end = get_or_default l.first (v + 1) 0 end (omega (arith, are.first_long)) ∙ sym read in

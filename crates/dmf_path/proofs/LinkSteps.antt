@@ -1,4 +1,4 @@
--- The steps of the pairs are those of the links with room.
+-- The steps of the pairs are the steps of the links with room.
 use Rattle.std.proofs.Common.{ℕ, ◌≡◌, ◌≢◌, ◌+◌, ◌*◌, ◌<◌, List, [], ◌∷◌, length, get_or, Bool, true, false, cond, eqb, ltb, zero, suc, None, Some, Contains}
 use Rattle.std.proofs.Common.{refl, ap, sym, subst, ◌∙◌, ⊎_elim, arith}
 use Rattle.std.proofs.lemmas.Bool.{both_ways, ltb-true, lt-ltb, eqb-false, ne_eqb}
@@ -135,7 +135,7 @@ against-is l places rooms k links are within has =
     let from : tail_of l p ≡ get_or l.heads q 0 = ap (λ r. get_or l.heads r 0) link.partner_back in
     λ i. record { from = from i; to = tail_of l q; rank = rank i; room = get_or rooms p 0 }
 
--- The step is that of a link with room.
+-- The step is given by a link with room.
 pub record IsLinkStep (l : Links) (places rooms : List ℕ) (s : Step) : Type 0 where
   pub place : ℕ
   pub within : place < length l.heads
@@ -157,7 +157,7 @@ link-of l places rooms k s links are within has (against room is) = record {
   step = against-is l places rooms k links are within has ∙ is;
 }
 
--- Each step of the pairs is that of a link with room.
+-- Each step of the pairs is given by a link with room.
 pub link-of_step : (l : Links) (places rooms : List ℕ) (s : Step) → AreLinks l → ArePlaces l places → Contains (steps_of (pairs_at l places rooms)) s
     → IsLinkStep l places rooms s
 link-of_step l places rooms s links are c =

@@ -19,7 +19,7 @@ pub record HasPlace (l : Links) (places rooms : List ℕ) (k amount : ℕ) : Typ
   pub within : get_or places k 0 < length l.heads
   pub enough : amount ≤ get_or rooms (get_or places k 0) 0
 
--- the place of a pair that is there
+-- the place of a pair that exists
 pub HasPlace-along : (l : Links) (places rooms : List ℕ) (k amount : ℕ) → ArePlaces l places → HasAlong (pairs_at l places rooms) k amount
     → HasPlace l places rooms k amount
 HasPlace-along l places rooms k amount are has =
@@ -56,7 +56,7 @@ map-set f g (q ∷ qs) (suc k) x within here others =
     (λ j h apart. others (suc j) (omega (arith, h)) (λ e. apart (omega (arith, e)))) in
     λ i. first i ∷ rest i
 
--- The pairs, once the room of one link along is lowered.
+-- The pairs after the room of one link along is lowered.
 pub pairs-lowered : (l : Links) (places rooms : List ℕ) (k amount : ℕ) → AreLinks l → ArePlaces l places → length rooms ≡ length l.heads
     → HasPlace l places rooms k amount →
     pairs_at l places (pushed_once l false amount (get_or places k 0) rooms) ≡ lowered_along (pairs_at l places rooms) k amount

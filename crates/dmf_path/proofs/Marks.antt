@@ -1,4 +1,4 @@
--- Which nodes are reached is told by which have a label.
+-- A node is reached if and only if it has a label.
 use Rattle.std.proofs.Common.{ℕ, ◌≡◌, ◌+◌, ◌-◌, ◌<◌, ◌↔◌, Bool, false, IsTrue, List, length, get_or, map, drop, ap, sym, ◌∙◌, arith, length-drop}
 use Rattle.std.specs.List.{slice_index_or}
 use Rattle.std.proofs.lemmas.List.{get_or-map, get_or-drop}
@@ -17,7 +17,7 @@ mark_is labels marks nodes v long are node =
     let place : 1 + (v - 1) ≡ v = omega (arith, node.from_one) in
     rw are (get_or-map is_label (drop 1 labels) (v - 1) 0 false within ∙ ap is_label (get_or-drop 1 labels (v - 1) 0 ∙ ap (λ k. get_or labels k 0) place))
 
--- The marks tell which nodes paths lead to from the root.
+-- The marks say to which nodes paths lead from the root.
 pub marks-reached : (l : Links) (places rooms opens labels : List ℕ) (root : ℕ) (marks : List Bool) → AreLinks l → ArePlaces l places → AreRooms l rooms
     → opens ≡ map open_flag rooms → AreLabels l opens root 0 labels → IsNode l.nodes root → marks ≡ map is_label (drop 1 labels)
     → (v : ℕ) → IsNode l.nodes v → IsTrue (slice_index_or marks (v - 1) false) ↔ IsReachable (steps_of (pairs_at l places rooms)) root v

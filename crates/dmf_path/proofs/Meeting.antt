@@ -1,4 +1,4 @@
--- Two searches meet: what their labels say where they do, and that a path is no longer than there are nodes.
+-- Two searches meet: what their labels say then, and that a path has no more links than there are nodes.
 use Rattle.std.proofs.Common.{ℕ, ◌≡◌, ◌≢◌, ◌+◌, ◌≤◌, ◌<◌, ◌⊎◌, inl, inr, List, [], ◌∷◌, length, get_or, suc, refl, ap, sym, subst, ◌∙◌, arith, true, ◌==◌, cond}
 use Rattle.std.proofs.lemmas.Bool.Decides.{eqb_tells}
 use Rattle.std.proofs.lemmas.Bool.{cases_lt, eq-eqb}
@@ -14,7 +14,7 @@ use Rattle.dmf_path.proofs.Flags.{room-of_flag, flag-of_room}
 use Rattle.dmf_path.proofs.Labelling.{queue-short, queued-at, labels-spread}
 use Rattle.dmf_path.proofs.Reaching.{AreOpen, separated-unlabelled, separated-labelled}
 
--- A search at rest has labelled all that is as far as the level of the node that is next.
+-- A search at rest has labelled all nodes up to the level of the next one,
 pub rest-levels : (l : Links) (opens : List ℕ) (root level : ℕ) (labels queue : List ℕ) (done : ℕ) → AreLinks l → AreSpread l opens root labels queue done
     → done < length queue → IsAtRest labels queue done → get_or labels (get_or queue done 0) 0 ≡ level → AreLevels l opens root level labels
 rest-levels l opens root level labels queue done are so_far ahead rest is = record {
@@ -115,7 +115,7 @@ one-of : (g s : ℕ) → (g ≡ no_label) ⊎ (s ≡ no_label) → 1 ≤ cond (g
 one-of g s (inl none) = let yes : (g == no_label) ≡ true = eq-eqb g no_label none in rw yes (omega arith)
 one-of g s (inr none) = let yes : (s == no_label) ≡ true = eq-eqb s no_label none in rw yes (omega arith)
 
--- Of two lists of labels that are apart as many numbers are without a label as the lists are long.
+-- In two lists of labels that are apart, at least as many numbers stand for no label as each list is long.
 pub apart-count : (g s : List ℕ) → length g ≡ length s → AreApart g s → length g ≤ unlabelled_count g + unlabelled_count s
 apart-count [] s long apart = omega arith
 apart-count (x ∷ g) [] long apart = absurd (omega (arith, long))
@@ -123,7 +123,7 @@ apart-count (x ∷ g) (y ∷ s) long apart =
     let rest = apart-count g s (omega (arith, long)) (λ v within. apart (suc v) (omega (arith, within))) in
     omega (arith, rest, one-of x y (apart 0 (omega arith)), count-cons x g, count-cons y s)
 
--- No more nodes are queued by both searches than there are, as long as they are apart; so their levels are few.
+-- As long as both searches are apart, they queue no more nodes together than there are. So they have few levels.
 few-levels : (l : Links) (flags opens : List ℕ) (start goal : ℕ) (g queue_g : List ℕ) (done_g : ℕ) (s queue_s : List ℕ) (done_s : ℕ)
     → AreSpread l flags goal g queue_g done_g → done_g < length queue_g → AreSpread l opens start s queue_s done_s → done_s < length queue_s → AreApart g s
     → get_or g (get_or queue_g done_g 0) 0 + get_or s (get_or queue_s done_s 0) 0 < l.nodes
@@ -208,7 +208,7 @@ has-met_start l rooms flags opens start goal at g queue_g done_g s queue_s done_
 
 -- ---- no path is left
 
--- All that leads to the goal is labelled, and the start is not.
+-- All nodes that lead to the goal have labels, and the start has none.
 pub goal-used_up : (l : Links) (rooms flags opens : List ℕ) (start goal : ℕ) (g queue : List ℕ) (done : ℕ) (s queue_s : List ℕ) (done_s : ℕ) → AreLinks l
     → AreFlags l rooms flags → AreSpread l flags goal g queue done → length queue ≤ done → AreSpread l opens start s queue_s done_s → AreApart g s
     → IsNode l.nodes start → IsSeparated l rooms start goal
@@ -220,7 +220,7 @@ goal-used_up l rooms flags opens start goal g queue done s queue_s done_s are fl
     ] in
     separated-unlabelled l rooms flags g start goal start are flagged labels unset unset
 
--- All that the start leads to is labelled, and the goal is not.
+-- All nodes to which the start leads have labels, and the goal has none.
 pub start-used_up : (l : Links) (rooms flags opens : List ℕ) (start goal : ℕ) (g queue_g : List ℕ) (done_g : ℕ) (s queue : List ℕ) (done : ℕ) → AreLinks l
     → AreOpen l rooms opens → AreSpread l flags goal g queue_g done_g → AreSpread l opens start s queue done → length queue ≤ done → AreApart g s
     → IsNode l.nodes goal → IsSeparated l rooms start goal

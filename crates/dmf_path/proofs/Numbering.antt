@@ -5,7 +5,7 @@ use Rattle.std.proofs.lemmas.Bool.{cases_eq}
 use Rattle.dmf_path.specs.Links.{Links, AreLinks, IsOf, ArePlaces, no_place}
 use Rattle.dmf_path.specs.Touching.{AreNumbers}
 
--- The links of the pairs before index `k` have the numbers of these.
+-- The links of the pairs before index `k` have the numbers of these pairs.
 pub record AreNumbered (l : Links) (places : List ℕ) (k : ℕ) (numbers : List ℕ) : Type 0 where
   pub one_each : length numbers ≡ length l.heads
   pub told : (p j : ℕ) → p < length l.heads → j < k → IsOf l places p j → get_or numbers p 0 ≡ j
@@ -45,7 +45,7 @@ numbered-pair l places k numbers links are index there known =
           (cases_eq p partner);
     }
 
--- where there is one;
+-- if there is one;
 pub numbered-none : (l : Links) (places : List ℕ) (k : ℕ) (numbers : List ℕ) → get_or places k 0 ≡ no_place → AreNumbered l places k numbers
     → AreNumbered l places (k + 1) numbers
 numbered-none l places k numbers none known = record {
@@ -55,7 +55,7 @@ numbered-none l places k numbers none known = record {
       known.told p j h (omega (arith, before, earlier)) of;
 }
 
--- and so all links are.
+-- and so all links have numbers.
 pub numbered-all : (l : Links) (places : List ℕ) (k : ℕ) (numbers : List ℕ) → ArePlaces l places → length places ≤ k → AreNumbered l places k numbers
     → AreNumbers l places numbers
 numbered-all l places k numbers are all known = (
@@ -65,7 +65,7 @@ numbered-all l places k numbers are all known = (
       subst (IsOf l places p) (sym (known.told p its.0 h (omega (arith, its.1.0, all)) its.1)) its.1,
 )
 
--- The numbers of other links serve, where the pairs lie at the same places.
+-- If the pairs lie at the same places, the numbers of other links serve.
 pub numbers-same : (l m : Links) (places numbers : List ℕ) → AreLinks l → AreLinks m → l.partners ≡ m.partners → AreNumbers m places numbers
     → AreNumbers l places numbers
 numbers-same l m places numbers links others same known =

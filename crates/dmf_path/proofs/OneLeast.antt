@@ -1,4 +1,4 @@
--- Between two nodes there is one least path: a step is known by its rank, and lists of ranks are ordered.
+-- Between two nodes there is one least path: a rank determines its step, and lists of ranks are ordered.
 use Rattle.std.proofs.Common.{ℕ, ◌≡◌, ◌<◌, ◌⊎◌, List, [], ◌∷◌, length, get_or, Contains, AllPairs, inl, inr, refl, ap, sym, ◌∙◌, arith}
 use Rattle.std.proofs.lemmas.Bool.{cases_order}
 use Rattle.std.proofs.lemmas.List.{length-map, get_or_default}
@@ -15,7 +15,7 @@ rank-below steps ascend s t p q earlier =
     let at : get_or steps p.0 t ≡ s = get_or_default steps p.0 t s p.1 ∙ p.2 in
     omega (arith, ascend p.0 q.0 t earlier q.1, ap (λ u. u.rank) at, ap (λ u. u.rank) q.2)
 
--- Of the steps in the list one alone has a rank.
+-- Only one step of the list has a given rank.
 pub step-by_rank : (steps : List Step) → Ascend steps → (s t : Step) → Contains steps s → Contains steps t → s.rank ≡ t.rank → s ≡ t
 step-by_rank steps ascend s t p q same =
     elim (cases_order p.0 q.0) [
@@ -41,7 +41,7 @@ one-before (x ∷ xs) (y ∷ ys) long =
       | inr (inr above) ↦ inr (inr (inl above))
     ]
 
--- A path is known by its ranks.
+-- The ranks of a path determine it.
 path-by_ranks : (steps : List Step) → Ascend steps → (a b c : ℕ) (p q : List Step) → IsPath steps a c p → IsPath steps b c q → ranks p ≡ ranks q → p ≡ q
 path-by_ranks steps ascend a b c [] [] leads other same = refl
 path-by_ranks steps ascend a b c [] (t ∷ q) leads other same = absurd (omega (arith, ap length same))

@@ -9,13 +9,13 @@ use Rattle.dmf_path.proofs.LinkPlaces.{lies-within}
 use Rattle.dmf_path.proofs.Steps.{path_on}
 use Rattle.dmf_path.proofs.LinkSteps.{IsLinkStep, link-of_step, step-of_link}
 
--- Links with room lead from node `v` to the goal, each next one from where the one before leads to.
+-- Links with room lead from node `v` to the goal, each next one from the head of the one before.
 abbrev pub IsOpenPath : Links → List ℕ → ℕ → ℕ → List ℕ → Type 0
 IsOpenPath l rooms goal v [] = v ≡ goal
 IsOpenPath l rooms goal v (p ∷ ps) =
     LiesAt l v p × (0 < get_or rooms p 0) × IsOpenPath l rooms goal (get_or l.heads p 0) ps
 
--- Where the link of a node leads to is a node.
+-- The head of a link is a node.
 pub head-node : (l : Links) (v p : ℕ) → AreLinks l → IsNode l.nodes v → LiesAt l v p → IsNode l.nodes (get_or l.heads p 0)
 head-node l v p links node lies = (links.each p (lies-within l v p links node lies)).head
 

@@ -8,7 +8,7 @@ use Rattle.dmf_path.specs.Walk.{IsAdmissible, IsWalk, AreValid, ArePassed, IsTra
 use Rattle.dmf_path.proofs.LinkPlaces.{lies-within}
 use Rattle.dmf_path.proofs.Pushing.{own, partner, other, is_beside, once-own, once-other, length-pushed_once}
 
--- The link at place `p` of node `v` falls: it leads to a label less by one.
+-- The link at place `p` of node `v` falls: it leads to a label that is lower by one.
 pub record Falls (l : Links) (labels : List ℕ) (v p : ℕ) : Type 0 where
   pub within : p < length l.heads
   pub tail : tail_of l p ≡ v
@@ -27,7 +27,7 @@ Falls-admissible l labels rooms v p links node can = record {
   label = can.falls;
 }
 
--- so do those of a trail
+-- so do the links of a trail
 pub FallsOn-trail : (l : Links) (labels rooms current : List ℕ) (v : ℕ) (ps : List ℕ) → AreLinks l → IsNode l.nodes v → IsTrail l labels rooms current v ps
     → FallsOn l labels v ps
 FallsOn-trail l labels rooms current v [] links node trail = tt
@@ -35,7 +35,7 @@ FallsOn-trail l labels rooms current v (p ∷ ps) links node trail =
     let falls = Falls-admissible l labels rooms v p links node trail.0 in
     (falls, FallsOn-trail l labels rooms current (get_or l.heads p 0) ps links (links.each p falls.within).head trail.2)
 
--- A link that has room in `new` had it in `old`, or leads up by one label.
+-- A link that has room in `new` had room in `old`, or leads up by one label.
 abbrev pub OpensUpwards : Links → List ℕ → List ℕ → List ℕ → Type 0
 OpensUpwards l labels old new =
     (v p : ℕ) → IsNode l.nodes v → LiesAt l v p → 0 < get_or new p 0
@@ -57,7 +57,7 @@ opens-once l takes_back amount labels rooms u q links long falls v p node lies r
       | other a b c d ↦ inl (omega (arith, room, once-other l takes_back amount q p rooms a b))
     ]
 
--- the same of a push along links that fall
+-- the same for a push along several links that fall
 pub opens-pushed : (l : Links) (takes_back : Bool) (amount : ℕ) (labels rooms : List ℕ) (u : ℕ) (qs : List ℕ) → AreLinks l → length rooms ≡ length l.heads
     → FallsOn l labels u qs → OpensUpwards l labels rooms (pushed l takes_back amount qs rooms)
 opens-pushed l takes_back amount labels rooms u [] links long falls v p node lies room = inl room
@@ -76,7 +76,7 @@ AreValid-opens l labels old new top opens valid v p node lies room below =
     (λ (up : get_or labels (get_or l.heads p 0) 0 ≡ get_or labels v 0 + 1). omega (arith, up))
     (opens v p node lies room)
 
--- An admissible link was one before
+-- A link that is admissible was admissible before,
 pub admissible-before : (l : Links) (labels old new : List ℕ) (v p : ℕ) → IsNode l.nodes v → OpensUpwards l labels old new → IsAdmissible l labels new v p
     → IsAdmissible l labels old v p
 admissible-before l labels old new v p node opens can = record {
@@ -96,13 +96,13 @@ walk-before l labels old new goal v (p ∷ ps) links node opens walks =
     let can = admissible-before l labels old new v p node opens walks.0 in
     (can, walk-before l labels old new goal (get_or l.heads p 0) ps links (links.each p (lies-within l v p links node can.lies)).head opens walks.1)
 
--- and what was passed stays passed.
+-- and passed links stay passed.
 pub ArePassed-opens : (l : Links) (labels old new : List ℕ) (goal : ℕ) (current : List ℕ) → AreLinks l → OpensUpwards l labels old new
     → ArePassed l labels old goal current → ArePassed l labels new goal current
 ArePassed-opens l labels old new goal current links opens passed v p ps node lies before walks =
     passed v p ps node lies before (walk-before l labels old new goal v (p ∷ ps) links node opens walks)
 
--- The links of a trail that have room still are one.
+-- The links of a trail that still have room are a trail.
 pub IsTrail-open : (l : Links) (labels old new current : List ℕ) (v : ℕ) (ps : List ℕ) → IsTrail l labels old current v ps → All (λ p. 0 < get_or new p 0) ps
     → IsTrail l labels new current v ps
 IsTrail-open l labels old new current v [] trail room = tt
@@ -112,7 +112,7 @@ IsTrail-open l labels old new current v (p ∷ ps) trail room = (
   IsTrail-open l labels old new current (get_or l.heads p 0) ps trail.2 (λ k d h. room (suc k) d (omega (arith, h))),
 )
 
--- The front of a trail is one.
+-- A prefix of a trail is a trail.
 pub IsTrail-take : (l : Links) (labels rooms current : List ℕ) (v k : ℕ) (ps : List ℕ) → IsTrail l labels rooms current v ps
     → IsTrail l labels rooms current v (take k ps)
 IsTrail-take l labels rooms current v zero ps trail = tt

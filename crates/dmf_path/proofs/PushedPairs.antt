@@ -1,4 +1,4 @@
--- Pushing along a trail changes the pairs as pushing along its path does.
+-- Pushing along a trail changes the pairs just as pushing along its path does.
 use Rattle.std.proofs.Common.{ℕ, ◌≡◌, ◌≢◌, ◌+◌, ◌-◌, ◌*◌, ◌<◌, ◌==◌, Bool, true, false, cond, List, [], ◌∷◌, length, map, get_or, suc, refl, ap, sym, ◌∙◌}
 use Rattle.std.proofs.Common.{subst, arith, ⊎_elim, eq-eqb, Option, Some}
 use Rattle.std.specs.List.{list_any}
@@ -32,7 +32,7 @@ on-falls l labels u q v (p ∷ ps) links first lower falls =
     let later = on-falls l labels u q (get_or l.heads p 0) ps links first (omega (arith, lower, falls.0.label)) falls.1 in
     (rw (ne_eqb p q not_own) later.0, rw (ne_eqb p (get_or l.partners q 0) not_partner) later.1)
 
--- what a link loses
+-- the room that a link loses
 abbrev pub loss : ℕ → ℕ → List ℕ → ℕ
 loss amount p ps = cond (is_on p ps) amount 0
 
@@ -40,13 +40,13 @@ gain : (takes_back : Bool) (room amount : ℕ) → room + cond takes_back amount
 gain true room amount = omega arith
 gain false room amount = omega arith
 
--- What is left of the room of link `p` once an amount is pushed along link `q` and then along others that leave both alone.
+-- The room of link `p` after an amount is pushed along link `q` and then along others that leave both alone.
 abbrev pub IsLeft : Links → Bool → ℕ → List ℕ → ℕ → List ℕ → ℕ → Type 0
 IsLeft l takes_back amount rooms q ps p =
     get_or (pushed_once l takes_back amount q rooms) p 0 - loss amount p ps + cond takes_back (loss amount (get_or l.partners p 0) ps) 0
     ≡ get_or rooms p 0 - loss amount p (q ∷ ps) + cond takes_back (loss amount (get_or l.partners p 0) (q ∷ ps)) 0
 
--- where the link is `q` itself
+-- if the link is `q` itself
 left-own : (l : Links) (takes_back : Bool) (amount : ℕ) (rooms : List ℕ) (q : ℕ) (ps : List ℕ) → AreLinks l → length rooms ≡ length l.heads → q < length l.heads
     → (is_on q ps ≡ false) × (is_on (get_or l.partners q 0) ps ≡ false) → IsLeft l takes_back amount rooms q ps q
 left-own l takes_back amount rooms q ps links long within none =
@@ -55,7 +55,7 @@ left-own l takes_back amount rooms q ps links long within none =
     let apart : (q == get_or l.partners q 0) ≡ false = ne_eqb q (get_or l.partners q 0) (λ e. partner-other l q links within (sym e)) in
     rw (none.0, none.1, self, apart, mine) (omega arith)
 
--- where it is the opposite of `q`
+-- if it is the opposite of `q`
 left-partner : (l : Links) (takes_back : Bool) (amount : ℕ) (rooms : List ℕ) (q p : ℕ) (ps : List ℕ) → AreLinks l → length rooms ≡ length l.heads
     → q < length l.heads → (is_on q ps ≡ false) × (is_on (get_or l.partners q 0) ps ≡ false) → p ≡ get_or l.partners q 0 → get_or l.partners p 0 ≡ q
     → IsLeft l takes_back amount rooms q ps p
@@ -69,13 +69,13 @@ left-partner l takes_back amount rooms q p ps links long within none same back =
     let apart : (q == p) ≡ false = ne_eqb q p (λ e. partner-other l q links within (sym (e ∙ same))) in
     rw (own, its_own, self, apart, its) (gain takes_back (get_or rooms p 0) amount)
 
--- where it is another
+-- if it is another link
 left-other : (l : Links) (takes_back : Bool) (amount : ℕ) (rooms : List ℕ) (q p : ℕ) (ps : List ℕ) → p ≢ q → p ≢ get_or l.partners q 0
     → get_or l.partners p 0 ≢ q → IsLeft l takes_back amount rooms q ps p
 left-other l takes_back amount rooms q p ps a b c =
     rw (once-other l takes_back amount q p rooms a b, ne_eqb q p (λ e. a (sym e)), ne_eqb q (get_or l.partners p 0) (λ e. c (sym e))) refl
 
--- The room of each link, once an amount is pushed along links that fall.
+-- The room of each link after an amount is pushed along links that fall.
 pub room-pushed : (l : Links) (takes_back : Bool) (amount : ℕ) (labels rooms : List ℕ) (u : ℕ) (ps : List ℕ) (p : ℕ) → AreLinks l
     → length rooms ≡ length l.heads → FallsOn l labels u ps → p < length l.heads →
     get_or (pushed l takes_back amount ps rooms) p 0 ≡ get_or rooms p 0 - loss amount p ps + cond takes_back (loss amount (get_or l.partners p 0) ps) 0
@@ -92,7 +92,7 @@ room-pushed l takes_back amount labels rooms u (q ∷ ps) p links long falls wit
       | other a b c d ↦ left-other l takes_back amount rooms q p ps a b c
     ]
 
--- A link with the rank of a pair's link along is that
+-- A link with the rank of a pair's link along is that link,
 along_only : (l : Links) (places : List ℕ) (k p j : ℕ) → AreLinks l → ArePlaces l places → p < length l.heads → IsOf l places p j
     → rank_of l places p ≡ 2 * (1 + k) → p ≡ get_or places k 0
 along_only l places k p j links are within of rank =
@@ -106,7 +106,7 @@ along_only l places k p j links are within of rank =
     absurd (omega (arith, here, rank)))
     of.2
 
--- and one with that of its link against is that.
+-- and a link with the rank of its link against is that one.
 against_only : (l : Links) (places : List ℕ) (k p j : ℕ) → AreLinks l → ArePlaces l places → p < length l.heads → IsOf l places p j
     → rank_of l places p ≡ 2 * (1 + k) + 1 → p ≡ get_or l.partners (get_or places k 0) 0
 against_only l places k p j links are within of rank =
@@ -120,7 +120,7 @@ against_only l places k p j links are within of rank =
     sym against ∙ ap (λ i. get_or l.partners (get_or places i 0) 0) same)
     of.2
 
--- The link along of a pair, or that against it, is the one with its rank.
+-- The link along of a pair, or the one against it, is the link with its rank.
 rank-is_on : (l : Links) (places : List ℕ) (k p : ℕ) → AreLinks l → ArePlaces l places → k < length places → get_or places k 0 ≢ no_place → p < length l.heads →
     ((rank_of l places p == 2 * (1 + k)) ≡ (p == get_or places k 0)) ×
     ((rank_of l places p == 2 * (1 + k) + 1) ≡ (p == get_or l.partners (get_or places k 0) 0))
@@ -151,7 +151,7 @@ rank-is_on l places k p links are within there link =
           (cases_eq p (get_or l.partners q 0)),
     )
 
--- Whether a path has a rank of a pair is whether its links have the pair's link.
+-- A path has a rank of a pair if and only if its links have the pair's link.
 has_rank-path_on : (l : Links) (places rooms labels : List ℕ) (k u : ℕ) (ps : List ℕ) → AreLinks l → ArePlaces l places → k < length places
     → get_or places k 0 ≢ no_place → FallsOn l labels u ps →
     (has_rank (path_on l places rooms ps) (2 * (1 + k)) ≡ is_on (get_or places k 0) ps)
@@ -162,7 +162,7 @@ has_rank-path_on l places rooms labels k u (p ∷ ps) links are within there fal
     let later = has_rank-path_on l places rooms labels k (get_or l.heads p 0) ps links are within there falls.1 in
     (rw (first.0, later.0) refl, rw (first.1, later.1) refl)
 
--- a pair with other rooms
+-- a pair with these rooms
 pub pair-rooms : (tail head : ℕ) (a b c d : ℕ) → a ≡ c → b ≡ d → ◌≡◌ {A = Option Pair} (Some (record { tail = tail; head = head; along = a; against = b }))
     (Some (record { tail = tail; head = head; along = c; against = d }))
 pair-rooms tail head a b c d along against = λ i. Some (record { tail = tail; head = head; along = along i; against = against i })
@@ -201,7 +201,7 @@ pairs-pushed l takes_back amount j rooms after path (q ∷ qs) each =
     (let same : j + suc i ≡ j + 1 + i = omega arith in same)) in
     λ i. first i ∷ later i
 
--- The pairs, once an amount is pushed along a trail, are pushed along the path of its steps.
+-- After an amount is pushed along a trail, the pairs are pushed along the path of its steps.
 pub pushed_pairs-pushed : (l : Links) (takes_back : Bool) (places rooms labels current trail : List ℕ) (start amount : ℕ) → AreLinks l → ArePlaces l places
     → length rooms ≡ length l.heads → IsNode l.nodes start → IsTrail l labels rooms current start trail →
     pairs_at l places (pushed l takes_back amount trail rooms) ≡ pushed_pairs takes_back amount (path_on l places rooms trail) (pairs_at l places rooms)

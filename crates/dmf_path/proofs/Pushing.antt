@@ -1,4 +1,4 @@
--- Pushing along links, one after the other: what becomes of the rooms and the flags.
+-- Pushing along links, one after the other: the rooms and the flags afterwards.
 use Rattle.std.proofs.Common.{ℕ, ◌≡◌, ◌≢◌, ◌+◌, ◌-◌, ◌^◌, ◌<◌, Bool, true, false, cond, List, [], ◌∷◌, length, get_or, set, refl, ap, sym, ◌∙◌, arith, ⊎_elim}
 use Rattle.std.proofs.Common.{get_or-set_other, get_or-set_same, length-set}
 use Rattle.std.proofs.lemmas.Bool.{cases_eq}
@@ -16,7 +16,7 @@ length-pushed l takes_back amount [] rooms = refl
 length-pushed l takes_back amount (p ∷ ps) rooms = length-pushed l takes_back amount ps
     (pushed_once l takes_back amount p rooms) ∙ length-pushed_once l takes_back amount p rooms
 
--- what is left of the room of the link itself
+-- the room of the link itself afterwards
 pub once-own : (l : Links) (takes_back : Bool) (amount p : ℕ) (rooms : List ℕ) → AreLinks l → length rooms ≡ length l.heads → p < length l.heads
     → get_or (pushed_once l takes_back amount p rooms) p 0 ≡ get_or rooms p 0 - amount
 once-own l true amount p rooms links long within =
@@ -27,7 +27,7 @@ once-own l false amount p rooms links long within =
     let lt : p < length rooms = omega (arith, long, within) in
     get_or-set_same rooms p _ 0 lt
 
--- and of that of its opposite
+-- and the room of its opposite
 pub once-partner : (l : Links) (takes_back : Bool) (amount p : ℕ) (rooms : List ℕ) → AreLinks l → length rooms ≡ length l.heads → p < length l.heads
     → get_or (pushed_once l takes_back amount p rooms) (get_or l.partners p 0) 0 ≡ get_or rooms (get_or l.partners p 0) 0 + cond takes_back amount 0
 once-partner l true amount p rooms links long within =
@@ -46,7 +46,7 @@ once-other l true amount p q rooms own partner =
     get_or-set_other (set rooms p (get_or rooms p 0 - amount)) (get_or l.partners p 0) q _ 0 partner ∙ get_or-set_other rooms p q _ 0 own
 once-other l false amount p q rooms own partner = get_or-set_other rooms p q _ 0 own
 
--- A link is that at a place, its opposite, or one whose opposite is neither.
+-- A link is the one at a place, its opposite, or one whose opposite is neither.
 pub data IsBeside (l : Links) (p q : ℕ) : Type 0 where
   own : q ≡ p → IsBeside l p q
   partner : q ≡ get_or l.partners p 0 → get_or l.partners q 0 ≡ p → IsBeside l p q
@@ -65,7 +65,7 @@ is_beside l p q links within in_range =
     (cases_eq q (get_or l.partners p 0)))
     (cases_eq q p)
 
--- The rooms of each pair still fit 64 bits together, once one of them is another,
+-- The rooms of each pair still fit 64 bits together after one of them changes,
 pub AreRooms-put : (l : Links) (p q room : ℕ) (rooms : List ℕ) → AreLinks l → AreRooms l rooms → p < length l.heads → q ≡ get_or l.partners p 0
     → room + get_or rooms q 0 < 2 ^ 64 → AreRooms l (set rooms p room)
 AreRooms-put l p q room rooms links are within is fits = (
@@ -81,7 +81,7 @@ AreRooms-put l p q room rooms links are within is fits = (
       ],
 )
 
--- and the flag of its opposite tells of it.
+-- and the flag of its opposite says whether there is room.
 pub AreFlags-put : (l : Links) (p q room : ℕ) (rooms flags : List ℕ) → AreLinks l → length rooms ≡ length l.heads → AreFlags l rooms flags
     → p < length l.heads → q ≡ get_or l.partners p 0 → AreFlags l (set rooms p room) (set flags q (open_flag room))
 AreFlags-put l p q room rooms flags links long told within is =

@@ -22,7 +22,7 @@ first-choice false false x y z e f = absurd (both_ways false refl f)
 second-choice : (a b c : Bool) (x y z w : ℕ) → a ≡ false → b ≡ false → c ≡ true → cond a x (cond b y (cond c z w)) ≡ z
 second-choice a b c x y z w e f g = cc
 
--- The rank of a link that is not of the first pair is told by the others.
+-- The rank of a link that is not in the first pair depends on the other pairs.
 rank_from-later : (l : Links) (j q : ℕ) (places : List ℕ) (p : ℕ) → ¬ IsOf l (q ∷ places) p 0 → rank_from l j (q ∷ places) p ≡ rank_from l (j + 1) places p
 rank_from-later l j q places p not_of =
     other-choice (eqb q no_place) (eqb q p) (eqb (get_or l.partners q 0) p) _ _ _
@@ -59,7 +59,7 @@ rank_from-against l j (q ∷ places) p (suc k) first within has other is =
     ∙ rank_from-against l (j + 1) places p k (first-behind l q places p k first) (omega (arith, within)) has other is
     ∙ (let e : 2 * (j + 1 + k) + 1 ≡ 2 * (j + suc k) + 1 = omega arith in e)
 
--- Each link is of one pair alone.
+-- Each link belongs to one pair only.
 first-of : (l : Links) (places : List ℕ) (p k : ℕ) → ArePlaces l places → p < length l.heads → IsOf l places p k → IsFirst l places p k
 first-of l places p k are within of i below earlier = let same : i ≡ k = are.one p i k within earlier of in omega (arith, same)
 

@@ -1,4 +1,4 @@
--- What has a label is what paths reach.
+-- A node has a label if and only if a path reaches it.
 use Rattle.std.proofs.Common.{ℕ, ◌≡◌, ◌≢◌, ◌+◌, ◌<◌, ◌≤◌, ◌↔◌, ◌==◌, Bool, true, false, List, [], ◌∷◌, ◌++◌, length, get_or, map, zero, suc, refl, ap, sym}
 use Rattle.std.proofs.Common.{subst, ◌∙◌, ⊎_elim, arith, eq-eqb}
 use Rattle.std.proofs.lemmas.Bool.{cases_eq, ne_eqb, eqb-true}
@@ -23,7 +23,7 @@ label-below l opens labels root stop v are node has = ⊎_elim
     (λ (small : get_or labels v 0 < l.nodes). small)
     (are.small v node)
 
--- ---- sets of nodes that no link with room leads out of
+-- ---- sets of nodes that no link with room leaves
 
 -- What a path reaches from a node of such a set is in the set.
 inside-on_path : (l : Links) (rooms : List ℕ) (inside : ℕ → Bool) (u v : ℕ) (ps : List ℕ) → AreLinks l → IsClosed l rooms inside → IsNode l.nodes u
@@ -32,7 +32,7 @@ inside-on_path l rooms inside u v [] links closed node within leads = sym (ap in
 inside-on_path l rooms inside u v (p ∷ ps) links closed node within leads =
     inside-on_path l rooms inside (get_or l.heads p 0) v ps links closed (head-node l u p links node leads.0) (closed u p node leads.0 leads.1 within) leads.2
 
--- No path leads out of a set that has the start and not the goal.
+-- No path leads out of such a set, if it has the start and not the goal.
 pub no_path-separated : (l : Links) (places rooms : List ℕ) (start goal : ℕ) → AreLinks l → ArePlaces l places → IsNode l.nodes start
     → IsSeparated l rooms start goal → HasNoPath (steps_of (pairs_at l places rooms)) start goal
 no_path-separated l places rooms start goal links places_are node separated path leads =
@@ -44,7 +44,7 @@ no_path-separated l places rooms start goal links places_are node separated path
 
 -- ---- the search backwards from the goal
 
--- Where neither the start nor the node `stop` has a label, the nodes without one are such a set.
+-- If neither the start nor the node `stop` has a label, the nodes without one are such a set.
 pub separated-unlabelled : (l : Links) (rooms flags labels : List ℕ) (start goal stop : ℕ) → AreLinks l → AreFlags l rooms flags
     → AreLabels l flags goal stop labels → get_or labels stop 0 ≡ no_label → get_or labels start 0 ≡ no_label → IsSeparated l rooms start goal
 separated-unlabelled l rooms flags labels start goal stop links told are unlabelled outside = record {
@@ -64,21 +64,21 @@ separated-unlabelled l rooms flags labels start goal stop links told are unlabel
 
 -- ---- the search forwards from a root
 
--- Each flag tells whether the link has room.
+-- Each flag says whether the link has room.
 abbrev pub AreOpen : Links → List ℕ → List ℕ → Type 0
 AreOpen l rooms opens = (p : ℕ) → p < length l.heads → get_or opens p 0 ≡ open_flag (get_or rooms p 0)
 
 pub AreOpen-map : (l : Links) (rooms opens : List ℕ) → AreRooms l rooms → opens ≡ map open_flag rooms → AreOpen l rooms opens
 AreOpen-map l rooms opens are told p within = ap (λ os. get_or os p 0) told ∙ get_or-map open_flag rooms p 0 0 (omega (arith, within, are.0))
 
--- what the test says of a label
+-- what the test says about a label
 pub label-from : (label : ℕ) → is_label label ≡ true → label ≢ no_label
 label-from label is same = let no : is_label label ≡ false = rw (eq-eqb label no_label same) refl in cc
 
 pub label-to : (label : ℕ) → label ≢ no_label → is_label label ≡ true
 label-to label other = rw (ne_eqb label no_label other) refl
 
--- Where the node `stop` has no label, the nodes with one are such a set.
+-- If the node `stop` has no label, the nodes with one are such a set.
 closed-labelled : (l : Links) (rooms opens labels : List ℕ) (root stop : ℕ) → AreLinks l → AreOpen l rooms opens → AreLabels l opens root stop labels
     → get_or labels stop 0 ≡ no_label → IsClosed l rooms (λ v. is_label (get_or labels v 0))
 closed-labelled l rooms opens labels root stop links told are unlabelled v p node lies room within =
@@ -98,7 +98,7 @@ separated-labelled l rooms opens labels start goal links told are unlabelled = r
   closed = closed-labelled l rooms opens labels start goal links told are unlabelled;
 }
 
--- a path, and one link more
+-- a path, and one more link
 open-push : (l : Links) (rooms : List ℕ) (u v : ℕ) (ps : List ℕ) (p : ℕ) → IsOpenPath l rooms v u ps → LiesAt l v p → 0 < get_or rooms p 0
     → IsOpenPath l rooms (get_or l.heads p 0) u (ps ++ p ∷ [])
 open-push l rooms u v [] p leads lies room = (subst (λ w. LiesAt l w p) (sym leads) lies, room, refl)

@@ -12,7 +12,7 @@ use Rattle.dmf_path.proofs.Gated.{counts-set}
 use Rattle.dmf_path.proofs.LinkPlaces.{lies-within, lies-partner}
 use Rattle.dmf_path.proofs.Walking.{AreCurrent-set}
 
--- The links with room that lead to the node: what is said of them by their opposites, which lie at the node.
+-- The links with room to the node, in terms of their opposites, which lie at the node.
 pub record LeadsTo (l : Links) (rooms : List ℕ) (node v p : ℕ) : Type 0 where
   pub is_node : IsNode l.nodes v
   pub lies : LiesAt l v p
@@ -40,7 +40,7 @@ opposite l rooms flags node v p links flagged leads =
       back = link.partner_back;
     }
 
--- Only nodes with the labels 0 and 1 lead there.
+-- Only nodes with the labels 0 and 1 have links with room to it.
 abbrev pub IsNear : Links → List ℕ → List ℕ → ℕ → Type 0
 IsNear l rooms labels node = (v p : ℕ) → LeadsTo l rooms node v p → get_or labels v 0 ≤ 1
 
@@ -138,15 +138,15 @@ skipped-redirected l labels rooms current new goal small goal_is less back skipp
       ]
     ]
 
--- ---- the links to the new goal are looked at again
+-- ---- a second look at the links to the new goal
 
--- So far each node from which an open link leads to this one looks at its opposite again.
+-- So far each node from which an open link leads to this one looks at that link again.
 pub record AreBack (l : Links) (flags : List ℕ) (old : List ℕ) (from place : ℕ) (current : List ℕ) : Type 0 where
   pub current_is : AreCurrent l current
   pub less : (v : ℕ) → get_or current v 0 ≤ get_or old v 0
   pub back : (p : ℕ) → from ≤ p → p < place → get_or flags p 0 ≡ 1 → get_or current (get_or l.heads p 0) 0 ≤ get_or l.partners p 0
 
--- The next one does already, or its link is not open.
+-- The next node does so already, or the link is not open.
 pub back-kept : (l : Links) (flags old : List ℕ) (from place : ℕ) (current : List ℕ) → AreBack l flags old from place current
     → (get_or flags place 0 ≡ 1 → get_or current (get_or l.heads place 0) 0 ≤ get_or l.partners place 0) → AreBack l flags old from (place + 1) current
 back-kept l flags old from place current so_far next = record {
@@ -158,7 +158,7 @@ back-kept l flags old from place current so_far next = record {
   ];
 }
 
--- It does so now.
+-- Now it does so.
 pub back-set : (l : Links) (flags old : List ℕ) (from place : ℕ) (current : List ℕ) → AreLinks l → place < length l.heads
     → AreBack l flags old from place current → get_or l.partners place 0 < get_or current (get_or l.heads place 0) 0
     → AreBack l flags old from (place + 1) (set current (get_or l.heads place 0) (get_or l.partners place 0))

@@ -1,4 +1,4 @@
--- A link that is in no slot: what is held for others does not ask for its room, which can be lowered.
+-- The room of a link in no slot can be lowered: no held push depends on it.
 use Rattle.std.proofs.Common.{ℕ, ◌≡◌, ◌≢◌, ◌+◌, ◌-◌, ◌<◌, ◌≤◌, Bool, true, false, cond, List, [], ◌∷◌, ◌++◌, length, get_or, set, ap, sym, ◌∙◌, subst, arith}
 use Rattle.std.proofs.Common.{⊎_elim, get_or-set_other, get_or-set_same, length-set}
 use Rattle.std.proofs.lemmas.Bool.{cases_eq}
@@ -27,14 +27,14 @@ off-slots l labels after current w p links start way rises =
     rw places-append (off-rising l labels (get_or labels w.start 0) 0 p (places_of (walked_slots w) ++ places_of (rest_slots w))
     (descends-way l labels after current w links start way) rises)
 
--- The room of such a link is as it is told, where pushes cannot be taken back.
+-- The room of such a link is its settled room, if pushes cannot be taken back.
 pub room-alone : (l : Links) (takes_back : Bool) (w : Way) (rooms : List ℕ) (p : ℕ) → p < length l.heads → length rooms ≡ length l.heads → takes_back ≡ false
     → IsOff p (places_of (filled_slots w))
     → get_or (rooms_with l takes_back w rooms) p 0 ≡ get_or rooms p 0
 room-alone l takes_back w rooms p within long is off =
     room-along l takes_back w.sent (filled_slots w) rooms p (omega (arith, within, long)) is ∙ rw (held-off w.sent rooms (filled_slots w) p off) (omega arith)
 
--- What is held for links stays,
+-- The held pushes of the other links stay,
 held-set : (sent p x q : ℕ) (rooms : List ℕ) (slots : List Slot) → IsOff p (places_of slots)
     → held_for sent (set rooms p x) slots q ≡ held_for sent rooms slots q
 held-set sent p x q rooms slots off = ⊎_elim
@@ -47,7 +47,7 @@ less : (takes_back : Bool) (room amount gained : ℕ) → amount ≤ room → ro
 less true room amount gained within = omega (arith, within)
 less false room amount gained within = omega arith
 
--- and so lowering and putting on what is held come to the same in either order.
+-- and so lowering and settling give the same in either order.
 settled-lowered : (l : Links) (takes_back : Bool) (sent p amount : ℕ) (slots : List Slot) (rooms : List ℕ) → p < length rooms → IsOff p (places_of slots)
     → amount ≤ get_or rooms p 0
     → settled l takes_back sent slots (pushed_once l false amount p rooms) ≡ pushed_once l false amount p (settled l takes_back sent slots rooms)
@@ -80,7 +80,7 @@ settled-lowered l takes_back sent p amount slots rooms within off enough =
     (sym (room-settled l takes_back sent slots rooms q here)))
     (cases_eq q p)))
 
--- The trail does not ask for the link's room.
+-- The trail does not depend on the room of the link.
 IsTrail-set : (l : Links) (labels rooms current : List ℕ) (v p x : ℕ) (ps : List ℕ) → IsOff p ps → IsTrail l labels rooms current v ps
     → IsTrail l labels (set rooms p x) current v ps
 IsTrail-set l labels rooms current v p x [] off trail = tt
@@ -94,7 +94,7 @@ off-front : (p : ℕ) (ps qs : List ℕ) → IsOff p (ps ++ qs) → IsOff p ps �
 off-front p [] qs off = (tt, off)
 off-front p (q ∷ ps) qs off = let later = off-front p ps qs off.1 in ((off.0, later.0), later.1)
 
--- After its room is lowered, the search goes on.
+-- After the room of the link is lowered, the search goes on.
 searching-lowered : (r : Residual) (v : Labelling) (w : Way) (p amount : ℕ) (next : Residual) → IsSearching r v w → p < length r.links.heads
     → IsOff p (places_of (filled_slots w)) → amount ≤ get_or r.rooms p 0 → next ≡ lowered r p amount → AreRooms next.links next.rooms
     → IsSearching next v w × (told next w ≡ lowered (told r w) p amount)

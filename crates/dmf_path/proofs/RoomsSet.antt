@@ -1,4 +1,4 @@
--- The rooms of one pair's links are set.
+-- Setting the rooms of one pair's links.
 use Rattle.std.proofs.Common.{ℕ, ◌≡◌, ◌≢◌, ◌<◌, List, length, get_or, set, refl, ap, sym, ◌∙◌, arith, ⊎_elim, eq-eqb, inl, inr, get_or-set_other}
 use Rattle.std.proofs.Common.{get_or-set_same, length-set, Option, None}
 use Rattle.std.specs.Option.{option_map}
@@ -31,7 +31,7 @@ set-other : (l : Links) (p q along against : ℕ) (rooms : List ℕ) → q ≢ p
 set-other l p q along against rooms apart beside = get_or-set_other (set rooms p along)
     (get_or l.partners p 0) q against 0 beside ∙ get_or-set_other rooms p q along 0 apart
 
--- So the pairs have them at the pair's index,
+-- So the pair at this index has these rooms,
 pub pairs-set : (l : Links) (places rooms : List ℕ) (k along against : ℕ) → AreLinks l → ArePlaces l places → length rooms ≡ length l.heads → k < length places
     → get_or places k 0 ≢ no_place
     → pairs_at l places (rooms_set l (get_or places k 0) along against rooms) ≡ with_rooms (pairs_at l places rooms) k along against
@@ -60,7 +60,7 @@ pairs-set l places rooms k along against links are long index there =
     (set-other l p (get_or l.partners q 0) along against rooms c d)))
     (cases_eq (get_or places j 0) no_place))
 
--- and where there is none, they stay.
+-- and if there is no pair, the rooms stay.
 pub pairs-unset : (l : Links) (places rooms : List ℕ) (k along against : ℕ) → k < length places → get_or places k 0 ≡ no_place
     → with_rooms (pairs_at l places rooms) k along against ≡ pairs_at l places rooms
 pairs-unset l places rooms k along against index none =

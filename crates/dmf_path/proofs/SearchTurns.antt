@@ -12,11 +12,11 @@ use Rattle.dmf_path.proofs.Beginning.{BeginsFresh, begins-fresh, passed-fresh, s
 use Rattle.dmf_path.proofs.Settled.{AreRooms-settled}
 use Rattle.dmf_path.proofs.Settling.{told-free, holding-free, way-free, way-emptied}
 
--- what a search looks for paths in where nothing is held
+-- the network of a search that holds no push
 abbrev pub plainly : Residual → Way → Sought
 plainly r w = record { residual = r; start = w.start; goal = w.goal }
 
--- With free slots, where nothing was passed that leads to the goal, a search begins.
+-- With free slots, and if no link is passed that leads to the goal, a search begins.
 pub searching-free : (r : Residual) (v : Labelling) (w : Way) (slots : List Slot) → IsAimed (plainly r w) v.labels w.capacity
     → AreRooms r.links r.rooms → w.sent < 2 ^ 64 → AreCurrent r.links v.current → ArePassed r.links v.labels r.rooms w.goal v.current
     → length slots ≡ get_or v.labels w.start 0 → get_or v.labels w.goal 0 ≡ 0 → IsSearching r v (with_slots w slots)
@@ -29,7 +29,7 @@ searching-free r v w slots aimed sums small current passed count goal_label =
           (way-free r.links v.labels r.rooms v.current w slots aimed.goal_is current passed count goal_label);
     }
 
--- Between these ends nothing falls.
+-- Between these ends no link falls.
 pub aimed-fresh : (r : Residual) (labels : List ℕ) (start goal capacity : ℕ) → AreLinks r.links → BeginsFresh r.links labels start goal
     → IsNode r.links.nodes start → IsNode r.links.nodes goal → start ≢ goal → r.links.nodes ≤ capacity
     → IsAimed (record { residual = r; start = start; goal = goal }) labels capacity
@@ -78,7 +78,7 @@ searching-settled r v w next new is links way =
           (way-emptied r.links v.labels (told r w).rooms v.current w is.aimed.goal_is is.under_way);
     })
 
--- and looks for the same.
+-- and has the same network and ends.
 pub plainly-settled : (r : Residual) (w : Way) (next : Residual) (new : Way) → next ≡ told r w → new ≡ emptied w → plainly next new ≡ sought r w
 plainly-settled r w next new links way = λ i. plainly (links i) (way i)
 
@@ -95,7 +95,7 @@ off-settled w new p way = rw way (subst (λ (ss : List Slot). IsOff p (places_of
 pub sought-settled : (r : Residual) (w : Way) (next : Residual) (new : Way) → next ≡ told r w → new ≡ emptied w → sought next new ≡ sought r w
 sought-settled r w next new links way = (λ i. sought (links i) (way i)) ∙ sought-free (told r w) w (emptied w) w.slots refl
 
--- what a search that is marked as fresh says
+-- what the mark as fresh says about a search
 pub fresh-mark : (l : Links) (labels : List ℕ) (start : ℕ) → IsMarked l labels start true → IsFresh l labels start
 fresh-mark l labels start (begun e) = absurd (cc)
 fresh-mark l labels start (fresh is) = is
@@ -116,7 +116,7 @@ fresh-way r v w is is_fresh =
     let joint : w.joint ≡ w.goal = sym (ap (λ (ss : List Slot). end_of r.links w.joint (places_of ss)) rest) ∙ way.ends in
     way-empty w slots walked behind joint
 
--- nothing is held in it,
+-- it holds no push,
 pub told-fresh : (r : Residual) (v : Labelling) (w : Way) (other : Residual) → IsSearching r v w → IsFresh r.links v.labels w.start → told other w ≡ other
 told-fresh r v w other is is_fresh = ap (told other) (fresh-way r v w is is_fresh) ∙ told-free other w []
 
@@ -135,7 +135,7 @@ searching-set r v w next is is_fresh same sums =
     subst (IsSearching next v) (sym (fresh-way r v w is is_fresh))
     (searching-fresh next v w links sums is.holding.small (node w.start a.start_is) (node w.goal a.goal_is) a.apart capacity begins current)
 
--- What a search keeps over the same links, and from the same start.
+-- What a search keeps when its links and its start stay the same.
 pub search-next : (r : Residual) (places : List ℕ) (v : Labelling) (w : Way) (next : Residual) (labelling : Labelling) (new : Way) (was is_fresh : Bool)
     → IsSearch r places v w was → next.links ≡ r.links → IsSearching next labelling new → IsMarked next.links labelling.labels new.start is_fresh
     → IsSearch next places labelling new is_fresh
@@ -145,7 +145,7 @@ search-next r places v w next labelling new was is_fresh is links searching mark
   marked = marked;
 }
 
--- It is marked as before.
+-- It is still marked as before.
 pub same-mark : (r : Residual) (v : Labelling) (w : Way) (next : Residual) (new : Way) (is_fresh : Bool) → IsMarked r.links v.labels w.start is_fresh
     → sought next new ≡ sought r w → IsMarked next.links v.labels new.start is_fresh
 same-mark r v w next new is_fresh marked same = subst (λ (s : Sought). IsMarked s.residual.links v.labels s.start is_fresh) (sym same) marked
@@ -156,7 +156,7 @@ search-settled r places v w next new is_fresh is links way =
     search-next r places v w next v new is_fresh is_fresh is (ap (λ (x : Residual). x.links) links) (searching-settled r v w next new is.searching links way)
     (same-mark r v w next new is_fresh is.marked (sought-settled r w next new links way))
 
--- A search is made with the labels of a fresh one, and with no slots.
+-- A new search has the labels of a fresh one, and no slots.
 pub search-new : (r : Residual) (places : List ℕ) (v : Labelling) (w new : Way) → AreLinks r.links → ArePlaces r.links places → AreRooms r.links r.rooms
     → v.labels ≡ fresh_labels r.links.nodes w.start w.goal → AreCurrent r.links v.current → IsNode r.links.nodes w.start
     → IsNode r.links.nodes w.goal → w.start ≢ w.goal → r.links.nodes ≤ w.capacity → w.sent < 2 ^ 64 → new ≡ with_slots w [] → IsSearch r places v new true

@@ -19,11 +19,11 @@ use Rattle.dmf_path.proofs.SettledSent.{CanSend, CanSend-least, HaveLeft-sent, s
 use Rattle.dmf_path.proofs.UnderWayWhole.{IsWhole, is-whole}
 use Rattle.dmf_path.proofs.Splitting.{IsSent, has-split, sent_along, split-start, split-goal, split-capacity}
 
--- what a trail keeps once so much more is sent
+-- what a trail keeps after so much more is sent
 abbrev pub sent_on : Way → ℕ → Way
 sent_on w amount = record w { sent = (w.sent + amount) % 2 ^ 64 }
 
--- A path was found, along which so much can be sent.
+-- A path was found, and so much can be sent along it.
 pub record CanAugment (r : Residual) (places : List ℕ) (v : Labelling) (w : Way) (limit amount : ℕ) : Type 0 where
   pub whole : IsWhole r.links v.labels (told r w).rooms v.current w
   pub descends : Descends r.links v.labels (get_or v.labels w.start 0) 0 (places_of w.slots)
@@ -80,7 +80,7 @@ can-augment r places v w limit amount places_are is joins least =
       };
     }
 
--- Along the path that was found more is sent.
+-- More is sent along the path that was found.
 pub is-sent : (r : Residual) (places : List ℕ) (v : Labelling) (w : Way) (limit amount : ℕ) → IsSearching r v w → IsFound r w
     → CanAugment r places v w limit amount → IsSent r v.labels (told r w).rooms v.current (sent_on w amount)
 is-sent r places v w limit amount is joins can = record {
@@ -103,7 +103,7 @@ is-sent r places v w limit amount is joins can = record {
   descends = can.descends;
 }
 
--- What a search has once the path is split, and what it looks for paths in.
+-- What a search has after the path is split, and its network and ends.
 pub record IsOn (r : Residual) (places : List ℕ) (v : Labelling) (w : Way) (amount : ℕ) (next : Residual) (new : Way) : Type 0 where
   pub searching : IsSearching next v new
   pub same : sought next new ≡ record { residual = sent_along r (sent_on w amount); start = w.start; goal = w.goal }

@@ -1,4 +1,4 @@
--- The rooms, once what is held on a path is put on: what becomes of them where a link comes or leaves.
+-- The settled rooms of a path, when a link enters a slot or leaves it.
 use Rattle.std.proofs.Common.{ℕ, ◌≡◌, ◌≢◌, ◌+◌, ◌-◌, ◌<◌, ◌≤◌, ◌==◌, Bool, true, false, cond, List, [], ◌∷◌, ◌++◌, length, get_or, refl, ap, sym, ◌∙◌, subst}
 use Rattle.std.proofs.Common.{arith, ⊎_elim, eq-eqb}
 use Rattle.std.proofs.lemmas.Bool.{cases_eq, ne_eqb}
@@ -33,12 +33,12 @@ same-settled l takes_back sent slots others rooms after long same =
     let there : p < length after = omega (arith, here, long) in
     room-settled l takes_back sent slots rooms p here ∙ same p here ∙ sym (room-settled l takes_back sent others after p there))
 
--- Nothing is held for a link that is in no slot.
+-- For a link in no slot nothing is held.
 pub held-off : (sent : ℕ) (rooms : List ℕ) (slots : List Slot) (p : ℕ) → IsOff p (places_of slots) → held_for sent rooms slots p ≡ 0
 held-off sent rooms [] p off = refl
 held-off sent rooms (s ∷ slots) p off = rw (ne_eqb s.place p off.0) (held-off sent rooms slots p off.1)
 
--- What is held for a link,
+-- The amount held for a link,
 pub held-own : (sent : ℕ) (rooms : List ℕ) (before behind : List Slot) (s : Slot) → IsOff s.place (places_of before)
     → held_for sent rooms (before ++ s ∷ behind) s.place ≡ get_or rooms s.place 0 - room_left sent s.full_at
 held-own sent rooms [] behind s off = rw (eq-eqb s.place s.place refl) refl
@@ -51,7 +51,7 @@ held-other sent rooms [] behind s p apart = rw (ne_eqb s.place p apart) refl
 held-other sent rooms (t ∷ before) behind s p apart = ap (λ held. cond (t.place == p) (get_or rooms p 0 - room_left sent t.full_at) held)
     (held-other sent rooms before behind s p apart)
 
--- It depends on the link's own room alone.
+-- The amount depends on the link's own room alone.
 pub held-rooms : (sent : ℕ) (rooms after : List ℕ) (slots : List Slot) (p : ℕ) → get_or rooms p 0 ≡ get_or after p 0
     → held_for sent rooms slots p ≡ held_for sent after slots p
 held-rooms sent rooms after [] p same = refl
@@ -71,7 +71,7 @@ pub places-append : (slots others : List Slot) → places_of (slots ++ others) �
 places-append [] others = refl
 places-append (s ∷ slots) others = ap (λ ps. s.place ∷ ps) (places-append slots others)
 
--- A link leaves its slot, and what is held for it is put on.
+-- A link leaves its slot, and its held pushes are applied.
 pub settled-leave : (l : Links) (takes_back : Bool) (sent : ℕ) (before behind : List Slot) (s : Slot) (rooms labels : List ℕ) (top bottom : ℕ) → AreLinks l
     → length rooms ≡ length l.heads
     → Descends l labels top bottom (places_of before ++ s.place ∷ places_of behind)
@@ -111,7 +111,7 @@ settled-leave l takes_back sent before behind s rooms labels top bottom links lo
           ) refl
     ])
 
--- A link comes into a slot, with its room: nothing is held for it yet.
+-- A link enters a slot, with its room: nothing is held for it yet.
 pub settled-enter : (l : Links) (takes_back : Bool) (sent : ℕ) (before behind : List Slot) (s : Slot) (rooms : List ℕ) → IsOff s.place (places_of before)
     → IsOff s.place (places_of behind) → room_left sent s.full_at ≡ get_or rooms s.place 0
     → settled l takes_back sent (before ++ s ∷ behind) rooms ≡ settled l takes_back sent (before ++ behind) rooms
@@ -127,14 +127,14 @@ settled-enter l takes_back sent before behind s rooms off later_off now =
     same-settled l takes_back sent (before ++ s ∷ behind) (before ++ behind) rooms rooms refl
     (λ p inside. rw (held p, held (get_or l.partners p 0)) refl)
 
--- For a link that is in no slot, and whose opposite is in none, nothing is held.
+-- If neither a link nor its opposite is in a slot, nothing is held for either.
 pub room-off : (l : Links) (takes_back : Bool) (sent : ℕ) (slots : List Slot) (rooms : List ℕ) (p : ℕ) → p < length rooms → IsOff p (places_of slots)
     → IsOff (get_or l.partners p 0) (places_of slots) → get_or (settled l takes_back sent slots rooms) p 0 ≡ get_or rooms p 0
 room-off l takes_back sent slots rooms p within off partner_off =
     room-settled l takes_back sent slots rooms p within
     ∙ rw (held-off sent rooms slots p off, held-off sent rooms slots (get_or l.partners p 0) partner_off) (nothing takes_back (get_or rooms p 0))
 
--- At most a link's room is held for it.
+-- The amount held for a link is at most its room.
 pub held-le : (sent : ℕ) (rooms : List ℕ) (slots : List Slot) (p : ℕ) → held_for sent rooms slots p ≤ get_or rooms p 0
 held-le sent rooms [] p = omega arith
 held-le sent rooms (s ∷ slots) p = ⊎_elim

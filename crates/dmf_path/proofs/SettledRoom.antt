@@ -1,4 +1,4 @@
--- The room of one link, once what is held is put on, as it is found by its slot.
+-- The settled room of one link, by its slot.
 use Rattle.std.proofs.Common.{ℕ, ◌≡◌, ◌≢◌, ◌+◌, ◌-◌, ◌^◌, ◌<◌, Bool, true, false, List, [], ◌∷◌, ◌++◌, length, get_or, refl, ap, ◌∙◌, arith, ⊎_elim, eq-eqb}
 use Rattle.std.proofs.Common.{Some, None, unwrap_or}
 use Rattle.std.proofs.lemmas.Bool.{cases_eq, ne_eqb}
@@ -8,7 +8,7 @@ use Rattle.dmf_path.specs.Held.{Way, held_for, held_in, filled_slots, settled, r
 use Rattle.dmf_path.proofs.Settled.{room-settled, AreRooms-settled}
 use Rattle.dmf_path.proofs.Settling.{settled-none}
 
--- What is held for a link that is in one of the first slots,
+-- The amount held for a link that is in one of the first slots,
 pub held-here : (sent : ℕ) (rooms : List ℕ) (slots others : List Slot) (p held : ℕ) → held_in sent rooms slots p ≡ Some held
     → held ≡ held_for sent rooms (slots ++ others) p
 held-here sent rooms [] others p held found = absurd (cc)
@@ -17,7 +17,7 @@ held-here sent rooms (s ∷ slots) others p held found = ⊎_elim
     (λ (apart : s.place ≢ p). let later = rw (ne_eqb s.place p apart) at found in rw (ne_eqb s.place p apart) (held-here sent rooms slots others p held later))
     (cases_eq s.place p)
 
--- and for one that is in none of them.
+-- and for a link that is in none of them.
 pub held-behind : (sent : ℕ) (rooms : List ℕ) (slots others : List Slot) (p : ℕ) → held_in sent rooms slots p ≡ None
     → held_for sent rooms (slots ++ others) p ≡ held_for sent rooms others p
 held-behind sent rooms [] others p none = refl
@@ -33,16 +33,16 @@ held-unwrapped sent rooms (s ∷ slots) p = ⊎_elim
     (λ (apart : s.place ≢ p). rw (ne_eqb s.place p apart) (held-unwrapped sent rooms slots p))
     (cases_eq s.place p)
 
--- Where no slot is filled, the rooms are as they are told.
+-- If no slot is filled, the rooms are settled.
 pub rooms_with-empty : (l : Links) (takes_back : Bool) (w : Way) (rooms : List ℕ) → filled_slots w ≡ [] → rooms_with l takes_back w rooms ≡ rooms
 rooms_with-empty l takes_back w rooms empty = ap (λ (ss : List Slot). settled l takes_back w.sent ss rooms) empty ∙ settled-none l takes_back w.sent rooms
 
--- the room of a link whose pushes cannot be taken back,
+-- the room of a link if pushes cannot be taken back,
 pub room-along : (l : Links) (takes_back : Bool) (sent : ℕ) (slots : List Slot) (rooms : List ℕ) (p : ℕ) → p < length rooms → takes_back ≡ false
     → get_or (settled l takes_back sent slots rooms) p 0 ≡ get_or rooms p 0 - held_for sent rooms slots p
 room-along l takes_back sent slots rooms p within is = room-settled l takes_back sent slots rooms p within ∙ rw is (omega arith)
 
--- and of one whose pushes can.
+-- and if they can.
 pub room-back : (l : Links) (takes_back : Bool) (sent : ℕ) (slots : List Slot) (rooms : List ℕ) (p : ℕ) → p < length rooms → takes_back ≡ true
     → get_or (settled l takes_back sent slots rooms) p 0 ≡ get_or rooms p 0 - held_for sent rooms slots p + held_for sent rooms slots (get_or l.partners p 0)
 room-back l takes_back sent slots rooms p within is = room-settled l takes_back sent slots rooms p within ∙ rw is refl

@@ -1,4 +1,4 @@
--- The rooms, once what is held on a path is put on: what becomes of them where more is sent along the path.
+-- The settled rooms when more is sent along the path.
 use Rattle.std.proofs.Common.{ℕ, ◌≡◌, ◌≢◌, ◌+◌, ◌-◌, ◌^◌, ◌%◌, ◌<◌, ◌≤◌, ◌⊎◌, inl, inr, Bool, true, false, cond, List, [], ◌∷◌, length, get_or, refl, ap, sym}
 use Rattle.std.proofs.Common.{◌∙◌, arith, ⊎_elim, eq-eqb}
 use Rattle.std.proofs.lemmas.Bool.{cases_eq, ne_eqb}
@@ -23,14 +23,14 @@ pub CanSend-least : (sent amount limit : ℕ) (slots : List Slot) → amount ≤
 CanSend-least sent amount limit [] within = tt
 CanSend-least sent amount limit (s ∷ slots) within = (omega (arith, within), CanSend-least sent amount limit slots (omega (arith, within)))
 
--- What is left fits what is there.
+-- The room that is left does not exceed the room.
 pub HaveLeft-sent : (sent amount : ℕ) (rooms : List ℕ) (slots : List Slot) → sent < 2 ^ 64 → CanSend sent amount slots → HaveLeft sent rooms slots
     → HaveLeft ((sent + amount) % 2 ^ 64) rooms slots
 HaveLeft-sent sent amount rooms [] small can have = tt
 HaveLeft-sent sent amount rooms (s ∷ slots) small can have =
     (have.0, omega (arith, have.1, room_left-sent sent amount s.full_at small have.0 can.0), HaveLeft-sent sent amount rooms slots small can.1 have.2)
 
--- Of a link that is on the path more is held.
+-- More is held for a link on the path.
 held-sent : (sent amount : ℕ) (rooms : List ℕ) (slots : List Slot) (p : ℕ) → sent < 2 ^ 64 → CanSend sent amount slots → HaveLeft sent rooms slots →
     held_for ((sent + amount) % 2 ^ 64) rooms slots p ≡ held_for sent rooms slots p + loss amount p (places_of slots)
 held-sent sent amount rooms [] p small can have = refl
@@ -41,7 +41,7 @@ held-sent sent amount rooms (s ∷ slots) p small can have = ⊎_elim
     (λ (apart : s.place ≢ p). rw (ne_eqb s.place p apart) (held-sent sent amount rooms slots p small can.1 have.2))
     (cases_eq s.place p)
 
--- A link that is none of these loses nothing.
+-- A link that is not on the path loses nothing.
 loss-off : (amount p : ℕ) (ps : List ℕ) → IsOff p ps → loss amount p ps ≡ 0
 loss-off amount p [] off = refl
 loss-off amount p (q ∷ ps) off = rw (ne_eqb q p off.0) (loss-off amount p ps off.1)
@@ -51,7 +51,7 @@ more-held : (takes_back : Bool) (room held partner lost gained : ℕ) → (partn
 more-held true room held partner lost gained none = ⊎_elim (λ (a : partner ≡ 0). omega (arith, a)) (λ (b : lost ≡ 0). omega (arith, b)) none
 more-held false room held partner lost gained none = omega arith
 
--- As much as is sent more is pushed along the path.
+-- The additional amount is pushed along the path.
 pub settled-sent : (l : Links) (takes_back : Bool) (sent amount : ℕ) (slots : List Slot) (rooms labels : List ℕ) (v top bottom : ℕ) → AreLinks l
     → length rooms ≡ length l.heads → sent < 2 ^ 64
     → FallsOn l labels v (places_of slots) → Descends l labels top bottom (places_of slots) → CanSend sent amount slots → HaveLeft sent rooms slots
@@ -81,7 +81,7 @@ settled-sent l takes_back sent amount slots rooms labels v top bottom links long
     (sym (room-settled l takes_back sent slots rooms p here))
     ∙ sym (room-pushed l takes_back amount labels before v (places_of slots) p links before_long falls within))
 
--- what is held for each of these links, as the first of their slots tells
+-- the amount held for each of these links, by the first of their slots
 abbrev HoldOwn : ℕ → List ℕ → List Slot → List Slot → Type 0
 HoldOwn sent rooms all [] = Unit {0}
 HoldOwn sent rooms all (s ∷ slots) = (held_for sent rooms all s.place ≡ get_or rooms s.place 0 - room_left sent s.full_at) × HoldOwn sent rooms all slots
@@ -101,7 +101,7 @@ pub left-alone : (takes_back : Bool) (room left : ℕ) → left ≤ room → roo
 left-alone true room left within = omega arith
 left-alone false room left within = omega arith
 
--- the bottleneck on links whose rooms are those that are left
+-- the bottleneck on links, by the rooms that they have left
 bottleneck-left : (l : Links) (takes_back : Bool) (labels : List ℕ) (sent limit : ℕ) (rooms : List ℕ) (all slots : List Slot) (top low high bottom : ℕ)
     → AreLinks l → length rooms ≡ length l.heads
     → Descends l labels high low (places_of all) → Descends l labels top bottom (places_of slots) → HoldOwn sent rooms all slots → HaveLeft sent rooms slots

@@ -1,4 +1,4 @@
--- All links leave, and nothing is held any more.
+-- All links leave, and no push is held any more.
 use Rattle.std.proofs.Common.{ℕ, ◌≡◌, ◌^◌, ◌<◌, Bool, List, [], ◌++◌, length, drop, get_or, ap, sym, ◌∙◌, subst, arith}
 use Rattle.std.proofs.lemmas.List.{append-nil, ext_get_or, drop_all}
 use Rattle.dmf_path.specs.declared.trail.Slot.{Slot}
@@ -13,7 +13,7 @@ use Rattle.dmf_path.proofs.Settled.{places-append, length-settled, room-settled,
 use Rattle.dmf_path.proofs.Leaving.{have-all-left}
 use Rattle.dmf_path.proofs.UnderWay.{descends-way}
 
--- Where no slot is filled, nothing is held.
+-- If no slot is filled, nothing is held.
 pub settled-none : (l : Links) (takes_back : Bool) (sent : ℕ) (rooms : List ℕ) → settled l takes_back sent [] rooms ≡ rooms
 settled-none l takes_back sent rooms =
     ext_get_or 0 (settled l takes_back sent [] rooms) rooms (length-settled l takes_back sent [] rooms)
@@ -21,7 +21,7 @@ settled-none l takes_back sent rooms =
     let here : p < length rooms = omega (arith, within, length-settled l takes_back sent [] rooms) in
     room-settled l takes_back sent [] rooms p here ∙ nothing takes_back (get_or rooms p 0))
 
--- What a search holds can be put on.
+-- The pushes that a search holds can be applied.
 pub can-settle : {r : Residual} {v : Labelling} {w : Way} → IsSearching r v w → CanSettle r w
 can-settle {r = r} {v = v} {w = w} is =
     let l : Links = r.links in
@@ -61,7 +61,7 @@ holding-free l w slots rooms sums small = record {
   have = subst (HaveLeft w.sent rooms) (sym (drop_all (length slots) slots (omega arith))) tt;
 }
 
--- and where nothing was passed that leads to the goal the walk begins.
+-- and the walk begins, if no link is passed that leads to the goal.
 pub way-free : (l : Links) (labels after current : List ℕ) (w : Way) (slots : List Slot) → IsNode l.nodes w.goal → AreCurrent l current
     → ArePassed l labels after w.goal current
     → length slots ≡ get_or labels w.start 0 → get_or labels w.goal 0 ≡ 0 → IsUnderWay l labels after current (with_slots w slots)
@@ -78,7 +78,7 @@ way-free l labels after current w slots goal current_is passed count label =
       goal_label = label;
     }
 
--- Once all links have left it goes on from the start.
+-- After all links have left, it goes on from the start.
 pub way-emptied : (l : Links) (labels after current : List ℕ) (w : Way) → IsNode l.nodes w.goal → IsUnderWay l labels after current w
     → IsUnderWay l labels after current (emptied w)
 way-emptied l labels after current w goal way =

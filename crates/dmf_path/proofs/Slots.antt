@@ -1,11 +1,11 @@
--- Where the link of a new pair goes in among those of a node.
+-- The place at which the link of a new pair goes in among the links of a node.
 use Rattle.std.proofs.Common.{ℕ, ◌≡◌, ◌≢◌, ◌+◌, ◌<◌, List, length, get_or, ap, sym, ◌∙◌, subst, arith, inl, inr}
 use Rattle.std.proofs.lemmas.Bool.{cases_eq}
 use Rattle.dmf_node.specs.Node.{IsNode}
 use Rattle.dmf_path.specs.Links.{Links, LiesAt, AreLinks, ArePlaces, IsOf, IsPlaceOf, tail_of}
 use Rattle.dmf_path.specs.Grown.{IsSlot}
 
--- Before the link of the pair at its index, if that has one there;
+-- It goes in before the link of the pair at its index, if that pair has one there;
 pub slot-at : (l : Links) (places : List ℕ) (v p k : ℕ) → ArePlaces l places → IsNode l.nodes v → LiesAt l v p → p < length l.heads → IsOf l places p k
     → IsSlot l places k v p
 slot-at l places v p k are node lies within of = record {
@@ -18,7 +18,7 @@ slot-at l places v p k are node lies within of = record {
   ];
 }
 
--- and else where the links of the node end, if it was the last pair.
+-- else at the end of the node's links, if that pair was the last.
 pub slot-end : (l : Links) (places : List ℕ) (v k : ℕ) → AreLinks l → IsNode l.nodes v → k + 1 ≡ length places
     → ((p : ℕ) → LiesAt l v p → IsOf l places p k → ⊥) → IsSlot l places k v (get_or l.first (v + 1) 0)
 slot-end l places v k links node long none = record {

@@ -28,17 +28,17 @@ first-or-later s steps t has = place has.0 has.1 has.2
 later : (s : Step) (steps : List Step) (t : Step) → Contains steps t → Contains (s ∷ steps) t
 later s steps t has = (suc has.0, omega (arith, has.1), has.2)
 
--- A path is one of more steps too.
+-- A path is also a path of more steps.
 with-more : (s : Step) (steps : List Step) (a b : ℕ) (p : List Step) → IsPath steps a b p → IsPath (s ∷ steps) a b p
 with-more s steps a b [] leads = leads
 with-more s steps a b (t ∷ p) leads = (later s steps t leads.0, leads.1, with-more s steps t.to b p leads.2)
 
--- Paths to where the step leaves and from where it arrives.
+-- Paths to the tail of the step and from its head.
 record GoesBy (s : Step) (steps : List Step) (a b : ℕ) : Type 0 where
   before : SomePath steps a s.from
   after : SomePath steps s.to b
 
--- a step in front of what is left of a path
+-- a step in front of the rest of a path
 split-first : (s : Step) (steps : List Step) (a b : ℕ) (t : Step) → t.from ≡ a → (t ≡ s) ⊎ Contains steps t → SomePath steps t.to b ⊎ GoesBy s steps t.to b
     → SomePath steps a b ⊎ GoesBy s steps a b
 split-first s steps a b t leaves (inl is) (inl without) = inr (record {
@@ -55,16 +55,16 @@ split-first s steps a b t leaves (inr has) (inr by) = inr (record {
   after = by.after;
 })
 
--- Where a path leads, one leads without the first step, or paths lead to that step and on from it without it.
+-- If a path leads there, one leads there without the first step, or paths lead to that step and on from it without it.
 split-path : (s : Step) (steps : List Step) (a b : ℕ) (p : List Step) → IsPath (s ∷ steps) a b p → SomePath steps a b ⊎ GoesBy s steps a b
 split-path s steps a b [] leads = inl (record { path = []; leads = leads })
 split-path s steps a b (t ∷ p) leads = split-first s steps a b t leads.1 (first-or-later s steps t leads.0) (split-path s steps t.to b p leads.2)
 
--- no path, where there is none without the step and none by it
+-- no path, if none leads without the step and none over it
 no-way : (s : Step) (steps : List Step) (a b : ℕ) → HasNoPath steps a b → (GoesBy s steps a b → ⊥) → HasNoPath (s ∷ steps) a b
 no-way s steps a b without by p leads = ⊎_elim (λ found. without found.path found.leads) by (split-path s steps a b p leads)
 
--- a path by the step
+-- a path over the step
 by-way : (s : Step) (steps : List Step) (a b : ℕ) → SomePath steps a s.from → SomePath steps s.to b → SomePath (s ∷ steps) a b
 by-way s steps a b before after = record {
   path = before.path ++ s ∷ after.path;
@@ -73,7 +73,7 @@ by-way s steps a b before after = record {
       ((0, omega arith, refl), refl, with-more s steps s.to b after.path after.leads);
 }
 
--- one step more, when it is known where paths lead without it
+-- one more step, if it is known where paths lead without it
 path-with : (s : Step) (steps : List Step) (a b : ℕ) → HasNoPath steps a b ⊎ SomePath steps a b → HasNoPath steps a s.from ⊎ SomePath steps a s.from
     → HasNoPath steps s.to b ⊎ SomePath steps s.to b → HasNoPath (s ∷ steps) a b ⊎ SomePath (s ∷ steps) a b
 path-with s steps a b (inr found) before after = inr (record { path = found.path; leads = with-more s steps a b found.path found.leads })
@@ -81,7 +81,7 @@ path-with s steps a b (inl without) (inl none) after = inl (no-way s steps a b w
 path-with s steps a b (inl without) (inr before) (inl none) = inl (no-way s steps a b without (λ by. none by.after.path by.after.leads))
 path-with s steps a b (inl without) (inr before) (inr after) = inr (by-way s steps a b before after)
 
--- Without steps a path leads nowhere else.
+-- Without steps a path leads to its first node only.
 nowhere : (a b : ℕ) → a ≢ b → HasNoPath [] a b
 nowhere a b differ [] leads = differ leads
 nowhere a b differ (t ∷ p) leads = absurd (omega (arith, leads.0.1))
@@ -98,7 +98,7 @@ record FirstGood (Bad Good : Step → Type 0) (steps : List Step) : Type 0 where
   good : Good step
   before : (t : Step) → Contains steps t → t.rank < step.rank → Bad t
 
--- one step more in front
+-- one more step in front
 good-with : (Bad Good : Step → Type 0) (s : Step) (steps : List Step) → Ascend (s ∷ steps) → Bad s ⊎ Good s
     → ((t : Step) → Contains steps t → Bad t) ⊎ FirstGood Bad Good steps → ((t : Step) → Contains (s ∷ steps) t → Bad t) ⊎ FirstGood Bad Good (s ∷ steps)
 good-with Bad Good s steps ascend (inr good) rest = inr (record {
@@ -119,7 +119,7 @@ good-with Bad Good s steps ascend (inl bad) (inr found) = inr (record {
   before = λ t has smaller. ⊎_elim (λ is. subst Bad (sym is) bad) (λ at. found.before t at smaller) (first-or-later s steps t has);
 })
 
--- Where each step is bad or good, all are bad, or there is a first good one.
+-- If each step is bad or good, all are bad, or there is a first good one.
 first-good : (Bad Good : Step → Type 0) → ((s : Step) → Bad s ⊎ Good s) → (steps : List Step) → Ascend steps
     → ((s : Step) → Contains steps s → Bad s) ⊎ FirstGood Bad Good steps
 first-good Bad Good decide [] ascend = inl (λ s has. absurd (omega (arith, has.1)))
@@ -131,7 +131,7 @@ first-good Bad Good decide (s ∷ steps) ascend =
 abbrev HasNoneOf : List Step → ℕ → ℕ → ℕ → Type 0
 HasNoneOf steps count a b = (path : List Step) → IsPath steps a b path → length path ≡ count → ⊥
 
--- Of the paths of `count` steps this one has the first list of ranks.
+-- Among the paths of `count` steps, the ranks of this one come first.
 record FirstOf (steps : List Step) (count a b : ℕ) : Type 0 where
   path : List Step
   leads : IsPath steps a b path
@@ -142,7 +142,7 @@ record FirstOf (steps : List Step) (count a b : ℕ) : Type 0 where
 abbrev BeginsNone : List Step → ℕ → ℕ → ℕ → Step → Type 0
 BeginsNone steps count a b s = (path : List Step) → s.from ≡ a → IsPath steps s.to b path → length path ≡ count → ⊥
 
--- The step leaves `a`, and there is a first path of `count` steps from where it arrives.
+-- The step leaves `a`, and there is a first path of `count` steps from the step's head.
 record BeginsFirst (steps : List Step) (count a b : ℕ) (s : Step) : Type 0 where
   leaves : s.from ≡ a
   onward : FirstOf steps count s.to b
@@ -158,12 +158,12 @@ none-of-0 : (steps : List Step) (a b : ℕ) → a ≢ b → HasNoneOf steps 0 a 
 none-of-0 steps a b differ [] leads long = differ leads
 none-of-0 steps a b differ (s ∷ path) leads long = absurd (omega (arith, long))
 
--- no path, where no step begins one
+-- no path, if no step begins one
 none-begun : (steps : List Step) (count a b : ℕ) → ((s : Step) → Contains steps s → BeginsNone steps count a b s) → HasNoneOf steps (suc count) a b
 none-begun steps count a b all [] leads long = absurd (omega (arith, long))
 none-begun steps count a b all (s ∷ path) leads long = all s leads.0 path leads.1 leads.2 (omega (arith, long))
 
--- No path comes before the one by the first step that begins one, and by the first path onward.
+-- No path comes before the one that takes the first step that begins one, and then the first path onward.
 none-before : (steps : List Step) → Ascend steps → (count a b : ℕ) (found : FirstGood (BeginsNone steps count a b) (BeginsFirst steps count a b) steps)
     (other : List Step) → IsPath steps a b other → length other ≡ suc count → ComesBefore (ranks other) (ranks (found.step ∷ found.good.onward.path)) → ⊥
 none-before steps ascend count a b found [] leads long before = absurd (omega (arith, long))
@@ -175,7 +175,7 @@ none-before steps ascend count a b found (t ∷ other) leads long before =
           found.good.onward.first other (subst (λ u. IsPath steps u.to b other) same leads.2) (omega (arith, long)) tails.1)
     ]
 
--- Of each length there is no path, or a first one.
+-- For each length there is no path, or a first one.
 first-or-none : (steps : List Step) → Ascend steps → (count a b : ℕ) → HasNoneOf steps count a b ⊎ FirstOf steps count a b
 first-or-none steps ascend zero a b =
     ⊎_elim (λ same. inr (record { path = []; leads = same; long = refl; first = λ other leads long before. before }))
@@ -198,7 +198,7 @@ record LeastGood (Bad Good : ℕ → Type 0) : Type 0 where
   good : Good at
   before : (k : ℕ) → k < at → Bad k
 
--- Where each number is bad or good, all below a bound are bad, or there is a least good one.
+-- If each number is bad or good, all below a bound are bad, or there is a least good one.
 least-good : (Bad Good : ℕ → Type 0) → ((k : ℕ) → Bad k ⊎ Good k) → (bound : ℕ) → ((k : ℕ) → k < bound → Bad k) ⊎ LeastGood Bad Good
 least-good Bad Good decide zero = inl (λ k below. absurd (omega (arith, below)))
 least-good Bad Good decide (suc bound) = one-more (least-good Bad Good decide bound) (decide bound)
@@ -214,7 +214,7 @@ pub record SomeLeast (steps : List Step) (a b : ℕ) : Type 0 where
   pub path : List Step
   pub least : IsLeastPath steps a b path
 
--- Where a path leads from the one node to the other there is a least path.
+-- If a path leads from the one node to the other, there is a least path.
 pub least-path : (steps : List Step) → Ascend steps → (a b : ℕ) → SomePath steps a b → SomeLeast steps a b
 least-path steps ascend a b some =
     elim (least-good (λ count. HasNoneOf steps count a b) (λ count. FirstOf steps count a b) (λ count. first-or-none steps ascend count a b)

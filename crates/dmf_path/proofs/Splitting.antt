@@ -1,4 +1,4 @@
--- A path is split at its full links: the links before them and after them are the walk and the rest from then on.
+-- Splitting a path at its full links: the links before and after them become the walk and the rest.
 use Rattle.std.proofs.Common.{ℕ, ◌≡◌, ◌≢◌, ◌+◌, ◌-◌, ◌^◌, ◌<◌, ◌≤◌, min, Bool, List, [], ◌∷◌, ◌++◌, length, take, drop, get_or, ap, sym, ◌∙◌, subst, ⊎_elim}
 use Rattle.std.proofs.Common.{arith}
 use Rattle.std.proofs.lemmas.Bool.{cases_lt}
@@ -18,7 +18,7 @@ use Rattle.dmf_path.proofs.Settled.{places-append}
 use Rattle.dmf_path.proofs.Leaving.{HaveAllLeft, have-all-left}
 use Rattle.dmf_path.proofs.UnderWayWhole.{IsTrail-behind, end_of-append, slot-open}
 
--- A path in all slots, along which more was sent, so that some links may be full.
+-- A path in all slots, after more was sent along it, so some links may be full.
 pub record IsSent (r : Residual) (labels before current : List ℕ) (w : Way) : Type 0 where
   pub links : AreLinks r.links
   pub start_is : IsNode r.links.nodes w.start
@@ -60,7 +60,7 @@ front-open r labels before current w n is not_full =
 split-whole : (slots : List Slot) (n : ℕ) → places_of slots ≡ places_of (take n slots) ++ places_of (drop n slots)
 split-whole slots n = ap places_of (sym (take-append-drop n slots)) ∙ places-append (take n slots) (drop n slots)
 
--- and so are those of its last ones.
+-- and so are the links of its last slots.
 rest-open : (r : Residual) (labels before current : List ℕ) (w : Way) (n : ℕ) → IsSent r labels before current w
     → ((i : ℕ) → n ≤ i → i < length w.slots → (slot_at w.slots i).full_at ≢ w.sent)
     → IsTrail r.links labels (settled r.links r.takes_back w.sent w.slots r.rooms) current (end_of r.links w.start (places_of (take n w.slots)))
@@ -87,7 +87,7 @@ rest-ends r labels before current w n is =
     sym (end_of-append r.links w.start (places_of (take n w.slots)) (places_of (drop n w.slots))) ∙ ap (end_of r.links w.start)
     (sym (split-whole w.slots n)) ∙ is.ends
 
--- What the split leaves.
+-- The result of the split.
 pub record HasSplit (r : Residual) (labels : List ℕ) (aim : Residual) (current : List ℕ) (w : Way) : Type 0 where
   pub way : IsUnderWay r.links labels aim.rooms current w
   pub holding : IsHolding r.links w r.rooms
@@ -124,7 +124,7 @@ pub split-capacity : (r : Residual) (w : Way) (next : Residual) (new : Way) → 
 split-capacity r w next new (stays first behind none open_links same kept) = ap (λ (u : Way). u.capacity) same
 split-capacity r w next new (split_at first behind less within open_links same kept) = ap (λ (u : Way). u.capacity) same
 
--- the links along which so much was sent, once all of it is put on
+-- the links along which so much was sent, once their held pushes are applied
 abbrev pub sent_along : Residual → Way → Residual
 sent_along r w = roomed r (settled r.links r.takes_back w.sent w.slots r.rooms)
 

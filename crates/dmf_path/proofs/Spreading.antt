@@ -7,7 +7,7 @@ use Rattle.std.proofs.lemmas.List.Sums.{sum_by-set}
 use Rattle.std.proofs.lemmas.List.Elements.{Contains-append_left, Contains-push, Contains-push_cases}
 use Rattle.dmf_path.specs.Labels.{no_label, unlabelled_count, IsLedTo, Spreads}
 
--- one node without a label less
+-- one node less without a label
 pub unlabelled_count-set : (labels : List ℕ) (v label : ℕ) → v < length labels → slice_index labels v ≡ no_label → label ≢ no_label
     → 1 + unlabelled_count (set labels v label) ≡ unlabelled_count labels
 unlabelled_count-set labels v label within none some =
@@ -20,7 +20,7 @@ unlabelled_count-set labels v label within none some =
     (eqb_tells label no_label) in
     omega (arith, sums, was, gone)
 
--- what a node's label is once node `v` is given one
+-- the label of a node after node `v` gets one
 pub cases-set : (labels : List ℕ) (v u label : ℕ) → v < length labels → ((u ≡ v) × (slice_index (set labels v label) u ≡ label))
     ⊎ ((u ≢ v) × (slice_index (set labels v label) u ≡ slice_index labels u))
 cases-set labels v u label within =
@@ -29,7 +29,7 @@ cases-set labels v u label within =
     (λ (elsewhere : ((u == v) ≡ false) × (u ≢ v)). inr (elsewhere.1, get_or-set_other labels v u label 0 elsewhere.1))
     (eqb_tells u v)
 
--- one place more from which a node is led to
+-- one more place whose link leads to a node
 led_to-next : (heads opens : List ℕ) (from end v : ℕ) → IsLedTo heads opens from end v → IsLedTo heads opens from (end + 1) v
 led_to-next heads opens from end v led = record {
   place = led.place;

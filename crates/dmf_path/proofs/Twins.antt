@@ -1,4 +1,4 @@
--- Pairs with the ends of links that are there have the places of these, and their rooms are put at them.
+-- Pairs with the same ends as some links can take over their places, and have their rooms put there.
 use Rattle.std.proofs.Common.{ℕ, ◌≡◌, ◌≢◌, ◌<◌, ◌≤◌, List, [], ◌∷◌, length, map, get_or, Option, Some, None, refl, ap, sym, ◌∙◌, ⊎_elim, inl, inr, arith}
 use Rattle.std.specs.List.{slice_get}
 use Rattle.std.proofs.lemmas.Bool.{cases_eq, cases_lt, eq-eqb, ne_eqb, cond-true, cond-false}
@@ -19,7 +19,7 @@ opposites_of l places = map (λ place. get_or l.partners place 0) places
 abbrev pub HaveEnds : Links → List ℕ → List (Option Pair) → Type 0
 HaveEnds l places pairs = map emptied pairs ≡ pairs_at l places []
 
--- Pairs keep their ends, whatever their rooms are.
+-- Pairs keep their ends, whatever rooms they have.
 emptied-pair : (l : Links) (rooms : List ℕ) (place : ℕ) → emptied (pair_at l rooms place) ≡ pair_at l [] place
 emptied-pair l rooms place =
     ⊎_elim
@@ -31,12 +31,12 @@ pub emptied-pairs : (l : Links) (places rooms : List ℕ) → map emptied (pairs
 emptied-pairs l [] rooms = refl
 emptied-pairs l (place ∷ places) rooms = λ i. emptied-pair l rooms place i ∷ emptied-pairs l places rooms i
 
--- There is a place for each,
+-- There is a place for each pair,
 pub one_place-each : (l : Links) (places : List ℕ) (pairs : List (Option Pair)) → HaveEnds l places pairs → length places ≡ length pairs
 one_place-each l places pairs same =
     sym (length-map places (pair_at l [])) ∙ ap (λ (ps : List (Option Pair)). length ps) (sym same) ∙ length-map pairs emptied
 
--- and each has the ends of the link there.
+-- and each pair has the ends of the link there.
 emptied-at : (l : Links) (places : List ℕ) (pairs : List (Option Pair)) (k : ℕ) (o : Option Pair) → HaveEnds l places pairs → k < length pairs
     → get_or pairs k None ≡ o → emptied o ≡ pair_at l [] (get_or places k 0)
 emptied-at l places pairs k o same within is =
@@ -80,7 +80,7 @@ ends-none l place same =
     (λ (other : place ≢ no_place). absurd (none-some (empty_at l place) (same ∙ cond-false _ _ _ (ne_eqb place no_place other))))
     (cases_eq place no_place)
 
--- So a pair has a place and an opposite one.
+-- So a pair has a place and the place of its opposite.
 pub record IsAt (l : Links) (places : List ℕ) (j : ℕ) : Type 0 where
   pub index : j < length places
   pub there : get_or places j 0 ≢ no_place
@@ -141,7 +141,7 @@ apart-ends l places pairs links are same =
           partner-other l (get_or places k 0) links b.within (sym b.opposite ∙ sym meet ∙ ap (λ i. get_or places i 0) e);
     }
 
--- The pair at the place of a pair is that pair, once its rooms are put there,
+-- After its rooms are put there, the pair at the place of a pair is that pair,
 pair-put : (l : Links) (places rooms : List ℕ) (pairs : List (Option Pair)) (k : ℕ) (o : Option Pair) → AreLinks l → ArePlaces l places
     → HaveEnds l places pairs
     → ArePut pairs places (opposites_of l places) (λ j p. p.along) (λ j p. p.against) (length pairs) rooms → k < length pairs → get_or pairs k None ≡ o
@@ -157,7 +157,7 @@ pair-put l places rooms pairs k (Some p) links are same put within is =
     cond-false _ _ _ (ne_eqb (get_or places k 0) no_place ends.there)
     ∙ λ i. Some (record { tail = ends.tail i; head = ends.head i; along = both.0 i; against = against i })
 
--- so they are the pairs.
+-- so these are the pairs.
 pub pairs-put : (l : Links) (places rooms : List ℕ) (pairs : List (Option Pair)) → AreLinks l → ArePlaces l places → HaveEnds l places pairs
     → ArePut pairs places (opposites_of l places) (λ j p. p.along) (λ j p. p.against) (length pairs) rooms → pairs_at l places rooms ≡ pairs
 pairs-put l places rooms pairs links are same put =

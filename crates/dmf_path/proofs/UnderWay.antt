@@ -1,4 +1,4 @@
--- How far the search for the next path has come: what its two parts say of a link of the node to which the walk has come.
+-- How far the search for the next path has come: what its two parts say about a link of the walk's last node.
 use Rattle.std.proofs.Common.{ℕ, ◌≡◌, ◌≢◌, ◌+◌, ◌-◌, ◌<◌, ◌≤◌, Bool, List, [], ◌∷◌, ◌++◌, length, set, get_or, ap, sym, ◌∙◌, subst, arith}
 use Rattle.std.proofs.lemmas.List.{get_or-set_other, length-take-le, length-drop, length-map, nil_from_length}
 use Rattle.dmf_node.specs.Node.{IsNode}
@@ -11,7 +11,7 @@ use Rattle.dmf_path.proofs.Walking.{label-trail}
 use Rattle.dmf_path.proofs.Descending.{Descends, descends-raised, descends-append, descends-trail, off-above, off-below, off-append, off-partner}
 use Rattle.dmf_path.proofs.Settled.{places-append, room-off}
 
--- Another current link, of a node from which the trail does not begin and that is not lower, leaves the trail.
+-- Changing the current link of a node leaves the trail, if the trail does not begin there and the node is not lower.
 pub IsTrail-set_above : (l : Links) (labels rooms current : List ℕ) (v : ℕ) (ps : List ℕ) (x y : ℕ) → IsTrail l labels rooms current v ps → v ≢ x
     → get_or labels v 0 ≤ get_or labels x 0 → IsTrail l labels rooms (set current x y) v ps
 IsTrail-set_above l labels rooms current v [] x y trail other low = tt
@@ -42,7 +42,7 @@ rest-label l labels rooms current w way =
       label-trail l labels rooms current w.joint (places_of (rest_slots w)) way.rest_is,
     )
 
--- The rest begins no higher than the walk has come.
+-- The rest begins no higher than the walk's last node.
 pub joint-low : (l : Links) (labels rooms current : List ℕ) (w : Way) → IsUnderWay l labels rooms current w
     → get_or labels w.joint 0 ≤ get_or labels (end_of l w.start (places_of (walked_slots w))) 0
 joint-low l labels rooms current w way = omega (arith, walked-label l labels rooms current w way, rest-label l labels rooms current w way, way.order)
@@ -69,7 +69,7 @@ descends-way l labels rooms current w links start way =
     (descends-raised l labels (get_or labels w.joint 0) (get_or labels (end_of l w.start (places_of (walked_slots w))) 0) 0 (places_of (rest_slots w))
     (joint-low l labels rooms current w way) (descends-rest l labels rooms current w links way))
 
--- A link of a node from which the trail does not begin, and that is not lower, is none of its links.
+-- A link of a node is not on the trail, if the trail does not begin there and the node is not lower.
 off-trail : (l : Links) (labels rooms current : List ℕ) (v : ℕ) (ps : List ℕ) (x p : ℕ) → AreLinks l → IsNode l.nodes v → IsTrail l labels rooms current v ps
     → v ≢ x → get_or labels v 0 ≤ get_or labels x 0 → tail_of l p ≡ x → IsOff p ps
 off-trail l labels rooms current v [] x p links node trail other low tail = tt
@@ -81,7 +81,7 @@ off-trail l labels rooms current v (q ∷ ps) x p links node trail other low tai
           (omega (arith, trail.0.falls, low, ap (λ u. get_or labels u 0) tail)),
     )
 
--- A link that falls from the node to which the walk has come is in no slot,
+-- A link that falls from the walk's last node is in no slot,
 pub record IsFree (l : Links) (w : Way) (p : ℕ) : Type 0 where
   pub within : p < length l.heads
   pub walked : IsOff p (places_of (walked_slots w))
@@ -108,14 +108,14 @@ is-free l labels rooms current w node p links start is_node way arrives other li
           (falls ∙ ap (λ u. get_or labels u 0) (sym tail)) (descends-way l labels rooms current w links start way));
     }
 
--- and its room is as it is told.
+-- and its room is its settled room.
 pub free-room : (l : Links) (takes_back : Bool) (w : Way) (rooms : List ℕ) (p : ℕ) → length rooms ≡ length l.heads → IsFree l w p
     → get_or (rooms_with l takes_back w rooms) p 0 ≡ get_or rooms p 0
 free-room l takes_back w rooms p long free =
     room-off l takes_back w.sent (filled_slots w) rooms p (omega (arith, free.within, long))
     (rw places-append (off-append p (places_of (walked_slots w)) (places_of (rest_slots w)) free.walked free.rest)) free.partner
 
--- Where the walk has come to the goal, it is where the rest begins.
+-- If the walk has come to the goal, it is where the rest begins.
 pub goal-joint : (l : Links) (labels rooms current : List ℕ) (w : Way) (node : ℕ) → IsUnderWay l labels rooms current w
     → end_of l w.start (places_of (walked_slots w)) ≡ node → node ≢ w.joint → node ≢ w.goal
 goal-joint l labels rooms current w node way arrives other same =

@@ -1,4 +1,4 @@
--- A path from the start to the goal, its links in all slots: more is sent along it, and it is split.
+-- A path from the start to the goal with its links in all slots: more is sent along it, and it is split.
 use Rattle.std.proofs.Common.{ℕ, ◌≡◌, ◌≢◌, ◌+◌, ◌-◌, ◌^◌, ◌<◌, ◌≤◌, Bool, List, [], ◌∷◌, ◌++◌, length, take, drop, get_or, refl, ap, sym, ◌∙◌, subst, ⊎_elim}
 use Rattle.std.proofs.Common.{arith}
 use Rattle.std.proofs.lemmas.Bool.{cases_lt}
@@ -15,7 +15,7 @@ use Rattle.dmf_path.proofs.SettledSent.{left-alone}
 use Rattle.dmf_path.proofs.Leaving.{HaveLeft-split}
 use Rattle.dmf_path.proofs.UnderWay.{walked-label, rest-label}
 
--- a trail that goes on with another
+-- a trail followed by another
 pub IsTrail-append : (l : Links) (labels rooms current : List ℕ) (v : ℕ) (ps qs : List ℕ) → IsTrail l labels rooms current v ps
     → IsTrail l labels rooms current (end_of l v ps) qs → IsTrail l labels rooms current v (ps ++ qs)
 IsTrail-append l labels rooms current v [] qs first later = later
@@ -34,7 +34,7 @@ pub end_of-append : (l : Links) (v : ℕ) (ps qs : List ℕ) → end_of l v (ps 
 end_of-append l v [] qs = refl
 end_of-append l v (p ∷ ps) qs = end_of-append l (get_or l.heads p 0) ps qs
 
--- The walk has come to where the rest begins: a path from the start to the goal.
+-- The walk has come to the node where the rest begins: the two are a path from the start to the goal.
 pub record IsWhole (l : Links) (labels after current : List ℕ) (w : Way) : Type 0 where
   pub meets : w.walked ≡ w.rest
   pub filled : filled_slots w ≡ w.slots
@@ -74,7 +74,7 @@ split-places slots i within = ap places_of (split-at slots i within) ∙ places-
 abbrev IsSlotHeld : ℕ → List ℕ → List Slot → Slot → Type 0
 IsSlotHeld sent rooms slots s = held_for sent rooms slots s.place ≡ get_or rooms s.place 0 - room_left sent s.full_at
 
--- The room of its link is what is left to it.
+-- The room of its link is the room that it has left.
 slot-room : (l : Links) (takes_back : Bool) (labels : List ℕ) (sent top bottom : ℕ) (rooms : List ℕ) (slots : List Slot) (i : ℕ) → AreLinks l
     → length rooms ≡ length l.heads → Descends l labels top bottom (places_of slots) → HaveLeft sent rooms slots → i < length slots
     → (get_or (settled l takes_back sent slots rooms) (slot_at slots i).place 0 ≡ room_left sent (slot_at slots i).full_at)

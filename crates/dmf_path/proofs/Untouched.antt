@@ -1,4 +1,4 @@
--- Pairs that no path has led over: what is sent does not change them.
+-- Pushes do not change the pairs that no path has used.
 use Rattle.std.proofs.Common.{ℕ, ◌≡◌, ◌≢◌, ◌<◌, ◌≤◌, ◌==◌, Bool, true, false, List, [], ◌∷◌, length, get_or, suc, refl, sym, ◌∙◌, subst, arith}
 use Rattle.std.proofs.Common.{⊎_elim, inl, inr, eq-eqb, Option, None, Vec, Global}
 use Rattle.std.specs.List.{Contains}
@@ -59,7 +59,7 @@ pair-kept l before after place false e same =
     let rooms = same refl in
     rw (e, rooms.0, rooms.1) refl
 
--- What is sent along links leaves the pairs as they are that are not touched, where the pairs of those links are.
+-- Pushes along links leave the pairs that are not touched, if the pairs of these links are touched.
 kept-listed : (l : Links) (takes_back : Bool) (places numbers rooms : List ℕ) (sent more : ℕ) (slots : List Slot) (touched : Option (List ℕ))
     → AreLinks l → ArePlaces l places → AreNumbers l places numbers → length rooms ≡ length l.heads → AreTouched numbers slots touched
     → KeepsUntouched touched (pairs_at l places (settled l takes_back sent slots rooms)) (pairs_at l places (settled l takes_back more slots rooms))
@@ -86,7 +86,7 @@ kept-listed l takes_back places numbers rooms sent more slots touched links are 
     none after ∙ sym (none before))
     (cases_lt k (length places))
 
--- The numbers of all links in slots are listed.
+-- The list has the numbers of all links in slots.
 numbers-listed : (known : List ℕ) (slots : List Slot) (i : ℕ) → i < length slots → Contains (numbers_of known slots) (get_or known (slot_at slots i).place 0)
 numbers-listed known slots i h =
     let number : Slot → ℕ = λ s. get_or known s.place 0 in
@@ -119,7 +119,7 @@ number-of-slot l places known slots k are within has =
     let is : get_or known (slot_at slots i).place 0 ≡ k = sym (get_or-map number slots i (record { place = 0; full_at = 0 }) k inside) ∙ has.2 in
     subst (λ j. j < length places) is (are.1 (slot_at slots i).place (within i inside)).0
 
--- and no index is listed that has no pair.
+-- and the list gets only indices of pairs.
 pub touched-below : (l : Links) (places : List ℕ) (numbers : Option (Rc (Vec ℕ Global) Global)) (slots : List Slot) (old touched : Option (List ℕ))
     → MayBeNumbered l places numbers → AreWithin l slots → Lists numbers slots old touched
     → AreBelow (length places) old → AreBelow (length places) touched

@@ -19,7 +19,7 @@ pub end_of-push : (l : Links) (v : ℕ) (ps : List ℕ) (p : ℕ) → end_of l v
 end_of-push l v [] p = refl
 end_of-push l v (q ∷ ps) p = end_of-push l (slice_index l.heads q) ps p
 
--- A trail is as long as the label falls.
+-- A trail is as long as its labels fall.
 pub label-trail : (l : Links) (labels rooms current : List ℕ) (v : ℕ) (ps : List ℕ) → IsTrail l labels rooms current v ps
     → length ps + slice_index labels (end_of l v ps) ≡ slice_index labels v
 label-trail l labels rooms current v [] trail = omega arith
@@ -32,7 +32,7 @@ end-node l labels rooms current v [] are node trail = node
 end-node l labels rooms current v (p ∷ ps) are node trail =
     end-node l labels rooms current (slice_index l.heads p) ps are (are.each p (lies-within l v p are node trail.0.lies)).head trail.2
 
--- A trail goes on along an admissible link, where that is the current one.
+-- A trail goes on along an admissible link, if that is the current one.
 IsTrail-push : (l : Links) (labels rooms current : List ℕ) (v : ℕ) (ps : List ℕ) (p : ℕ) → IsTrail l labels rooms current v ps
     → IsAdmissible l labels rooms (end_of l v ps) p → slice_index current (end_of l v ps) ≡ p → IsTrail l labels rooms current v (ps ++ p ∷ [])
 IsTrail-push l labels rooms current v [] p trail admissible is = (admissible, is, tt)
@@ -47,7 +47,7 @@ IsTrail-pop l labels rooms current v (q ∷ ps) p trail =
     let before = IsTrail-pop l labels rooms current (slice_index l.heads q) ps p trail.2 in
     ((trail.0, trail.1, before.0), before.1, before.2)
 
--- Another current link, where the trail ends or lower, leaves the trail.
+-- Changing a current link at the end of the trail or lower leaves the trail.
 IsTrail-set : (l : Links) (labels rooms current : List ℕ) (v : ℕ) (ps : List ℕ) (x y : ℕ) → IsTrail l labels rooms current v ps
     → slice_index labels x ≤ slice_index labels (end_of l v ps) → IsTrail l labels rooms (set current x y) v ps
 IsTrail-set l labels rooms current v [] x y trail low = tt
@@ -56,7 +56,7 @@ IsTrail-set l labels rooms current v (p ∷ ps) x y trail low =
     let other : v ≢ x = λ same. absurd (omega (arith, ap (λ u. slice_index labels u) same, trail.0.falls, falls, low)) in
     (trail.0, get_or-set_other current x v y 0 other ∙ trail.1, IsTrail-set l labels rooms current (slice_index l.heads p) ps x y trail.2 low)
 
--- Another current link of a node that is one of its own, or after them.
+-- Another current link of a node: one of its own links, or the place after them.
 pub AreCurrent-set : (l : Links) (current : List ℕ) (x y : ℕ) → AreCurrent l current → IsNode l.nodes x → slice_index l.first x ≤ y
     → y ≤ slice_index l.first (x + 1) → AreCurrent l (set current x y)
 AreCurrent-set l current x y are node from to =
@@ -74,7 +74,7 @@ AreCurrent-set l current x y are node from to =
           (at v);
     }
 
--- The links from the current one on may be passed with which no walk begins.
+-- Links from the current one on may be passed, if no walk begins with them.
 ArePassed-set : (l : Links) (labels rooms current : List ℕ) (goal x y : ℕ) → ArePassed l labels rooms goal current → x < length current
     → ((p : ℕ) (ps : List ℕ) → slice_index current x ≤ p → p < y → ¬ IsWalk l labels rooms goal x (p ∷ ps)) → ArePassed l labels rooms goal (set current x y)
 ArePassed-set l labels rooms current goal x y passed within none v p ps node lies before walk =

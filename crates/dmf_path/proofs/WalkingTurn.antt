@@ -1,4 +1,4 @@
--- One turn of a walk: the first admissible link of its node is taken, or where there is none, the walk steps back.
+-- One turn of a walk: it takes the first admissible link of its node, or steps back if there is none.
 use Rattle.std.proofs.Common.{ℕ, ◌≡◌, ◌≢◌, ◌+◌, ◌-◌, ◌*◌, ◌<◌, ◌≤◌, List, [], ◌∷◌, ◌++◌, length, set, slice_index, get_or, sum_by, ap, sym, subst, ◌∙◌, arith}
 use Rattle.std.proofs.Math.Nat.{mul-le-mul_right}
 use Rattle.std.proofs.lemmas.List.{get_or-set_same, get_or_default, length-set}
@@ -9,8 +9,7 @@ use Rattle.dmf_path.specs.Walk.{IsWalk, end_of}
 use Rattle.dmf_path.proofs.LinkPlaces.{lies-within, last-within}
 use Rattle.dmf_path.proofs.Walking.{HasCome, label-trail, IsTrail-pop, end-node, dead-end, walking-set, come-back}
 
--- The node to which a walk has come, its links, of which those before `place` are not admissible, and the place at which
--- they end.
+-- The last node of a walk and its links: those before `place` are not admissible, and this is the place at which they end.
 pub record WalkTurn : Type 0 where
   pub l : Links
   pub labels : List ℕ
@@ -33,7 +32,7 @@ pub record WalkTurn : Type 0 where
   pub none : (p : ℕ) → slice_index current node ≤ p → p < place → 0 < slice_index rooms p
       → slice_index labels (slice_index heads p) + 1 ≢ slice_index labels node
 
--- a turn, of what is known of its first admissible link
+-- a turn, by its node's first admissible link
 abbrev pub walk-turn : (l : Links) (labels rooms : List ℕ) (start goal : ℕ) (current trail : List ℕ) (node place end : ℕ) (heads : List ℕ) → AreLinks l
     → IsNode l.nodes start → HasCome l labels rooms start goal current trail node
     → end ≡ get_or l.first (node + 1) end → heads ≡ l.heads → slice_index current node ≤ place → place ≤ end
@@ -84,7 +83,7 @@ found-within t found = omega (arith, end-is t, last-within t.l t.node t.are t.co
 all-passed : (t : WalkTurn) → t.end ≤ t.place → slice_index t.l.first (t.node + 1) ≤ slice_index (set t.current t.node t.place) t.node
 all-passed t none = omega (arith, end-is t, get_or-set_same t.current t.node t.place 0 (node-within t))
 
--- No walk leads on from the start, where the trail is empty.
+-- No walk leads on from the start, if the trail is empty.
 pub none-found : (t : WalkTurn) → t.end ≤ t.place → t.node ≢ t.goal → t.trail ≡ [] → (ps : List ℕ) → ¬ IsWalk t.l t.labels t.rooms t.goal t.start ps
 none-found t none other empty ps walk =
     let is : t.start ≡ t.node = sym (ap (λ trail. end_of t.l t.start trail) empty) ∙ t.come.arrives in
@@ -92,7 +91,7 @@ none-found t none other empty ps walk =
     dead-end t.l t.labels t.rooms (set t.current t.node t.place) t.goal t.node (come-moved t).walking.passed t.come.is_node other (all-passed t none) ps
     (subst P is walk)
 
--- What is known of the last link of the trail.
+-- The last link of the trail.
 pub record IsLast (t : WalkTurn) (back : ℕ) : Type 0 where
   pub within : back < length t.l.heads
   pub is_link : IsLink t.l back
@@ -122,17 +121,16 @@ come-popped t rest back tail none other popped is =
     rw is (come-back t.l t.labels t.rooms t.start t.goal (set t.current t.node t.place) rest t.node back t.are t.at_start (rw popped at come) other
     (all-passed t none))
 
--- how many links are not yet passed, each counted for all that a walk may do until it comes back to it, and what is left
--- of this
+-- the number of links that are not yet passed, each weighted by the work until the walk comes back to it, and what is left of this work
 abbrev pub work_left : Links → List ℕ → ℕ → List ℕ → ℕ → ℕ
 work_left l labels start current node = sum_by (λ p. length l.heads - p) current * (slice_index labels start + 1) + slice_index labels node
 
--- A current link that moves on leaves at most as many.
+-- A current link that moves on leaves at most as much work,
 not_passed-set : (n : ℕ) (current : List ℕ) (v p : ℕ) → v < length current → slice_index current v ≤ p
     → sum_by (λ q. n - q) (set current v p) ≤ sum_by (λ q. n - q) current
 not_passed-set n current v p within on = omega (arith, sum_by-set (λ q. n - q) current v p 0 within)
 
--- and less where it stood at a link.
+-- and less if it stood at a link.
 passed-set : (n : ℕ) (current : List ℕ) (v p : ℕ) → v < length current → slice_index current v < p → slice_index current v < n
     → sum_by (λ q. n - q) (set current v p) < sum_by (λ q. n - q) current
 passed-set n current v p within on one = omega (arith, sum_by-set (λ q. n - q) current v p 0 within)

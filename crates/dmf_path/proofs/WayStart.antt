@@ -1,4 +1,4 @@
--- Where the walk goes on, as it begins: at the start, or where its last link leads.
+-- The node from which the walk goes on: the start, or the head of its last link.
 use Rattle.std.proofs.Common.{ℕ, ◌≡◌, ◌-◌, ◌<◌, ◌≤◌, List, length, take, get_or, refl, ap, sym, ◌∙◌, subst, ⊎_elim, arith}
 use Rattle.std.proofs.lemmas.Bool.{cases_lt}
 use Rattle.dmf_node.specs.Node.{IsNode}
@@ -21,7 +21,7 @@ last-link_within l labels after current w links start way some =
     let before = IsTrail-pop l labels after current w.start front p trail in
     lies-within l (end_of l w.start front) p links (end-node l labels after current w.start front links start before.0) before.1.lies
 
--- where the walk leads: to its start, or to where its last link leads
+-- the last node of the walk: its start, or the head of its last link
 pub walk-end : (l : Links) (w : Way) (node : ℕ) → w.walked ≤ length w.slots → (w.walked ≡ 0 → node ≡ w.start)
     → (0 < w.walked → node ≡ get_or l.heads (slot_at w.slots (w.walked - 1)).place 0) → end_of l w.start (places_of (walked_slots w)) ≡ node
 walk-end l w node within first last = ⊎_elim
@@ -52,7 +52,7 @@ on-start r v w node is first last =
       same = refl;
     }
 
--- What a search has after a walk, whose links and slots tell of the same rooms as before.
+-- A search after a walk, if its links and slots have the same settled rooms as before.
 pub searching-on : (r : Residual) (v : Labelling) (w : Way) (next : Residual) (current : List ℕ) (new : Way) → IsSearching r v w
     → sought next new ≡ sought r w → new.capacity ≡ w.capacity → IsHolding next.links new next.rooms
     → IsUnderWay next.links v.labels (told next new).rooms current new
@@ -63,7 +63,7 @@ searching-on r v w next current new is same capacity holding way = record {
   under_way = way;
 }
 
--- The same is looked for.
+-- It has the same network and ends.
 pub same-sought : (r : Residual) (w : Way) (next : Residual) (new : Way) → told next new ≡ told r w → new.start ≡ w.start → new.goal ≡ w.goal
     → sought next new ≡ sought r w
 same-sought r w next new rooms start goal = λ i. record { residual = rooms i; start = start i; goal = goal i }

@@ -1,4 +1,4 @@
--- One turn of the walk, as to the slots: it goes on along a link, for which a slot is made free, or steps back.
+-- The slots in one turn of the walk: it goes on along a link, for which a slot is made free, or steps back.
 use Rattle.std.proofs.Common.{ℕ, ◌≡◌, ◌≢◌, ◌+◌, ◌-◌, ◌%◌, ◌^◌, ◌<◌, ◌≤◌, List, [], ◌∷◌, ◌++◌, length, set, take, drop, get_or, ap, sym, ◌∙◌, subst, arith}
 use Rattle.std.proofs.Common.{append_assoc}
 use Rattle.std.proofs.lemmas.List.{drop_more, take_more, take_more_set, drop-set-lt, map_push, length-set}
@@ -16,7 +16,7 @@ use Rattle.dmf_path.proofs.Settled.{settled-enter}
 use Rattle.dmf_path.proofs.Leaving.{HaveLeft-append, HaveLeft-split, HasLeft, has-left}
 use Rattle.dmf_path.proofs.UnderWay.{IsTrail-set_above, walked-label, joint-low, descends-way, IsFree}
 
--- The walk has come to a node, and what is held makes of the links those that it goes by.
+-- The walk has come to a node, and applying the held pushes to the links gives the rooms by which the walk goes.
 pub record IsOnWay (r : Residual) (labels current : List ℕ) (aim : Residual) (w : Way) (node : ℕ) : Type 0 where
   pub come : HasCome r.links labels aim.rooms w.start w.goal current (places_of (walked_slots w)) node
   pub way : IsUnderWay r.links labels aim.rooms current w

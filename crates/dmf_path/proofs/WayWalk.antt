@@ -1,4 +1,4 @@
--- The walk, turn by turn: what it needs of the rooms as they are told, and what becomes of the trail and of what is held.
+-- The walk, turn by turn: what it needs to know about the settled rooms, and what becomes of the trail and of the held pushes.
 use Rattle.std.proofs.Common.{ℕ, ◌≡◌, ◌≢◌, ◌+◌, ◌-◌, ◌<◌, ◌≤◌, List, [], ◌∷◌, ◌++◌, length, set, take, get_or, refl, ap, sym, ◌∙◌, subst, arith, inl, inr}
 use Rattle.std.proofs.lemmas.List.{get_or_default, get_or-set_same}
 use Rattle.dmf_node.specs.Node.{IsNode}
@@ -15,7 +15,7 @@ use Rattle.dmf_path.proofs.UnderWay.{goal-joint, is-free, free-room}
 use Rattle.dmf_path.proofs.WayStart.{walk-end, last-link_within}
 use Rattle.dmf_path.proofs.WayTurn.{IsOnWay, on-moved, slots-left, first-leaves, IsMade, way-made, on-entered, last-places, last-leaves, on-back}
 
--- The room of a link that falls from the node to which the walk has come is as it is told.
+-- The room of a link that falls from the walk's last node is its settled room.
 pub told-room : (r : Residual) (labels current : List ℕ) (aim : Residual) (w : Way) (node p : ℕ) → AreLinks r.links → IsNode r.links.nodes w.start
     → IsOnWay r labels current aim w node → node ≢ w.joint
     → LiesAt r.links node p → get_or labels (get_or r.links.heads p 0) 0 + 1 ≡ get_or labels node 0 → get_or aim.rooms p 0 ≡ get_or r.rooms p 0
@@ -32,8 +32,7 @@ last-falls l labels rooms current v ps p links node trail =
     before.1.falls ∙ ap (λ u. get_or labels u 0) (sym (links.at_tail (end_of l v ps) p
     (end-node l labels rooms current v ps links node before.0) before.1.lies))
 
--- The node to which the walk has come, its first admissible link from the current one on, as the rooms tell, and where its
--- links end.
+-- The walk's last node, its first admissible link from the current one on by the rooms, and the place where its links end.
 pub record Turn : Type 0 where
   pub r : Residual
   pub labels : List ℕ
@@ -55,7 +54,7 @@ pub record Turn : Type 0 where
 where-ends : (t : Turn) → get_or t.r.links.first (t.node + 1) 0 ≡ t.end
 where-ends t = get_or_default t.r.links.first (t.node + 1) 0 t.end (omega (arith, t.on.come.is_node.to_last, t.links.first_long)) ∙ sym t.end_read
 
--- No link before it is admissible by the rooms that the walk goes by.
+-- No link before it is admissible by the settled rooms.
 pub none-told : (t : Turn) (p : ℕ) → get_or t.current t.node 0 ≤ p → p < t.place → 0 < get_or t.aim.rooms p 0
     → get_or t.labels (get_or t.r.links.heads p 0) 0 + 1 ≢ get_or t.labels t.node 0
 none-told t p later before room falls =
@@ -67,7 +66,7 @@ none-told t p later before room falls =
     let told = told-room t.r t.labels t.current t.aim t.w t.node p t.links t.start_is t.on t.other lies falls in
     t.none p later before (omega (arith, room, told)) falls
 
--- the same turn over these
+-- the same turn by the settled rooms
 abbrev pub walk_of : Turn → WalkTurn
 walk_of t =
     walk-turn t.r.links t.labels t.aim.rooms t.w.start t.w.goal t.current
@@ -76,7 +75,7 @@ walk_of t =
 pub on-turned : (t : Turn) → IsOnWay t.r t.labels (set t.current t.node t.place) t.aim t.w t.node
 on-turned t = on-moved t.r t.labels t.current t.aim t.w t.node t.place t.on t.other (come-moved (walk_of t))
 
--- No link that is passed so is admissible.
+-- No link that is passed in this way is admissible.
 pub skipped-turned : (t : Turn) → AreSkipped t.aim.links t.labels t.aim.rooms t.current
     → AreSkipped t.aim.links t.labels t.aim.rooms (set t.current t.node t.place)
 skipped-turned t skipped v p node lies before admissible = elim (cases-set t.current t.node v t.place (node-within (walk_of t))) [
@@ -91,7 +90,7 @@ skipped-turned t skipped v p node lies before admissible = elim (cases-set t.cur
   ]
 ]
 
--- A link was found: it lies at the node, and falls.
+-- The turn found a link: it lies at the node, and falls.
 pub record IsFound (t : Turn) : Type 0 where
   pub found : t.place < t.end
   pub room : 0 < get_or t.r.rooms t.place 0
@@ -111,7 +110,7 @@ within-found t f = found-within (walk_of t) f.found
 pub slot-found : (t : Turn) → IsFound t → t.w.walked < length t.w.slots
 slot-found t f = omega (arith, slots-left t.r t.labels t.current t.aim t.w t.node t.on, f.falls)
 
--- and where the first link of the rest has it, that can leave.
+-- and if the first link of the rest has the slot, that link can leave.
 pub slot-first : (t : Turn) → IsFound t → t.w.walked ≡ t.w.rest → IsSlot t.r.links t.w.sent t.r.rooms (slot_at t.w.slots t.w.rest)
 slot-first t f meets = (first-leaves t.r t.labels t.current t.aim t.w t.node t.links t.start_is t.on (omega (arith, meets, slot-found t f))).slot
 
@@ -239,7 +238,7 @@ on-stepped t next new back tail none some put step sums at is =
     (omega (arith, falls, ap (λ u. get_or t.labels u 0) head, ap (λ u. get_or t.labels u 0) is)) come
     (subst (λ (x : Residual). AreRooms x.links x.rooms) put sums))
 
--- A link that is then the last one of the walk is there.
+-- Then the walk has a last link.
 pub back-last : (t : Turn) (next : Residual) (new : Way) → t.end ≤ t.place → 0 < t.w.walked
     → next ≡ put_on t.r t.w.sent (slot_at t.w.slots (t.w.walked - 1)) → new ≡ stepped_back t.w → AreRooms next.links next.rooms
     → 0 < new.walked → (slot_at new.slots (new.walked - 1)).place < length t.r.links.heads

@@ -1,5 +1,5 @@
--- Labels from both ends: two breadth-first searches that go on in turn, level by level, until a node has a label of both: one
--- backwards from the goal, one forwards from the start.
+-- Labels from both ends: two breadth-first searches, one backwards from the goal and one forwards from the start, go on in turn, level
+-- by level, until a node has a label of both.
 -- Private: only contracts inside the crate and proofs use this.
 use Rattle.std.specs.Prelude.{ℕ, ◌≡◌, ◌≢◌, ◌+◌, ◌-◌, ◌<◌, ◌≤◌, ◌⊎◌, ◌==◌, if◌then◌else◌, List, length, slice_index, map}
 use Rattle.dmf_node.specs.Node.{IsNode}
@@ -7,8 +7,8 @@ use Rattle.dmf_path.specs.Links.{Links, LiesAt}
 use Rattle.dmf_path.specs.Labels.{no_label, IsBacked}
 use Rattle.dmf_path.specs.Walk.{AreValid, IsWalk}
 
--- The labels of the nodes that open links reach from the root: of all that are `level` links away or fewer, and perhaps of
--- some that are one further.
+-- The labels of the nodes that open links reach from the root: all nodes at a distance of at most `level`, and perhaps some that are
+-- one further.
 pub record AreLevels (l : Links) (opens : List ℕ) (root level : ℕ) (labels : List ℕ) : Type 0 where
   pub one_each : length labels ≡ l.nodes + 1
   pub root_is : slice_index labels root ≡ 0
@@ -17,8 +17,8 @@ pub record AreLevels (l : Links) (opens : List ℕ) (root level : ℕ) (labels :
       → slice_index labels (slice_index l.heads p) ≤ slice_index labels v + 1
   pub backed : (v : ℕ) → IsNode l.nodes v → v ≢ root → slice_index labels v ≢ no_label → IsBacked l opens labels v
 
--- The two searches have met: node `at` has a label of both, and wherever a node has both, a shortest path has as many links as
--- these two say.
+-- The two searches have met: node `at` has a label of both. The two labels of any node that has both add up to the length of a shortest
+-- path.
 pub record HaveMet (nodes near far at : ℕ) (to_goal from_start : List ℕ) : Type 0 where
   pub node : IsNode nodes at
   pub goal_label : slice_index to_goal at ≢ no_label
@@ -26,7 +26,7 @@ pub record HaveMet (nodes near far at : ℕ) (to_goal from_start : List ℕ) : T
   pub both : (v : ℕ) → IsNode nodes v → (slice_index to_goal v ≡ no_label)
       ⊎ ((slice_index from_start v ≡ no_label) ⊎ (slice_index to_goal v + slice_index from_start v ≡ near + far + 1))
 
--- So they have at this node, and no more links than there are nodes make a shortest path.
+-- The two searches have met at this node, and a shortest path has at most as many links as there are nodes.
 pub record HasMetAt (l : Links) (flags opens : List ℕ) (start goal at : ℕ) (to_goal from_start : List ℕ) : Type 0 where
   pub near : ℕ
   pub far : ℕ
@@ -35,7 +35,7 @@ pub record HasMetAt (l : Links) (flags opens : List ℕ) (start goal at : ℕ) (
   pub met : HaveMet l.nodes near far at to_goal from_start
   pub long : near + far < l.nodes
 
--- one label for a node of both its labels, where a shortest path has `long` links: how many of these are left to the goal
+-- a node's joined label, if a shortest path has `long` links: the number of links that are left to the goal
 abbrev pub joined_label : ℕ → ℕ → ℕ → ℕ
 joined_label long to_goal from_start =
     if to_goal == no_label then (if from_start == no_label then no_label else long - from_start) else to_goal
@@ -46,14 +46,14 @@ pub record AreJoined (long : ℕ) (to_goal from_start labels : List ℕ) : Type 
   pub each : (v : ℕ) → v < length labels
       → slice_index labels v ≡ joined_label long (slice_index to_goal v) (slice_index from_start v)
 
--- a label, and `beyond` for a node that has none
+-- a label, or `beyond` for a node that has none
 abbrev pub filled_label : ℕ → ℕ → ℕ
 filled_label beyond label = if label == no_label then beyond else label
 
 abbrev pub filled : ℕ → List ℕ → List ℕ
 filled beyond labels = map (filled_label beyond) labels
 
--- Each link with room from a node on the level after the one that nodes without a label count as leads to a node with a label.
+-- Each link with room from a node one level above the nodes without a label leads to a node with a label.
 abbrev pub IsGated : Links → List ℕ → List ℕ → ℕ → Type 0
 IsGated l labels rooms beyond =
     (v p : ℕ) → IsNode l.nodes v → LiesAt l v p → 0 < slice_index rooms p → slice_index labels v ≡ beyond + 1
@@ -64,7 +64,7 @@ abbrev pub AreSmall : ℕ → List ℕ → Type 0
 AreSmall nodes labels =
     (length labels ≡ nodes + 1) × ((v : ℕ) → IsNode nodes v → (slice_index labels v ≡ no_label) ⊎ (slice_index labels v ≤ nodes))
 
--- Labels that lead to the goal over least paths: nodes without one count as one level, no link with room falls by more than one
+-- Labels that lead to the goal along least paths. The nodes without one count as one level, no link with room falls by more than one
 -- where it leads below `top`, and no walk goes through a node without a label.
 pub record AreSound (l : Links) (labels rooms : List ℕ) (top : ℕ) : Type 0 where
   pub beyond : ℕ

@@ -11,8 +11,8 @@ pub record IsQueued (l : Links) (labels queue : List ℕ) (k : ℕ) : Type 0 whe
   pub node : IsNode l.nodes (slice_index queue k)
   pub small : slice_index labels (slice_index queue k) ≤ k
 
--- The queue lists the nodes with labels, in the order of the labels. The open links of the nodes before place `done` are
--- looked at, and no label is more than that of the node looked at last and one.
+-- The queue lists the nodes with labels, in the order of the labels. The search has looked at the open links of the nodes before place
+-- `done`, and no label exceeds the label of the last of these nodes by more than one.
 pub record AreSpread (l : Links) (opens : List ℕ) (root : ℕ) (labels queue : List ℕ) (done : ℕ) : Type 0 where
   pub one_each : length labels ≡ l.nodes + 1
   pub root_is : slice_index labels root ≡ 0
@@ -28,14 +28,14 @@ pub record AreSpread (l : Links) (opens : List ℕ) (root : ℕ) (labels queue :
       → slice_index labels (slice_index l.heads p) ≤ slice_index labels (slice_index queue k) + 1
   pub backed : (v : ℕ) → IsNode l.nodes v → v ≢ root → slice_index labels v ≢ no_label → IsBacked l opens labels v
 
--- The links of the node at place `done` are looked at: the nodes without a label to which open ones lead get the next one.
+-- The search looks at the links of the node at place `done`: the nodes without a label to which open ones lead get the next label.
 pub record Expands (l : Links) (opens old queue : List ℕ) (done : ℕ) (new after : List ℕ) : Type 0 where
   pub fresh : List ℕ
   pub queued : after ≡ queue ++ fresh
   pub spreads : Spreads l.heads opens (slice_index l.first (slice_index queue done)) (slice_index l.first (slice_index queue done + 1))
       (slice_index old (slice_index queue done) + 1) old new fresh
 
--- Every node with a label is on the level of the next one in the queue, or before it.
+-- Every node with a label is on the level of the next node in the queue, or before it.
 abbrev pub IsAtRest : List ℕ → List ℕ → ℕ → Type 0
 IsAtRest labels queue done =
     (j : ℕ) → done < length queue → j < length queue → slice_index labels (slice_index queue j) ≤ slice_index labels (slice_index queue done)

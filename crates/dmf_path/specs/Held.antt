@@ -1,4 +1,4 @@
--- Pushes that are held: what is sent along the links of a path is put on a link only when it leaves the path.
+-- Held pushes: a push along the links of a path changes a link's room only when the link leaves the path.
 -- Private: only contracts inside the crate and proofs use this.
 use Rattle.std.specs.Prelude.{ℕ, ◌≢◌, ◌+◌, ◌-◌, ◌%◌, ◌^◌, ◌<◌, ◌≤◌, ◌==◌, Bool, if◌then◌else◌, List, [], ◌∷◌, ◌++◌, length, vec_capacity, map, min, take, drop}
 use Rattle.std.specs.Prelude.{slice_index, slice_index_or, slice_set, Option, Some, None}
@@ -8,7 +8,7 @@ use Rattle.dmf_path.specs.declared.trail.Trail.{Trail}
 use Rattle.dmf_path.specs.Links.{Links}
 use Rattle.dmf_path.specs.Walk.{pushed_once}
 
--- the room that is left to a link which is full when `full_at` is sent in all, once `sent` is; both modulo 2^64
+-- the room that a link has left after `sent`, if it is full at a total of `full_at`; both modulo 2^64
 abbrev pub room_left : ℕ → ℕ → ℕ
 room_left sent full_at = (full_at + (2 ^ 64 - sent)) % 2 ^ 64
 
@@ -21,7 +21,7 @@ abbrev pub IsOff : ℕ → List ℕ → Type 0
 IsOff p [] = Unit {0}
 IsOff p (q ∷ qs) = (q ≢ p) × IsOff p qs
 
--- how much is held for the link at place `p`
+-- the amount that is held for the link at place `p`
 abbrev pub held_for : ℕ → List ℕ → List Slot → ℕ → ℕ
 held_for sent rooms [] p = 0
 held_for sent rooms (s ∷ slots) p =
@@ -33,17 +33,17 @@ held_in sent rooms [] p = None
 held_in sent rooms (s ∷ slots) p =
     if s.place == p then Some (slice_index rooms p - room_left sent s.full_at) else held_in sent rooms slots p
 
--- the room of a link, once what is held is put on
+-- the settled room of a link: its room with the held pushes applied
 abbrev pub settled_room : Links → Bool → ℕ → List Slot → List ℕ → ℕ → ℕ
 settled_room l takes_back sent slots rooms p =
     slice_index rooms p - held_for sent rooms slots p + (if takes_back then held_for sent rooms slots (slice_index l.partners p) else 0)
 
--- the rooms then
+-- the settled rooms
 abbrev pub settled : Links → Bool → ℕ → List Slot → List ℕ → List ℕ
 settled l takes_back sent slots rooms = map (settled_room l takes_back sent slots rooms) (range_with_len 0 (length rooms))
 
--- a slot for each link of a path, and for how many there is memory; how many the walk has filled; from where on they have the end
--- of the last path, and the node at which that begins; how much was sent in all; and the ends of the path
+-- A slot for each link of a path, and the memory for slots; how many slots the walk has filled; from which slot on they have the end of
+-- the last path, and the node at which that begins; the total that was sent; and the ends of the path.
 pub record Way : Type 0 where
   pub slots : List Slot
   pub capacity : ℕ
@@ -77,7 +77,7 @@ rest_slots w = drop w.rest w.slots
 abbrev pub filled_slots : Way → List Slot
 filled_slots w = walked_slots w ++ rest_slots w
 
--- the rooms, once what is held is put on
+-- the settled rooms
 abbrev pub rooms_with : Links → Bool → Way → List ℕ → List ℕ
 rooms_with l takes_back w rooms = settled l takes_back w.sent (filled_slots w) rooms
 
@@ -85,7 +85,7 @@ rooms_with l takes_back w rooms = settled l takes_back w.sent (filled_slots w) r
 abbrev pub slot_at : List Slot → ℕ → Slot
 slot_at slots i = slice_index_or slots i (record { place = 0; full_at = 0 })
 
--- Each of the links has as much room as is left to it, or more.
+-- Each of the links has at least the room that is left.
 abbrev pub HaveLeft : ℕ → List ℕ → List Slot → Type 0
 HaveLeft sent rooms [] = Unit {0}
 HaveLeft sent rooms (s ∷ slots) =
@@ -96,26 +96,26 @@ abbrev pub least_left : ℕ → ℕ → List Slot → ℕ
 least_left sent limit [] = limit
 least_left sent limit (s ∷ slots) = min (room_left sent s.full_at) (least_left sent limit slots)
 
--- The slot has a link, with as much room as is left to it, or more.
+-- The slot has a link, which has at least the room that is left.
 pub record IsSlot (l : Links) (sent : ℕ) (rooms : List ℕ) (s : Slot) : Type 0 where
   pub within : s.place < length l.heads
   pub left : room_left sent s.full_at ≤ slice_index rooms s.place
 
--- the rooms once what is held for a link is put on
+-- the rooms after the held pushes of a link are applied
 abbrev pub put_once : Links → Bool → ℕ → Slot → List ℕ → List ℕ
 put_once l takes_back sent s rooms = pushed_once l takes_back (slice_index rooms s.place - room_left sent s.full_at) s.place rooms
 
--- the rooms once that is done for each of these links
+-- the rooms after the held pushes of each of these links are applied
 abbrev pub put_each : Links → Bool → ℕ → List Slot → List ℕ → List ℕ
 put_each l takes_back sent [] rooms = rooms
 put_each l takes_back sent (s ∷ slots) rooms = put_each l takes_back sent slots (put_once l takes_back sent s rooms)
 
--- It can be done for these links in turn.
+-- The held pushes of these links can be applied in turn.
 abbrev pub CanPut : Links → Bool → ℕ → List Slot → List ℕ → Type 0
 CanPut l takes_back sent [] rooms = Unit {0}
 CanPut l takes_back sent (s ∷ slots) rooms = IsSlot l sent rooms s × CanPut l takes_back sent slots (put_once l takes_back sent s rooms)
 
--- The walk goes on along a link with so much room.
+-- The walk goes on along a link with this room.
 abbrev pub entered : Way → ℕ → ℕ → Way
 entered w place room = record w {
   slots = slice_set w.slots w.walked (record { place = place; full_at = (w.sent + room) % 2 ^ 64 });

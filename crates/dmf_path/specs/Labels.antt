@@ -1,10 +1,10 @@
--- Labels of nodes: how many links a node is from a root, where they are known.
+-- Labels of nodes: how many links a node is away from a root, where that is known.
 -- Private: only contracts inside the crate and proofs use this.
 use Rattle.std.specs.Prelude.{ℕ, ◌≡◌, ◌≢◌, ◌+◌, ◌<◌, ◌≤◌, ◌⊎◌, ◌==◌, not, Bool, List, length, slice_index, count_by, Contains}
 use Rattle.dmf_node.specs.Node.{IsNode}
 use Rattle.dmf_path.specs.Links.{Links, LiesAt, tail_of}
 
--- what stands for the label of a node that has none; it is more than any label
+-- the number that stands for no label; it exceeds any label
 abbrev pub no_label : ℕ
 no_label = 4294967295
 
@@ -12,7 +12,7 @@ no_label = 4294967295
 abbrev pub is_label : ℕ → Bool
 is_label label = not (label == no_label)
 
--- An open link leads to the node from one whose label is less by one.
+-- An open link leads to the node from a node whose label is lower by one.
 pub record IsBacked (l : Links) (opens labels : List ℕ) (v : ℕ) : Type 0 where
   pub place : ℕ
   pub within : place < length l.heads
@@ -20,8 +20,8 @@ pub record IsBacked (l : Links) (opens labels : List ℕ) (v : ℕ) : Type 0 whe
   pub opened : slice_index opens place ≡ 1
   pub label : slice_index labels (tail_of l place) + 1 ≡ slice_index labels v
 
--- The labels of the nodes that open links reach from the root, at least as far as up to the label of the node `stop`.
--- Number 0, which is no node, has none.
+-- The labels of the nodes that open links reach from the root, at least up to the label of the node `stop`. Number 0, which is no node,
+-- has none.
 pub record AreLabels (l : Links) (opens : List ℕ) (root stop : ℕ) (labels : List ℕ) : Type 0 where
   pub one_each : length labels ≡ l.nodes + 1
   pub root_is : slice_index labels root ≡ 0
@@ -49,8 +49,8 @@ pub record IsLedTo (heads opens : List ℕ) (from end v : ℕ) : Type 0 where
   pub leads : slice_index heads place ≡ v
   pub opened : slice_index opens place ≡ 1
 
--- The nodes without a label to which the open links at the places from `from` up to `end` lead are given this label, which
--- makes the labels `old` into `new`; `fresh` are these nodes.
+-- The open links at the places from `from` up to `end` give this label to the nodes without one to which they lead. That turns the
+-- labels `old` into `new`; `fresh` are these nodes.
 pub record Spreads (heads opens : List ℕ) (from end label : ℕ) (old new fresh : List ℕ) : Type 0 where
   pub kept : (v : ℕ) → slice_index old v ≢ no_label → slice_index new v ≡ slice_index old v
   pub done : (p : ℕ) → from ≤ p → p < end → slice_index opens p ≡ 1 → slice_index new (slice_index heads p) ≢ no_label

@@ -1,18 +1,18 @@
--- Links by node: the links of a node lie side by side, in the order of their ranks. A link is known by its place.
+-- Links by node: the links of a node lie side by side, in the order of their ranks. The place of a link identifies it.
 -- Private: only contracts inside the crate and proofs use this.
 use Rattle.std.specs.Prelude.{ℕ, ◌≡◌, ◌≢◌, ◌+◌, ◌*◌, ◌^◌, ◌<◌, ◌≤◌, ◌⊎◌, ◌==◌, nat_lt, if◌then◌else◌, List, length, map, slice_index, Option, Some, None}
 use Rattle.dmf_path.specs.declared.pair.Pair.{Pair}
 use Rattle.dmf_node.specs.Node.{IsNode}
 
--- the number of nodes; where the links of each node begin, those of node 0 first; of each link the node to which it leads,
--- and the place of the opposite link
+-- the number of nodes; where the links of each node begin, those of node 0 first; for each link its head, and the place of the opposite
+-- link
 pub record Links : Type 0 where
   pub nodes : ℕ
   pub first : List ℕ
   pub heads : List ℕ
   pub partners : List ℕ
 
--- the node from which the link at place `p` leads: that to which its opposite leads
+-- the tail of the link at place `p`, which is the head of its opposite
 abbrev pub tail_of : Links → ℕ → ℕ
 tail_of l p = slice_index l.heads (slice_index l.partners p)
 
@@ -21,7 +21,7 @@ pub record LiesAt (l : Links) (v p : ℕ) : Type 0 where
   pub from : slice_index l.first v ≤ p
   pub below : p < slice_index l.first (v + 1)
 
--- The link at place `p` lies at the node from which it leads, and its opposite is such a link, whose opposite it is.
+-- The link at place `p` lies at its tail, which is not its head. Its opposite is a link whose opposite it is.
 pub record IsLink (l : Links) (p : ℕ) : Type 0 where
   pub head : IsNode l.nodes (slice_index l.heads p)
   pub tail : IsNode l.nodes (tail_of l p)
@@ -41,7 +41,7 @@ pub record AreLinks (l : Links) : Type 0 where
   pub each : (p : ℕ) → p < length l.heads → IsLink l p
   pub at_tail : (v p : ℕ) → IsNode l.nodes v → LiesAt l v p → tail_of l p ≡ v
 
--- what stands for the place of a pair that has none
+-- the number that stands for the place of a pair without one
 abbrev pub no_place : ℕ
 no_place = 4294967295
 
@@ -56,7 +56,7 @@ IsOf l places p k =
     (k < length places) × (slice_index places k ≢ no_place)
     × ((slice_index places k ≡ p) ⊎ (slice_index l.partners (slice_index places k) ≡ p))
 
--- The places are those of the links along of pairs. Each link is of one pair, and the links of a node lie in the order of
+-- The places are those of the links along of the pairs. Each link belongs to one pair, and the links of a node lie in the order of
 -- their pairs.
 pub record ArePlaces (l : Links) (places : List ℕ) : Type 0 where
   pub at_most : length places ≤ 2 ^ 27 + 1
@@ -81,21 +81,21 @@ pair_at l rooms place =
 abbrev pub pairs_at : Links → List ℕ → List ℕ → List (Option Pair)
 pairs_at l places rooms = map (pair_at l rooms) places
 
--- What is kept in each pair's two rooms fits 64 bits together.
+-- The two rooms of each pair fit 64 bits together.
 abbrev pub AreRooms : Links → List ℕ → Type 0
 AreRooms l rooms = (length rooms ≡ length l.heads)
     × ((p : ℕ) → p < length l.heads → slice_index rooms p + slice_index rooms (slice_index l.partners p) < 2 ^ 64)
 
--- 1 where there is room, and else 0
+-- 1 if there is room, else 0
 abbrev pub open_flag : ℕ → ℕ
 open_flag room = if nat_lt 0 room then 1 else 0
 
--- Each flag tells whether the opposite link has room.
+-- Each flag says whether the opposite link has room.
 abbrev pub AreFlags : Links → List ℕ → List ℕ → Type 0
 AreFlags l rooms flags = (length flags ≡ length l.heads)
     × ((p : ℕ) → p < length l.heads → slice_index flags p ≡ open_flag (slice_index rooms (slice_index l.partners p)))
 
--- Of these pairs between so many nodes links are made, with their places and rooms.
+-- These are the links of these pairs between so many nodes, with their places and rooms.
 pub record AreBuilt (nodes : ℕ) (pairs : List (Option Pair)) (l : Links) (places rooms : List ℕ) : Type 0 where
   pub nodes_are : l.nodes ≡ nodes
   pub links : AreLinks l

@@ -7,14 +7,14 @@ use Rattle.dmf_node.specs.Node.{IsNode}
 use Rattle.dmf_path.specs.Step.{Step}
 use Rattle.dmf_path.specs.Path.{has_rank}
 
--- Both ends are nodes, and differ; what is pushed from the one room to the other fits 64 bits.
+-- Both ends are nodes and differ, and the sum of both rooms fits 64 bits.
 pub record IsPair (nodes : ℕ) (p : Pair) : Type 0 where
   pub tail : IsNode nodes p.tail
   pub head : IsNode nodes p.head
   pub no_loop : p.tail ≢ p.head
   pub fits : p.along + p.against < 2 ^ 64
 
--- Where there is a pair, it is one; there are at most as many as arcs and one more.
+-- Each entry that has a pair has a valid one, and there are at most as many as arcs and one more.
 pub record ArePairs (nodes : ℕ) (pairs : List (Option Pair)) : Type 0 where
   pub each : (k : ℕ) (p : Pair) → slice_get pairs k ≡ Some (Some p) → IsPair nodes p
   pub at_most : length pairs ≤ 2 ^ 27 + 1
@@ -24,7 +24,7 @@ abbrev pub emptied : Option Pair → Option Pair
 emptied None = None
 emptied (Some p) = Some (record { tail = p.tail; head = p.head; along = 0; against = 0 })
 
--- the steps of pair number `j`: the one along it, and then the one against it, each where it has room
+-- the steps of pair number `j`: the one along it, and then the one against it, each if it has room
 abbrev pub pair_steps : ℕ → Option Pair → List Step
 pair_steps j None = []
 pair_steps j (Some p) =
@@ -40,8 +40,8 @@ steps_from j (p ∷ pairs) = pair_steps j p ++ steps_from (j + 1) pairs
 abbrev pub steps_of : List (Option Pair) → List Step
 steps_of pairs = steps_from 1 pairs
 
--- pair number `j`, once `amount` is pushed along a path: it is taken off the room of each link on the path and, where it can
--- be taken back, given to the room of the opposite link
+-- pair number `j` after `amount` is pushed along a path: the room of each link on the path falls by it and, if pushes can be taken
+-- back, the room of the opposite link rises by it
 abbrev pub pushed_pair : Bool → ℕ → ℕ → List Step → Option Pair → Option Pair
 pushed_pair takes_back j amount path None = None
 pushed_pair takes_back j amount path (Some p) =
@@ -54,12 +54,12 @@ pushed_pair takes_back j amount path (Some p) =
       against = p.against - against + (if takes_back then along else 0);
     })
 
--- the pairs from number `j` on, once `amount` is pushed along a path
+-- the pairs from number `j` on, after `amount` is pushed along a path
 abbrev pub pushed_from : Bool → ℕ → ℕ → List Step → List (Option Pair) → List (Option Pair)
 pushed_from takes_back j amount path [] = []
 pushed_from takes_back j amount path (p ∷ pairs) =
     pushed_pair takes_back j amount path p ∷ pushed_from takes_back (j + 1) amount path pairs
 
--- the pairs, once `amount` is pushed along a path
+-- the pairs after `amount` is pushed along a path
 abbrev pub pushed_pairs : Bool → ℕ → List Step → List (Option Pair) → List (Option Pair)
 pushed_pairs takes_back amount path pairs = pushed_from takes_back 1 amount path pairs

@@ -4,9 +4,8 @@ use Rattle.std.specs.Prelude.{ℕ, ◌≡◌, ◌<◌, ◌≤◌, ◌⊎◌, ◌
 use Rattle.std.specs.List.{list_any}
 use Rattle.dmf_path.specs.Step.{Step}
 
--- The steps of the list `path` lead from node `a` to node `b`: each is one of `steps`, the first leaves `a`, each next
--- one leaves the node at which the one before it arrives, and the last arrives at `b`. The empty list leads from a node to
--- itself.
+-- The steps of the list `path` lead from node `a` to node `b`: each is one of `steps`, the first begins at `a`, each next one begins
+-- where the one before ends, and the last ends at `b`. The empty list leads from a node to itself.
 abbrev pub IsPath : List Step → ℕ → ℕ → List Step → Type 0
 IsPath steps a b [] = a ≡ b
 IsPath steps a b (s ∷ path) = Contains steps s × (s.from ≡ a) × IsPath steps s.to b path
@@ -19,7 +18,7 @@ HasNoPath steps a b = (path : List Step) → ¬ IsPath steps a b path
 abbrev pub IsReachable : List Step → ℕ → ℕ → Type 0
 IsReachable steps a b = (path : List Step) × IsPath steps a b path
 
--- The one list comes before the other in the lexicographic order. Only lists of one length are compared.
+-- The one list comes before the other in the lexicographic order. Only lists of the same length are compared.
 abbrev pub ComesBefore : List ℕ → List ℕ → Type 0
 ComesBefore xs [] = ⊥
 ComesBefore [] (y ∷ ys) = ⊥
@@ -44,7 +43,7 @@ abbrev pub bottleneck_up_to : ℕ → List Step → ℕ
 bottleneck_up_to bound [] = bound
 bottleneck_up_to bound (s ∷ path) = min s.room (bottleneck_up_to bound path)
 
--- the bottleneck on a path, and 0 for the path without steps
+-- the bottleneck on a path; it is 0 for the path without steps
 abbrev pub bottleneck : List Step → ℕ
 bottleneck [] = 0
 bottleneck (s ∷ path) = bottleneck_up_to s.room path

@@ -1,4 +1,4 @@
--- Links with their rooms: the residual network, and what becomes of its rooms.
+-- Links with their rooms: the residual network, and how its rooms change.
 -- Private: only contracts inside the crate and proofs use this.
 use Rattle.std.specs.Prelude.{ℕ, ◌≡◌, ◌+◌, ◌-◌, ◌<◌, ◌≤◌, Bool, false, List, length, take, drop, slice_index, slice_set}
 use Rattle.dmf_path.specs.declared.push.Links.{Links as Roomy}
@@ -8,13 +8,13 @@ use Rattle.dmf_path.specs.LinkTable.{links_of}
 use Rattle.dmf_path.specs.Walk.{pushed_once, rooms_set}
 use Rattle.dmf_path.specs.Held.{Way, slot_at, walked_slots, rest_slots, rooms_with, put_once, put_each, CanPut, AreOpen}
 
--- the links by node, whether what is pushed along one can be pushed back along the opposite one, and the room of each
+-- the links by node, whether a push along one can be pushed back along its opposite, and the room of each
 pub record Residual : Type 0 where
   pub links : Links
   pub takes_back : Bool
   pub rooms : List ℕ
 
--- the residual network that links with rooms are
+-- the residual network of links with rooms
 abbrev pub residual_of : Roomy → Residual
 residual_of a = record { links = links_of a.table.value; takes_back = a.takes_back; rooms = a.rooms.items }
 
@@ -22,15 +22,15 @@ residual_of a = record { links = links_of a.table.value; takes_back = a.takes_ba
 abbrev pub roomed : Residual → List ℕ → Residual
 roomed r rooms = record r { rooms = rooms }
 
--- with another room of the link at place `p`
+-- with this room of the link at place `p`
 abbrev pub put_at : Residual → ℕ → ℕ → Residual
 put_at r p room = roomed r (slice_set r.rooms p room)
 
--- once an amount is pushed along the link at place `p`
+-- after an amount is pushed along the link at place `p`
 abbrev pub pushed_along : Residual → ℕ → ℕ → Residual
 pushed_along r p amount = roomed r (pushed_once r.links r.takes_back amount p r.rooms)
 
--- once an amount is taken off the room of the link at place `p`
+-- after an amount is taken off the room of the link at place `p`
 abbrev pub lowered : Residual → ℕ → ℕ → Residual
 lowered r p amount = roomed r (pushed_once r.links false amount p r.rooms)
 
@@ -38,32 +38,32 @@ lowered r p amount = roomed r (pushed_once r.links false amount p r.rooms)
 abbrev pub pair_set : Residual → ℕ → ℕ → ℕ → Residual
 pair_set r p along against = roomed r (rooms_set r.links p along against r.rooms)
 
--- once all that is held is put on: as callers see it
+-- with settled rooms, as callers see it
 abbrev pub told : Residual → Way → Residual
 told r w = roomed r (rooms_with r.links r.takes_back w r.rooms)
 
--- once what is held for one link is put on, or for each of these
+-- after the held pushes of one link are applied, or of each of these links
 abbrev pub put_on : Residual → ℕ → Slot → Residual
 put_on r sent s = roomed r (put_once r.links r.takes_back sent s r.rooms)
 
 abbrev pub put_each_on : Residual → ℕ → List Slot → Residual
 put_each_on r sent slots = roomed r (put_each r.links r.takes_back sent slots r.rooms)
 
--- What is held can be put on, first for the walk, then for the rest, and comes to what is told.
+-- The held pushes can be applied, first those of the walk, then those of the rest, and this gives the settled rooms.
 pub record CanSettle (r : Residual) (w : Way) : Type 0 where
   pub walked : CanPut r.links r.takes_back w.sent (walked_slots w) r.rooms
   pub rest : CanPut r.links r.takes_back w.sent (rest_slots w) (put_each r.links r.takes_back w.sent (walked_slots w) r.rooms)
   pub same : rooms_with r.links r.takes_back w r.rooms
       ≡ put_each r.links r.takes_back w.sent (rest_slots w) (put_each r.links r.takes_back w.sent (walked_slots w) r.rooms)
 
--- The next slot is free, or it had the first link of the end of the last path, which leaves.
+-- The next slot is free, or the first link of the rest had it and leaves.
 pub data MakesWay (r : Residual) (old : Way) (after : Residual) (new : Way) : Type 0 where
   free : old.walked < old.rest → new ≡ old → after ≡ r → MakesWay r old after new
   leaves : old.walked ≡ old.rest
       → new ≡ record old { rest = old.rest + 1; joint = slice_index r.links.heads (slot_at old.slots old.rest).place }
       → after ≡ put_on r old.sent (slot_at old.slots old.rest) → MakesWay r old after new
 
--- The full links of a path leave, with those between them; or none is full.
+-- The full links of a path leave, with the links between them; or no link is full.
 pub data IsSplit (r : Residual) (old : Way) (after : Residual) (new : Way) : Type 0 where
   stays : (first behind : ℕ) → behind ≤ first → AreOpen old.sent old.slots first behind → new ≡ old → after ≡ r
       → IsSplit r old after new

@@ -10,8 +10,8 @@ use Rattle.dmf_path.specs.Step.{Step}
 use Rattle.dmf_path.specs.Path.{IsLeastPath, bottleneck_up_to}
 use Rattle.dmf_path.specs.Pair.{steps_of, pushed_pairs}
 
--- the number of nodes, the pairs with their present rooms, the node from which paths lead and that to which they do, and
--- whether what is pushed along one link of a pair can be pushed back along the other
+-- the number of nodes; the pairs with their present rooms; the start and the goal of paths; and whether a push along one link of a pair
+-- can be pushed back along the other
 pub record Searched : Type 0 where
   pub nodes : ℕ
   pub pairs : List (Option Pair)
@@ -23,12 +23,12 @@ pub record Searched : Type 0 where
 abbrev pub with_pairs : Searched → List (Option Pair) → Searched
 with_pairs s pairs = record { nodes = s.nodes; pairs = pairs; start = s.start; goal = s.goal; takes_back = s.takes_back }
 
--- the search from another start to another goal
+-- the search with this start and this goal
 abbrev pub aimed : Searched → ℕ → ℕ → Searched
 aimed s start goal = record { nodes = s.nodes; pairs = s.pairs; start = start; goal = goal; takes_back = s.takes_back }
 
--- The amount, which is the least of the limit and the rooms on the least path from the start to the goal, is pushed along
--- that path, and its links are counted.
+-- The amount is the least of the limit and the rooms on the least path from the start to the goal. It is pushed along that path, whose
+-- links are counted.
 pub record Augments (limit : ℕ) (found : AugmentingPath) (old new : Searched) : Type 0 where
   pub path : List Step
   pub least : IsLeastPath (steps_of old.pairs) old.start old.goal path
@@ -40,20 +40,20 @@ pub record Augments (limit : ℕ) (found : AugmentingPath) (old new : Searched) 
 abbrev pub pair_number : List (Option Pair) → ℕ → Option Pair
 pair_number pairs k = slice_index_or pairs k None
 
--- the rooms of the links of the pair at index `k`, where there is one
+-- the rooms of the links of the pair at index `k`, if there is one
 abbrev pub along_at : List (Option Pair) → ℕ → Option ℕ
 along_at pairs k = option_map (λ p. p.along) (pair_number pairs k)
 
 abbrev pub against_at : List (Option Pair) → ℕ → Option ℕ
 against_at pairs k = option_map (λ p. p.against) (pair_number pairs k)
 
--- There is a pair at index `k`, whose link along has so much room.
+-- There is a pair at index `k`, and the room of its link along is at least this.
 pub record HasAlong (pairs : List (Option Pair)) (k amount : ℕ) : Type 0 where
   pub pair : Pair
   pub is : slice_get pairs k ≡ Some (Some pair)
   pub enough : amount ≤ pair.along
 
--- a pair with so much less room along
+-- a pair with this much less room along
 abbrev pub lowered_pair : ℕ → Pair → Pair
 lowered_pair amount p = record { tail = p.tail; head = p.head; along = p.along - amount; against = p.against }
 
@@ -61,11 +61,11 @@ lowered_pair amount p = record { tail = p.tail; head = p.head; along = p.along -
 abbrev pub pair_with : ℕ → ℕ → Pair → Pair
 pair_with along against p = record { tail = p.tail; head = p.head; along = along; against = against }
 
--- the pairs, with these rooms of that at index `k`, where there is one
+-- the pairs, with these rooms at index `k`, if there is a pair
 abbrev pub with_rooms : List (Option Pair) → ℕ → ℕ → ℕ → List (Option Pair)
 with_rooms pairs k along against = slice_set pairs k (option_map (pair_with along against) (pair_number pairs k))
 
--- the pairs, with so much less room along that at index `k`
+-- the pairs, with this much less room along at index `k`
 abbrev pub lowered_along : List (Option Pair) → ℕ → ℕ → List (Option Pair)
 lowered_along pairs k amount = slice_set pairs k (option_map (lowered_pair amount) (pair_number pairs k))
 
@@ -74,7 +74,7 @@ abbrev pub indices_of : Indices → List ℕ
 indices_of (Below count) = range_with_len 0 count
 indices_of (Listed indices) = indices.now
 
--- The indices ascend and are below the count, and each that is left out may be left out.
+-- The indices ascend and are below the count. An index that is not among them may be left out.
 pub record Covers (count : ℕ) (MayBeLeftOut : ℕ → Type 0) (indices : List ℕ) : Type 0 where
   pub below : (i : ℕ) → i < length indices → slice_index indices i < count
   pub ascending : (i j : ℕ) → i < j → j < length indices → slice_index indices i < slice_index indices j

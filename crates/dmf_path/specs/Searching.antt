@@ -13,8 +13,8 @@ use Rattle.dmf_path.specs.Held.{Way, places_of, walked_slots, rest_slots, filled
 use Rattle.dmf_path.specs.Residual.{Residual, told}
 use Rattle.dmf_path.specs.Search.{Searched}
 
--- How far the search for the next path has come: the walk, and the end of the last path, which leads on to the goal along
--- admissible current links. There is a slot for each label below that of the start.
+-- How far the search for the next path has come: the walk, and the rest of the last path, which leads on to the goal along admissible
+-- current links. There is a slot for each label below the start's.
 pub record IsUnderWay (l : Links) (labels rooms current : List ℕ) (w : Way) : Type 0 where
   pub walking : IsWalking l labels rooms w.start w.goal current (places_of (walked_slots w))
   pub rest_is : IsTrail l labels rooms current w.joint (places_of (rest_slots w))
@@ -25,7 +25,7 @@ pub record IsUnderWay (l : Links) (labels rooms current : List ℕ) (w : Way) : 
   pub one_slot_each : length w.slots ≡ slice_index labels w.start
   pub goal_label : slice_index labels w.goal ≡ 0
 
--- What is held can be put on.
+-- The held pushes can be applied.
 pub record IsHolding (l : Links) (w : Way) (rooms : List ℕ) : Type 0 where
   pub rooms_are : AreRooms l rooms
   pub small : w.sent < 2 ^ 64
@@ -36,22 +36,21 @@ pub record Labelling : Type 0 where
   pub labels : List ℕ
   pub current : List ℕ
 
--- what levels tell of the nodes
+-- the labels and the current links that levels have
 abbrev pub labelling_of : Levels → Labelling
 labelling_of v = record { labels = v.near.labels.items; current = v.current.items }
 
--- the residual network in which a search looks for paths, as it is told, and the ends of these
+-- the settled residual network in which a search looks for paths, and the ends of these paths
 pub record Sought : Type 0 where
   pub residual : Residual
   pub start : ℕ
   pub goal : ℕ
 
--- what a search looks for paths in
+-- the settled residual network and the ends of a search
 abbrev pub sought : Residual → Way → Sought
 sought r w = record { residual = told r w; start = w.start; goal = w.goal }
 
--- The labels are sound in the residual network as it is told, between its ends, which differ, and there is memory for so many links
--- of a path.
+-- The labels are sound in the settled residual network, between its ends, which differ, and there is memory for the slots of a path.
 pub record IsAimed (s : Sought) (labels : List ℕ) (capacity : ℕ) : Type 0 where
   pub links : AreLinks s.residual.links
   pub one_label_each : length labels ≡ s.residual.links.nodes + 1
@@ -62,13 +61,13 @@ pub record IsAimed (s : Sought) (labels : List ℕ) (capacity : ℕ) : Type 0 wh
   pub apart : s.start ≢ s.goal
   pub capacity_is : s.residual.links.nodes ≤ capacity
 
--- What a search has between two paths: labels that are sound, what is held, which can be put on, and how far it has come.
+-- What a search has between two paths: labels that are sound, held pushes that can be applied, and how far it has come.
 pub record IsSearching (r : Residual) (v : Labelling) (w : Way) : Type 0 where
   pub aimed : IsAimed (sought r w) v.labels w.capacity
   pub holding : IsHolding r.links w r.rooms
   pub under_way : IsUnderWay r.links v.labels (told r w).rooms v.current w
 
--- No link before a current one is admissible, if no walk has stepped back.
+-- No link before a current one is admissible, unless a walk has stepped back.
 abbrev pub MaySkip : Bool → Residual → List ℕ → List ℕ → Type 0
 MaySkip stepped_back r labels current = stepped_back ≡ false → AreSkipped r.links labels r.rooms current
 
@@ -77,47 +76,47 @@ pub record AreLasting (v : Labelling) (stepped_back : Bool) (r : Residual) : Typ
   pub sound : AreSound r.links v.labels r.rooms no_label
   pub skipped : MaySkip stepped_back r v.labels v.current
 
--- They lead to this goal, so that a search from any node with a label may take them up.
+-- They lead to this goal, so a search from any node with a label may keep them.
 pub record AreKeptFor (v : Labelling) (stepped_back : Bool) (r : Residual) (goal : ℕ) : Type 0 where
   pub lasting : AreLasting v stepped_back r
   pub goal_label : slice_index v.labels goal ≡ 0
   pub current_is : AreCurrent r.links v.current
   pub passed : ArePassed r.links v.labels r.rooms goal v.current
 
--- They are lasting, if all nodes from which paths lead to the goal have one.
+-- If all nodes from which paths lead to the goal have labels, they are lasting.
 abbrev pub MayLast : Levels → Residual → Type 0
 MayLast levels r = levels.all ≡ true → AreLasting (labelling_of levels) levels.stepped_back r
 
--- So they are, and a fresh search has no such labels.
+-- The same, and a fresh search has no such labels.
 abbrev pub AreKept : Levels → Bool → Residual → Type 0
 AreKept levels is_fresh r = levels.all ≡ true → (is_fresh ≡ false) × AreLasting (labelling_of levels) levels.stepped_back r
 
--- The walk has come to where the end of the last path begins: a path from the start to the goal.
+-- The walk has come to where the rest of the last path begins: the two are a path from the start to the goal.
 abbrev pub IsFound : Residual → Way → Type 0
 IsFound r w = end_of r.links w.start (places_of (walked_slots w)) ≡ w.joint
 
--- The labels of a search that has not begun: 0 at both ends, and no others.
+-- The labels of a search that has not begun: 0 at both ends, and none elsewhere.
 abbrev pub fresh_labels : ℕ → ℕ → ℕ → List ℕ
 fresh_labels nodes start goal = slice_set (slice_set (replicate (nodes + 1) no_label) start 0) goal 0
 
--- The search has not begun: no link falls, whatever the rooms are, and there are no slots.
+-- The search has not begun: no link falls, whatever the rooms are.
 pub record IsFresh (l : Links) (labels : List ℕ) (start : ℕ) : Type 0 where
   pub label : slice_index labels start ≡ 0
   pub others : (v : ℕ) → IsNode l.nodes v → (slice_index labels v ≡ no_label) ⊎ (slice_index labels v ≡ 0)
 
--- What is said of a search by whether it is marked as fresh.
+-- What the mark as fresh says about a search.
 pub data IsMarked (l : Links) (labels : List ℕ) (start : ℕ) (is_fresh : Bool) : Type 0 where
   begun : is_fresh ≡ false → IsMarked l labels start is_fresh
   fresh : IsFresh l labels start → IsMarked l labels start is_fresh
 
--- The labels can be taken off: the queue of the search from the goal has all nodes with one, and the search from the start has none.
+-- The labels can be removed: the queue of the search from the goal has all nodes with one, and the search from the start has none.
 pub record IsReady (nodes : ℕ) (near far : Frontier) : Type 0 where
   pub one_label_each : length near.labels.items ≡ nodes + 1
   pub queued : AreQueued near.labels.items near.queue.items
   pub capacity : nodes + 1 ≤ vec_capacity near.queue
   pub clean : IsClean nodes far
 
--- So they can, whatever the number of nodes is.
+-- The same for some number of nodes.
 abbrev pub AreReady : Levels → Type 0
 AreReady v = (nodes : ℕ) × IsReady nodes v.near v.far
 
@@ -127,7 +126,7 @@ pub record IsSearch (r : Residual) (places : List ℕ) (v : Labelling) (w : Way)
   pub searching : IsSearching r v w
   pub marked : IsMarked r.links v.labels w.start is_fresh
 
--- what callers see of it
+-- the search as callers see it
 abbrev pub searched : Sought → List ℕ → Searched
 searched s places = record {
   nodes = s.residual.links.nodes;

@@ -1,4 +1,4 @@
--- How links of a path are counted: by the numbers of their pairs.
+-- Listing the links of a path, by the numbers of their pairs.
 -- Private: only contracts inside the crate and proofs use this.
 use Rattle.std.specs.Prelude.{ℕ, ◌≡◌, ◌<◌, ◌++◌, List, length, map, slice_index, Option, Some, None, IfSome, Vec, option_map}
 use Rattle.std.specs.declared.alloc.Global.{Global}
@@ -6,16 +6,16 @@ use Rattle.std.specs.declared.rc.Rc.{Rc}
 use Rattle.dmf_path.specs.declared.trail.Slot.{Slot}
 use Rattle.dmf_path.specs.Links.{Links, IsOf}
 
--- the items of a vector, where there is one
+-- the items of a vector, if there is one
 abbrev pub items_of : Option (Vec ℕ Global) → Option (List ℕ)
 items_of indices = option_map (λ vector. vector.items) indices
 
--- Of each link this is the index of its pair.
+-- This list has the index of its pair for each link.
 abbrev pub AreNumbers : Links → List ℕ → List ℕ → Type 0
 AreNumbers l places numbers = (length numbers ≡ length l.heads)
     × ((p : ℕ) → p < length l.heads → IsOf l places p (slice_index numbers p))
 
--- So they are, where there are numbers.
+-- The same, if there are numbers.
 abbrev pub MayBeNumbered : Links → List ℕ → Option (Rc (Vec ℕ Global) Global) → Type 0
 MayBeNumbered l places numbers = IfSome numbers (λ known. AreNumbers l places known.value.items)
 
@@ -23,7 +23,7 @@ MayBeNumbered l places numbers = IfSome numbers (λ known. AreNumbers l places k
 abbrev pub numbers_of : List ℕ → List Slot → List ℕ
 numbers_of numbers slots = map (λ s. slice_index numbers s.place) slots
 
--- All pairs are touched, or beside those that were, those of the links in slots.
+-- All pairs are touched; or the pairs that were, and the pairs of the links in slots.
 pub data Lists (numbers : Option (Rc (Vec ℕ Global) Global)) (slots : List Slot) (old new : Option (List ℕ)) : Type 0 where
   all : new ≡ None → Lists numbers slots old new
   these : (known : Rc (Vec ℕ Global) Global) (indices : List ℕ) → numbers ≡ Some known → old ≡ Some indices

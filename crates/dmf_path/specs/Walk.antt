@@ -5,37 +5,37 @@ use Rattle.std.specs.Prelude.{ℕ, ◌≡◌, ◌+◌, ◌-◌, ◌<◌, ◌≤�
 use Rattle.dmf_node.specs.Node.{IsNode}
 use Rattle.dmf_path.specs.Links.{Links, LiesAt}
 
--- Link `p` of node `v` is admissible: it has room, and leads to a node whose label is less by one.
+-- Link `p` of node `v` is admissible: it has room, and leads to a node whose label is lower by one.
 pub record IsAdmissible (l : Links) (labels rooms : List ℕ) (v p : ℕ) : Type 0 where
   pub lies : LiesAt l v p
   pub room : 0 < slice_index rooms p
   pub falls : slice_index labels (slice_index l.heads p) + 1 ≡ slice_index labels v
 
--- Admissible links lead from node `v` to the goal, each next one from where the one before leads to.
+-- Admissible links lead from node `v` to the goal, each next one from the head of the one before.
 abbrev pub IsWalk : Links → List ℕ → List ℕ → ℕ → ℕ → List ℕ → Type 0
 IsWalk l labels rooms goal v [] = v ≡ goal
 IsWalk l labels rooms goal v (p ∷ ps) =
     IsAdmissible l labels rooms v p × IsWalk l labels rooms goal (slice_index l.heads p) ps
 
--- No link with room falls by more than one, where it leads to a node whose label is less than `top` by more than one.
+-- No link with room falls by more than one, if it leads to a node whose label is below `top` by more than one.
 abbrev pub AreValid : Links → List ℕ → List ℕ → ℕ → Type 0
 AreValid l labels rooms top =
     (v p : ℕ) → IsNode l.nodes v → LiesAt l v p → 0 < slice_index rooms p
     → slice_index labels (slice_index l.heads p) + 1 < top
     → slice_index labels v ≤ slice_index labels (slice_index l.heads p) + 1
 
--- No walk to the goal begins with a link of a node that lies before the node's current one.
+-- No walk to the goal begins with a link that lies before its node's current one.
 abbrev pub ArePassed : Links → List ℕ → List ℕ → ℕ → List ℕ → Type 0
 ArePassed l labels rooms goal current =
     (v p : ℕ) (ps : List ℕ) → IsNode l.nodes v → LiesAt l v p → p < slice_index current v
     → ¬ IsWalk l labels rooms goal v (p ∷ ps)
 
--- No link of a node that lies before its current one is admissible.
+-- No link that lies before its node's current one is admissible.
 abbrev pub AreSkipped : Links → List ℕ → List ℕ → List ℕ → Type 0
 AreSkipped l labels rooms current =
     (v p : ℕ) → IsNode l.nodes v → LiesAt l v p → p < slice_index current v → ¬ IsAdmissible l labels rooms v p
 
--- The current link of each node is one of its links, or stands after them.
+-- The current link of each node is one of its links, or the place after them.
 pub record AreCurrent (l : Links) (current : List ℕ) : Type 0 where
   pub one_each : length current ≡ l.nodes + 1
   pub from : (v : ℕ) → IsNode l.nodes v → slice_index l.first v ≤ slice_index current v
@@ -53,7 +53,7 @@ abbrev pub end_of : Links → ℕ → List ℕ → ℕ
 end_of l v [] = v
 end_of l v (p ∷ ps) = end_of l (slice_index l.heads p) ps
 
--- How far a walk from the start has come: the trail, the current links, and that nothing was passed that leads to the goal.
+-- How far a walk from the start has come: the trail, the current links, and that no walk to the goal begins with a passed link.
 pub record IsWalking (l : Links) (labels rooms : List ℕ) (start goal : ℕ) (current trail : List ℕ) : Type 0 where
   pub current_is : AreCurrent l current
   pub passed : ArePassed l labels rooms goal current
@@ -64,7 +64,7 @@ abbrev pub bottleneck_on : List ℕ → ℕ → List ℕ → ℕ
 bottleneck_on rooms limit [] = limit
 bottleneck_on rooms limit (p ∷ ps) = min (slice_index rooms p) (bottleneck_on rooms limit ps)
 
--- the rooms once an amount is pushed along the link at place `p`
+-- the rooms after an amount is pushed along the link at place `p`
 abbrev pub pushed_once : Links → Bool → ℕ → ℕ → List ℕ → List ℕ
 pushed_once l takes_back amount p rooms =
     let taken = slice_set rooms p (slice_index rooms p - amount) in
@@ -75,7 +75,7 @@ pushed_once l takes_back amount p rooms =
 abbrev pub rooms_set : Links → ℕ → ℕ → ℕ → List ℕ → List ℕ
 rooms_set l p along against rooms = slice_set (slice_set rooms p along) (slice_index l.partners p) against
 
--- the rooms once an amount is pushed along these links
+-- the rooms after an amount is pushed along these links
 abbrev pub pushed : Links → Bool → ℕ → List ℕ → List ℕ → List ℕ
 pushed l takes_back amount [] rooms = rooms
 pushed l takes_back amount (p ∷ ps) rooms = pushed l takes_back amount ps (pushed_once l takes_back amount p rooms)

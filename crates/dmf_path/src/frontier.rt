@@ -11,23 +11,23 @@ use crate::open::OpenLinks;
 use crate::table::LinkTable;
 use std::alloc::{AllocError, Global};
 
-/// How far a search has come: the labels of the nodes, and those that have one, in the order of their labels.
+/// How far a breadth-first search has come: the labels of the nodes, and a queue of the nodes that have one, in the order of their labels.
 #[derive(Drop)]
 pub struct Frontier {
-    /// The node at which it began.
+    /// The node at which the search began.
     pub root: u32,
-    /// Of each node how many links it is away from the root, or [`NO_LABEL`].
+    /// For each node the number of links from the root to it, or [`NO_LABEL`].
     pub labels: Vec<u32>,
     /// The nodes with labels.
     pub queue: Vec<u32>,
-    /// The links of so many of them were looked at.
+    /// The search has looked at the links of so many of these nodes.
     pub done: usize,
-    /// How many links these are.
+    /// How many links it has looked at.
     pub looked: u64,
 }
 
 impl Frontier {
-    /// That of a search that has not begun, among so many nodes. Takes memory for two numbers a node.
+    /// A search among so many nodes that has not begun. Takes memory for two numbers a node.
     pub fn new(alloc: Global, nodes: u32) -> Result<Frontier, AllocError>
         requires { nodes < 2 ^ 31 }
         ensures clean { IfOk result (IsClean nodes) }
@@ -43,7 +43,7 @@ impl Frontier {
     }
 }
 
-/// Begins at a root, where no node has a label.
+/// Begins at a root. No node has a label yet.
 pub fn begin(frontier: &mut Frontier, root: u32)
     requires root { root < length frontier.old.labels.items }
     requires capacity { length frontier.old.labels.items ≤ vec_capacity frontier.old.queue }
@@ -61,7 +61,7 @@ pub fn begin(frontier: &mut Frontier, root: u32)
     frontier.queue.push_reserved(root);
 }
 
-/// Takes off all labels.
+/// Removes all labels.
 pub fn unlabel(frontier: &mut Frontier)
     requires queued { AreQueued frontier.old.labels.items frontier.old.queue.items }
     ensures labels { frontier.new.labels.items ≡ replicate (length frontier.old.labels.items) no_label }
@@ -72,7 +72,7 @@ pub fn unlabel(frontier: &mut Frontier)
     frontier.queue.clear();
 }
 
-/// Looks at the links of the node that is next.
+/// Looks at the links of the next node.
 pub fn expand<O: OpenLinks>(table: &LinkTable, opens: &O, frontier: &mut Frontier)
     requires one_flag_each { length (O.flags opens.now) ≡ length table.now.heads.items }
     requires so_far { AreSpread (links_of table.now) (O.flags opens.now) frontier.old.root
@@ -97,8 +97,8 @@ pub fn expand<O: OpenLinks>(table: &LinkTable, opens: &O, frontier: &mut Frontie
     spread(&table.heads, opens, places, label, frontier);
 }
 
-/// Looks at the links of the nodes on the next level, until one of the nodes that they lead to has a label of the other search
-/// too: that one it answers.
+/// Looks at the links of the nodes on the next level, until one of the nodes to which they lead also has a label of the other search.
+/// Returns that node.
 pub fn expand_level<O: OpenLinks>(
     table: &LinkTable,
     opens: &O,

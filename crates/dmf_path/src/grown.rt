@@ -1,4 +1,4 @@
-//! The two links of a new pair are put among those that are there, which keep their order.
+//! Putting the two links of a new pair among the links that are there, which keep their order.
 ghost use Rattle.std.specs.Prelude.{◌≡◌, ◌≢◌, ℕ, ◌+◌, ◌-◌, ◌^◌, ◌<◌, ◌≤◌, List, length, map, slice_index, IfOk};
 ghost use Rattle.dmf_node.specs.Node.{IsNode};
 ghost use Rattle.dmf_path.specs.Pair.{IsPair};
@@ -20,9 +20,9 @@ pub struct Gap {
     pub low_node: u32,
     /// The other node.
     pub high_node: u32,
-    /// Of the links that are there, the place of the one before which the link of the first node goes in.
+    /// The place at which the link of the first node goes in, before the link that is there.
     pub low: u32,
-    /// And that for the link of the other node.
+    /// The place at which the link of the other node goes in.
     pub high: u32,
 }
 
@@ -35,7 +35,7 @@ pub struct NewPair {
     pub place: u32,
     /// The room of the link at the node with the smaller number.
     pub low_room: u64,
-    /// And that of the other.
+    /// The room of the link at the other node.
     pub high_room: u64,
 }
 
@@ -78,7 +78,7 @@ pub fn place_pair(table: &LinkTable, places: &Places, pair: Pair) -> NewPair
     }
 }
 
-/// Where the link of a new pair goes in among those of a node: before that of the last pair, if the last pair has one there.
+/// The place at which the link of a new pair goes in among the links of a node: before the link of the last pair, if that pair has one there.
 fn slot(table: &LinkTable, places: &Places, node: u32) -> u32
     requires places { ArePlaces (links_of table.now) places.now }
     requires node { IsNode table.now.nodes node }
@@ -97,7 +97,7 @@ fn slot(table: &LinkTable, places: &Places, node: u32) -> u32
 }
 
 impl Gap {
-    /// Where the link at a place lies, once the new links are there.
+    /// The new place of the link that is at a place.
     fn shifted(&self, place: u32) -> u32
         requires { place < 2 ^ 31 }
         ensures { result ≡ shifted self.now place }
@@ -121,7 +121,7 @@ impl Gap {
         }
     }
 
-    /// Where the link along the pair at index `k` lies then, or [`NO_PLACE`].
+    /// The new place of the link along the pair at index `k`, or [`NO_PLACE`].
     fn shifted_place(&self, places: &Places, k: usize) -> u32
         requires index { k < length places.now }
         requires short { slice_index places.now k ≢ no_place → slice_index places.now k < 2 ^ 31 }
@@ -133,7 +133,7 @@ impl Gap {
         }
     }
 
-    /// Shifts where the links of each node begin.
+    /// Shifts the places where the links of each node begin.
     fn shift_first(&self, first: &mut [u32])
         requires { IsShort first.old }
         ensures { (v : ℕ) → v < length first.old → slice_index first.new v ≡ slice_index first.old v + new_before self.now v }
@@ -150,7 +150,7 @@ impl Gap {
         u32::from((self.low_node as usize) < node) + u32::from((self.high_node as usize) < node)
     }
 
-    /// Where the links of each node begin then. Takes memory for that.
+    /// The new places where the links of each node begin. Takes memory for them.
     fn grown_first(&self, alloc: Global, first: &[u32]) -> Result<Vec<u32>, AllocError>
         requires { IsShort first.now }
         ensures long { IfOk result (λ after. length after.items ≡ length first.now) }
@@ -184,7 +184,7 @@ impl Gap {
         self.put_two(partners, self.high + 1, self.low)
     }
 
-    /// Those of the links that were there. Takes memory for them.
+    /// The places of the opposites of the old links. Takes memory for them.
     fn shifted_partners(&self, alloc: Global, partners: &[u32]) -> Result<Vec<u32>, AllocError>
         requires { IsShort partners.now }
         ensures long { IfOk result (λ after. length after.items ≡ length partners.now) }
@@ -196,7 +196,7 @@ impl Gap {
         Ok(after)
     }
 
-    /// What is kept of each link, with what is kept of the new ones. Takes memory for that.
+    /// A vector with a value for each link, with the values of the new links. Takes memory for it.
     fn put_two<T: Copy + Drop>(
         &self,
         mut items: Vec<T>,
@@ -267,7 +267,7 @@ impl NewPair {
         self.gap.put_two(rooms, self.low_room, self.high_room)
     }
 
-    /// And their flags, each of which tells of the opposite link. Takes memory for them.
+    /// The flags of the links, each for the room of the opposite link. Takes memory for them.
     pub fn grown_flags(&self, flags: Vec<u8>) -> Result<Vec<u8>, AllocError>
         requires order { self.now.gap.low ≤ self.now.gap.high }
         requires within { self.now.gap.high ≤ length flags.items }

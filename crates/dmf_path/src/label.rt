@@ -10,11 +10,11 @@ use crate::open::OpenLinks;
 use crate::table::LinkTable;
 use std::ops::Range;
 
-/// What stands for the label of a node that has none.
+/// The number that stands for no label.
 pub const NO_LABEL: u32 = u32::MAX;
 
-/// Labels each node that open links reach from the root with the number of links that it takes, level by level, until
-/// node `stop` has a label. Node 0 never has one. Answers how many links were looked at.
+/// Labels each node that open links reach from the root with its distance from the root, level by level, until node `stop` has a label.
+/// Node 0 never has one. Returns the number of links that it looked at.
 pub fn label_nodes<O: OpenLinks>(
     table: &LinkTable,
     opens: &O,
@@ -34,8 +34,8 @@ pub fn label_nodes<O: OpenLinks>(
     label_most(table, opens, stop, u64::MAX, frontier).unwrap()
 }
 
-/// Goes on like that with a search that has begun, but looks at `most` links at most; where these are too few, some labels are
-/// missing, and it answers nothing.
+/// Goes on in this way with a search that has begun, but looks at no more than `most` links. If these are too few, some labels are
+/// missing, and the result is `None`.
 pub fn label_most<O: OpenLinks>(
     table: &LinkTable,
     opens: &O,
@@ -67,7 +67,7 @@ pub fn label_most<O: OpenLinks>(
     Some(looked)
 }
 
-/// Takes off every label.
+/// Removes every label.
 fn clear(labels: &mut [u32])
     ensures { labels.new ≡ replicate (length labels.old) no_label }
 {
@@ -76,7 +76,7 @@ fn clear(labels: &mut [u32])
     }
 }
 
-/// Takes off the labels, where all nodes that have one are in the queue. Where these are many, it goes over all nodes.
+/// Removes the labels, if all nodes that have one are in the queue. If these are many, it goes over all nodes.
 pub fn take_off(labels: &mut [u32], queue: &[u32])
     requires queued { AreQueued labels.old queue.now }
     ensures { labels.new ≡ replicate (length labels.old) no_label }
@@ -88,7 +88,7 @@ pub fn take_off(labels: &mut [u32], queue: &[u32])
     }
 }
 
-/// Takes off the labels, where all nodes that have one are in the queue.
+/// Removes the labels, if all nodes that have one are in the queue.
 fn clear_queued(labels: &mut [u32], queue: &[u32])
     requires queued { AreQueued labels.old queue.now }
     ensures { labels.new ≡ replicate (length labels.old) no_label }
@@ -98,7 +98,7 @@ fn clear_queued(labels: &mut [u32], queue: &[u32])
     }
 }
 
-/// Gives the label to the nodes without one to which the open links at the places lead, and queues these nodes.
+/// Gives the label to the nodes without one to which the open links at these places lead, and queues these nodes.
 pub fn spread<O: OpenLinks>(
     heads: &[u32],
     opens: &O,

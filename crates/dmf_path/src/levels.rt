@@ -11,21 +11,21 @@ use crate::table::LinkTable;
 pub struct Levels {
     /// The search from the goal. Its labels are those that a walk follows, and its queue has all nodes with one.
     pub near: Frontier,
-    /// The search from the start. It has no labels but while nodes are labelled.
+    /// The search from the start. It has labels only while labelling goes on.
     pub far: Frontier,
-    /// Of each node the place of its current link.
+    /// The place of each node's current link.
     pub current: Vec<u32>,
     /// Whether nodes are labelled from both ends, and not from the goal alone.
     pub both: bool,
-    /// How many links were looked at when nodes were labelled from the goal alone the last time.
+    /// How many links the last labelling from the goal alone looked at.
     pub looked: u64,
-    /// Whether all nodes from which paths lead to the goal got a label, so that a search from another start may keep the labels.
+    /// Whether all nodes from which paths lead to the goal have labels, so that a search from another start may keep the labels.
     pub all: bool,
     /// Whether the walk has stepped back since the current links were set: only then is an admissible link before one of them.
     pub stepped_back: bool,
     /// Whether the search was aimed at its goal twice in turn.
     pub again: bool,
-    /// How many links labelling from both ends has looked at for this goal since all nodes got a label.
+    /// How many links labelling from both ends has looked at since all nodes got a label, or since both ends of the search changed.
     pub spent: u64,
 }
 

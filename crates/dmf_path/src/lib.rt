@@ -1,4 +1,4 @@
-//! Least paths over pairs of opposite links between nodes: the search on which the maximum-flow solver `dmf` stands.
+//! Least paths over pairs of opposite links between nodes: the search of the maximum-flow solver `dmf`.
 #![tactic(auto)]
 
 pub use pair::{Pair, Pairs};

@@ -11,7 +11,7 @@ use crate::frontier::{Frontier, expand_level};
 use crate::open::{Flagged, Roomy};
 use crate::table::LinkTable;
 
-/// Labels the nodes from both ends until a node has a label of both searches, which it answers; nothing, where no path leads from the
+/// Labels the nodes from both ends until a node has a label of both searches. Returns that node, or `None` if no path leads from the
 /// start to the goal.
 pub fn meet(
     table: &LinkTable,
@@ -52,7 +52,7 @@ pub fn meet(
     None
 }
 
-/// Expands the next level of the search on whose side the waiting nodes have fewer links.
+/// Expands the next level of the search whose waiting nodes have fewer links.
 fn expand_one(
     table: &LinkTable,
     rooms: &[u64],
@@ -96,7 +96,7 @@ fn expand_one(
     expand_level(table, &Flagged(flags), to_goal, &from_start.labels)
 }
 
-/// How many links the waiting nodes have. If many wait, each counts as many as a node has on average.
+/// The number of links of the waiting nodes. If many wait, each counts as many as a node has on average.
 fn waiting_links(table: &LinkTable, frontier: &Frontier) -> u64
     requires nodes { (k : ℕ) → k < length frontier.now.queue.items → slice_index frontier.now.queue.items k ≤ table.now.nodes }
     requires come { frontier.now.done ≤ length frontier.now.queue.items }

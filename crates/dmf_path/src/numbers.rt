@@ -1,4 +1,4 @@
-//! Of each link the index of its pair.
+//! For each link the index of its pair.
 ghost use Rattle.std.specs.Prelude.{◌≡◌, ℕ, true, List, length, IfOk};
 ghost use Rattle.dmf_path.specs.Links.{ArePlaces};
 ghost use Rattle.dmf_path.specs.LinkTable.{links_of};
@@ -8,7 +8,7 @@ use crate::places::Places;
 use crate::table::LinkTable;
 use std::alloc::{AllocError, Global};
 
-/// Of each link the index of its pair. Takes memory for a number a link.
+/// For each link the index of its pair. Takes memory for a number a link.
 pub fn number_links(
     alloc: Global,
     table: &LinkTable,
@@ -22,7 +22,7 @@ pub fn number_links(
     Ok(numbers)
 }
 
-/// Whether the links of two tables have the same numbers: where each pair has its links at the same places.
+/// Whether the links of two tables have the same numbers, since each pair has its links at the same places.
 pub fn have_same_numbers(
     table: &LinkTable,
     places: &Places,
@@ -35,7 +35,7 @@ pub fn have_same_numbers(
     table.partners == other.partners && places.are(other_places)
 }
 
-/// Puts at both links of each pair its index.
+/// Gives both links of each pair the pair's index.
 fn put_numbers(table: &LinkTable, places: &Places, numbers: &mut [u32])
     requires places { ArePlaces (links_of table.now) places.now }
     requires one_each { length numbers.old ≡ length table.now.heads.items }

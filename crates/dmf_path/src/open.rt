@@ -1,10 +1,10 @@
-//! Which links a search may follow: flags tell, or rooms do.
+//! Which links a search may follow: by their flags, or by their rooms.
 
-/// Which links are open, each by its place.
+/// A test for open links, by their places.
 pub trait OpenLinks {
     ghost use Rattle.std.specs.Prelude.{◌≡◌, ◌==◌, ◌<◌, ℕ, List, length, slice_index};
 
-    // A flag for each link, which is 1 where it is open.
+    // A flag for each link: 1 if it is open.
     ghost flags: { Self → List ℕ };
 
     /// Whether the link at a place is open.

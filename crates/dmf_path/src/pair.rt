@@ -1,4 +1,4 @@
-/// Two opposite links between two nodes, each with its room: how much more can be sent along it.
+/// Two opposite links between two nodes, each with its room: its residual capacity.
 #[derive(Clone, Copy, Debug, PartialEq, Eq)]
 pub struct Pair {
     /// The node at which the link along begins, and the link against ends.
@@ -11,7 +11,7 @@ pub struct Pair {
     pub against: u64,
 }
 
-/// Pairs of links, numbered from 1; a number may stand for none.
+/// Pairs of links, numbered from 1. A number may stand for no pair.
 pub trait Pairs {
     ghost use Rattle.std.specs.Prelude.{◌≡◌, ◌<◌, List, Option, Some, length, slice_get};
     ghost use Rattle.dmf_path.specs.declared.pair.Pair.{Pair};
@@ -23,7 +23,7 @@ pub trait Pairs {
     fn len(&self) -> usize
         ensures { result ≡ length (pairs self.now) };
 
-    /// The pair at index `k`, which is that of number `k + 1`.
+    /// The pair at index `k`, which has number `k + 1`.
     fn pair(&self, k: usize) -> Option<Pair>
         requires { k < length (pairs self.now) }
         ensures { slice_get (pairs self.now) k ≡ Some result };

@@ -1,4 +1,4 @@
-//! The search for the next path: the walk goes on, or the nodes are labelled anew and it begins again.
+//! The search for the next path: the walk goes on, or the nodes get new labels and it begins again.
 ghost use Rattle.std.specs.Prelude.{◌≡◌, ◌≢◌, ℕ, List, true, false, []};
 ghost use Rattle.dmf_node.specs.Node.{IsNode};
 ghost use Rattle.dmf_path.specs.LinkTable.{links_of};
@@ -17,8 +17,7 @@ use crate::table::LinkTable;
 use crate::trail::Trail;
 use crate::walk::walk;
 
-/// Finds the least path from the start to the goal: goes on with the walk, and where none is left, labels the nodes anew
-/// and walks again.
+/// Finds the least path from the start to the goal: goes on with the walk, and if none is left, labels the nodes anew and walks again.
 pub fn find(links: &mut Links, levels: &mut Levels, trail: &mut Trail) -> bool
     requires searching { IsSearching (residual_of links.old) (labelling_of levels.old) (way_of trail.old) }
     requires ready { AreReady levels.old }
@@ -75,8 +74,8 @@ fn relabel(links: &Links, levels: &mut Levels, trail: &mut Trail) -> bool
     true
 }
 
-/// Restarts the search between its two nodes: applies the held pushes and takes off all labels, so that the next walk ends at once.
-/// From then on nodes are labelled from both ends.
+/// Restarts the search between its two nodes: applies the held pushes and removes all labels, so that the next walk ends at once. From
+/// then on labelling goes from both ends.
 pub fn begin_anew(links: &mut Links, levels: &mut Levels, trail: &mut Trail)
     requires searching { IsSearching (residual_of links.old) (labelling_of levels.old) (way_of trail.old) }
     requires ready { AreReady levels.old }
@@ -120,7 +119,7 @@ pub fn aim(links: &mut Links, levels: &mut Levels, trail: &mut Trail, start: u32
     true
 }
 
-/// Takes off all labels, and gives both ends the label 0. No link falls then, so the next walk ends at once.
+/// Removes all labels, and gives both ends the label 0. No link falls then, so the next walk ends at once.
 pub fn make_fresh(table: &LinkTable, levels: &mut Levels, trail: &mut Trail)
     requires ready { IsReady table.now.nodes levels.old.near levels.old.far }
     requires start { IsNode table.now.nodes trail.old.start }

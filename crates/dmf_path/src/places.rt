@@ -46,7 +46,7 @@ fn number_at(numbers: &[u32], i: usize) -> usize
     numbers[i] as usize
 }
 
-/// Of each pair the place of its link along, or [`NO_PLACE`].
+/// The place of each pair's link along, or [`NO_PLACE`].
 #[derive(Drop)]
 pub struct Places {
     places: Vec<u32>,

@@ -15,13 +15,13 @@ use std::rc::Rc;
 pub struct Links {
     /// The links, which several searches may share.
     pub table: Rc<LinkTable>,
-    /// Whether what is pushed along a link can be pushed back along the opposite one.
+    /// Whether a push along a link can be pushed back along its opposite.
     pub takes_back: bool,
     /// The room of each link.
     pub rooms: Vec<u64>,
-    /// Of each link whether the opposite one has room: 1, or else 0.
+    /// For each link 1 if its opposite has room, else 0.
     pub flags: Vec<u8>,
-    // The rooms of two opposite links fit 64 bits together, and the flags tell of the rooms.
+    // The rooms of two opposite links fit 64 bits together, and each flag says whether there is room.
     ghost rooms_are: { AreRooms (links_of table.value) rooms.items },
     ghost flags_are: { AreFlags (links_of table.value) rooms.items flags.items },
 }
@@ -30,7 +30,7 @@ impl Links {
     ghost use Rattle.std.specs.Prelude.{◌+◌, ◌^◌, ◌≤◌};
     ghost use Rattle.dmf_path.specs.Residual.{residual_of, put_at, pushed_along, lowered, pair_set};
 
-    /// Pushes an amount along a link: its room falls by that, and that of the opposite link rises if pushes are taken back.
+    /// Pushes an amount along a link: its room falls by the amount, and the room of its opposite rises by it if pushes are taken back.
     pub fn push(&mut self, place: u32, amount: u64)
         requires within { place < length self.old.table.value.heads.items }
         requires room { amount ≤ slice_index self.old.rooms.items place }
@@ -67,7 +67,7 @@ impl Links {
         self.put(place, opposite, along);
     }
 
-    /// Takes the links of a new pair in: the table is that with them. Takes memory for the rooms and the flags.
+    /// Takes in the links of a new pair: `table` has them already. Takes memory for the rooms and the flags.
     pub fn grown(self, table: Rc<LinkTable>, new: &NewPair) -> Result<Links, AllocError>
         requires gap { (places : List ℕ) × ((k : ℕ) × IsGap (links_of self.table.value) places k new.now.gap) }
         requires table { IsGrown new.now.gap (links_of self.table.value) (links_of table.value) }
@@ -100,7 +100,7 @@ impl Links {
     }
 }
 
-/// Updates the flag for a room that has changed. Most changes leave the flag as it is, and then its memory is not touched.
+/// Updates the flag for a room that has changed. Most changes leave the flag as it is, and then the call does not touch its memory.
 fn renew_flag(flags: &mut [u8], place: u32, before: u64, after: u64)
     requires within { place < length flags.old }
     requires told { slice_index flags.old place ≡ open_flag before }

@@ -63,7 +63,7 @@ fn labels_over(
     Ok(labels)
 }
 
-/// Which nodes have a label, that of node 1 first.
+/// Which nodes have a label. The first mark belongs to node 1.
 pub fn labelled(alloc: Global, labels: &[u32]) -> Result<Vec<bool>, AllocError>
     ensures { IfOk result (λ marks. marks.items ≡ map is_label (drop 1 labels.now)) }
 {

@@ -1,4 +1,4 @@
-//! Labels that lead to one goal are made to lead to another.
+//! Making labels that lead to one goal lead to another.
 ghost use Rattle.std.specs.Prelude.{◌≡◌, ◌≢◌, ◌+◌, ◌≤◌, ℕ, true, false, length, slice_index};
 ghost use Rattle.dmf_node.specs.Node.{IsNode};
 ghost use Rattle.dmf_path.specs.Links.{LiesAt};
@@ -41,7 +41,7 @@ pub fn redirect(links: &Links, levels: &mut Levels, from: u32, start: u32, goal:
     true
 }
 
-/// Whether links with room lead to this node from nodes with the labels 0 and 1 alone.
+/// Whether all links with room to this node come from nodes with the label 0 or 1.
 fn is_near(links: &Links, labels: &[u32], node: u32) -> bool
     requires node { IsNode links.now.table.value.nodes node }
     requires one_label_each { length labels.now ≡ links.now.table.value.nodes + 1 }
@@ -59,7 +59,7 @@ fn is_near(links: &Links, labels: &[u32], node: u32) -> bool
     true
 }
 
-/// Makes each node from which a link with room leads to this one look at that link again, if it has passed it.
+/// If a node from which a link with room leads to this one has passed that link, makes the link its current one again.
 fn bring_back(table: &LinkTable, flags: &[u8], node: u32, current: &mut [u32])
     requires node { IsNode table.now.nodes node }
     requires flags { length flags.now ≡ length table.now.heads.items }

@@ -1,4 +1,4 @@
-//! The nodes are labelled anew: from the goal alone, or from both ends.
+//! Labelling the nodes anew: from the goal alone, or from both ends.
 ghost use Rattle.std.specs.Prelude.{◌≡◌, ◌≢◌, ℕ, ◌+◌, ◌≤◌, ◌<◌, true, false, length, slice_index, vec_capacity};
 ghost use Rattle.dmf_node.specs.Node.{IsNode};
 ghost use Rattle.dmf_path.specs.LinkTable.{links_of};
@@ -14,9 +14,9 @@ use crate::meet::meet;
 use crate::open::{Flagged, Roomy};
 use crate::push::Links;
 
-/// Labels the nodes, of which none has a label. Whether the start has one then: else no path is left.
+/// Labels the nodes, none of which has a label. Returns whether the start has one then; if not, no path is left.
 ///
-/// If a search looks for paths from several starts in turn, all nodes get a label once labelling them from both ends has looked at more
+/// If a search looks for paths from several starts in turn, all nodes get a label once labelling from both ends has looked at more
 /// links than there are.
 pub fn label_anew(links: &Links, levels: &mut Levels, start: u32, goal: u32) -> bool
     requires near { IsClean links.now.table.value.nodes levels.old.near }
@@ -48,7 +48,7 @@ pub fn label_anew(links: &Links, levels: &mut Levels, start: u32, goal: u32) -> 
     levels.near.labels[start as usize] != NO_LABEL
 }
 
-/// Labels the nodes from the goal, until the start has a label. Answers how many links were looked at.
+/// Labels the nodes from the goal, until the start has a label. Returns the number of links that it looked at.
 fn label_from_goal(links: &Links, near: &mut Frontier, start: u32, goal: u32) -> u64
     requires near { IsClean links.now.table.value.nodes near.old }
     requires start { IsNode links.now.table.value.nodes start }
@@ -79,8 +79,8 @@ fn label_all(links: &Links, near: &mut Frontier, start: u32, goal: u32)
     let _looked = label_nodes(&links.table, &Flagged(&links.flags), goal, 0, near);
 }
 
-/// Searches from the start over links with room, and gives up after `few` links. Whether the search ended before that without the goal:
-/// then no path is left. Else all labels are taken off again.
+/// Searches from the start over links with room, and gives up after `few` links. Returns whether the search ended before that without
+/// the goal: then no path is left. If not, removes all labels again.
 ///
 /// If no path is left, labelling from the goal would often look at nearly all links.
 fn is_enclosed(links: &Links, near: &mut Frontier, start: u32, goal: u32, few: u64) -> bool
@@ -102,8 +102,8 @@ fn is_enclosed(links: &Links, near: &mut Frontier, start: u32, goal: u32, few: u
     false
 }
 
-/// Labels the nodes from the goal and from the start until both meet, and joins the labels to those of the goal's side. Whether they
-/// meet.
+/// Labels the nodes from the goal and from the start until the searches meet, and joins the labels to those of the goal's side. Returns
+/// whether they meet.
 fn label_from_both(links: &Links, levels: &mut Levels, start: u32, goal: u32) -> bool
     requires near { IsClean links.now.table.value.nodes levels.old.near }
     requires far { IsClean links.now.table.value.nodes levels.old.far }
@@ -140,7 +140,7 @@ fn label_from_both(links: &Links, levels: &mut Levels, start: u32, goal: u32) ->
     true
 }
 
-/// Gives each node that has a label of the start's side alone one of the goal's: what is left of the length of a shortest path.
+/// Gives each node that has only a label of the start's side one of the goal's: the rest of the length of a shortest path.
 fn join(from_start: &[u32], nodes: &[u32], long: u32, labels: &mut [u32], queue: &mut Vec<u32>)
     requires one_label_each { length labels.old ≡ length from_start.now }
     requires far_queued { AreQueued from_start.now nodes.now }

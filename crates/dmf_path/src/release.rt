@@ -1,4 +1,4 @@
-//! Before a caller changes the room of a link, the pushes held for that link are applied.
+//! Applying held pushes before a caller changes the room of a link.
 ghost use Rattle.std.specs.Prelude.{◌≡◌, ◌+◌, ◌<◌, ◌==◌, length, slice_index};
 ghost use Rattle.dmf_path.specs.Links.{tail_of};
 ghost use Rattle.dmf_path.specs.LinkTable.{links_of};
@@ -11,8 +11,8 @@ use crate::push::Links;
 use crate::table::LinkTable;
 use crate::trail::Trail;
 
-/// Applies all held pushes if one of them may change the room of the link at a place: if pushes are taken back, or if the link
-/// falls, as those in slots do.
+/// Applies all held pushes if one of them may change the room of the link at this place: if pushes are taken back, or if the link
+/// falls, as the links in slots do.
 pub fn release(links: &mut Links, levels: &Levels, trail: &mut Trail, place: u32)
     requires place { place < length links.old.table.value.heads.items }
     requires searching { IsSearching (residual_of links.old) (labelling_of levels.now) (way_of trail.old) }
@@ -26,7 +26,7 @@ pub fn release(links: &mut Links, levels: &Levels, trail: &mut Trail, place: u32
     }
 }
 
-/// Whether the link at a place leads to a node whose label is less by one.
+/// Whether the link at this place leads to a node whose label is lower by one.
 fn falls(table: &LinkTable, labels: &[u32], place: u32) -> bool
     requires one_label_each { length labels.now ≡ table.now.nodes + 1 }
     requires place { place < length table.now.heads.items }

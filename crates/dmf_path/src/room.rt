@@ -25,8 +25,8 @@ impl Links {
         left + held_for(&self.rooms, trail, self.table.opposite(place))
     }
 
-    /// The room of the link that is opposite to the one at a place, with the held pushes applied. Where nothing is held and the flag tells
-    /// that there is no room, the opposite link is not looked at.
+    /// The room of the opposite of the link at this place, with the held pushes applied. If no push is held and the flag says that
+    /// there is no room, the call does not look at the opposite link.
     pub fn opposite_room(&self, trail: &Trail, place: u32) -> u64
         requires place { place < length self.now.table.value.heads.items }
         requires have { HaveLeft trail.now.sent self.now.rooms.items (filled_slots (way_of trail.now)) }

@@ -26,27 +26,26 @@ mod making;
 /// What was pushed along a path.
 #[derive(Clone, Copy)]
 pub struct AugmentingPath {
-    /// How much was pushed.
+    /// The amount of the push.
     pub amount: u64,
-    /// How many links the path has.
+    /// The number of links of the path.
     pub links: u32,
 }
 
-/// A search for least paths between two nodes, over the links of some pairs, from whose rooms what is pushed along a path
-/// is taken.
+/// A search for least paths between two nodes, over the links of some pairs. A push along a path takes room off these links.
 ///
-/// It goes by phases (Dinic): the nodes are labelled by their distances to the goal, and as long as paths of that length
-/// are left, each is found by going on from where the one before was split. Once the search has been begun anew, nodes are
-/// labelled from both ends, which looks at few of them where few paths are left.
+/// It works in phases (Dinic): labels the nodes with their distances to the goal and, while paths of that length are left, finds each
+/// by going on from where the path before was split. Once the search has begun anew, labelling goes from both ends, which looks at few
+/// nodes if few paths are left.
 #[derive(Drop)]
 pub struct Search {
     links: Links,
     places: Rc<Places>,
-    /// Of each link the index of its pair, once the links are numbered. Searches over the same links share the numbers.
+    /// For each link the index of its pair, once the links are numbered. Searches over the same links share the numbers.
     numbers: Option<Rc<Vec<u32>>>,
     levels: Levels,
     trail: Trail,
-    /// Whether no path was looked for since the search began, or began anew: then nothing is held, and no link is passed.
+    /// Whether the search has looked for no path since it began, or began anew: then no push is held, and no link is passed.
     is_fresh: bool,
 }
 
@@ -68,9 +67,9 @@ impl Model for Search {
 }
 
 impl Search {
-    /// Pushes along the least path from the start to the goal as much as the limit and its rooms allow, and answers how
-    /// much that is, and how long the path; nothing, where no path is left. The pairs of the path count as touched then; all pairs
-    /// do, unless the links were numbered. Takes no memory.
+    /// Pushes along the least path from the start to the goal as much as the limit and its rooms allow. Returns the amount and the
+    /// length of the path, or `None` if no path is left. Afterwards the pairs of the path count as touched, or all pairs unless the
+    /// links were numbered. Takes no memory.
     pub fn augment(&mut self, limit: u64, touched: &mut Touched) -> Option<AugmentingPath>
         ensures found { MatchOption result
             (HasNoPath (steps_of self.old.pairs) self.old.start self.old.goal × (self.new ≡ self.old))
@@ -89,8 +88,8 @@ impl Search {
         Some(AugmentingPath { amount, links })
     }
 
-    /// Numbers the links, so that paths list the pairs that they lead over. Takes memory for a number a link; where they are numbered
-    /// already, the call does nothing.
+    /// Numbers the links, so that paths list the pairs that they use. Takes memory for a number a link. If the links have numbers
+    /// already, does nothing.
     pub fn number_links(&mut self, alloc: Global) -> Result<(), AllocError>
         ensures { self.new ≡ self.old }
     {
@@ -102,8 +101,8 @@ impl Search {
         Ok(())
     }
 
-    /// Shares the numbers of another search that has the same links, where this one has none. Takes no memory, and time for a look at
-    /// each link: once, since the numbers stay.
+    /// Takes over the numbers of another search, if this one has none and both have the same links. Takes no memory, and time for each
+    /// link, but only once, since the numbers stay.
     pub fn share_numbers(&mut self, other: &Search) -> Result<(), AllocError>
         ensures { self.new ≡ self.old }
     {
@@ -121,8 +120,8 @@ impl Search {
         Ok(())
     }
 
-    /// No pair is touched. If the links are numbered, this takes memory for so many indices: once paths have led over more links, all
-    /// pairs count as touched. Else all count so at once, and it takes none.
+    /// No pair is touched. If the links are numbered, takes memory for a list of so many indices: once paths have used more links, all
+    /// pairs count as touched. If not, all count so at once, and it takes none.
     pub fn none_touched(&self, alloc: Global, most: usize) -> Result<Touched, AllocError>
         ensures { IfOk result (λ touched. (count : ℕ) → AreBelow count touched) }
     {
@@ -132,7 +131,7 @@ impl Search {
         Touched::new(alloc, most)
     }
 
-    /// The room of the link against the pair at index `k`, and nothing where there is no pair. Takes no memory.
+    /// The room of the link against the pair at index `k`. `None` if there is no pair. Takes no memory.
     pub fn against(&self, k: usize) -> Option<u64>
         requires { k < length self.now.pairs }
         ensures { result ≡ against_at self.now.pairs k }
@@ -141,7 +140,7 @@ impl Search {
         Some(self.links.opposite_room(&self.trail, place))
     }
 
-    /// The room of the link along the pair at index `k`, and nothing where there is no pair. Takes no memory.
+    /// The room of the link along the pair at index `k`. `None` if there is no pair. Takes no memory.
     pub fn along(&self, k: usize) -> Option<u64>
         requires { k < length self.now.pairs }
         ensures { result ≡ along_at self.now.pairs k }
@@ -168,8 +167,8 @@ impl Search {
         self.trail.settle(&mut self.links);
     }
 
-    /// Makes it a search from another start to another goal, over the same links with their present rooms. Takes no memory. If all
-    /// nodes have labels, and these lead to the goal, they stay.
+    /// Sets the start and the goal of the search, over the same links with their present rooms. Takes no memory. If all nodes have
+    /// labels, and these lead to the goal, they stay.
     pub fn aim(&mut self, start: u32, goal: u32)
         requires start { IsNode self.old.nodes start }
         requires goal { IsNode self.old.nodes goal }
@@ -186,8 +185,9 @@ impl Search {
         );
     }
 
-    /// Gives both links of the pair at index `k` these rooms, where there is one. Takes no memory. The first call after a path was
-    /// looked for takes time for each node that has a label, since the search then begins anew; each further one takes constant time.
+    /// Gives both links of the pair at index `k` these rooms, if there is a pair. Takes no memory. The first call after the search
+    /// looked for a path takes time for each node that has a label, since the search then begins anew; each later one takes constant
+    /// time.
     pub fn set_rooms(&mut self, k: usize, along: u64, against: u64)
         requires number { k < length self.old.pairs }
         requires fits { along + against < 2 ^ 64 }
@@ -203,8 +203,8 @@ impl Search {
         self.links.set_pair(place, along, against);
     }
 
-    /// Which nodes paths lead to from the start, that of node 1 first. Takes memory for a mark and two numbers a node; as long
-    /// as paths may be left, for a room a link too.
+    /// For each node whether a path leads there from the start. The first mark belongs to node 1. Takes memory for a mark and two
+    /// numbers a node and, while paths may be left, for a room a link.
     pub fn reached(&self, alloc: Global) -> Result<Vec<bool>, AllocError>
         ensures one_each { IfOk result (λ marks. length marks.items ≡ self.now.nodes) }
         ensures marks { IfOk result (λ marks. (v : ℕ) → IsNode self.now.nodes v →

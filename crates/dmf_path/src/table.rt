@@ -8,13 +8,13 @@ use std::ops::Range;
 pub struct LinkTable {
     /// The number of nodes.
     pub nodes: u32,
-    /// Where the links of each node begin, those of node 0 first, and then where the last ones end.
+    /// The place where the links of each node begin, those of node 0 first, and then the place where the last ones end.
     pub first: Vec<u32>,
-    /// Of each link the node to which it leads.
+    /// For each link the node to which it leads.
     pub heads: Vec<u32>,
-    /// Of each link the place of the opposite link.
+    /// For each link the place of the opposite link.
     pub partners: Vec<u32>,
-    // Links are at each node side by side, and each has an opposite one.
+    // The links of a node lie side by side, and each link has an opposite one.
     ghost are: { AreLinks (record { nodes = nodes; first = first.items; heads = heads.items; partners = partners.items }) },
 }
 
@@ -34,7 +34,7 @@ impl LinkTable {
         self.first[node as usize] as usize..self.first[node as usize + 1] as usize
     }
 
-    /// The place of the link that is opposite to the one at a place.
+    /// The place of the opposite of the link at this place.
     pub fn opposite(&self, place: u32) -> u32
         requires { place < length self.now.heads.items }
         ensures is { result ≡ slice_index self.now.partners.items place }
@@ -43,7 +43,7 @@ impl LinkTable {
         self.partners[place as usize]
     }
 
-    /// The node from which the link at a place leads.
+    /// The tail of the link at this place.
     pub fn tail(&self, place: u32) -> u32
         requires { place < length self.now.heads.items }
         ensures { result ≡ tail_of (links_of self.now) place }

@@ -3,7 +3,7 @@ ghost use Rattle.std.specs.Prelude.{◌≡◌, ◌≤◌, length, vec_capacity};
 
 use crate::push::Links;
 
-/// A link of the path. Its room is still that from when it entered the slot: the pushes since then are held.
+/// A link of the path. Its room stays as it was when the link entered the slot: the pushes since then are held.
 #[derive(Clone, Copy)]
 pub struct Slot {
     /// The place of the link.
@@ -59,7 +59,7 @@ impl Links {
         }
     }
 
-    /// Applies the pushes that a slot holds to the rooms of its link. Where it holds none, the opposite link is not looked at: so a walk
+    /// Applies the pushes that a slot holds to the rooms of its link. If it holds none, does not look at the opposite link, so a walk
     /// that steps back from a dead end reads less memory.
     fn put_on(&mut self, slot: Slot, sent: u64)
         requires slot { IsSlot (links_of self.old.table.value) sent self.old.rooms.items slot }
@@ -85,7 +85,7 @@ impl Trail {
         self.walked == 0 && self.rest == self.slots.len()
     }
 
-    /// The bottleneck: the least of the limit and of what the links in slots have left.
+    /// The bottleneck: the least of the limit and of the rooms that the links in slots have left.
     pub fn bottleneck(&self, limit: u64) -> u64
         ensures { result ≡ least_left self.now.sent limit self.now.slots.items }
     {
@@ -152,8 +152,8 @@ impl Trail {
         self.joint = self.goal;
     }
 
-    /// Splits the path at its saturated links: the links from the first to the last of them leave. What is before them stays as the
-    /// walk, and what is after them as the rest.
+    /// Splits the path at its saturated links: the links from the first to the last of them leave. The links before them stay as the
+    /// walk, and the links after them as the rest.
     pub fn split(&mut self, links: &mut Links)
         requires can { (first behind : ℕ) → first < behind → behind ≤ length self.old.slots.items →
             CanPut (links_of links.old.table.value) links.old.takes_back self.old.sent
@@ -210,7 +210,7 @@ impl Trail {
     }
 }
 
-/// Replaces the slots by so many free ones.
+/// Replaces the slots by this many free ones.
 fn make_slots(slots: &mut Vec<Slot>, links: u32)
     requires capacity { links ≤ vec_capacity slots.old }
     ensures count { length slots.new.items ≡ links }

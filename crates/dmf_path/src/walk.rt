@@ -9,9 +9,8 @@ use crate::push::Links;
 use crate::table::LinkTable;
 use crate::trail::Trail;
 
-/// Goes on from where the trail ends, until it leads from the start to where the end of the last path begins, or no walk
-/// leads to the goal. At each node the walk takes the first link from the current one on that is admissible, and steps back
-/// where there is none: then it has stepped back.
+/// Goes on from where the trail ends, until it leads from the start to where the end of the last path begins, or no walk leads to the
+/// goal. At each node the walk takes the first admissible link from the current one on. If there is none, it steps back.
 pub fn walk(
     links: &mut Links,
     labels: &[u32],
@@ -52,7 +51,7 @@ pub fn walk(
     true
 }
 
-/// The node to which the walk has come.
+/// The last node of the walk.
 fn end_node(table: &LinkTable, trail: &Trail) -> u32
     requires last { 0 < trail.now.walked → (slot_at trail.now.slots.items (trail.now.walked - 1)).place < length table.now.heads.items }
     ensures first { trail.now.walked ≡ 0 → result ≡ trail.now.start }
@@ -65,8 +64,8 @@ fn end_node(table: &LinkTable, trail: &Trail) -> u32
 }
 
 impl Links {
-    /// The first place from `from` up to `end` whose link has room and leads to a node whose label is less than `label` by one,
-    /// or `end`.
+    /// The first place from `from` up to `end` whose link has room and leads to a node whose label is lower than `label` by one, or
+    /// `end`.
     fn first_admissible(&self, labels: &[u32], from: u32, end: u32, label: u32) -> u32
         requires range { from ≤ end }
         requires links { end ≤ length self.now.table.value.heads.items }

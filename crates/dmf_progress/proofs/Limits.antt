@@ -1,4 +1,4 @@
--- The capacities of the arcs out of a set of nodes, summed arc by arc; and that no flow has a larger value than the lesser of two.
+-- The capacities of the arcs that leave a set of nodes, summed arc by arc; and that no flow has a larger value than the lesser of two sums.
 use Rattle.std.proofs.Common.{ℕ, ◌≡◌, ◌+◌, ◌^◌, ◌<◌, ◌≤◌, ◌==◌, ◌&&◌, List, length, get_or, take, Bool, true, false, not, cond, sum_by, refl, ap}
 use Rattle.std.proofs.Common.{sym, ◌∙◌, arith, min, ⊎_elim, eq-eqb}
 use Rattle.std.proofs.Math.Nat.{min-eq_left, min-eq_right}
@@ -15,11 +15,11 @@ use Rattle.dmf_solver.proofs.Crossing.{value-across}
 use Rattle.dmf_solver.proofs.MaxFlowMinCut.{leaving-le_capacity}
 use Rattle.dmf_progress.specs.Limit.{leaving, entering, IsLimit}
 
--- what an arc carries out of a set of nodes at most
+-- the most that an arc carries out of a set of nodes
 abbrev pub carried_out : (ℕ → Bool) → Arc → ℕ
 carried_out has arc = cond (has arc.tail && not (has arc.head)) arc.cap 0
 
--- The sum so far and the next capacity are within all capacities together.
+-- The sum so far and the next capacity are at most the sum of all capacities.
 pub next-small : (has : ℕ → Bool) (arcs : List Arc) (i sum x : ℕ) → i < length arcs → x ≡ carried_out has (get_or arcs i no_arc)
     → sum ≡ sum_by (carried_out has) (take i arcs) → capacity_sum arcs < 2 ^ 64 → sum + x < 2 ^ 64
 next-small has arcs i sum x h x_is is small =
@@ -39,23 +39,23 @@ pub sum-whole : (has : ℕ → Bool) (arcs : List Arc) (i sum : ℕ) → length 
     → sum ≡ sum_by (carried_out has) arcs
 sum-whole has arcs i sum h is = is ∙ ap (sum_by (carried_out has)) (take_all i arcs h)
 
--- The capacity of the arcs that lead out of a set with the source and without the sink is a limit.
+-- The capacity of the arcs that leave a set with the source and without the sink bounds the value of every flow.
 pub cut-limit : (n : Network) (has : ℕ → Bool) → IsNetwork n → has n.source ≡ true → has n.sink ≡ false → IsLimit n (cut_capacity n.arcs has)
 cut-limit n has network source sink flows flow =
     let across = value-across n flows has network flow.conserved source sink in
     omega (arith, ints, across, leaving-le_capacity n.arcs flows has flow.within)
 
--- what leaves the source
+-- the arcs that leave the source
 pub leaving-limit : (n : Network) → IsNetwork n → IsLimit n (leaving n.arcs n.source)
 leaving-limit n network =
     cut-limit n (λ u. u == n.source) network (eq-eqb n.source n.source refl) (ne_eqb n.sink n.source (λ e. network.two_terminals (sym e)))
 
--- what enters the sink
+-- the arcs that enter the sink
 pub entering-limit : (n : Network) → IsNetwork n → IsLimit n (entering n.arcs n.sink)
 entering-limit n network =
     cut-limit n (λ u. not (u == n.sink)) network (ap not (ne_eqb n.source n.sink network.two_terminals)) (ap not (eq-eqb n.sink n.sink refl))
 
--- the lesser of two limits
+-- the lesser of two bounds
 pub lesser-limit : (n : Network) (a b : ℕ) → IsLimit n a → IsLimit n b → IsLimit n (min a b)
 lesser-limit n a b first second flows flow = ⊎_elim
     (λ (lt : a < b).
@@ -64,7 +64,7 @@ lesser-limit n a b first second flows flow = ⊎_elim
     (λ (le : b ≤ a). rw (min-eq_right le) (second flows flow))
     (cases_lt a b)
 
--- the lesser of both sums, by what each of them is
+-- the lesser of both sums, given what each of them is
 pub lesser-is : (n : Network) (arcs : List Arc) (source sink out into least : ℕ) → arcs ≡ n.arcs → source ≡ n.source → sink ≡ n.sink
     → out ≡ leaving arcs source → into ≡ entering arcs sink → least ≡ min out into → least ≡ min (leaving n.arcs n.source) (entering n.arcs n.sink)
 lesser-is n arcs source sink out into least arcs_is source_is sink_is out_is into_is least_is =

@@ -1,4 +1,4 @@
--- What the value of a flow cannot pass.
+-- An upper bound of the value of a flow.
 -- Private: only contracts inside the crate and proofs use this.
 use Rattle.std.specs.Prelude.{ℕ, ◌==◌, not, ℤ, pos, ◌≤ℤ◌, List}
 use Rattle.dmf_state.specs.declared.arc.Arc.{Arc}

@@ -1,4 +1,4 @@
-//! Sources, a sink and a watch that tell on standard error how far a run is.
+//! Sources, a sink and a watch that report on standard error how far a run is.
 #![tactic(auto)]
 
 mod limit;

@@ -1,10 +1,10 @@
-//! What the value of a network's flows cannot pass.
+//! An upper bound of the value of a network's flows.
 ghost use Rattle.std.specs.Prelude.{◌≡◌, ◌&&◌, not, if◌then◌else◌, min};
 ghost use Rattle.dmf_progress.specs.Limit.{leaving, entering, IsLimit};
 
 use dmf_state::State;
 
-/// The lesser of what can leave the source and what can enter the sink.
+/// The lesser of the capacities of the arcs out of the source and of the arcs into the sink.
 pub fn value_limit(state: &State) -> u64
     ensures value { result ≡ min (leaving state.now.network.arcs state.now.network.source) (entering state.now.network.arcs state.now.network.sink) }
     ensures limit { IsLimit state.now.network result }
@@ -19,7 +19,7 @@ pub fn value_limit(state: &State) -> u64
     out.min(into)
 }
 
-/// What an arc of this capacity can carry out of a set of nodes, by whether its tail and its head are in the set.
+/// The most that an arc of this capacity can carry out of a set of nodes, by whether its tail and its head are in the set.
 fn carried_out(has_tail: bool, has_head: bool, cap: u64) -> u64
     ensures { result ≡ (if has_tail && not has_head then cap else 0) }
 {

@@ -1,6 +1,6 @@
-//! Tells on standard error how far a run is. On a terminal that is one line: each word replaces the one before it, and the line is
-//! erased before the program answers or asks for more. Elsewhere each word is a line of its own. Where a word cannot be written,
-//! the run goes on.
+//! Reports on standard error how far a run is. On a terminal that is one line: each report replaces the one before it, and the program
+//! erases the line before it answers or asks for more. Elsewhere each report is a line of its own. If a report cannot be written, the
+//! run goes on.
 ghost use Rattle.std.specs.Prelude.{◌≡◌};
 
 use crate::limit::value_limit;
@@ -14,27 +14,27 @@ use std::io::IsTerminal;
 use std::rt::HostRuntime;
 use std::time::{Duration, Instant};
 
-/// How long a task is silent at first, where nobody asked for progress, in milliseconds.
+/// How long a task is silent at first if nobody asked for progress, in milliseconds.
 const PATIENCE: u64 = 500;
 
-/// The least time between two words, in milliseconds.
+/// The least time between two reports, in milliseconds.
 const PAUSE: u64 = 250;
 
-/// The clock is looked at once in so many calls.
+/// Of so many calls, one looks at the clock.
 const CALLS: u64 = 64;
 
 /// The path of the file on standard input.
 const INPUT: &str = "/proc/self/fd/0";
 
-/// The line on standard error. It tells how far a task is: reading a text, solving, draining, or writing an answer.
+/// The line on standard error. It says how far a task is: reading a text, solving, draining, or writing an answer.
 #[derive(Drop)]
 pub struct Progress<'a> {
     rt: &'a HostRuntime,
-    /// Whether standard error is a terminal, on which a word can be replaced.
+    /// Whether standard error is a terminal, on which a report can be replaced.
     is_terminal: bool,
-    /// How many milliseconds a task goes on before its first word. None where nothing is told at all.
+    /// How many milliseconds a task goes on before its first report. `None` if there are no reports at all.
     patience: Option<u64>,
-    /// When the next word may come.
+    /// When the next report may come.
     due: Cell<Option<Instant>>,
     is_shown: Cell<bool>,
     /// Whether a task has begun that has not ended.
@@ -42,8 +42,8 @@ pub struct Progress<'a> {
 }
 
 impl<'a> Progress<'a> {
-    /// An empty line. Where progress was asked for, a task's first word comes at once. Otherwise it comes after half a second, and
-    /// on a terminal alone.
+    /// An empty line. If progress was asked for, a task's first report comes at once. Otherwise it comes after half a second, and only
+    /// on a terminal.
     pub fn new(rt: &'a HostRuntime, is_asked_for: bool) -> Self {
         let is_terminal = rt.stderr().is_terminal();
         let patience = if is_asked_for {
@@ -63,7 +63,7 @@ impl<'a> Progress<'a> {
         }
     }
 
-    /// The size of the file at this path in bytes, where something is told and the file is a regular one.
+    /// The size of the file at this path in bytes, if there are reports and the file is a regular one.
     fn size_of(&self, path: &str) -> Option<u64> {
         self.patience?;
         match fs::metadata(self.rt, path) {
@@ -72,7 +72,7 @@ impl<'a> Progress<'a> {
         }
     }
 
-    /// What the value of a flow of this network cannot pass, where something is told.
+    /// An upper bound of the value of this network's flows, if there are reports.
     fn most_of(&self, state: &State) -> Option<u64> {
         self.patience?;
         Some(value_limit(state))
@@ -98,7 +98,7 @@ impl<'a> Progress<'a> {
         }
     }
 
-    /// Tells a word.
+    /// Writes a report.
     fn tell(&self, word: Word) {
         if self.is_terminal {
             self.is_shown.set(true);
@@ -108,7 +108,7 @@ impl<'a> Progress<'a> {
         }
     }
 
-    /// Whether it is time for a word. If it is, the one after it has to wait for a pause.
+    /// Whether it is time for a report. If it is, the next one has to wait for a pause.
     fn is_due(&self) -> bool {
         let Some(due) = self.due.get() else {
             return false;
@@ -124,21 +124,21 @@ impl<'a> Progress<'a> {
     }
 }
 
-/// The time so many milliseconds from now, if the clock tells.
+/// The time so many milliseconds from now, if the clock can be read.
 fn after(rt: &HostRuntime, wait: u64) -> Option<Instant> {
     Instant::now(rt)
         .ok()?
         .checked_add(Duration::from_millis(wait))
 }
 
-/// A source that tells how much of a text is read, unless somebody types it.
+/// A source that reports how much of a text is read, unless somebody types it.
 #[derive(Drop)]
 pub struct WatchedSource<'a, S> {
     source: S,
     progress: &'a Progress<'a>,
     is_told: bool,
     bytes: u64,
-    /// How many bytes there are, where that is known.
+    /// The size of the text in bytes, if it is known.
     size: Option<u64>,
 }
 
@@ -154,7 +154,7 @@ impl<'a, S: Source> WatchedSource<'a, S> {
         }
     }
 
-    /// The source of a text on standard input. At a terminal nothing is told between the lines that somebody types.
+    /// The source of a text on standard input. At a terminal there are no reports between the lines that somebody types.
     pub fn of_input(source: S, progress: &'a Progress<'a>) -> Self {
         WatchedSource {
             source,
@@ -194,7 +194,7 @@ pub struct WatchedCommands<'a, S> {
 }
 
 impl<'a, S: Source> WatchedCommands<'a, S> {
-    /// A source of what this one has left.
+    /// A source of the bytes that this one has left.
     pub fn new(source: S, progress: &'a Progress<'a>) -> Self {
         WatchedCommands { source, progress }
     }
@@ -209,17 +209,17 @@ impl<S: Source> Source for WatchedCommands<'_, S> {
     }
 }
 
-/// A watch that tells how far a solve or a drain is.
+/// A watch that reports how far a solve or a drain is.
 #[derive(Drop)]
 pub struct WatchedSolve<'a> {
     progress: &'a Progress<'a>,
-    /// What the value cannot pass, where that is known.
+    /// An upper bound of the value, if it is known.
     most: Option<u64>,
     paths: u64,
     phases: u32,
     /// The number of links of the last path of a solve.
     links: u32,
-    /// Which arc the last path of a drain took flow off.
+    /// The arc whose flow the last path of a drain lowered.
     place: usize,
     /// How much flow the drain has taken off.
     taken: u64,
@@ -281,7 +281,7 @@ impl Watch for WatchedSolve<'_> {
     }
 }
 
-/// A sink that erases the line before the first byte of an answer. Then it tells how much of the answer is written, unless that goes
+/// A sink that erases the line before the first byte of an answer. Then it reports how much of the answer is written, unless that goes
 /// to the terminal.
 #[derive(Drop)]
 pub struct WatchedSink<'a, W> {

@@ -1,4 +1,4 @@
-//! How far a run is, in words.
+//! Reports of how far a run is.
 use std::fmt;
 
 const MEGABYTE: u64 = 1_000_000;
@@ -6,12 +6,12 @@ const MEGABYTE: u64 = 1_000_000;
 /// How far a task is.
 #[derive(Clone, Copy)]
 pub enum Word {
-    /// So many bytes are read, and the text has so many, where that is known.
+    /// So many bytes are read, of a text of so many, if that is known.
     Reading {
         bytes: u64,
         size: Option<u64>,
     },
-    /// The value so far and what it cannot pass, where that is known; the phases so far, and the paths.
+    /// The value so far, its upper bound if that is known, the phases so far, and the paths.
     Solving {
         value: u64,
         most: Option<u64>,

@@ -28,12 +28,12 @@ use Rattle.dmf_streams.proofs.TakingLemmas.{Takes-trans}
 use Rattle.dmf_runs.proofs.LineLemmas.{or-false}
 use Rattle.dmf_runs.proofs.Progress.{streams, IsFresh, Progress, Carried, Progress-more}
 
--- a writer that took a text
+-- a writer whose bytes are known, and that took a text
 Appends-known : (known : Option (List ℕ)) (text : List ℕ) → Appends known (append_known known text) text
 Appends-known None text = tt
 Appends-known (Some xs) text = refl
 
--- what was given, by what was taken
+-- the bytes that a reader gave, from the bytes that were taken
 Consumes-given : (p q : Pending) (known after : Option (List ℕ)) (bytes : List ℕ) → p.bytes ≡ [] → Consumes (left p known) (left q after) bytes
     → Consumes known after (bytes ++ q.bytes)
 Consumes-given p q None after bytes none c = tt
@@ -45,7 +45,7 @@ given-by : (before now : InputState) (bytes : List ℕ) → IsFresh before → T
     → Consumes before.reader.known now.reader.known (bytes ++ now.pending.bytes)
 given-by before now bytes fresh takes = Consumes-given before.pending now.pending before.reader.known now.reader.known bytes fresh.none_pending takes.consumes
 
--- the lines so far are all
+-- the lines so far, as the whole text
 abbrev all-so-far : (wanted : SolveReply) (t : Timeline) (lines : List (List ℕ)) (written : List ℕ) (is_refused : Bool) (u : Timeline) → All HasNoLineFeed lines
     → Runs wanted.brief (Answers wanted.cut) 1 t lines written is_refused u
     → RunsAll wanted.brief (Answers wanted.cut) t (with_line_feeds lines) written is_refused
@@ -64,7 +64,7 @@ all-so-far wanted t lines written is_refused u each runs = record {
   refused_is = or-false is_refused;
 }
 
--- What carrying out a line wrote that succeeded.
+-- What a line that succeeded has written.
 pub Carried-told : (wanted : SolveReply) (u : Timeline) (meaning : Result (Option Command) Refusal) (number : ℕ) (holds next : Writer) (answer : Answer)
     (refused : Bool) (v : Timeline)
     → refused ≡ is_refusal answer → WritesLine wanted holds next number u meaning v (Ok answer) → Carried wanted u meaning number holds next refused v
@@ -75,7 +75,7 @@ Carried-told wanted u meaning number holds next answer refused v is told = recor
   writer = told.3.1;
 }
 
--- A line with a reply, of which a front was written, and then a put or the flush failed.
+-- A line with a reply, of which a prefix was written before a put or the flush failed.
 pub record Broken (wanted : SolveReply) (u : Timeline) (meaning : Result (Option Command) Refusal) (number : ℕ) (holds next : Writer)
     (v : Timeline) : Type 0 where
   pub text : List ℕ
@@ -88,7 +88,7 @@ pub record Broken (wanted : SolveReply) (u : Timeline) (meaning : Result (Option
   pub appends : Appends holds.contents next.contents front
   pub writer : next.has_failed ≡ true
 
--- What carrying out a line wrote whose reply could not be written.
+-- What a line has written whose reply could not be written.
 pub Broken-told : (wanted : SolveReply) (u : Timeline) (meaning : Result (Option Command) Refusal) (number : ℕ) (holds next : Writer) (fault : WriteFault)
     (v : Timeline)
     → HasReply meaning → WritesLine wanted holds next number u meaning v (Err fault) → Broken wanted u meaning number holds next v
@@ -104,7 +104,7 @@ Broken-told wanted u meaning number holds next fault v replies told = record {
   writer = told.3.4;
 }
 
--- the rest is a line that no line feed ended
+-- the rest, which no line feed ended
 rest-runs : (wanted : SolveReply) (number : ℕ) (u : Timeline) (line text : List ℕ) (refused : Bool) (v : Timeline) → 0 < length line
     → LineRuns wanted.brief (Answers wanted.cut) number u (line_meaning false line) text refused v
     → RestRuns wanted.brief (Answers wanted.cut) number u line text refused
@@ -119,7 +119,7 @@ count-le : (lines : List (List ℕ)) (rest : List ℕ) → line_count lines rest
 count-le lines [] = omega arith
 count-le lines (byte ∷ rest) = omega arith
 
--- the lines so far, and a last line
+-- the lines so far and a last line, as the whole text
 abbrev all-with-last : (wanted : SolveReply) (t : Timeline) (lines : List (List ℕ)) (line : List ℕ) (written text : List ℕ) (is_refused refused : Bool)
     (u v : Timeline) → All HasNoLineFeed lines → HasNoLineFeed line → 0 < length line
     → Runs wanted.brief (Answers wanted.cut) 1 t lines written is_refused u → LineRuns wanted.brief (Answers wanted.cut) (length lines + 1) u
@@ -140,7 +140,7 @@ all-with-last wanted t lines line written text is_refused refused u v each no_li
   refused_is = refl;
 }
 
--- ---- how a run ends that has come to some line
+-- ---- how a run ends after some lines
 
 module _ (wanted : SolveReply) (t : Timeline) (before now then : InputState) (held holds : Writer) (number : ℕ) (u : Timeline) (is_refused : Bool)
     (p : Progress wanted t before now held holds number u is_refused) where
@@ -148,7 +148,7 @@ module _ (wanted : SolveReply) (t : Timeline) (before now then : InputState) (he
   abbrev bytes : List ℕ
   bytes = with_line_feeds p.lines
 
-  -- These bytes were given, where no more are pending.
+  -- The reader gave these bytes, if none are pending.
   all-given : (all : List ℕ) → Takes before then all → then.pending.bytes ≡ [] → Consumes before.reader.known then.reader.known all
   all-given all takes none = subst (λ x. Consumes before.reader.known then.reader.known x) (ap (λ x. all ++ x) none ∙ append-nil all)
       (given-by before then all p.fresh takes)
@@ -194,7 +194,7 @@ module _ (wanted : SolveReply) (t : Timeline) (before now then : InputState) (he
     };
   }
 
-  -- What was read is past a limit: as many lines as may be and one byte more, or as many bytes as may be before the next line ends.
+  -- The input exceeds a limit: 1,000,000 lines and one byte more, or 2^30 bytes before the next line ends.
   RunsCommands-past_limit : (rest : List ℕ) → number ≤ 1000000 + 1 → Takes now then rest → then.pending.count ≤ 2 ^ 30
       → then.reader.has_failed ≡ now.reader.has_failed
       → ((length p.lines ≡ 1000000) × (0 < length (rest ++ then.pending.bytes)))
@@ -224,7 +224,7 @@ module _ (wanted : SolveReply) (t : Timeline) (before now then : InputState) (he
         };
       }
 
-  -- more bytes than may be
+  -- more than 2^30 bytes
   RunsCommands-bytes : (rest : List ℕ) → number ≤ 1000000 + 1 → HasNoLineFeed rest → Takes now then rest → IsPastLimit now then
       → RunsCommandsWith wanted t (streams before held) (streams then holds) (Err fault.TooMuchInput)
   RunsCommands-bytes rest few no_line_feed takes past =
@@ -239,14 +239,14 @@ module _ (wanted : SolveReply) (t : Timeline) (before now then : InputState) (he
         subst HasNoLineFeed (sym within) no_line_feed,
       ))
 
-  -- asking for a line was refused
+  -- the request for a line failed
   pub RunsCommands-refused : (told : EngineFault) (kept : Kept) → number ≤ 1000000 + 1 → GivesLine now then kept (Err told)
       → RunsCommandsWith wanted t (streams before held) (streams then holds) (Err told)
   RunsCommands-refused fault.Read kept few gave = RunsCommands-read gave.0 gave.1 gave.2 gave.3
   RunsCommands-refused fault.TooMuchInput kept few gave = RunsCommands-bytes gave.0 few gave.1 gave.2 gave.3
   RunsCommands-refused told kept few gave = absurd gave
 
-  -- asking for the end was refused, past the last line that may be
+  -- the request for the end failed, after the largest number of lines
   pub RunsCommands-past : (told : EngineFault) → number ≡ 1000000 + 1 → GivesEnd now then (Err told)
       → RunsCommandsWith wanted t (streams before held) (streams then holds) (Err told)
   RunsCommands-past fault.Read last gave = RunsCommands-read [] (All-nil (λ (b : ℕ). b ≡ 10 → ⊥)) gave.0 gave.1
@@ -255,7 +255,7 @@ module _ (wanted : SolveReply) (t : Timeline) (before now then : InputState) (he
   RunsCommands-past told last gave = absurd gave
 
   module _ (next : Writer) (meaning : Result (Option Command) Refusal) (kept : Kept) (v : Timeline) where
-    -- a last line has run
+    -- the run of a last line
     last-runs : (line text : List ℕ) (refused : Bool) → meaning ≡ line_meaning false line
         → LineRuns wanted.brief (Answers wanted.cut) number u meaning text refused v
         → LineRuns wanted.brief (Answers wanted.cut) (length p.lines + 1) u (line_meaning false line) text refused v
@@ -292,7 +292,7 @@ module _ (wanted : SolveReply) (t : Timeline) (before now then : InputState) (he
           };
         }
 
-    -- The bytes were taken, and a front of what their lines write was written.
+    -- The bytes were taken, and a prefix of what their lines write was written.
     front-written : (all : List ℕ) (b : Broken wanted u meaning number holds next v) → Takes before then all → then.reader.has_failed ≡ now.reader.has_failed
         → (runs : RunsAll wanted.brief (Answers wanted.cut) t all (p.written ++ b.text) (is_refused || b.refused)) → LastHasReply runs.lines runs.rest
         → (runs.rest ≡ []) ⊎ ((then.pending.bytes ≡ []) × IsAtEnd then.reader.known)

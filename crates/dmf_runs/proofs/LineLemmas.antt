@@ -15,7 +15,7 @@ use Rattle.dmf_runs.specs.CommandText.{command_of}
 use Rattle.dmf_runs.specs.Line.{line_meaning}
 use Rattle.dmf_runs.specs.Run.{LineRuns, Runs}
 
--- An answer is refused memory, and nothing has changed, or it is one where memory is there.
+-- An answer leaves the timeline unchanged, or it is a step.
 pub answers-cases : (want_cut : Bool) (t : Timeline) (command : Command) (result : Result Reply Refusal) (u : Timeline) → Answers want_cut t command result u
     → (u ≡ t) ⊎ Steps want_cut t command result u
 answers-cases want_cut t command (Err NoMemory) u a = inl a.1
@@ -29,7 +29,7 @@ or-assoc : (a b c : Bool) → ((a || b) || c) ≡ (a || (b || c))
 or-assoc true b c = refl
 or-assoc false b c = refl
 
--- one line more
+-- one more line
 pub Runs-push : (wanted : SolveReply) (number : ℕ) (t : Timeline) (lines : List (List ℕ)) (text : List ℕ) (refused : Bool) (u : Timeline) (line more : List ℕ)
     (later : Bool) (v : Timeline)
     → Runs wanted.brief (Answers wanted.cut) number t lines text refused u

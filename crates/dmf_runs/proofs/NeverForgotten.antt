@@ -1,4 +1,4 @@
--- With the largest bound no state is forgotten while a command text is run.
+-- With the largest bound a run of a command text forgets no state.
 use Rattle.std.proofs.Common.{ℕ, ◌≡◌, ◌+◌, ◌<◌, ◌≤◌, length, Bool, Result, ⊎_elim, refl, ◌∙◌, arith}
 use Rattle.dmf_session.specs.declared.command.Command.{Command}
 use Rattle.dmf_session.specs.declared.command.Reply.{Reply}
@@ -12,7 +12,7 @@ use Rattle.dmf_session.proofs.EachCommand.{steps-grow}
 use Rattle.dmf_runs.proofs.LineLemmas.{answers-cases}
 use Rattle.dmf_runs.proofs.Running.{RunsAll-implied}
 
--- A timeline that is where this line finds it: no more states stand in the list than lines were before it, and one.
+-- The timeline before this line: its list has at most as many states as the line's number.
 record Stands (number : ℕ) (t : Timeline) : Type 0 where
   place : t.place < length t.states
   at_most : length t.states ≤ number

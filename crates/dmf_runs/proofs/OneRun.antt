@@ -1,4 +1,4 @@
--- Where memory is there each command text has one run.
+-- If no memory is refused, each command text has one run.
 use Rattle.std.proofs.Common.{ℕ, ◌≡◌, ◌+◌, List, [], ◌∷◌, ◌++◌, length, Bool, true, false, ◌||◌, Option, Some, None, Result, Ok, Err, sym, ap, ◌∙◌, subst}
 use Rattle.dmf_state.specs.NetworkState.{NetworkState}
 use Rattle.dmf_session.specs.declared.command.Command.{Command}
@@ -14,17 +14,17 @@ use Rattle.dmf_runs.specs.Laws.{HasOneRun}
 use Rattle.dmf_runs.proofs.Splitting.{one-split}
 use Rattle.dmf_runs.proofs.Running.{HasStates-start, Steps-keeps, LineRuns-keeps, Runs-keeps}
 
--- Two texts that were written are the same, and so is whether a line was refused.
+-- Both runs wrote the same text and agree on whether a line was refused,
 record SameText (text other : List ℕ) (refused also : Bool) : Type 0 where
   same_text : text ≡ other
   same_refused : refused ≡ also
 
--- And so are the timelines after them.
+-- and the timelines after them are the same.
 record SameRun (text other : List ℕ) (refused also : Bool) (u v : Timeline) : Type 0 where
   written : SameText text other refused also
   after : u ≡ v
 
--- what two parts write, one after the other
+-- two parts, each with the same text in both runs, write the same text
 same-both : (text other whole text' other' whole' : List ℕ) (refused also any refused' also' any' : Bool) → SameText text text' refused refused'
     → SameText other other' also also'
     → whole ≡ text ++ other → any ≡ (refused || also) → whole' ≡ text' ++ other' → any' ≡ (refused' || also') → SameText whole whole' any any'
@@ -40,7 +40,7 @@ same-both text other whole text' other' whole' refused also any refused' also' a
 one-present : (u : Timeline) (s p : NetworkState) → IsPresent u s → IsPresent u p → s ≡ p
 one-present u s p a b = cc
 
--- One text is shown of a result.
+-- A result has one text.
 one-shown : (brief : Bool) (number : ℕ) (command : Command) (result : Result Reply Refusal) (u : Timeline) (text other : List ℕ) (refused also : Bool)
     → Shows brief number command result u text refused → Shows brief number command result u other also → SameText text other refused also
 one-shown brief number command (Ok reply) u text other refused also a b =

@@ -13,14 +13,14 @@ use Rattle.dmf_runs.specs.Laws.{AnswersOptimally, SolvesAreOptimal, RunsAreOptim
 use Rattle.dmf_runs.proofs.LineLemmas.{answers-cases}
 use Rattle.dmf_runs.proofs.Running.{Keeps, HasStates-start, Steps-keeps, Runs-keeps, RunsAll-tells}
 
--- An answer leaves states, also where memory is refused.
+-- An answer leaves states, also if memory is refused.
 Answers-keeps : HasAnswer → HasOneAnswer → (want_cut : Bool) → Keeps (Answers want_cut)
 Answers-keeps some one want_cut t u command result has answers = ⊎_elim
     (λ (unchanged : u ≡ t). subst HasStates (sym unchanged) has)
     (λ (steps : Steps want_cut t command result u). Steps-keeps some one want_cut t u command result has steps)
     (answers-cases want_cut t command result u answers)
 
--- Wherever a run has come to there are states.
+-- Each timeline of a run has states.
 pub solves-are-optimal : HasAnswer → HasOneAnswer → SolvedIsOptimal → SolvesAreOptimal
 solves-are-optimal some one solved want_cut brief bound s lines text refused t u reply state runs answers =
     solved want_cut t u reply (Runs-keeps brief (Answers want_cut) (Answers-keeps some one want_cut) 1 (start bound s) lines text refused t

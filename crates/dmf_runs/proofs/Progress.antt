@@ -1,4 +1,4 @@
--- A run of command lines, up to some line, and how it ends.
+-- A run of command lines, up to some line, and its end.
 use Rattle.std.proofs.Common.{ℕ, ◌≡◌, ◌+◌, List, [], ◌∷◌, ◌++◌, length, Bool, true, false, ◌||◌, Option, Result, refl, sym, ap, ◌∙◌, subst, arith, append-nil}
 use Rattle.std.specs.List.{All}
 use Rattle.std.specs.Io.KnownBytes.{Appends}
@@ -29,7 +29,7 @@ pub record IsFresh (input : InputState) : Type 0 where
   pub none_pending : input.pending.bytes ≡ []
   pub none_taken : input.pending.count ≡ 0
 
--- So many lines were carried out from the timeline `t`, and `u` is the timeline now.
+-- The lines so far were carried out from the timeline `t`, and `u` is the timeline now.
 pub record Progress (wanted : SolveReply) (t : Timeline) (before now : InputState) (held holds : Writer) (number : ℕ) (u : Timeline)
     (is_refused : Bool) : Type 0 where
   pub fresh : IsFresh before
@@ -61,7 +61,7 @@ Progress-none wanted t input held fresh = record {
 pub with_line_feeds-push : (lines : List (List ℕ)) (line : List ℕ) → with_line_feeds (lines ++ line ∷ []) ≡ with_line_feeds lines ++ (line ++ 10 ∷ [])
 with_line_feeds-push lines line = flat_map-append (λ l. l ++ 10 ∷ []) lines (line ∷ []) ∙ ap (λ x. with_line_feeds lines ++ x) (append-nil (line ++ 10 ∷ []))
 
--- A line that was carried out.
+-- One more line was carried out.
 pub record Carried (wanted : SolveReply) (u : Timeline) (meaning : Result (Option Command) Refusal) (number : ℕ) (holds next : Writer) (refused : Bool)
     (v : Timeline) : Type 0 where
   pub text : List ℕ

@@ -1,4 +1,4 @@
--- Each command text has a run, and what is so of each answer is so of each run.
+-- Each command text has a run, and a property of each answer is a property of each run.
 use Rattle.std.proofs.Common.{ℕ, ◌≢◌, ◌≡◌, ◌+◌, ◌<◌, ◌≤◌, List, [], ◌∷◌, ◌++◌, length, Bool, true, false, ◌||◌, Option, Some, None, Result, Ok, Err, refl, sym}
 use Rattle.std.proofs.Common.{subst, arith, ⊎_elim}
 use Rattle.std.proofs.lemmas.List.Elements.{All-cons, All-nil}
@@ -21,7 +21,7 @@ use Rattle.dmf_runs.proofs.Splitting.{some-split}
 pub HasStates-start : (bound : ℕ) (s : NetworkState) → IsState s → HasStates (start bound s)
 HasStates-start bound s state = record { place = omega arith; states = All-cons IsState s [] state (All-nil IsState) }
 
--- Where the place is in the list there is a present state.
+-- If the place is in the list, there is a present state.
 some-present : (t : Timeline) → t.place < length t.states → (s : NetworkState) × IsPresent t s
 some-present t within = ⊎_elim
     (λ found. (found.0, found.2))
@@ -30,7 +30,7 @@ some-present t within = ⊎_elim
 
 -- ---- one line
 
--- what is shown of a result
+-- the text of a result
 record SomeShown (brief : Bool) (number : ℕ) (command : Command) (result : Result Reply Refusal) (u : Timeline) : Type 0 where
   text : List ℕ
   refused : Bool
@@ -42,7 +42,7 @@ shown brief number command (Ok reply) u has =
     record { text = reply_text brief command reply s.0; refused = false; shows = (s.0, s.1, refl, refl) }
 shown brief number command (Err refusal) u has = record { text = refused_text number refusal; refused = true; shows = (refl, refl) }
 
--- A run of one line, after which there are states again.
+-- A run of one line, which leaves states.
 record SomeLine (want_cut brief : Bool) (number : ℕ) (t : Timeline) (meaning : Result (Option Command) Refusal) : Type 0 where
   text : List ℕ
   refused : Bool
@@ -68,7 +68,7 @@ some-line answer want_cut brief number t (Err refusal) has =
 
 -- ---- all lines
 
--- A run of lines, after which there are states again.
+-- A run of lines, which leaves states.
 record SomeLines (want_cut brief : Bool) (number : ℕ) (t : Timeline) (lines : List (List ℕ)) : Type 0 where
   text : List ℕ
   refused : Bool
@@ -99,7 +99,7 @@ some-lines answer want_cut brief number t (line ∷ lines) has =
       has_states = rest.has_states;
     }
 
--- a run of the rest, if there is one
+-- a run of the rest, if there is a rest
 record SomeRest (want_cut brief : Bool) (number : ℕ) (t : Timeline) (rest : List ℕ) : Type 0 where
   text : List ℕ
   refused : Bool
@@ -142,7 +142,7 @@ at-most-lines : (last : ℕ) (lines : List (List ℕ)) (rest : List ℕ) → lin
 at-most-lines last lines [] few = few
 at-most-lines last lines (byte ∷ rest) few = omega (arith, few)
 
--- Holds is so of each timeline to which a line is given, by the line's number.
+-- `Holds` is true of each timeline at which a line begins, with the line's number.
 module _ (brief : Bool) (Holds : ℕ → Timeline → Type 0) (Gives : Answering)
     (idle : (number : ℕ) (t : Timeline) → Holds number t → Holds (number + 1) t)
     (keeps : (number : ℕ) (t u : Timeline) (command : Command) (result : Result Reply Refusal) → Holds number t → Gives t command result u
@@ -163,7 +163,7 @@ module _ (brief : Bool) (Holds : ℕ → Timeline → Type 0) (Gives : Answering
       let place : number + 1 + length lines ≡ number + length (line ∷ lines) = omega arith in
       subst (λ (n : ℕ). Holds n u) place (lines-keep (number + 1) runs.between lines runs.more runs.later u next runs.goes_on)
 
-  -- What Holds and an answer imply is so of each answer, up to the line that is the last.
+  -- What follows from `Holds` and an answer is true of each answer, up to the last line.
   module _ (Tells : Answering) (last : ℕ)
       (implies : (number : ℕ) (t u : Timeline) (command : Command) (result : Result Reply Refusal) → number ≤ last → Holds number t → Gives t command result u
       → Tells t command result u) where
@@ -199,7 +199,7 @@ module _ (brief : Bool) (Holds : ℕ → Timeline → Type 0) (Gives : Answering
         let same : 1 + length lines ≡ length lines + 1 = omega arith in
         (runs.0, line-implied (length lines + 1) t (line_meaning false (byte ∷ rest)) text refused runs.0 few (subst (λ (n : ℕ). Holds n t) same holds) runs.1)
 
-    -- A run whose commands are answered in one way is one whose commands are answered in another that is implied.
+    -- If one way of answering implies another, a run of the first is a run of the second.
     pub RunsAll-implied : (t : Timeline) (given text : List ℕ) (refused : Bool) → Holds 1 t → (all : RunsAll brief Gives t given text refused)
         → line_count all.lines all.rest ≤ last
         → RunsAll brief Tells t given text refused
@@ -220,7 +220,7 @@ module _ (brief : Bool) (Holds : ℕ → Timeline → Type 0) (Gives : Answering
           refused_is = all.refused_is;
         }
 
--- An answer leaves states where there were states.
+-- An answer leaves states, if there were states.
 abbrev pub Keeps : Answering → Type 0
 Keeps Gives = (t u : Timeline) (command : Command) (result : Result Reply Refusal) → HasStates t → Gives t command result u → HasStates u
 
@@ -233,7 +233,7 @@ module _ (brief : Bool) (Gives : Answering) (keeps : Keeps Gives) where
       → Runs brief Gives number t lines text refused u → HasStates u
   Runs-keeps = lines-keep brief (λ _ t. HasStates t) Gives (λ number t has. has) (λ number. keeps)
 
-  -- What is so of each answer on a timeline that has states is so of each answer of a run.
+  -- What each answer on a timeline with states implies is true of each answer of a run.
   pub RunsAll-tells : (Tells : Answering)
       → ((t u : Timeline) (command : Command) (result : Result Reply Refusal) → HasStates t → Gives t command result u → Tells t command result u)
       → (t : Timeline) (given text : List ℕ) (refused : Bool) → HasStates t → RunsAll brief Gives t given text refused
@@ -242,7 +242,7 @@ module _ (brief : Bool) (Gives : Answering) (keeps : Keeps Gives) where
       RunsAll-implied brief (λ _ t. HasStates t) Gives (λ number t has. has) (λ number. keeps) Tells (line_count all.lines all.rest)
       (λ number t u command result few. implies t u command result) t given text refused has all (omega arith)
 
--- ---- answers where memory is there
+-- ---- answers that need no refusal of memory
 
 -- A command's one answer leaves states.
 pub Steps-keeps : HasAnswer → HasOneAnswer → (want_cut : Bool) → Keeps (Steps want_cut)
@@ -250,13 +250,13 @@ Steps-keeps some one want_cut t u command result has steps =
     let a = some want_cut t command has in
     subst HasStates (one want_cut t a.after u command a.result result has a.steps steps).1 a.has_states
 
--- What steps give is an answer, where no memory is wanted.
+-- What a step gives is an answer, if no memory is refused,
 not-memory : (want_cut : Bool) (t u : Timeline) (command : Command) (result : Result Reply Refusal) → result ≢ Err NoMemory → Steps want_cut t command result u
     → Answers want_cut t command result u
 not-memory want_cut t u command (Err NoMemory) memory steps = absurd (memory refl)
 not-memory want_cut t u command result memory steps = steps
 
--- and its one answer tells of no want of memory
+-- and its one answer is no refusal of memory.
 step-is-answer : HasAnswer → HasOneAnswer → (want_cut : Bool) (t u : Timeline) (command : Command) (result : Result Reply Refusal) → HasStates t
     → Steps want_cut t command result u
     → Answers want_cut t command result u
@@ -264,7 +264,7 @@ step-is-answer some one want_cut t u command result has steps =
     let a = some want_cut t command has in
     not-memory want_cut t u command result (subst (λ r. r ≢ Err NoMemory) (one want_cut t a.after u command a.result result has a.steps steps).0 a.memory) steps
 
--- A run in which no command is refused memory is one in which a command may be refused it.
+-- A run in which no command is refused memory is also a run in which commands may be refused it.
 pub steps-are-answers : HasAnswer → HasOneAnswer → StepsAreAnswers
 steps-are-answers some one want_cut brief bound s given text refused state all =
     RunsAll-tells brief (Steps want_cut) (Steps-keeps some one want_cut) (Answers want_cut) (step-is-answer some one want_cut)

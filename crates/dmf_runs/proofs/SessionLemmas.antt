@@ -1,4 +1,4 @@
--- What a session answers whose problem was read, and one that is stopped in reading it.
+-- The answer of a session whose problem was read, and of one that stops while it reads the problem.
 use Rattle.std.proofs.Common.{◌≡◌, ℕ, List, Ok, Err, Result, inl, inr}
 use Rattle.dmf_streams.specs.declared.fault.Status.{Status}
 use Rattle.dmf_streams.specs.declared.fault.EngineFault.{EngineFault}

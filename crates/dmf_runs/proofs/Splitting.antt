@@ -1,4 +1,4 @@
--- A text is split into lines in one way.
+-- There is one way to split a text into lines.
 use Rattle.std.proofs.Common.{ℕ, ◌≡◌, ◌≢◌, List, [], ◌∷◌, ◌++◌, ⊎_elim, refl, sym, ap, ◌∙◌, subst, append_assoc}
 use Rattle.std.specs.List.{All}
 use Rattle.std.proofs.lemmas.Bool.Decides.{eqb_tells}
@@ -6,15 +6,15 @@ use Rattle.std.proofs.lemmas.List.Elements.{All-nil, All-cons, All-head, All-tai
 use Rattle.dmf_streams.specs.Input.{HasNoLineFeed}
 use Rattle.dmf_runs.specs.Line.{with_line_feeds, IsSplit}
 
--- ---- some split
+-- ---- a way to split
 
--- a split of the text
+-- one way to split the text
 pub record SomeSplit (text : List ℕ) : Type 0 where
   pub lines : List (List ℕ)
   pub rest : List ℕ
   pub split : IsSplit text lines rest
 
--- A line feed more in front ends an empty line.
+-- A line feed in front ends an empty first line.
 split-line_feed : (text : List ℕ) → SomeSplit text → SomeSplit (10 ∷ text)
 split-line_feed text some = record {
   lines = [] ∷ some.lines;
@@ -26,7 +26,7 @@ split-line_feed text some = record {
   };
 }
 
--- Any other byte begins the first line, or the rest where there is no line.
+-- Any other byte in front belongs to the first line, or to the rest if there is no line.
 split-byte : (byte : ℕ) (text rest : List ℕ) (lines : List (List ℕ)) → byte ≢ 10 → IsSplit text lines rest → SomeSplit (byte ∷ text)
 split-byte byte text rest [] other split = record {
   lines = [];
@@ -44,7 +44,7 @@ split-byte byte text rest (line ∷ lines) other split = record {
   };
 }
 
--- Each text is split into lines and a rest.
+-- Each text can be split into lines and a rest.
 pub some-split : (text : List ℕ) → SomeSplit text
 some-split [] = record { lines = []; rest = []; split = record { whole = refl; each = All-nil HasNoLineFeed; last = All-nil (λ (b : ℕ). b ≢ 10) } }
 some-split (byte ∷ text) = let some = some-split text in ⊎_elim
@@ -52,9 +52,9 @@ some-split (byte ∷ text) = let some = some-split text in ⊎_elim
     (λ is. split-byte byte text some.rest some.lines is.1 some.split)
     (eqb_tells byte 10)
 
--- ---- and one
+-- ---- and one way only
 
--- No line feed stands in front of a line that has none.
+-- A line without a line feed does not begin with one.
 no-line_feed : (front behind : List ℕ) → HasNoLineFeed (front ++ 10 ∷ behind) → ⊥
 no-line_feed [] behind each = All-head (λ (b : ℕ). b ≢ 10) 10 behind each refl
 no-line_feed (byte ∷ front) behind each = no-line_feed front behind (All-tail (λ (b : ℕ). b ≢ 10) byte (front ++ 10 ∷ behind) each)
@@ -91,7 +91,7 @@ one-lines (line ∷ lines) (other ∷ others) rest last each also none bare e =
     let more = one-lines lines others rest last (All-tail HasNoLineFeed line lines each) (All-tail HasNoLineFeed other others also) none bare first.1 in
     (ap (λ x. x ∷ lines) first.0 ∙ ap (λ x. other ∷ x) more.0, more.1)
 
--- Any two splits of a text are the same.
+-- Any two ways to split a text agree.
 pub one-split : (text : List ℕ) (lines others : List (List ℕ)) (rest last : List ℕ) → IsSplit text lines rest → IsSplit text others last
     → (lines ≡ others) × (rest ≡ last)
 one-split text lines others rest last a b = one-lines lines others rest last a.each b.each a.last b.last (sym a.whole ∙ b.whole)

@@ -29,17 +29,17 @@ addition (tail ∷ head ∷ cap ∷ []) =
     with_number (number_of head) (λ head. with_number (number_of cap) (λ cap. Ok (Add tail head cap))))
 addition fields = Err FieldCount
 
--- `I`, the field after `close`, or `V`, that after `shut`
+-- `I`, the field after `close`, or `V`, the field after `shut`
 unfoldable pub one_number : List (List ℕ) → Result ℕ Refusal
 one_number (field ∷ []) = with_number (number_of field) (λ n. Ok n)
 one_number fields = Err FieldCount
 
--- nothing, which is what stands after `solve`
+-- no fields, as after `solve`
 unfoldable pub solving : List (List ℕ) → Result Command Refusal
 solving [] = Ok Solve
 solving fields = Err FieldCount
 
--- nothing or `K`, the fields after `undo` and `redo`
+-- no field or `K`, the fields after `undo` and `redo`
 unfoldable pub steps : List (List ℕ) → Result ℕ Refusal
 steps [] = Ok 1
 steps (count ∷ []) = with_number (number_of count) (λ n. Ok n)
@@ -59,7 +59,7 @@ abbrev pub command_by : {X : Type 0} → (X → Command) → Result X Refusal �
 command_by command (Ok x) = Ok (Some (command x))
 command_by command (Err refusal) = Err refusal
 
--- What a line means that asks for no change: by its first field, which is neither `c` nor the word of a change, and those after.
+-- What a line means that asks for no change. Its first field is neither `c` nor the word of a change; the other fields follow.
 abbrev pub meaning_of_other : List ℕ → List (List ℕ) → Result (Option Command) Refusal
 meaning_of_other word behind =
     if bytes_eq word (codes "solve") then command_by (λ command. command) (solving behind)
@@ -68,7 +68,7 @@ meaning_of_other word behind =
     else if bytes_eq word (codes "print") then command_by (λ command. command) (printing behind)
     else Err UnknownCommand
 
--- A line without fields is blank, and one whose first field is `c` is a comment: they mean nothing.
+-- A line without fields is blank, and a line whose first field is `c` is a comment: they mean nothing.
 abbrev pub meaning_of : List (List ℕ) → Result (Option Command) Refusal
 meaning_of [] = Ok None
 meaning_of (word ∷ behind) =
@@ -79,7 +79,7 @@ meaning_of (word ∷ behind) =
     else if bytes_eq word (codes "shut") then command_by Shut (one_number behind)
     else meaning_of_other word behind
 
--- what a line without its end means: nothing, a command, or why it is refused
+-- what a line means, without its line end: nothing, a command, or why it is refused
 abbrev pub command_of : List ℕ → Result (Option Command) Refusal
 command_of line = meaning_of (fields line)
 

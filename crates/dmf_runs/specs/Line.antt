@@ -20,8 +20,8 @@ pub record IsSplit (text : List ℕ) (lines : List (List ℕ)) (rest : List ℕ)
   pub each : All HasNoLineFeed lines
   pub last : HasNoLineFeed rest
 
--- What a line means, of which these are the bytes before the line feed, if one ended it. A carriage return directly
--- before the line feed is counted in its length, and is no part of its fields.
+-- What a line means: these are the bytes before its line feed, if it has one. A carriage return directly before the line feed counts
+-- toward the line's length, and belongs to none of its fields.
 abbrev pub line_meaning : Bool → List ℕ → Result (Option Command) Refusal
 line_meaning ended line =
     if nat_lt 4096 (length line) then Err LineTooLong

@@ -1,4 +1,4 @@
--- What a run of command lines gave, by the bytes that it was given and those that it wrote.
+-- What a run of command lines gives, by the bytes that it reads and the bytes that it writes.
 -- Public: a public contract says no more than this.
 use Rattle.std.specs.Prelude.{◌^◌, ℕ, ◌≡◌, ◌⊎◌, ◌+◌, ◌-◌, ◌<◌, ◌≤◌, List, [], ◌∷◌, ◌++◌, length, take, All, Bool, true, false, ◌||◌, if◌then◌else◌, Option}
 use Rattle.std.specs.Prelude.{Result, Ok, Err}
@@ -21,7 +21,7 @@ RestRuns brief Gives number t [] text refused = (text ≡ []) × (refused ≡ fa
 RestRuns brief Gives number t (byte ∷ rest) text refused =
     (u : Timeline) × LineRuns brief Gives number t (line_meaning false (byte ∷ rest)) text refused u
 
--- All lines of the text that was given were carried out, and this was written; `refused` says whether one was refused.
+-- The run carried out all lines of the text that the reader gave, and wrote this; `refused` says whether a line was refused.
 pub record RunsAll (brief : Bool) (Gives : Answering) (t : Timeline) (given text : List ℕ) (refused : Bool) : Type 0 where
   pub lines : List (List ℕ)
   pub rest : List ℕ
@@ -36,7 +36,7 @@ pub record RunsAll (brief : Bool) (Gives : Answering) (t : Timeline) (given text
   pub text_is : text ≡ first ++ last
   pub refused_is : refused ≡ (here || later)
 
--- Just the lines that a line feed ended were carried out, of the text that was given, and this was written.
+-- The run carried out just the lines of this text that a line feed ended, and wrote this.
 pub record RunsEndedLines (wanted : SolveReply) (t : Timeline) (given text : List ℕ) : Type 0 where
   pub lines : List (List ℕ)
   pub rest : List ℕ
@@ -45,15 +45,14 @@ pub record RunsEndedLines (wanted : SolveReply) (t : Timeline) (given text : Lis
   pub after : Timeline
   pub runs : Runs wanted.brief (Answers wanted.cut) 1 t lines text refused after
 
--- There is a last line, and it has a reply: the rest, which no line feed ended, or where that is empty the last of the lines.
+-- There is a last line, and it has a reply. It is the rest, which no line feed ended, or if that is empty the last of the lines.
 abbrev pub LastHasReply : List (List ℕ) → List ℕ → Type 0
 LastHasReply lines [] =
     (before : List (List ℕ)) × (line : List ℕ) × (lines ≡ before ++ line ∷ []) × HasReply (line_meaning true line)
 LastHasReply lines (byte ∷ rest) = HasReply (line_meaning false (byte ∷ rest))
 
--- First lines of the text that was given were carried out, and this is a front of what they write. The last of them has a
--- reply, so that neither a blank line nor a comment made the writer fail; it was ended by a line feed, or it is the last line
--- of all, and the reader is at its end.
+-- The run carried out the first lines of this text, and wrote a prefix of what they write. The last of them has a reply, so neither a
+-- blank line nor a comment made the writer fail. A line feed ended it, or it is the last line of all, and the reader is at its end.
 pub record RunsFront (wanted : SolveReply) (t : Timeline) (known : Option (List ℕ)) (given text : List ℕ) : Type 0 where
   pub front : List ℕ
   pub behind : List ℕ
@@ -66,8 +65,8 @@ pub record RunsFront (wanted : SolveReply) (t : Timeline) (known : Option (List 
   pub rest : List ℕ
   pub text_is : whole ≡ text ++ rest
 
--- Just the lines that end within the limits were carried out, of the text that was given, and this was written: there
--- are as many as may be and one byte more, or the bytes up to the limit do not end the next line.
+-- The run carried out just the lines of this text that end within the limits, and wrote this. There are 1,000,000 of them and one byte
+-- more, or the bytes up to the limit do not end the next line.
 pub record RunsWithin (wanted : SolveReply) (t : Timeline) (given text : List ℕ) : Type 0 where
   pub lines : List (List ℕ)
   pub rest : List ℕ
@@ -81,7 +80,7 @@ pub record RunsWithin (wanted : SolveReply) (t : Timeline) (given text : List �
   pub after : Timeline
   pub runs : Runs wanted.brief (Answers wanted.cut) 1 t lines text refused after
 
--- The answer tells whether a line was refused.
+-- The status says whether a line was refused.
 abbrev pub status_if : Bool → Status
 status_if refused = if refused then SomeRefused else Well
 
@@ -90,18 +89,18 @@ pub record NoneFailed (old new : Streams) : Type 0 where
   pub reader : new.reader.has_failed ≡ old.reader.has_failed
   pub writer : new.writer.has_failed ≡ old.writer.has_failed
 
--- how many lines these are, with a rest that no line feed ended
+-- the number of these lines, with a rest that no line feed ended
 abbrev pub line_count : List (List ℕ) → List ℕ → ℕ
 line_count lines [] = length lines
 line_count lines (byte ∷ rest) = length lines + 1
 
--- All that was to be read was given, and it is within the limits.
+-- The reader gave all that it had left, and that is within the limits.
 pub record IsWithin (new : Streams) (given : List ℕ) (count : ℕ) : Type 0 where
   pub at_end : IsAtEnd new.reader.known
   pub bytes : length given ≤ 2 ^ 30
   pub lines : count ≤ 1000000
 
--- All lines were carried out, and the answer tells whether one was refused.
+-- All lines were carried out, and the status says whether a line was refused.
 pub record EndsWell (wanted : SolveReply) (t : Timeline) (old new : Streams) (given written : List ℕ) (status : Status) : Type 0 where
   pub refused : Bool
   pub all : RunsAll wanted.brief (Answers wanted.cut) t given written refused
@@ -121,12 +120,12 @@ pub record EndsUnwritten (wanted : SolveReply) (t : Timeline) (old new : Streams
   pub writer : new.writer.has_failed ≡ true
   pub reader : new.reader.has_failed ≡ old.reader.has_failed
 
--- There is more than may be read.
+-- The input exceeds a limit.
 pub record EndsPast (wanted : SolveReply) (t : Timeline) (old new : Streams) (given written : List ℕ) : Type 0 where
   pub lines : RunsWithin wanted t given written
   pub none_failed : NoneFailed old new
 
--- what a run of command lines answers, where these bytes were given and written; no answer but these is given
+-- the result of a run of command lines that read and wrote these bytes; no other results are possible
 abbrev pub Gave : SolveReply → Timeline → Streams → Streams → List ℕ → List ℕ → Result Status EngineFault → Type 0
 Gave wanted t old new given written (Ok status) = EndsWell wanted t old new given written status
 Gave wanted t old new given written (Err fault.Read) = EndsUnread wanted t old new given written
@@ -134,7 +133,7 @@ Gave wanted t old new given written (Err fault.Write) = EndsUnwritten wanted t o
 Gave wanted t old new given written (Err fault.TooMuchInput) = EndsPast wanted t old new given written
 Gave wanted t old new given written (Err fault) = ⊥
 
--- A run of command lines from the timeline `t`, with this wanted of its replies to solves: what it was given, and what it wrote.
+-- A run of command lines from the timeline `t`, with this wanted of its replies to solves: what it read, and what it wrote.
 pub record RunsCommandsWith (wanted : SolveReply) (t : Timeline) (old new : Streams) (result : Result Status EngineFault) : Type 0 where
   pub given : List ℕ
   pub written : List ℕ
@@ -142,10 +141,10 @@ pub record RunsCommandsWith (wanted : SolveReply) (t : Timeline) (old new : Stre
   pub appends : Appends old.writer.contents new.writer.contents written
   pub gave : Gave wanted t old new given written result
 
--- solutions, and a cut after each where it is wanted
+-- solutions, and a cut after each if it is wanted
 abbrev pub solutions : Bool → SolveReply
 solutions want_cut = record { cut = want_cut; brief = false }
 
--- The same where solves are answered by their solutions. `want_cut` says whether a cut is wanted after each.
+-- The same with solutions in the replies to solves. `want_cut` says whether a cut is wanted after each.
 abbrev pub RunsCommands : Bool → Timeline → Streams → Streams → Result Status EngineFault → Type 0
 RunsCommands want_cut = RunsCommandsWith (solutions want_cut)

@@ -31,8 +31,7 @@ abbrev pub solve_text : Bool → NetworkState → Option CutSide → List ℕ
 solve_text false s side = solved_text s side
 solve_text true s side = value_text Solve (value_of s) ++ side_text side
 
--- what is written in reply to a command, where `s` is the state that is present after it; `brief` says whether brief replies
--- are wanted
+-- the reply to a command that leaves the present state `s`; `brief` says whether brief replies are wanted
 abbrev pub reply_text : Bool → Command → Reply → NetworkState → List ℕ
 reply_text brief command (Value value) s = value_text command value
 reply_text brief command (Added arc value) s = added_text command arc value
@@ -41,27 +40,27 @@ reply_text brief command Problem s = problem_text s.network
 reply_text brief command Flow s = solution_text s
 reply_text brief command (Cut side) s = cut_text side
 
--- what is written of a refused line
+-- the reply to a refused line
 abbrev pub refused_text : ℕ → Refusal → List ℕ
 refused_text number refusal = written_line (codes "c" ∷ codes "refused" ∷ decimal number ∷ refusal_text refusal ∷ [])
 
--- The text is that of a command that was given to a session in line `number`, was answered so and left `u`; `refused`
--- says whether it was refused.
+-- A session that is given the command in line `number`, with this result and `u` after it, writes this text. `refused` says whether it
+-- refused the command.
 abbrev pub Shows : Bool → ℕ → Command → Result Reply Refusal → Timeline → List ℕ → Bool → Type 0
 Shows brief number command (Ok reply) u text refused =
     (s : NetworkState) × IsPresent u s × (text ≡ reply_text brief command reply s) × (refused ≡ false)
 Shows brief number command (Err refusal) u text refused = (text ≡ refused_text number refusal) × (refused ≡ true)
 
--- A line that means this has a reply: it is neither blank nor a comment.
+-- A line with this meaning has a reply: it is neither blank nor a comment.
 abbrev pub HasReply : Result (Option Command) Refusal → Type 0
 HasReply meaning = meaning ≢ Ok None
 
--- How a command that is given to a timeline may be answered, and which timeline the answer leaves.
+-- A way of answering: which result a command on a timeline may have, and which timeline it leaves.
 abbrev pub Answering : Type 1
 Answering = Timeline → Command → Result Reply Refusal → Timeline → Type 0
 
--- A line that means this, in line `number`, turns the timeline `t` into `u` and writes the text; a command is answered as
--- `Gives` says, and a solve briefly where that is wanted.
+-- A line with this meaning, in line `number`, turns the timeline `t` into `u` and writes the text. Commands are answered as `Gives`
+-- says, and solves briefly if that is wanted.
 abbrev pub LineRuns : Bool → Answering → ℕ → Timeline → Result (Option Command) Refusal → List ℕ → Bool → Timeline → Type 0
 LineRuns brief Gives number t (Ok None) text refused u = (text ≡ []) × (refused ≡ false) × (u ≡ t)
 LineRuns brief Gives number t (Ok (Some command)) text refused u =
@@ -81,9 +80,8 @@ pub record FirstAndMore (First : List ℕ → Bool → Timeline → Type 0) (Mor
   pub text_is : text ≡ first ++ more
   pub refused_is : refused ≡ (here || later)
 
--- Lines, each ended by a line feed, of which the first has this number, turn the timeline `t` into `u` and write the
--- text; `refused` says whether one was refused. Each command is answered as `Gives` says, and a solve briefly where that is
--- wanted.
+-- These lines, each ended by a line feed and the first with this number, turn the timeline `t` into `u` and write the text; `refused`
+-- says whether a line was refused. Commands are answered as `Gives` says, and solves briefly if that is wanted.
 abbrev pub Runs : Bool → Answering → ℕ → Timeline → List (List ℕ) → List ℕ → Bool → Timeline → Type 0
 Runs brief Gives number t [] text refused u = (text ≡ []) × (refused ≡ false) × (u ≡ t)
 Runs brief Gives number t (line ∷ lines) text refused u =

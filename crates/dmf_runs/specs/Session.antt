@@ -1,4 +1,4 @@
--- What a session gave: the problem is read, and then the command lines are carried out on it.
+-- What a session gives: the run reads the problem, and then carries out the command lines on it.
 -- Public: a public contract says no more than this.
 use Rattle.std.specs.Prelude.{ℕ, ◌≡◌, ◌⊎◌, List, Bool, Result, Ok, Err}
 use Rattle.dmf_state.specs.NetworkState.{NetworkState}
@@ -22,8 +22,8 @@ pub record RunsOn (wanted : SolveReply) (bound : ℕ) (from to : Reader) (old ne
   pub problem : ReadsProblem from to text (Ok state)
   pub runs : RunsCommandsWith wanted (start bound state) old new result
 
--- What a session answers that was given this much of the problem's text. What it answers without having run a line it
--- answers with nothing written and no command byte taken.
+-- The result of a session whose reader gave this much of the problem's text. If it ran no line, it wrote nothing and took no command
+-- byte.
 abbrev pub SessionAnswered : SolveReply → ℕ → Reader → Reader → Streams → Streams → List ℕ → Result Status EngineFault → Type 0
 SessionAnswered wanted bound from to old new text (Ok status) = RunsOn wanted bound from to old new text (Ok status)
 SessionAnswered wanted bound from to old new text (Err fault.Write) = RunsOn wanted bound from to old new text (Err fault.Write)
@@ -31,12 +31,12 @@ SessionAnswered wanted bound from to old new text (Err fault.NoMemory) = Untouch
 SessionAnswered wanted bound from to old new text (Err told) =
     (ReadsProblem from to text (Err told) × Untouched old new) ⊎ RunsOn wanted bound from to old new text (Err told)
 
--- A session, from the bytes that its two readers gave to those that its writer took, with this wanted of its replies to solves.
--- The bound is the largest number of states that are kept before the present one.
+-- A session, from the bytes that its two readers gave to those that its writer took, with this wanted of its replies to solves. The
+-- bound is the largest number of states that are kept before the present one.
 abbrev pub RunsSessionWith : SolveReply → ℕ → Reader → Reader → Streams → Streams → Result Status EngineFault → Type 0
 RunsSessionWith wanted bound from to old new result =
     HasGiven from to (λ text. SessionAnswered wanted bound from to old new text result)
 
--- The same where solves are answered by their solutions. `want_cut` says whether a cut is wanted after each.
+-- The same with solutions in the replies to solves. `want_cut` says whether a cut is wanted after each.
 abbrev pub RunsSession : Bool → ℕ → Reader → Reader → Streams → Streams → Result Status EngineFault → Type 0
 RunsSession want_cut = RunsSessionWith (solutions want_cut)

@@ -2,11 +2,11 @@
 -- Public: a public contract says no more than this.
 use Rattle.dmf_text.specs.Streams.{Reader, Writer}
 
--- a reader of command lines, and the writer of what they are answered
+-- a reader of command lines, and the writer of the replies
 pub record Streams : Type 0 where
   pub reader : Reader
   pub writer : Writer
 
--- both
+-- both streams
 abbrev pub streams_of : Reader → Writer → Streams
 streams_of reader writer = record { reader = reader; writer = writer }

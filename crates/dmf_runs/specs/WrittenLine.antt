@@ -17,8 +17,8 @@ abbrev pub is_refusal : Answer → Bool
 is_refusal Accepted = false
 is_refusal Refused = true
 
--- Carrying out one line, which means this, wrote its text or, where the writer failed, a front of it; on success it
--- is answered whether the line was refused.
+-- Carrying out one line with this meaning wrote its text or, if the writer failed, a prefix of it. On success the result says whether
+-- the line was refused.
 abbrev pub WritesLine : SolveReply → Writer → Writer → ℕ → Timeline → Result (Option Command) Refusal → Timeline → Result Answer WriteFault → Type 0
 WritesLine wanted old new number t meaning u result =
     (text : List ℕ) × (refused : Bool) × LineRuns wanted.brief (Answers wanted.cut) number t meaning text refused u

@@ -42,9 +42,9 @@ fn without_carriage_return(line: &[u8]) -> &[u8]
 
 /// Reads a command line, given without its end. A blank line and a comment, whose first field is `c`, mean nothing.
 ///
-/// Answers the first of these faults: [`Refusal::UnknownCommand`] of the first field, [`Refusal::FieldCount`],
-/// [`Refusal::UnknownCommand`] of the field after `print`, and for each number from left to right
-/// [`Refusal::NotANumber`] or [`Refusal::TooLarge`]. Takes no memory.
+/// Fails with the first of these faults: [`Refusal::UnknownCommand`] of the first field, [`Refusal::FieldCount`],
+/// [`Refusal::UnknownCommand`] of the field after `print`, and for each number from left to right [`Refusal::NotANumber`] or
+/// [`Refusal::TooLarge`]. Takes no memory.
 pub fn read_command(line: &[u8]) -> Result<Option<Command>, Refusal>
     ensures { result ≡ command_of line.now }
 {
@@ -153,7 +153,7 @@ fn read_one_number(mut fields: Fields<'_>) -> Result<u64, Refusal>
     }
 }
 
-/// Reads the fields after `solve`, of which there are none.
+/// Reads the fields after `solve`: there must be none.
 #[tactic(auto, unfolding(crate::specs::CommandText::solving))]
 fn read_solving(mut fields: Fields<'_>) -> Result<Command, Refusal>
     ensures { result ≡ solving fields.entry }
@@ -187,7 +187,7 @@ fn read_printing(mut fields: Fields<'_>) -> Result<Command, Refusal>
     }
 }
 
-/// The command that prints what has this name.
+/// The command that prints the thing of this name.
 #[tactic(auto, unfolding(crate::specs::CommandText::printing))]
 fn printing_of(what: &[u8]) -> Result<Command, Refusal>
     ensures { result ≡ printing (what.now ∷ []) }

@@ -25,8 +25,8 @@ pub fn steps_are_answers()
     command_has_one_answer();
 }
 
-/// The law that in each run, also if commands may be refused memory, a solve that is not refused leaves a state whose value is the
-/// greatest of all flows, and the capacity of the smallest minimum cut.
+/// The law that in each run, also if commands are refused memory, a solve that is not refused leaves a state with the greatest value of
+/// all flows, which is the capacity of the smallest minimum cut.
 pub fn solves_are_optimal()
     ensures each { SolvesAreOptimal }
     ensures whole { RunsAreOptimal }

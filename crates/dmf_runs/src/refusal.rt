@@ -3,7 +3,7 @@ ghost use Rattle.dmf_session.specs.RefusalText as text;
 
 use dmf_session::Refusal;
 
-/// The text that a session writes of a refused command, after the line's number. Takes no memory.
+/// The text that a session writes about a refused command, after the line's number. Takes no memory.
 pub fn refusal_text(refusal: &Refusal) -> &'static [u8]
     ensures text { result.now ≡ text.refusal_text refusal.now }
     ensures short { length result.now ≤ 24 }

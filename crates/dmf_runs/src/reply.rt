@@ -19,11 +19,11 @@ use dmf_text::{LineBuffer, Sink, WriteFault, line_of, write_cut, write_problem, 
 pub struct SolveReply {
     /// Whether the smallest minimum cut follows the solution or the value.
     pub cut: bool,
-    /// Whether the value, as `c solve value V`, stands in place of the solution.
+    /// Whether the reply is the value, as `c solve value V`, instead of the solution.
     pub brief: bool,
 }
 
-/// How a line was answered.
+/// The outcome of a line.
 #[derive(Clone, Copy)]
 pub enum Answer {
     /// The session carried it out.
@@ -44,7 +44,7 @@ impl Answer {
     }
 }
 
-/// Writes that a line was refused, and flushes.
+/// Writes that the session refused a line, and flushes.
 pub fn refuse<W: Sink>(number: u32, refusal: &Refusal, out: &mut W) -> Result<Answer, WriteFault>
     ensures text { Writes (W.written out.old) (W.written out.new) result (run.refused_text number refusal.now) }
     ensures refused { IfOk result (λ answer. is_refusal answer ≡ true) }
@@ -105,7 +105,7 @@ fn write_solve<W: Sink>(
     }
 }
 
-/// Writes the value of a solve, and after it this cut, if there is one.
+/// Writes the value of a solve, then this cut, if there is one.
 fn write_brief<W: Sink>(state: &State, side: &Option<Side>, out: &mut W) -> Result<(), WriteFault>
     ensures { Writes (W.written out.old) (W.written out.new) result (run.solve_text true state.now side.now) }
 {

@@ -47,8 +47,8 @@ pub fn run_commands<H: History + Drop, C: Source, W: Sink>(
     )
 }
 
-/// As [`run_commands`], with the wanted replies to solves. Also tells the watch of each state that it solves, of each augmenting
-/// path, and of what each path of a drain takes off.
+/// As [`run_commands`], with the wanted replies to solves. Also reports to the watch each state that it solves, each augmenting path,
+/// and what each path of a drain takes off.
 pub fn run_commands_watched<H: History + Drop, C: Source, W: Sink, V: Watch>(
     alloc: Global,
     session: Session<H>,
@@ -66,7 +66,7 @@ pub fn run_commands_watched<H: History + Drop, C: Source, W: Sink, V: Watch>(
     SessionRun { alloc, wanted }.run_lines(&mut session, commands, out, watch)
 }
 
-/// What all command lines of a run are carried out with.
+/// The context in which a run carries out its command lines.
 #[derive(Clone, Copy)]
 struct SessionRun {
     alloc: Global,
@@ -112,7 +112,7 @@ impl SessionRun {
         Ok(status(is_refused))
     }
 
-    /// Carries out a line, writes its reply and flushes. A line without a reply leaves the writer as it was.
+    /// Carries out a line, writes its reply and flushes. For a line without a reply it does not call the writer.
     fn answer<H: History, W: Sink, V: Watch>(
         self,
         session: &mut Session<H>,
@@ -183,8 +183,8 @@ pub fn run_session_bounded<P: Source, C: Source, W: Sink>(
     )
 }
 
-/// As [`run_session_bounded`], with the wanted replies to solves. Also tells the watch of each state that it solves, of each
-/// augmenting path, and of what each path of a drain takes off.
+/// As [`run_session_bounded`], with the wanted replies to solves. Also reports to the watch each state that it solves, each augmenting
+/// path, and what each path of a drain takes off.
 pub fn run_session_watched<P: Source, C: Source, W: Sink, V: Watch>(
     alloc: Global,
     problem: &mut P,
@@ -223,7 +223,7 @@ fn status(is_refused: bool) -> Status
     }
 }
 
-/// Tells the watch of the present state if the command is a solve.
+/// Reports the present state to the watch if the command is a solve.
 fn tell_solve<H: History, V: Watch>(session: &Session<H>, command: Command, watch: &mut V) {
     if let Command::Solve = command {
         watch.begun(session.present());

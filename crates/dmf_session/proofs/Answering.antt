@@ -28,7 +28,7 @@ use Rattle.dmf_session.specs.Laws.{HasStates, Answered}
 use Rattle.dmf_history.proofs.Appending.{within_bound-keeps}
 use Rattle.dmf_session.proofs.Changed.{some-present}
 
--- what is so of networks
+-- what is true of every network
 pub record NetworkLaws : Type 0 where
   pub outcome : HasOutcome
   pub side : HasSmallestSide
@@ -36,7 +36,7 @@ pub record NetworkLaws : Type 0 where
 
 -- ---- timelines
 
--- A state may be appended.
+-- Appending a state gives a timeline of states.
 HasStates-extended : (t : Timeline) (s : NetworkState) → HasStates t → IsState s → HasStates (extended t s)
 HasStates-extended t s has state =
     let front : List NetworkState = take (t.place + 1) t.states in
@@ -54,7 +54,7 @@ HasStates-appended t s has state =
     let all = HasStates-extended t s has state in
     within_bound-keeps HasStates (extended t s) all (λ past. HasStates-forgotten (extended t s) all (omega (arith, past)))
 
--- The place may be moved to another in the list.
+-- The place may be any other place in the list.
 HasStates-back : (t : Timeline) (steps : ℕ) → HasStates t → HasStates (back t steps)
 HasStates-back t steps has = record { place = omega (arith, has.place); states = has.states }
 
@@ -93,12 +93,12 @@ no-memory-fault s (change.Add tail head cap) e = add-fault _ e
 no-memory-fault s (change.Shut node) e = shut-fault _ e
 no-memory-fault s change.Solve e = cc
 
--- A fault that is not want of memory refuses with something else.
+-- A fault that is not want of memory gives another refusal.
 refusal-not-memory : (f : PlanFault) → f ≢ plan.NoMemory → refusal_of f ≢ NoMemory
 refusal-not-memory plan.NoMemory differs e = differs refl
 refusal-not-memory f differs e = cc
 
--- A change that is asked of the state has an answer.
+-- A change of the state has an answer.
 record Changed (t : Timeline) (s : NetworkState) (asked : Change) (reply : NetworkState → Reply) : Type 0 where
   result : Result Reply Refusal
   after : Timeline
@@ -134,7 +134,7 @@ changed outcome t s asked reply has state = changed-by outcome t s asked reply h
 
 -- ---- solving
 
--- a side, where one is wanted
+-- a side, if one is wanted
 record SomeWanted (want_cut : Bool) (n : Network) : Type 0 where
   side : Option CutSide
   is : IsSideWanted want_cut n side
@@ -166,7 +166,7 @@ solve-answered laws want_cut t has =
 
 -- ---- steps back and forward
 
--- A move to a place in the list tells the value of the state there.
+-- A move to a place in the list has as its reply the value of the state there.
 moved : (t : Timeline) (has : HasStates t) → IsMoved t (Ok (Value (value_of (some-present t has).state))) t
 moved t has = let s = some-present t has in record { state = s.state; present = s.present; told = refl; moves = refl }
 
@@ -188,7 +188,7 @@ redo-by want_cut t count has false past =
     let is : IsRefused t NothingToRedo (Err NothingToRedo) t = record { told = refl; unchanged = refl } in
     record { result = Err NothingToRedo; after = t; steps = rw past is; memory = λ e. cc; has_states = has }
 
--- ---- telling a cut
+-- ---- printing a cut
 
 pub cut-answered : NetworkLaws → (want_cut : Bool) (t : Timeline) → HasStates t → Answered want_cut t PrintCut
 cut-answered laws want_cut t has =
@@ -203,7 +203,7 @@ cut-answered laws want_cut t has =
 
 -- ---- changes by a command
 
--- An answer to a change.
+-- The answer to a change.
 pub changed-answered : NetworkLaws → (want_cut : Bool) (t : Timeline) (command : Command) (asked : Change) (reply : NetworkState → Reply) → HasStates t
     → ((result : Result Reply Refusal) (u : Timeline) → (s : NetworkState) × IsPresent t s × Changes t s asked reply result u
     → Steps want_cut t command result u) → Answered want_cut t command

@@ -1,4 +1,4 @@
--- The present state of a timeline that has states, and that it is what a change appended.
+-- The present state of a timeline that has states, and the timeline after a change is appended.
 use Rattle.std.proofs.Common.{ℕ, ◌≡◌, length, Option, Some, None, Result, Ok, Err, MatchOption, IsOkUnless, pos, nat_abs, arith, refl, ap, ◌∙◌, subst, ⊎_elim}
 use Rattle.std.proofs.lemmas.List.Elements.{All-get_or}
 use Rattle.std.proofs.lemmas.Option.{slice_get_cases}
@@ -25,7 +25,7 @@ pub record SomePresent (t : Timeline) : Type 0 where
   pub present : IsPresent t state
   pub is : IsState state
 
--- Where the place is in the list there is a present state.
+-- If the place is in the list, there is a present state.
 pub some-present : (t : Timeline) → HasStates t → SomePresent t
 some-present t has = ⊎_elim
     (λ found. record { state = found.0; present = found.2; is = subst IsState found.3 (All-get_or IsState t.states t.place found.0 found.1 has.states) })
@@ -36,7 +36,7 @@ some-present t has = ⊎_elim
 pub is-state : (t : Timeline) (s : NetworkState) → HasStates t → IsPresent t s → IsState s
 is-state t s has present = let some = some-present t has in subst IsState (one-present t some.state s some.present present) some.is
 
--- A change that was planned on the present state and appended; the reply tells of the state that is present then.
+-- A change was planned on the present state and appended, and the reply has the value of the new present state.
 IsChanged-told : (t u : Timeline) (s p : NetworkState) (edit : Edit) (change : Change) (reply : NetworkState → Reply) (told : Reply) → IsPresent t s
     → Becomes s change (applied edit s) → Appends edit t u → IsPresent u p → told ≡ reply p → IsChanged t s change reply (Ok told) u
 IsChanged-told t u s p edit change reply told present becomes appends shown tells =
@@ -47,7 +47,7 @@ IsChanged-told t u s p edit change reply told present becomes appends shown tell
       appends = appends-applied t u s edit present appends;
     }
 
--- an addition that was planned on the present state and appended
+-- an added arc, which was planned on the present state and appended
 pub IsChanged-added : (t u : Timeline) (s p : NetworkState) (edit : Edit) (change : Change) (count value : ℕ) → IsPresent t s
     → Becomes s change (applied edit s) → Appends edit t u → IsPresent u p → count ≡ length p.network.arcs → pos value ≡ flow_value p.network p.flows
     → IsChanged t s change (λ new. Added (length new.network.arcs) (value_of new)) (Ok (Added count value)) u
@@ -55,7 +55,7 @@ IsChanged-added t u s p edit change count value present becomes appends shown co
     IsChanged-told t u s p edit change (λ new. Added (length new.network.arcs) (value_of new)) (Added count value) present becomes appends shown
     (ap (λ n. Added n value) counts ∙ ap (λ n. Added (length p.network.arcs) n) (ap nat_abs valued))
 
--- where a plan was made, nothing refuses the change
+-- if a plan was made, nothing refuses the change
 no-fault : (edit : Edit) (fault : Option PlanFault) → MatchOption fault (IsOkUnless (Ok edit) NoMemory) (λ f. Ok edit ≡ Err f) → fault ≡ None
 no-fault edit None planned = refl
 no-fault edit (Some f) planned = absurd (cc)
@@ -66,8 +66,8 @@ planned-changes : (t u : Timeline) (s : NetworkState) (edit : Edit) (change : Ch
 planned-changes t u s edit change reply result None planned changed = changed
 planned-changes t u s edit change reply result (Some f) planned changed = absurd (cc)
 
--- A change that was planned on the present state, unless memory was refused, and whose edit was appended: it is answered as a command
--- that asks for it is to be.
+-- A change was planned on the present state, unless memory was refused, and its edit was appended. Then a command that asks for it has
+-- its answer.
 answers-at : (t u : Timeline) (s : NetworkState) (edit : Edit) (change : Change) (IsAnswer : Result Reply Refusal → Type 0) (result : Result Reply Refusal)
     → IsPresent t s → MatchOption (change_fault s change) (IsOkUnless (Ok edit) NoMemory) (λ f. Ok edit ≡ Err f) → Becomes s change (applied edit s)
     → AnswersAppended edit t result u
@@ -85,7 +85,7 @@ answers-at t u s edit change IsAnswer (Err refusal.NoMemory) present planned bec
     refused ((s, present, no-fault edit (change_fault s change) planned), a)
 answers-at t u s edit change IsAnswer result present planned becomes a answered refused = absurd a
 
--- The same of a history, under both its names.
+-- The same for a history, under both of its names.
 pub answers-appended : {X : Type 0} (timeline : X → Timeline) (inside seen : X) → inside ≡ seen → (u : Timeline) (s : NetworkState) (edit : Edit)
     (change : Change) (IsAnswer : Timeline → Result Reply Refusal → Timeline → Type 0) (result : Result Reply Refusal) → IsPresent (timeline inside) s
     → MatchOption (change_fault s change) (IsOkUnless (Ok edit) NoMemory) (λ f. Ok edit ≡ Err f) → Becomes s change (applied edit s)

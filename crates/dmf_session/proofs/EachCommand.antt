@@ -1,4 +1,4 @@
--- What holds of each command: how it is answered, what it leaves of a timeline, and which replies it has.
+-- What holds of each command: its answer, what it makes of a timeline, and its replies.
 use Rattle.std.proofs.Common.{◌≡◌, ◌<◌, length, Bool, Option, Some, None, Result, Ok, nat_le, refl, sym, ◌∙◌, subst}
 use Rattle.std.specs.Option.{MatchOption}
 use Rattle.dmf_state.specs.NetworkState.{NetworkState}
@@ -80,7 +80,7 @@ change-appends want_cut t u (Shut node) reply is a =
 change-appends want_cut t u Solve reply is a = (a.2.new, a.2.appends)
 change-appends want_cut t u command reply is a = absurd is
 
--- Each command lengthens a timeline by at most one state.
+-- Each command appends at most one state to a timeline.
 pub steps-grow : (want_cut : Bool) (t u : Timeline) (command : Command) (result : Result Reply Refusal) → t.place < length t.states
     → Steps want_cut t command result u → Grows t u
 steps-grow want_cut t u (Cap arc cap) result within s =
@@ -100,7 +100,7 @@ steps-grow want_cut t u PrintProblem result within s = same t u within s.1
 steps-grow want_cut t u PrintFlow result within s = same t u within s.1
 steps-grow want_cut t u PrintCut result within s = same t u within s.1
 
--- A command that is accepted is answered by a reply to such a command.
+-- The reply to an accepted command is one of its kind.
 pub answers-reply : (want_cut : Bool) (t : Timeline) (command : Command) (reply : Reply) (u : Timeline) → Answers want_cut t command (Ok reply) u
     → IsReplyTo command reply
 answers-reply want_cut t (Cap arc cap) reply u a =

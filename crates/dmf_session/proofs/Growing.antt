@@ -15,7 +15,7 @@ use Rattle.dmf_history.specs.Timeline.{Timeline, extended, appended, back, forwa
 use Rattle.dmf_session.specs.Step.{IsChanged, IsRefused, IsMoved, refusal_of}
 use Rattle.dmf_history.proofs.Appending.{within_bound-keeps}
 
--- The place is in the list, which has at most one state more than there were, and the bound is the same.
+-- The place is in the list, the list has at most one more state than before, and the bound is the same.
 pub record Grows (t u : Timeline) : Type 0 where
   pub place : u.place < length u.states
   pub at_most : length u.states ≤ length t.states + 1

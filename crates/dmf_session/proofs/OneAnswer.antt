@@ -22,7 +22,7 @@ use Rattle.dmf_history.proofs.Appending.{one-present}
 use Rattle.dmf_session.proofs.Changed.{is-state}
 use Rattle.dmf_solver.specs.Laws.{HasOneSmallestSide, HasOneOutcome}
 
--- what is so of networks
+-- what is true of every network
 pub record NetworkOneLaws : Type 0 where
   pub outcome : HasOneOutcome
   pub side : HasOneSmallestSide
@@ -46,7 +46,7 @@ one-by_fault : HasOneOutcome → (t u v : Timeline) (s : NetworkState) (asked : 
 one-by_fault law t u v s asked reply result other None state a b = one-changed law t u v s asked reply result other state a b
 one-by_fault law t u v s asked reply result other (Some f) state a b = one-refused t u v (refusal_of f) result other a b
 
--- of a change that is asked of the present state
+-- the answer to a change of the present state
 pub one-change : HasOneOutcome → (t u v : Timeline) (asked : Change) (reply : NetworkState → Reply) (result other : Result Reply Refusal) → HasStates t
     → (s : NetworkState) × IsPresent t s × Changes t s asked reply result u → (s : NetworkState) × IsPresent t s × Changes t s asked reply other v
     → (result ≡ other) × (u ≡ v)
@@ -85,16 +85,16 @@ pub one-move : (t moved u v : Timeline) (refusal : Refusal) (result other : Resu
 one-move t moved u v refusal result other true a b = one-moved moved u v result other a b
 one-move t moved u v refusal result other false a b = one-refused t u v refusal result other a b
 
--- ---- telling a cut
+-- ---- printing a cut
 
--- A side that is told.
+-- the side in the reply
 record ToldCut (s : NetworkState) (result : Result Reply Refusal) : Type 0 where
   side : CutSide
   is : result ≡ Ok (Cut side)
   greatest : IsGreatest s.network s.flows
   smallest : IsSmallestSide s.network side
 
--- No side, since a flow has a larger value.
+-- no side, since some flow has a larger value
 record ToldSurpassed (s : NetworkState) (result : Result Reply Refusal) : Type 0 where
   is : result ≡ Err NotGreatest
   larger : IsSurpassed s.network s.flows

@@ -21,17 +21,17 @@ use Rattle.dmf_session.proofs.Changed.{is-state}
 pub not-surpassed : (n : Network) (flows : List ℕ) → IsGreatest n flows → IsSurpassed n flows → ⊥
 not-surpassed n flows greatest larger = omega (arith, ints, greatest.none_larger larger.larger larger.flow, larger.exceeds)
 
--- What was appended to a timeline with a present state is present,
+-- A state that was appended to a timeline with a present state is the present one,
 pub present-appended : (t u : Timeline) (s new : NetworkState) → IsPresent t s → u ≡ appended t new → IsPresent u new
 present-appended t u s new present appends =
     subst (λ v. IsPresent v new) (sym appends) (appended-present t new (slice_get_within t.states t.place s present))
 
--- and where it is optimal, so is the present state.
+-- and if it is optimal, so is the present state.
 HasOptimalPresent-appended : (t u : Timeline) (s new : NetworkState) → IsPresent t s → u ≡ appended t new → IsOptimal new → HasOptimalPresent u
 HasOptimalPresent-appended t u s new present appends optimal =
     record { state = new; present = present-appended t u s new present appends; optimal = optimal }
 
--- What was planned on the present state as a greatest flow, and appended, is optimal.
+-- A maximum flow that was planned on the present state and appended is optimal.
 pub planned-optimal : GreatestIsOptimal → (t u : Timeline) (s : NetworkState) (edit : Edit) → IsPresent t s → Fits edit s
     → Becomes s change.Solve (applied edit s) → IsGreatest s.network (applied edit s).flows → Appends edit t u → HasOptimalPresent u
 planned-optimal law t u s edit present fits becomes greatest appends =

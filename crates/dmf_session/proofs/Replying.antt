@@ -17,7 +17,7 @@ module _ (command : Command) (reply : Reply) where
   pub told-reply : (answer : Reply) → ◌≡◌ {A = Result Reply Refusal} (Ok reply) (Ok answer) → IsReplyTo command answer → IsReplyTo command reply
   told-reply answer told is = let same : answer ≡ reply = cc in subst (IsReplyTo command) same is
 
-  -- a change that is asked of the state
+  -- a change of the state
   pub changed-reply : (t u : Timeline) (s : NetworkState) (asked : Change) (reply_of : NetworkState → Reply) (fault : Option PlanFault)
       → ((new : NetworkState) → IsReplyTo command (reply_of new))
       → MatchOption fault (IsChanged t s asked reply_of (Ok reply) u) (λ f. IsRefused t (refusal_of f) (Ok reply) u) → IsReplyTo command reply

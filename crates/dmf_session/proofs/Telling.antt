@@ -1,4 +1,4 @@
--- What a solve told, by the answer that the session gives.
+-- What a solve reports, by the answer of the session.
 use Rattle.std.proofs.Common.{ℕ, ◌≡◌, ◌+◌, ◌≤◌, List, Option, Result, Ok, Err, inl, subst}
 use Rattle.std.specs.Result.{IsErr}
 use Rattle.std.proofs.lemmas.Bool.{false≢true}
@@ -16,19 +16,19 @@ use Rattle.dmf_session.specs.declared.command.Refusal.{Refusal}
 use Rattle.dmf_session.specs.Telling.{TellsStep, TellsDrains, drained_most}
 use Rattle.dmf_session.proofs.Optimal.{present-appended}
 
--- A solve that is refused before it is planned tells nothing.
+-- A solve that is refused before it is planned reports nothing.
 pub TellsStep-nothing : (t u : Timeline) (result : Result Reply Refusal) (told : Option (List Told)) → IsErr result → TellsStep t Solve result u told told
 TellsStep-nothing t u (Ok reply) told err = absurd (false≢true err)
 TellsStep-nothing t u (Err refusal) told err = λ s present. inl (AreTold-none told)
 
--- One that is refused later tells what its plan told,
+-- A solve that is refused later reports what its plan reported,
 pub TellsStep-refused : (t u : Timeline) (s : NetworkState) (result : Result Reply Refusal) (before after : Option (List Told)) → IsPresent t s → IsErr result
     → MayTellSolve s before after → TellsStep t Solve result u before after
 TellsStep-refused t u s (Ok reply) before after present err told = absurd (false≢true err)
 TellsStep-refused t u s (Err refusal) before after present err told =
     λ other also. subst (λ p. MayTellSolve p before after) (one-present t s other present also) told
 
--- and so does one whose outcome was appended.
+-- and so does a solve whose result was appended.
 pub TellsStep-solved : (t u : Timeline) (s : NetworkState) (edit : Edit) (reply : Reply) (before after : Option (List Told)) → IsPresent t s → Appends edit t u
     → TellsSolve s (applied edit s).flows before after → TellsStep t Solve (Ok reply) u before after
 TellsStep-solved t u s edit reply before after present appends told =
@@ -38,7 +38,7 @@ TellsStep-solved t u s edit reply before after present appends told =
       subst (λ p. TellsSolve p (applied edit s).flows before after) (one-present t s other present also) told,
     )
 
--- There is one present state, so what is told of it is told.
+-- There is only one present state, so the report is about it.
 pub TellsDrains-present : {X : Type 0} (timeline : X → Timeline) (inside seen : X) → inside ≡ seen → (s : NetworkState) (command : Command)
     (before after : ℕ) → IsPresent (timeline inside) s → after ≤ before + drained_most s command → TellsDrains (timeline seen) command before after
 TellsDrains-present timeline inside seen same s command before after present most =

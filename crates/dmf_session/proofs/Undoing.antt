@@ -1,4 +1,4 @@
--- A change that was accepted is undone by one step back, where a state is kept before the present one.
+-- One step back undoes an accepted change, if a state is kept before the present one.
 use Rattle.std.proofs.Common.{◌≡◌, ◌<◌, ◌≤◌, Result, Ok, nat_le, arith, sym, ap, ◌∙◌, subst}
 use Rattle.std.specs.Bool.{MatchBool}
 use Rattle.std.proofs.lemmas.Bool.{le-leb, lt-leb}

@@ -1,4 +1,4 @@
--- What appending an edit to a timeline answers.
+-- The result of appending an edit to a timeline.
 -- Private: only contracts inside the crate and proofs use this.
 use Rattle.std.specs.Prelude.{ℕ, ◌≡◌, Result, Ok, Err, pos}
 use Rattle.dmf_state.specs.declared.edit.Edit.{Edit}
@@ -10,14 +10,14 @@ use Rattle.dmf_session.specs.declared.command.Reply.TheVariants.{Value}
 use Rattle.dmf_session.specs.declared.command.Refusal.{Refusal}
 use Rattle.dmf_session.specs.declared.command.Refusal.TheVariants.{NoMemory}
 
--- The edit is appended, and this is the value of the state that is present then.
+-- The edit is appended, and this is the value of the new present state.
 pub record AppendsValued (edit : Edit) (t : Timeline) (value : ℕ) (u : Timeline) : Type 0 where
   pub state : NetworkState
   pub present : IsPresent u state
   pub appends : Appends edit t u
   pub value_is : pos value ≡ flow_value state.network state.flows
 
--- The edit is appended, and the reply tells the value; or memory is refused, and nothing has changed.
+-- The edit is appended, and the reply is the value; or memory is refused, and nothing has changed.
 abbrev pub AnswersAppended : Edit → Timeline → Result Reply Refusal → Timeline → Type 0
 AnswersAppended edit t (Ok (Value value)) u = AppendsValued edit t value u
 AnswersAppended edit t (Err NoMemory) u = u ≡ t

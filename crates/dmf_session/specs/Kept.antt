@@ -7,10 +7,10 @@ use Rattle.dmf_state.specs.NetworkState.{NetworkState}
 use Rattle.dmf_solver.specs.KeptNetwork.{KeptNetwork, Keeps}
 use Rattle.dmf_history.specs.Timeline.{Timeline, IsPresent}
 
--- Where a network is kept, it is that of the present state.
+-- If a network is kept, it is the network of the present state.
 abbrev pub KeepsPresent : Timeline → Option KeptNetwork → Type 0
 KeepsPresent t kept = (s : NetworkState) → IsPresent t s → Keeps s kept
 
--- Where a network is there, it is that of the present state as the edit leaves it.
+-- If there is a network, it is the network of the state that the edit makes of the present one.
 abbrev pub KeepsApplied : Edit → Timeline → Option KeptNetwork → Type 0
 KeepsApplied edit t kept = (s : NetworkState) → IsPresent t s → Keeps (applied edit s) kept

@@ -1,5 +1,5 @@
--- Where memory is there each command has an answer, and one alone; after a solve the present state is optimal; and a change
--- is undone.
+-- If no memory is refused, each command has an answer, and only one; after a solve the present state is optimal; and a step back undoes
+-- a change.
 -- Public: a public contract says no more than this.
 use Rattle.std.specs.Prelude.{ℕ, ◌≡◌, ◌≢◌, ◌<◌, length, All, Bool, Result, Ok, Err}
 use Rattle.dmf_state.specs.NetworkState.{NetworkState, IsState}
@@ -13,12 +13,12 @@ use Rattle.dmf_history.specs.Timeline.{Timeline, IsTimeline, IsPresent}
 use Rattle.dmf_session.specs.Step.{Steps, Answers, IsChange, value_of}
 use Rattle.dmf_session.specs.Optimal.{HasOptimalPresent}
 
--- The place is in the list, and what stands in the list are states.
+-- The place is in the list, and the list has states.
 pub record HasStates (t : Timeline) : Type 0 where
   pub place : t.place < length t.states
   pub states : All IsState t.states
 
--- An answer to the command: a result, which tells of no want of memory, and a timeline after it, which has states again.
+-- An answer to the command: a result that is not want of memory, and the timeline after it, which has states again.
 pub record Answered (want_cut : Bool) (t : Timeline) (command : Command) : Type 0 where
   pub result : Result Reply Refusal
   pub after : Timeline
@@ -30,7 +30,7 @@ pub record Answered (want_cut : Bool) (t : Timeline) (command : Command) : Type 
 abbrev pub HasAnswer : Type 0
 HasAnswer = (want_cut : Bool) (t : Timeline) (command : Command) → HasStates t → Answered want_cut t command
 
--- Each command has one answer: any two from one timeline are the same, and leave the same timeline.
+-- Each command has one answer: any two from one timeline agree, and leave the same timeline.
 abbrev pub HasOneAnswer : Type 0
 HasOneAnswer =
     (want_cut : Bool) (t u v : Timeline) (command : Command) (result other : Result Reply Refusal) → HasStates t
@@ -42,14 +42,14 @@ SolvedIsOptimal =
     (want_cut : Bool) (t u : Timeline) (reply : Reply) → HasStates t → Answers want_cut t Solve (Ok reply) u
     → HasOptimalPresent u
 
--- What one step back after an accepted change answers and leaves: where a state is kept before the present one, the step is
--- accepted, and the state before the change is present again; where none is kept, it is refused.
+-- One step back after an accepted change. If a state is kept before the present one, the step is accepted, and the state before the
+-- change is present again. If none is kept, the step is refused.
 pub record UndoesChange (bound : ℕ) (before : NetworkState) (result : Result Reply Refusal) (u : Timeline) : Type 0 where
   pub kept : 0 < bound → (result ≡ Ok (Value (value_of before))) × IsPresent u before
   pub forgotten : bound ≡ 0 → result ≡ Err NothingToUndo
 
--- One step back right after an accepted change is accepted exactly where the bound is at least 1, and gives back the state
--- before the change.
+-- One step back right after an accepted change is accepted if and only if the bound is at least 1, and restores the state before the
+-- change.
 abbrev pub ChangeIsUndone : Type 0
 ChangeIsUndone =
     (want_cut : Bool) (t u v : Timeline) (command : Command) (reply : Reply) (result : Result Reply Refusal) (s : NetworkState)

@@ -1,4 +1,4 @@
--- What is told of a refused command.
+-- The text about a refused command.
 -- Public: a public contract says no more than this.
 use Rattle.std.specs.Prelude.{ℕ, List, codes}
 use Rattle.dmf_session.specs.declared.command.Refusal.{Refusal}

@@ -1,4 +1,4 @@
--- What a command makes of a timeline, and what it answers.
+-- What a command makes of a timeline, and its answer.
 -- Public: a public contract says no more than this.
 use Rattle.std.specs.Prelude.{ℕ, ◌≡◌, ◌+◌, ◌<◌, ◌≤◌, length, nat_abs, nat_le, Bool, Option, None, Result, Ok, Err, MatchOption, MatchBool}
 use Rattle.dmf_solver.specs.declared.fault.PlanFault.{PlanFault}
@@ -21,11 +21,11 @@ use Rattle.dmf_session.specs.declared.command.Refusal.TheVariants.{NoSuchArc, Cl
 use Rattle.dmf_session.specs.declared.command.Refusal.TheVariants.{NotGreatest, NoMemory}
 use Rattle.dmf_history.specs.Timeline.{Timeline, IsPresent, future_of, appended, back, forward, AddsArcs}
 
--- the value of a state's flow, which is not below 0
+-- the value of a state's flow, which is not negative
 abbrev pub value_of : NetworkState → ℕ
 value_of s = nat_abs (flow_value s.network s.flows)
 
--- what refuses the command where this refuses its plan
+-- the refusal of the command for this fault of its plan
 abbrev pub refusal_of : PlanFault → Refusal
 refusal_of plan.NoSuchArc = NoSuchArc
 refusal_of plan.Closed = Closed
@@ -34,7 +34,7 @@ refusal_of plan.TooManyArcs = TooManyArcs
 refusal_of plan.SumTooLarge = SumTooLarge
 refusal_of plan.NoMemory = NoMemory
 
--- what refuses it where this refuses a side
+-- the refusal of the command for this fault of a side
 abbrev pub refusal_of_cut : CutFault → Refusal
 refusal_of_cut cut.NotGreatest = NotGreatest
 refusal_of_cut cut.NoMemory = NoMemory
@@ -44,7 +44,7 @@ pub record IsRefused (t : Timeline) (refusal : Refusal) (result : Result Reply R
   pub told : result ≡ Err refusal
   pub unchanged : u ≡ t
 
--- An accepted change: what it becomes is appended, and the reply tells of that state.
+-- An accepted change: the state that it makes is appended, and the reply is about that state.
 pub record IsChanged (t : Timeline) (s : NetworkState) (change : Change) (reply : NetworkState → Reply) (result : Result Reply Refusal)
     (u : Timeline) : Type 0 where
   pub new : NetworkState
@@ -52,20 +52,20 @@ pub record IsChanged (t : Timeline) (s : NetworkState) (change : Change) (reply 
   pub told : result ≡ Ok (reply new)
   pub appends : u ≡ appended t new
 
--- A change that is asked of the state `s`: refused for its first fault, or made.
+-- A change of the state `s`: it is refused for its first fault, or made.
 abbrev pub Changes : Timeline → NetworkState → Change → (NetworkState → Reply) → Result Reply Refusal → Timeline → Type 0
 Changes t s change reply result u =
     MatchOption (change_fault s change) (IsChanged t s change reply result u)
     (λ fault. IsRefused t (refusal_of fault) result u)
 
--- The place is moved, and the reply tells the value of the state there.
+-- The place moves, and the reply is the value of the state there.
 pub record IsMoved (moved : Timeline) (result : Result Reply Refusal) (u : Timeline) : Type 0 where
   pub state : NetworkState
   pub present : IsPresent moved state
   pub told : result ≡ Ok (Value (value_of state))
   pub moves : u ≡ moved
 
--- Solving, which is never refused: what it becomes is appended. The reply has the smallest side of its network, where it is
+-- Solving, which is never refused: the state that it makes is appended. The reply has the smallest side of its network, if that is
 -- wanted.
 pub record IsSolved (want_cut : Bool) (t : Timeline) (s : NetworkState) (result : Result Reply Refusal) (u : Timeline) : Type 0 where
   pub new : NetworkState
@@ -75,15 +75,15 @@ pub record IsSolved (want_cut : Bool) (t : Timeline) (s : NetworkState) (result 
   pub told : result ≡ Ok (Solution side)
   pub appends : u ≡ appended t new
 
--- The smallest side of the state's network is told where no flow has a larger value than the state's; where some flow has,
--- that is the refusal.
+-- The reply is the smallest side of the state's network, if no flow has a larger value than the state's flow. If some flow has, the
+-- command is refused for that.
 abbrev pub TellsCut : NetworkState → Result Reply Refusal → Type 0
 TellsCut s (Ok (Cut side)) = IsGreatest s.network s.flows × IsSmallestSide s.network side
 TellsCut s (Err NotGreatest) = IsSurpassed s.network s.flows
 TellsCut s result = ⊥
 
--- The command, given to the timeline `t`, is answered by this result and leaves the timeline `u`, where memory is there.
--- `want_cut` says whether a cut is wanted beside a solution.
+-- The command, given to the timeline `t`, has this result and leaves the timeline `u`, if no memory is refused. `want_cut` says whether
+-- a cut is wanted beside a solution.
 abbrev pub Steps : Bool → Timeline → Command → Result Reply Refusal → Timeline → Type 0
 Steps want_cut t (Cap arc cap) result u =
     (s : NetworkState) × IsPresent t s × Changes t s (change.Cap arc cap) (λ new. Value (value_of new)) result u
@@ -108,7 +108,7 @@ Steps want_cut t PrintCut result u = ((s : NetworkState) × IsPresent t s × Tel
 abbrev pub IsAccepted : Timeline → Change → Type 0
 IsAccepted t change = (s : NetworkState) × IsPresent t s × (change_fault s change ≡ None)
 
--- The command may be refused memory: a change that is accepted, telling a cut, and steps forward of which one adds arcs.
+-- The command may be refused memory: a change that is accepted, printing a cut, and steps forward of which one adds arcs.
 abbrev pub MayWantMemory : Timeline → Command → Type 0
 MayWantMemory t (Cap arc cap) = IsAccepted t (change.Cap arc cap)
 MayWantMemory t (Add tail head cap) = IsAccepted t (change.Add tail head cap)
@@ -121,7 +121,7 @@ MayWantMemory t PrintProblem = ⊥
 MayWantMemory t PrintFlow = ⊥
 MayWantMemory t PrintCut = Unit {0}
 
--- The same where memory may be refused: a command that wants some may be refused it, and then nothing has changed.
+-- The same if memory may be refused: then a command that needs some may be refused it, and nothing has changed.
 abbrev pub Answers : Bool → Timeline → Command → Result Reply Refusal → Timeline → Type 0
 Answers want_cut t command (Err NoMemory) u = MayWantMemory t command × (u ≡ t)
 Answers want_cut t command result u = Steps want_cut t command result u
@@ -139,7 +139,7 @@ IsChange PrintProblem = ⊥
 IsChange PrintFlow = ⊥
 IsChange PrintCut = ⊥
 
--- The reply is of the kind that the command has where it is accepted.
+-- The reply is of the kind that an accepted command of this kind has.
 abbrev pub IsReplyTo : Command → Reply → Type 0
 IsReplyTo (Cap arc cap) (Value value) = Unit {0}
 IsReplyTo (Add tail head cap) (Added arc value) = Unit {0}

@@ -7,7 +7,7 @@ use dmf_solver::{CutFault, PlanFault};
 use dmf_state::{NoMemory, Side};
 use std::fmt;
 
-/// What a session is asked to do.
+/// A command to a session.
 #[derive(Clone, Copy, Debug, PartialEq, Eq)]
 pub enum Command {
     /// Give an arc another capacity.
@@ -26,7 +26,7 @@ pub enum Command {
         /// Its capacity.
         cap: u64,
     },
-    /// Close an arc, so that nothing flows on it any more.
+    /// Close an arc, so that it carries no flow any more.
     Close {
         /// The arc's number, counted from 1.
         arc: u64,
@@ -36,11 +36,11 @@ pub enum Command {
         /// The node's number, counted from 1.
         node: u64,
     },
-    /// Augment the present flow to a greatest one.
+    /// Augment the present flow to a maximum flow.
     Solve,
-    /// Take so many changes back.
+    /// Undo so many changes.
     Undo(u64),
-    /// Make so many undone changes again.
+    /// Redo so many undone changes.
     Redo(u64),
     /// Print the problem.
     PrintProblem,
@@ -50,20 +50,20 @@ pub enum Command {
     PrintCut,
 }
 
-/// What a session answers to a command that it accepts.
+/// The reply of a session to a command that it accepts.
 #[derive(Debug, PartialEq, Eq, Drop)]
 pub enum Reply {
     /// The value of the present flow.
     Value(u64),
     /// The number of the new arc, and the value of the present flow.
     Added(u32, u64),
-    /// The problem is solved. Print the present flow, and this cut after it if one was wanted.
+    /// The problem is solved. The reply is the present flow, and this cut after it if one was wanted.
     Solution(Option<Side>),
-    /// Print the present problem.
+    /// The reply is the present problem.
     Problem,
-    /// Print the present flow.
+    /// The reply is the present flow.
     Flow,
-    /// Print this cut.
+    /// The reply is this cut.
     Cut(Side),
 }
 
@@ -72,25 +72,25 @@ pub enum Reply {
 pub enum Refusal {
     /// The first field is no command, or the field after `print` names nothing to print.
     UnknownCommand,
-    /// The command takes another number of fields.
+    /// The command takes a different number of fields.
     FieldCount,
     /// A field that should be a number has a byte that is no digit.
     NotANumber,
-    /// A number is past 2^64 - 1.
+    /// A number exceeds 2^64 - 1.
     TooLarge,
-    /// The arc's number is 0 or past the last arc.
+    /// The arc's number is 0 or exceeds the number of arcs.
     NoSuchArc,
     /// The arc is closed.
     Closed,
-    /// A node's number is 0 or past the last node.
+    /// A node's number is 0 or exceeds the number of nodes.
     NoSuchNode,
     /// The network has as many arcs as it may have.
     TooManyArcs,
-    /// The sum of the capacities would pass 2^64 - 1.
+    /// The sum of the capacities would exceed 2^64 - 1.
     SumTooLarge,
-    /// Fewer changes stand before the present state.
+    /// There are fewer changes before the present state than the command undoes.
     NothingToUndo,
-    /// Fewer changes are undone.
+    /// There are fewer undone changes than the command redoes.
     NothingToRedo,
     /// Some flow has a larger value.
     NotGreatest,
@@ -101,7 +101,7 @@ pub enum Refusal {
 }
 
 impl Refusal {
-    /// The text that a session writes of the refusal. Takes no memory.
+    /// The text that a session writes about the refusal. Takes no memory.
     pub fn text(self) -> &'static str
         ensures text { result.now ≡ refusal_text self }
         ensures short { length result.now ≤ 24 }

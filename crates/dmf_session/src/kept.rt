@@ -21,7 +21,7 @@ pub(crate) fn kept_before<H: History>(
     network.follow_back(history.present(), edit)
 }
 
-/// The kept network, one state forward. `None` if the history does not tell the edit, or if the network cannot follow it.
+/// The kept network, one state forward. `None` if the history does not give the edit, or if the network cannot follow it.
 pub(crate) fn kept_after<H: History>(
     alloc: Global,
     kept: Option<ResidualNetwork>,
@@ -35,7 +35,7 @@ pub(crate) fn kept_after<H: History>(
     network.follow_any(alloc, history.present(), edit)
 }
 
-/// The kept network, once the edit is made.
+/// The kept network after the edit.
 pub(crate) fn kept_with(
     alloc: Global,
     kept: Option<ResidualNetwork>,

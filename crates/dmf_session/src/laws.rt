@@ -14,7 +14,7 @@ pub fn solved_is_optimal()
     greatest_is_optimal();
 }
 
-/// The law that each command has an answer other than *no memory*.
+/// The law that each command has an answer that is not want of memory.
 pub fn command_has_answer()
     ensures { HasAnswer }
 {
@@ -23,8 +23,8 @@ pub fn command_has_answer()
     flow_is_greatest_or_surpassed();
 }
 
-/// The law that each command has only one answer other than *no memory*: any two such answers from one timeline are the same, and
-/// leave the same timeline.
+/// The law that each command has only one answer that is not want of memory: any two such answers from one timeline agree, and leave
+/// the same timeline.
 pub fn command_has_one_answer()
     ensures { HasOneAnswer }
 {
@@ -32,8 +32,8 @@ pub fn command_has_one_answer()
     network_has_one_smallest_side();
 }
 
-/// The law that one step back right after an accepted change is accepted exactly where the bound is at least 1, and gives back
-/// the state before the change.
+/// The law that one step back right after an accepted change is accepted if and only if the bound is at least 1, and restores the state
+/// before the change.
 pub fn change_is_undone()
     ensures { ChangeIsUndone }
 {}

@@ -1,4 +1,4 @@
-//! Sessions on networks: commands, and what they answer on a history.
+//! Sessions on networks: commands, and their replies on a history.
 #![tactic(auto)]
 
 pub use command::{Command, Refusal, Reply};

@@ -22,10 +22,10 @@ use std::marker::Model;
 
 /// A network that commands change, over the history that keeps its states.
 ///
-/// From the first solve or drain on the session also keeps the residual network of the present state, so that the next of these need
-/// not make it anew. The network follows each change, and each step back or forward where the history tells the edit. The first of
+/// From the first solve or drain on, the session also keeps the residual network of the present state, so that the next solve or drain
+/// need not make it anew. The network follows each change, and each step back or forward if the history gives the edit. The first of
 /// these after a solve takes time for each node that has a label; an added arc takes memory and time for each link. The session drops
-/// the network where an added arc is taken back, and where memory is refused.
+/// the network if an added arc is undone, or if memory is refused.
 #[derive(Drop)]
 pub struct Session<H: History> {
     history: H,
@@ -77,7 +77,7 @@ impl<H: History> Session<H> {
         self.history.future()
     }
 
-    /// The largest number of states that are kept before the present one. No command alters it.
+    /// The bound: the most states that the history keeps before the present one. No command changes it.
     pub fn bound(&self) -> u32
         ensures count { result ≡ (H.timeline self.now).bound }
         ensures timeline { IsTimeline (H.timeline self.now) }
@@ -102,7 +102,7 @@ impl<H: History> Session<H> {
         self.step_watched(alloc, command, want_cut, &mut Unwatched)
     }
 
-    /// As [`Session::step`]; also tells the watch of each augmenting path of a solve, and of what each path of a drain takes off.
+    /// As [`Session::step`]. Also reports to the watch each augmenting path of a solve, and what each path of a drain takes off.
     pub fn step_watched<W: Watch>(
         &mut self,
         alloc: Global,
@@ -186,7 +186,7 @@ impl<H: History> Session<H> {
         self.change(edit, kept)
     }
 
-    // Finds the side, if one is wanted, before the history takes the solve. So if memory is refused for it, nothing has changed.
+    // Finds the side, if one is wanted, before the history takes the solve. So nothing has changed if memory is refused for the side.
     fn solve<W: Watch>(
         &mut self,
         alloc: Global,
@@ -241,7 +241,7 @@ impl<H: History> Session<H> {
         Ok(Reply::Value(self.present().value()))
     }
 
-    /// Appends the state that the edit makes of the present one, keeps this network as [`Session::append`] does, and tells the value.
+    /// Appends the state that the edit makes of the present one, keeps this network as [`Session::append`] does, and returns the value.
     fn change(&mut self, edit: Edit, kept: Option<ResidualNetwork>) -> Result<Reply, Refusal>
         requires fits { FitsPresent edit (H.timeline self.old) }
         requires kept { KeepsApplied edit (H.timeline self.old) kept }
@@ -251,8 +251,8 @@ impl<H: History> Session<H> {
         Ok(Reply::Value(self.present().value()))
     }
 
-    /// Appends the state that the edit makes of the present one, and keeps this network, which is that of the new state. If memory
-    /// is refused, the session keeps none.
+    /// Appends the state that the edit makes of the present one, and keeps this network, the network of the new state. If memory is
+    /// refused, the session keeps none.
     fn append(&mut self, edit: Edit, kept: Option<ResidualNetwork>) -> Result<(), NoMemory>
         requires fits { FitsPresent edit (H.timeline self.old) }
         requires kept { KeepsApplied edit (H.timeline self.old) kept }

@@ -34,20 +34,20 @@ network-added n flows arc k same at =
     before-last (residual_pairs n.arcs flows) k (residual_pair arc 0) (closed_return n) (omega (arith, at, length-residual_pairs n.arcs flows same))
     ∙ ap (λ pairs. pairs ++ closed_return n ∷ []) (sym (pairs-added n.arcs flows arc same))
 
--- One number for each arc there was
+-- One number for each arc before,
 module _ (s : NetworkState) (arc : Arc) (state : IsState (with_idle_arc s arc)) where
   one_each : length s.flows ≡ length s.network.arcs
   one_each =
       omega (arith, AllZip-long _ (s.network.arcs ++ arc ∷ []) (s.flows ++ 0 ∷ []) state.flow.within, length_push s.network.arcs arc, length_push s.flows 0)
 
-  -- and so many pairs; with the new one they are not too many.
+  -- and as many pairs; with the new one they are not too many.
   pub pairs-before : (search : Searched) → search ≡ residual_search s.network s.flows → length search.pairs ≡ length s.network.arcs + 1
   pairs-before search is = ap (λ (x : Searched). length x.pairs) is ∙ length-network_pairs s.network s.flows one_each
 
   pub few-before : length s.network.arcs + 1 ≤ 2 ^ 27
   few-before = omega (arith, state.network.at_most_arcs, length_push s.network.arcs arc)
 
-  -- The pair of the arc is one.
+  -- The entry for the arc is a pair.
   pub pair-added : (p : Pair) → residual_pair arc 0 ≡ Some p → IsPair s.network.nodes p
   pair-added p has =
       let arcs = s.network.arcs ++ arc ∷ [] in
@@ -59,7 +59,7 @@ module _ (s : NetworkState) (arc : Arc) (state : IsState (with_idle_arc s arc)) 
       let small : arc.cap < 2 ^ 64 = omega (arith, least, ap (λ (a : Arc). a.cap) last, state.network.capacities) in
       pair-is s.network.nodes arc 0 p (arc.tail == arc.head) is (omega arith) small refl has
 
-  -- With it the search is that of the state with the arc.
+  -- With it the search is the search of the state with the arc.
   pub search-added : (p : Pair) (before after : Searched) → residual_pair arc 0 ≡ Some p → before ≡ residual_search s.network s.flows
       → after ≡ with_pairs before (insert before.pairs (length before.pairs - 1) (Some p))
       → after ≡ residual_search (with_last_arc s.network arc) (s.flows ++ 0 ∷ [])

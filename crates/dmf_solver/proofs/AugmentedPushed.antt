@@ -1,4 +1,4 @@
--- Augmenting along a path gives what pushing along its steps in turn gives.
+-- Augmenting along a path is the same as pushing along its steps in turn.
 use Rattle.std.proofs.Common.{ℕ, ◌≡◌, ◌≢◌, ◌+◌, ◌-◌, ◌*◌, ◌%◌, ◌<◌, ◌≤◌, ◌==◌, Bool, List, [], ◌∷◌, length, get_or, zero, suc, true, false}
 use Rattle.std.proofs.Common.{cond, refl, ap, ◌∙◌, sym, subst, arith, ⊎_elim, get_or-set_other, add-zero, eq-eqb}
 use Rattle.std.proofs.lemmas.Bool.{both_ways, eqb-true, ne_eqb, cases_eq}
@@ -10,12 +10,12 @@ use Rattle.dmf_solver.specs.Residual.{augmented_from}
 use Rattle.dmf_solver.proofs.Pushing.{arc_index, flow_pushed, pushed_once, pushed, CanPush, rank-pushed, length-pushed_once, length-pushed}
 use Rattle.dmf_solver.proofs.Pushing.{Skips, CanPushInTurn}
 
--- there stay as many flows
+-- the number of flows stays
 length-augmented_from : (j amount : ℕ) (path : List Step) (flows : List ℕ) → length (augmented_from j amount path flows) ≡ length flows
 length-augmented_from j amount path [] = refl
 length-augmented_from j amount path (x ∷ flows) = ap suc (length-augmented_from (j + 1) amount path flows)
 
--- what a flow is, once the arc with number `j` is augmented by this amount along a path
+-- the flow of arc number `j` after it is augmented by this amount along a path
 abbrev pub flow_augmented : ℕ → List Step → ℕ → ℕ → ℕ
 flow_augmented amount path j flow = flow + cond (has_rank path (2 * j)) amount 0 - cond (has_rank path (2 * j + 1)) amount 0
 
@@ -28,14 +28,14 @@ get_or-augmented_from j amount path (x ∷ flows) (suc k) h =
     let place : j + 1 + k ≡ j + suc k = omega arith in
     get_or-augmented_from (j + 1) amount path flows k (omega (arith, h)) ∙ ap (λ i. flow_augmented amount path i (get_or flows k 0)) place
 
--- a path that skips an arc has neither of its ranks
+-- a path that skips an arc has neither of the arc's ranks
 ranks-skipped : (k : ℕ) (path : List Step) → Skips k path → (has_rank path (2 * (1 + k)) ≡ false) × (has_rank path (2 * (1 + k) + 1) ≡ false)
 ranks-skipped k [] skips = (refl, refl)
 ranks-skipped k (s ∷ path) skips =
     let later = ranks-skipped k path skips.2 in
     (rw (ne_eqb s.rank (2 * (1 + k)) skips.0) later.0, rw (ne_eqb s.rank (2 * (1 + k) + 1) skips.1) later.1)
 
--- one step more in front, at its arc
+-- one more step in front, at its arc
 augmented-here : (amount : ℕ) (s : Step) (path : List Step) (k flow : ℕ) (ahead : Bool) → (s.rank % 2 == 0) ≡ ahead → 2 ≤ s.rank → arc_index s ≡ k
     → Skips k path → flow_augmented amount path (1 + k) (flow_pushed amount s flow) ≡ flow_augmented amount (s ∷ path) (1 + k) flow
 augmented-here amount s path k flow true e from index skips =

@@ -48,7 +48,7 @@ CanPush-residual : (amount : ℕ) (arcs : List Arc) (flows : List ℕ) (s : Step
 CanPush-residual amount arcs flows s (residual_along k leads room has) within = along k leads (omega (arith, room, within))
 CanPush-residual amount arcs flows s (residual_against k leads room has) within = against k leads (omega (arith, room, within))
 
--- and one within the rooms of a path along each of its steps
+-- and an amount within the rooms of a path can be pushed along each of its steps
 CanPushEach-up_to : (amount : ℕ) (arcs : List Arc) (flows : List ℕ) (a b bound : ℕ) (path : List Step) → amount ≤ bottleneck_up_to bound path
     → IsPath (residual_steps arcs flows) a b path → CanPushEach amount arcs flows path
 CanPushEach-up_to amount arcs flows a b bound [] within leads = tt
@@ -57,12 +57,12 @@ CanPushEach-up_to amount arcs flows a b bound (s ∷ path) within leads = (
   CanPushEach-up_to amount arcs flows s.to b bound path (omega (arith, within)) leads.2,
 )
 
--- the room up to a bound is within it
+-- the room up to a bound is at most the bound
 pub bottleneck_up_to-le : (bound : ℕ) (path : List Step) → bottleneck_up_to bound path ≤ bound
 bottleneck_up_to-le bound [] = omega arith
 bottleneck_up_to-le bound (s ∷ path) = let le = bottleneck_up_to-le bound path in omega (arith, le)
 
--- the bottleneck is within each room of the path
+-- the bottleneck is at most each room of the path
 CanPushEach-least : (arcs : List Arc) (flows : List ℕ) (a b : ℕ) (path : List Step) → IsPath (residual_steps arcs flows) a b path
     → CanPushEach (bottleneck path) arcs flows path
 CanPushEach-least arcs flows a b [] leads = tt
@@ -85,7 +85,7 @@ pub augmented-pushed : (arcs : List Arc) (flows : List ℕ) (a b : ℕ) (path : 
 augmented-pushed arcs flows a b path within least =
     pushed-augmented (bottleneck path) arcs flows path (AllZip-long _ arcs flows within) (CanPushInTurn-least arcs flows a b path least)
 
--- What flows out of a node less what flows into it grows by the bottleneck at the path's start, and falls by it at its end.
+-- The outflow minus the inflow of a node grows by the bottleneck at the path's start, and falls by it at its end.
 balance-augmented : (arcs : List Arc) (flows : List ℕ) (a b v : ℕ) (path : List Step) → AreWithinCapacities arcs flows
     → IsLeastPath (residual_steps arcs flows) a b path →
     outflow arcs (augmented path flows) v + inflow arcs flows v + at_end (bottleneck path) b v ≡ outflow arcs flows v + inflow arcs
@@ -126,7 +126,7 @@ augmented-value n flows path network flow least =
     let end = at_end-other (bottleneck path) n.sink n.source (λ e. network.two_terminals (sym e)) in
     omega (arith, ints, balance, start, end)
 
--- No value passes the capacities together.
+-- No value exceeds the sum of the capacities.
 pub value-le-capacities : (n : Network) (flows : List ℕ) → IsFlow n flows → flow_value n flows ≤ℤ pos (capacity_sum n.arcs)
 value-le-capacities n flows flow =
     let le = flow_at-le (λ a. a.tail) n.arcs flows n.source flow.within in

@@ -1,5 +1,5 @@
--- What flows on an arc comes back to its tail, along arcs on which something flows, and by the return from the sink to
--- the source where the value is above 0.
+-- The flow on an arc comes back to the arc's tail, along arcs that carry flow, and over the return link from the sink to the source if
+-- the value is positive.
 use Rattle.std.proofs.Common.{ℕ, suc, ◌≡◌, ◌<◌, ◌≤◌, ◌&&◌, List, [], ◌∷◌, get_or, length, Bool, true, false, not, cond, refl, ap, sym, ◌∙◌, arith, ⊎_elim, pos}
 use Rattle.std.proofs.Common.{◌≤ℤ◌, ◌<ℤ◌}
 use Rattle.std.specs.List.{zip, Contains}
@@ -16,7 +16,7 @@ use Rattle.dmf_state.specs.Arc.{no_arc}
 use Rattle.dmf_solver.proofs.Crossing.{leaving, entering, value-across, value-across_back, none-across, none-across_both}
 use Rattle.dmf_solver.proofs.Reached.{IsClosed, ArriveAtNodes, path-not_none}
 
--- No flow leaves the set: where something flows on an arc from a node of the set, the set has the arc's head.
+-- No flow leaves the set: if an arc from a node of the set carries flow, the set has the arc's head.
 abbrev pub KeepsFlow : List Arc → List ℕ → (ℕ → Bool) → Type 0
 KeepsFlow arcs flows has = (k : ℕ) → k < length arcs → 0 < get_or flows k 0 → has (get_or arcs k no_arc).tail ≡ true → has (get_or arcs k no_arc).head ≡ true
 
@@ -25,7 +25,7 @@ none_out true true x keeps = refl
 none_out true false x keeps = ⊎_elim (λ (some : 0 < x). absurd (both_ways false refl (keeps some refl))) (λ (none : x ≤ 0). omega (arith, none)) (cases_lt 0 x)
 none_out false b x keeps = refl
 
--- So nothing leaves it.
+-- So the flow out of it is 0.
 pub keeps-leaving : (arcs : List Arc) (flows : List ℕ) (has : ℕ → Bool) → KeepsFlow arcs flows has → leaving arcs flows has ≡ 0
 keeps-leaving [] flows has keeps = refl
 keeps-leaving (arc ∷ arcs) [] has keeps = refl
@@ -35,7 +35,7 @@ keeps-leaving (arc ∷ arcs) (flow ∷ flows) has keeps =
     let rest = keeps-leaving arcs flows has (λ k h some tail. keeps (suc k) (omega (arith, h)) some tail) in
     omega (arith, here, rest, sum_by-cons out (arc, flow) (zip arcs flows))
 
--- What flows on an arc that leads into the set is a part of what enters it.
+-- The flow on an arc that leads into the set is part of the flow that enters it.
 pub flow-le_entering : (arcs : List Arc) (flows : List ℕ) (has : ℕ → Bool) (k : ℕ) → k < length arcs → k < length flows
     → has (get_or arcs k no_arc).tail ≡ false → has (get_or arcs k no_arc).head ≡ true → get_or flows k 0 ≤ entering arcs flows has
 flow-le_entering arcs flows has k h l tail head =
@@ -45,7 +45,7 @@ flow-le_entering arcs flows has k h l tail head =
     let read = get_or-zip arcs flows k (no_arc, 0) h l in
     rw (tail, head) at (rw read at part)
 
--- Nothing enters a set that no flow leaves, by an arc or by the return, where the value is not below 0.
+-- No flow enters a set that no flow leaves, by an arc or over the return link, if the value is not negative.
 pub keeps-entering : (n : Network) (flows : List ℕ) (has : ℕ → Bool) → IsNetwork n → IsFlow n flows → pos 0 ≤ℤ flow_value n flows → KeepsFlow n.arcs flows has
     → (pos 0 <ℤ flow_value n flows → has n.sink ≡ true → has n.source ≡ true) → entering n.arcs flows has ≡ 0
 keeps-entering n flows has network flow from_zero keeps returns =
@@ -63,8 +63,8 @@ keeps-entering n flows has network flow from_zero keeps returns =
     (cases_Bool (has n.sink)))
     (cases_Bool (has n.source))
 
--- A set that no flow leaves, by an arc or by the return, has the tail of an arc on which something flows if it has its
--- head.
+-- If no flow leaves a set, by an arc or over the return link, and an arc that carries flow has its head in the set, its tail is in the
+-- set too.
 pub keeps-tail : (n : Network) (flows : List ℕ) (has : ℕ → Bool) (k : ℕ) → IsNetwork n → IsFlow n flows → pos 0 ≤ℤ flow_value n flows
     → KeepsFlow n.arcs flows has → (pos 0 <ℤ flow_value n flows → has n.sink ≡ true → has n.source ≡ true) → k < length n.arcs → 0 < get_or flows k 0
     → has (get_or n.arcs k no_arc).head ≡ true → has (get_or n.arcs k no_arc).tail ≡ true
@@ -74,20 +74,20 @@ keeps-tail n flows has k network flow from_zero keeps returns h some head =
     let part = flow-le_entering n.arcs flows has k h (omega (arith, same, h)) tail head in
     omega (arith, part, some, keeps-entering n flows has network flow from_zero keeps returns))
 
--- The steps have one from the tail to the head of each arc on which something flows, and one from the sink to the source
--- where the value is above 0.
+-- The steps have one from the tail to the head of each arc that carries flow, and one from the sink to the source if the value is
+-- positive.
 pub record CarryFlow (n : Network) (flows : List ℕ) (steps : List Step) : Type 0 where
   pub arrive : ArriveAtNodes n.nodes steps
   pub along : (k : ℕ) → k < length n.arcs → 0 < get_or flows k 0 → (s : Step) × Contains steps s × (s.from ≡ (get_or n.arcs k no_arc).tail)
       × (s.to ≡ (get_or n.arcs k no_arc).head)
   pub returns : pos 0 <ℤ flow_value n flows → (s : Step) × Contains steps s × (s.from ≡ n.sink) × (s.to ≡ n.source)
 
--- a set that has where a step leaves and that no step leaves has where it arrives
+-- if no step leaves a set, and the set has the tail of a step, it has the head of the step
 closed_step : (steps : List Step) (has : ℕ → Bool) (a b : ℕ) → IsClosed steps has → (s : Step) × Contains steps s × (s.from ≡ a) × (s.to ≡ b) → has a ≡ true
     → has b ≡ true
 closed_step steps has a b closed s inside = sym (ap has s.3) ∙ closed s.0 s.1 (ap has s.2 ∙ inside)
 
--- So it is absurd that no path of such steps leads from the head of an arc on which something flows to its tail.
+-- So it is absurd that no path of such steps leads from the head of an arc that carries flow to its tail.
 pub path_back-not_none : (n : Network) (flows : List ℕ) (steps : List Step) (k : ℕ) → IsNetwork n → IsFlow n flows → pos 0 ≤ℤ flow_value n flows
     → CarryFlow n flows steps → k < length n.arcs → 0 < get_or flows k 0 → ¬ HasNoPath steps (get_or n.arcs k no_arc).head (get_or n.arcs k no_arc).tail
 path_back-not_none n flows steps k network flow from_zero carry h some =

@@ -1,4 +1,4 @@
--- What becomes of the carrying pairs where flows and capacities of arcs change.
+-- The carrying pairs after flows and capacities of arcs change.
 use Rattle.std.proofs.Common.{ℕ, ◌≡◌, ◌+◌, ◌-◌, ◌<◌, ◌≤◌, ◌==◌, Bool, true, false, List, [], ◌∷◌, ◌++◌, length, get_or, set, zero, suc, refl, ap, sym}
 use Rattle.std.proofs.Common.{◌∙◌, subst, arith, Option, Some, None, IfSome, length-set}
 use Rattle.std.specs.Option.{option_map}
@@ -24,7 +24,7 @@ use Rattle.dmf_solver.proofs.Followed.{ArePut, put-more, put-all, index-put, flo
 
 -- ---- one flow
 
--- Another flow on one arc is another room along its pair.
+-- A new flow on an arc is a new room along its pair.
 flow-pair : (arc : Arc) (first flow : ℕ) (loop : Bool) → (arc.tail == arc.head) ≡ loop
     → carrying_pair arc flow ≡ option_map (pair_with flow 0) (carrying_pair arc first)
 flow-pair arc first flow true e = rw e refl
@@ -39,7 +39,7 @@ flow-pairs (arc ∷ arcs) (first ∷ flows) rest zero flow h same =
 flow-pairs (arc ∷ arcs) (first ∷ flows) rest (suc k) flow h same =
     ap (λ (ps : List (Option Pair)). carrying_pair arc first ∷ ps) (flow-pairs arcs flows rest k flow (omega (arith, h)) (omega (arith, same)))
 
--- The return link gets another room.
+-- The return link gets a new room.
 return-pairs : (n : Network) (arcs : List Arc) (flows : List ℕ) (room value : ℕ) → length flows ≡ length arcs
     → carrying_from arcs flows ++ return_of n value ∷ [] ≡ with_rooms (carrying_from arcs flows ++ return_of n room ∷ []) (length arcs) value 0
 return-pairs n [] flows room value same = refl
@@ -61,14 +61,14 @@ return-followed s room value old new same carries is = record {
 
 -- ---- moves in turn
 
--- The first moves are followed: the search carries flows from which the other moves lead to the last ones.
+-- The first moves are made: the search carries flows from which the other moves lead to the last ones.
 pub record AreCarried (n : Network) (moves : List Move) (last : List ℕ) (i : ℕ) (search : Searched) : Type 0 where
   pub flows : List ℕ
   pub put : ArePut moves last i flows
   pub one_each : length flows ≡ length n.arcs
   pub is : MayCarry (record { network = n; flows = flows }) search
 
--- the pair of the next one is there
+-- there is a pair for the next move
 pub carried-within : (n : Network) (moves : List Move) (last : List ℕ) (i : ℕ) (m : Move) (search : Searched) → IsMoveAt moves i m
     → AreCarried n moves last i search → (1 ≤ m.arc) × (m.arc - 1 < length n.arcs) × (m.arc - 1 < length search.pairs)
 carried-within n moves last i m search move are =
@@ -78,7 +78,7 @@ carried-within n moves last i m search move are =
     let pairs = ap (λ (ps : List (Option Pair)). length ps) are.is.1.pairs_are in
     (omega (arith, at.0, arc), omega (arith, at.1, are.one_each, arc), omega (arith, at.1, arc, are.one_each, long, pairs))
 
--- it is followed
+-- the next move is made
 pub carried-next : (n : Network) (moves : List Move) (last : List ℕ) (i : ℕ) (m : Move) (old new : Searched) → IsMoveAt moves i m
     → AreCarried n moves last i old → new ≡ with_pairs old (with_rooms old.pairs (m.arc - 1) m.to 0) → AreCarried n moves last (i + 1) new
 carried-next n moves last i m old new move are is =
@@ -182,7 +182,7 @@ may_carry-ends n m flows search ends is =
       },
     )
 
--- and after the moves of an edit it is one of the state that the edit leads to.
+-- and after the moves of an edit it is a search of the state that the edit makes.
 may_carry-along : (d : Direction) (edit : Edit) (s : NetworkState) (search : Searched) → (AddsArc edit → ⊥)
     → MayCarry (with_flows s (moved (along d (moves_of edit)) s.flows)) search → MayCarry (edited_along d edit s) search
 may_carry-along d edit s search none is =

@@ -1,4 +1,4 @@
--- The pairs of links that stand for carrying steps: their steps are those, but for loops.
+-- The pairs of links that stand for carrying steps: their steps are the carrying steps, except for self loops.
 use Rattle.std.proofs.Common.{ℕ, ◌≡◌, ◌≢◌, ◌+◌, ◌*◌, ◌^◌, ◌<◌, ◌≤◌, ◌==◌, Bool, true, false, ltb, List, [], ◌∷◌, ◌++◌, length, get_or, zero}
 use Rattle.std.proofs.Common.{suc, refl, ap, sym, ◌∙◌, subst, arith, ⊎_elim, append_assoc, add-zero, eq-eqb, length-append, Option, Some}
 use Rattle.std.specs.List.{All, Contains, slice_get}
@@ -22,7 +22,7 @@ use Rattle.dmf_state.proofs.Changing.{flow_at-le}
 use Rattle.dmf_solver.proofs.ResidualSteps.{in-optional}
 use Rattle.dmf_solver.specs.Pairs.{IsArcAt}
 
--- where an arc has a pair, it leads from a node to another
+-- if an arc has a pair, it leads from one node to another
 pub own-apart : (arc : Arc) → (arc.tail == arc.head) ≡ false → arc.tail ≢ arc.head
 own-apart arc e loop = both_ways true (rw (eq-eqb arc.tail arc.head loop) at e) refl
 
@@ -39,7 +39,7 @@ pair-within : (j : ℕ) (arc : Arc) (flow : ℕ) (s : Step) (loop : Bool) → (a
 pair-within j arc flow s true e c = let none = rw (steps-loop j arc flow e) at c in absurd (omega (arith, none.1))
 pair-within j arc flow s false e c = rw (steps-carried j arc flow e) at c
 
--- An arc's carrying step is that of its pair, unless it comes back to where it leaves.
+-- The carrying step of an arc is the step of its pair, unless the arc is a self loop.
 pair-others : (j : ℕ) (arc : Arc) (flow : ℕ) (s : Step) (loop : Bool) → (arc.tail == arc.head) ≡ loop → s.from ≢ s.to
     → Contains (carried j arc flow) s → Contains (pair_steps j (carrying_pair arc flow)) s
 pair-others j arc flow s false e apart c = rw (steps-carried j arc flow e) c
@@ -49,7 +49,7 @@ pair-others j arc flow s true e apart c =
     let back : arc.tail ≡ arc.head = eqb-true arc.tail arc.head e in
     absurd (apart (ap (λ (t : Step). t.from) (sym told.1) ∙ back ∙ ap (λ (t : Step). t.to) told.1))
 
--- what the steps of a last pair are to those of its list
+-- how the steps of a last pair are added to those of a list
 last-only : (j : ℕ) (last : Option Pair) (after : List Step) → pair_steps (j + 0) last ≡ after → steps_from j (last ∷ []) ≡ after
 last-only j last after e = append-nil (pair_steps j last) ∙ ap (λ i. pair_steps i last) (sym (add-zero j)) ∙ e
 
@@ -70,7 +70,7 @@ within-from j (arc ∷ arcs) (flow ∷ flows) last after s same e c =
     (within-from (j + 1) arcs flows last after s (omega (arith, same)) (ap (λ i. pair_steps i last) place ∙ e) later))
     (Contains-append_cases (pair_steps j (carrying_pair arc flow)) rest s c))
 
--- and all of them that do not come back.
+-- and all of them that are no self loops.
 others-from : (j : ℕ) (arcs : List Arc) (flows : List ℕ) (last : Option Pair) (after : List Step) (s : Step) → length flows ≡ length arcs
     → pair_steps (j + length arcs) last ≡ after → s.from ≢ s.to → Contains (carried_from j arcs flows ++ after) s
     → Contains (steps_from j (carrying_from arcs flows ++ last ∷ [])) s
@@ -103,7 +103,7 @@ carrying-without_loops n flows same =
       others = λ s c apart. others-from 1 n.arcs flows (return_pair n flows) (return_link n flows) s same last apart c;
     }
 
--- ---- the pairs of a flow are pairs
+-- ---- the pairs of a flow are valid pairs
 
 -- the pair of an arc is one
 IsPair-carrying : (nodes : ℕ) (arc : Arc) (flow : ℕ) (p : Pair) (loop : Bool) → (arc.tail == arc.head) ≡ loop → IsArc nodes arc → flow < 2 ^ 64
@@ -164,7 +164,7 @@ pair-of_return : (n : Network) (flows : List ℕ) (k : ℕ) → k ≡ length n.a
     → slice_get (carrying_pairs n flows) k ≡ Some (return_pair n flows)
 pair-of_return n flows k past same = rw past (last-at n.arcs flows (return_pair n flows) same)
 
--- there are as many as arcs, and one
+-- there is one more pair than there are arcs
 length-carrying : (arcs : List Arc) (flows : List ℕ) → length flows ≡ length arcs → length (carrying_from arcs flows) ≡ length arcs
 length-carrying [] flows same = refl
 length-carrying (arc ∷ arcs) [] same = absurd (omega (arith, same))
@@ -189,7 +189,7 @@ ArePairs-carrying n flows network within =
       at_most = omega (arith, length-carrying_pairs n flows (AllZip-long _ n.arcs flows within), network.at_most_arcs);
     }
 
--- The pair at the index of an arc is that of the arc, and past the arcs there is that of the return link.
+-- The entry at the index of an arc is the arc's pair, and past the arcs it is the pair of the return link.
 pub pair-at : (s : NetworkState) (k : ℕ) (at : Arc × ℕ) → IsState s → IsArcAt s k at
     → slice_get (carrying_pairs s.network s.flows) k ≡ Some (carrying_pair at.0 at.1)
 pair-at s k at state is =

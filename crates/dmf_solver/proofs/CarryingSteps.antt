@@ -1,4 +1,4 @@
--- Each carrying step of a flow leads along an arc on which something flows, or is the return link.
+-- Each carrying step of a flow leads along an arc that carries flow, or is the return link.
 use Rattle.std.proofs.Common.{ℕ, ◌≡◌, ◌+◌, ◌-◌, ◌*◌, ◌<◌, ◌≤◌, List, [], ◌∷◌, ◌++◌, length, get_or, zero, suc, Bool, true, false, cond, ltb, sym, subst, ap}
 use Rattle.std.proofs.Common.{refl, arith, ⊎_elim, append_assoc, pos, ◌≤ℤ◌}
 use Rattle.std.specs.List.{Contains, All, AllPairs}
@@ -18,7 +18,7 @@ use Rattle.dmf_solver.proofs.ResidualSteps.{LeadsAlong, in-optional, IsBefore, a
 use Rattle.dmf_solver.proofs.Carrying.{CarryFlow, path_back-not_none}
 use Rattle.dmf_path.proofs.SomeLeast.{SomePath, SomeLeast, path-or-none, least-path}
 
--- The step leads along an arc of the list, of which the first is number `j`, and its room is what flows there.
+-- The step leads along an arc of the list, whose first arc is number `j`, and its room is the flow on the arc.
 pub record CarriesAlong (j : ℕ) (arcs : List Arc) (flows : List ℕ) (s : Step) : Type 0 where
   pub index : ℕ
   pub leads : LeadsAlong j arcs index s
@@ -33,12 +33,12 @@ pub record IsReturnLink (n : Network) (flows : List ℕ) (s : Step) : Type 0 whe
   pub room_is : s.room ≡ value_or_zero n flows
   pub has_room : 0 < s.room
 
--- The step leads along an arc on which something flows, or is the return link.
+-- The step leads along an arc that carries flow, or is the return link.
 pub data IsCarrying (n : Network) (flows : List ℕ) (s : Step) : Type 0 where
   along : CarriesAlong 1 n.arcs flows s → IsCarrying n flows s
   returns : IsReturnLink n flows s → IsCarrying n flows s
 
--- an arc more in front
+-- one more arc in front
 carries-behind : (j : ℕ) (a : Arc) (arcs : List Arc) (x : ℕ) (flows : List ℕ) (s : Step) → CarriesAlong (j + 1) arcs flows s
     → CarriesAlong j (a ∷ arcs) (x ∷ flows) s
 carries-behind j a arcs x flows s c = record {
@@ -92,7 +92,7 @@ link-contained n flows s c =
       has_room = omega (arith, less, room);
     }
 
--- Each carrying step leads along an arc on which something flows, or is the return link.
+-- Each carrying step leads along an arc that carries flow, or is the return link.
 pub carrying-contained : (n : Network) (flows : List ℕ) (s : Step) → Contains (carrying_steps n flows) s → IsCarrying n flows s
 carrying-contained n flows s c =
     ⊎_elim
@@ -151,12 +151,12 @@ AreSteps-carrying n flows network =
           (one-ascends (ltb 0 (value_or_zero n flows)) link);
     }
 
--- what is in front of a list, where the test holds
+-- the element in front of a list, if the test holds
 optional-has : (b : Bool) (s : Step) → b ≡ true → Contains (cond b (s ∷ []) []) s
 optional-has true s holds = (0, omega arith, refl)
 optional-has false s holds = absurd (cc)
 
--- The step of an arc on which something flows is one of the list.
+-- The step of an arc that carries flow is in the list.
 carried-has : (j : ℕ) (arcs : List Arc) (flows : List ℕ) (k : ℕ) → k < length arcs → 0 < get_or flows k 0
     → (s : Step) × Contains (carried_from j arcs flows) s × LeadsAlong j arcs k s
 carried-has j [] flows k within some = absurd (omega (arith, within))
@@ -179,14 +179,14 @@ carried-has j (a ∷ arcs) (x ∷ flows) (suc k) within some =
       },
     )
 
--- The step of an arc on which something flows is a carrying step.
+-- The step of an arc that carries flow is a carrying step.
 pub carrying-has : (n : Network) (flows : List ℕ) (k : ℕ) → k < length n.arcs → 0 < get_or flows k 0
     → (s : Step) × Contains (carrying_steps n flows) s × LeadsAlong 1 n.arcs k s
 carrying-has n flows k within some =
     let found = carried-has 1 n.arcs flows k within some in
     (found.0, Contains-append_left (carried_from 1 n.arcs flows) (return_link n flows) found.0 found.1, found.2)
 
--- The carrying steps carry all that flows.
+-- The carrying steps carry the whole flow.
 pub CarryFlow-carrying : (n : Network) (flows : List ℕ) → IsNetwork n → CarryFlow n flows (carrying_steps n flows)
 CarryFlow-carrying n flows network = record {
   arrive = λ s has. (IsStep-carrying n flows s network (carrying-contained n flows s has)).1;
@@ -204,7 +204,7 @@ CarryFlow-carrying n flows network = record {
       );
 }
 
--- What flows on an arc comes back: a path of carrying steps leads from its head to its tail.
+-- The flow on an arc comes back: a path of carrying steps leads from its head to its tail.
 pub carrying-path : (n : Network) (flows : List ℕ) (j : ℕ) → IsNetwork n → IsFlow n flows → pos 0 ≤ℤ flow_value n flows → has_arc n j ≡ true
     → 0 < flow_on flows j → SomePath (carrying_steps n flows) (arc_number n j).head (arc_number n j).tail
 carrying-path n flows j network flow from_zero has some =
@@ -214,7 +214,7 @@ carrying-path n flows j network flow from_zero has some =
     (λ found. found)
     (path-or-none (carrying_steps n flows) (arc_number n j).head (arc_number n j).tail)
 
--- So there is a least one.
+-- So there is a least such path.
 pub carrying-least : (n : Network) (flows : List ℕ) (j : ℕ) → IsNetwork n → IsFlow n flows → pos 0 ≤ℤ flow_value n flows → has_arc n j ≡ true
     → 0 < flow_on flows j → SomeLeast (carrying_steps n flows) (arc_number n j).head (arc_number n j).tail
 carrying-least n flows j network flow from_zero has some =

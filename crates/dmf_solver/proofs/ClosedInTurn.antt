@@ -1,4 +1,4 @@
--- Arcs closed in turn: the ends stay, so an arc of the one network is drained as that of the other.
+-- Arcs closed in turn: the ends stay, so draining an arc is the same in both networks.
 use Rattle.std.proofs.Common.{ℕ, ◌≡◌, ◌+◌, ◌-◌, List, [], ◌∷◌, ◌++◌, get_or, set, zero, suc, refl, ap, ◌∙◌, arith}
 use Rattle.std.proofs.lemmas.List.{length-set}
 use Rattle.dmf_path.specs.Step.{Step}
@@ -13,7 +13,7 @@ use Rattle.dmf_state.specs.Network.{Network, arc_number}
 use Rattle.dmf_state.proofs.ChangedArc.{flow_at-replaced}
 use Rattle.dmf_state.proofs.ClosedArcs.{closed_at}
 
--- ---- its ends
+-- ---- the ends of an arc
 
 ends-closed : (arcs : List Arc) (k i : ℕ) → ((get_or (set arcs k (closed_arc (get_or arcs k no_arc))) i no_arc).tail ≡ (get_or arcs i no_arc).tail)
     × ((get_or (set arcs k (closed_arc (get_or arcs k no_arc))) i no_arc).head ≡ (get_or arcs i no_arc).head)

@@ -1,4 +1,4 @@
--- What flows across the border of a set of nodes. A set is given by its test: whether it has a node.
+-- The flow across the border of a set of nodes. A set is given by its test: whether it has a node.
 use Rattle.std.proofs.Common.{ℕ, zero, suc, ◌≡◌, ◌≢◌, ◌+◌, ◌<◌, ◌==◌, ◌&&◌, List, [], ◌∷◌, Bool, true, false, not, cond, refl, ap, sym, ◌∙◌, sum_by, arith}
 use Rattle.std.proofs.Common.{⊎_elim, pos, ◌-ℤ◌}
 use Rattle.std.specs.List.{zip, All}
@@ -19,19 +19,19 @@ abbrev pub sum_in : (ℕ → Bool) → (ℕ → ℕ) → ℕ → ℕ
 sum_in has f zero = 0
 sum_in has f (suc last) = sum_in has f last + cond (has (suc last)) (f (suc last)) 0
 
--- what flows on the arcs that lead out of the set
+-- the flow on the arcs that lead out of the set
 abbrev pub leaving : List Arc → List ℕ → (ℕ → Bool) → ℕ
 leaving arcs flows has = sum_by (λ p. cond (has p.0.tail && not (has p.0.head)) p.1 0) (zip arcs flows)
 
--- what flows on the arcs that lead into the set
+-- the flow on the arcs that lead into the set
 abbrev pub entering : List Arc → List ℕ → (ℕ → Bool) → ℕ
 entering arcs flows has = sum_by (λ p. cond (not (has p.0.tail) && has p.0.head) p.1 0) (zip arcs flows)
 
--- what flows on the arcs that have this end in the set
+-- the flow on the arcs that have this end in the set
 abbrev pub flow_in : (Arc → ℕ) → List Arc → List ℕ → (ℕ → Bool) → ℕ
 flow_in end arcs flows has = sum_by (λ p. cond (has (end p.0)) p.1 0) (zip arcs flows)
 
--- a number that is within the nodes up to `last` is within those up to the next
+-- a number that is at most `last` is at most the next one
 wider : (last v : ℕ) → IsNode last v → IsNode (suc last) v
 wider last v node = record { from_one = node.from_one; to_last = omega (arith, node.to_last) }
 
@@ -54,7 +54,7 @@ sum_of_parts : (b : Bool) (x y : ℕ) → cond b (x + y) 0 ≡ cond b x 0 + cond
 sum_of_parts true x y = refl
 sum_of_parts false x y = refl
 
--- The sum of sums is the sum of both.
+-- The sum of two sums is the sum over both.
 pub sum_in-add : (has : ℕ → Bool) (f g : ℕ → ℕ) (last : ℕ) → sum_in has (λ v. f v + g v) last ≡ sum_in has f last + sum_in has g last
 sum_in-add has f g zero = refl
 sum_in-add has f g (suc last) =
@@ -64,12 +64,12 @@ no_part : (b : Bool) → ◌≡◌ {A = ℕ} (cond b 0 0) 0
 no_part true = refl
 no_part false = refl
 
--- Nothing at each node is nothing together.
+-- A sum of zeros is 0.
 pub sum_in-none : (has : ℕ → Bool) (last : ℕ) → sum_in has (λ v. 0) last ≡ 0
 sum_in-none has zero = refl
 sum_in-none has (suc last) = omega (arith, sum_in-none has last, no_part (has (suc last)))
 
--- A number at a node past the last counts nothing.
+-- A number at a node past the last does not count.
 sum_in-past : (has : ℕ → Bool) (u x last : ℕ) → last < u → sum_in has (λ v. cond (u == v) x 0) last ≡ 0
 sum_in-past has u x zero past = refl
 sum_in-past has u x (suc last) past = ⊎_elim
@@ -78,7 +78,7 @@ sum_in-past has u x (suc last) past = ⊎_elim
     rw (elsewhere.0, no_part (has (suc last))) (omega (arith, sum_in-past has u x last (omega (arith, past)))))
     (eqb_tells u (suc last))
 
--- A number at one node counts where the set has the node.
+-- A number at one node counts if the set has the node.
 pub sum_in-at : (has : ℕ → Bool) (u x last : ℕ) → IsNode last u → sum_in has (λ v. cond (u == v) x 0) last ≡ cond (has u) x 0
 sum_in-at has u x zero node = absurd (omega (arith, node.from_one, node.to_last))
 sum_in-at has u x (suc last) node = ⊎_elim
@@ -90,7 +90,7 @@ sum_in-at has u x (suc last) node = ⊎_elim
     rw (elsewhere.0, no_part (has (suc last))) (omega (arith, sum_in-at has u x last before)))
     (eqb_tells u (suc last))
 
--- The sum over the nodes of the set of what flows at each is what flows on the arcs that have this end in the set.
+-- Summing the flow at each node of the set gives the flow on the arcs that have this end in the set.
 pub sum_in-flow_at : (end : Arc → ℕ) (nodes : ℕ) (arcs : List Arc) (flows : List ℕ) (has : ℕ → Bool) → All (λ arc. IsNode nodes (end arc)) arcs
     → sum_in has (flow_at end arcs flows) nodes ≡ flow_in end arcs flows has
 sum_in-flow_at end nodes [] flows has ends = sum_in-none has nodes
@@ -134,8 +134,8 @@ flow_in-both (arc ∷ arcs) (flow ∷ flows) has =
       sum_by-cons into (arc, flow) (zip arcs flows),
     )
 
--- The crossing lemma: what flows out of the nodes of a set, with what enters the set, is what flows into its nodes,
--- with what leaves it.
+-- The crossing lemma: the outflow of the nodes of a set plus the flow that enters the set is the inflow of its nodes plus the flow that
+-- leaves it.
 pub crossing : (nodes : ℕ) (arcs : List Arc) (flows : List ℕ) (has : ℕ → Bool) → All (IsArc nodes) arcs
     → sum_in has (outflow arcs flows) nodes + entering arcs flows has ≡ sum_in has (inflow arcs flows) nodes + leaving arcs flows has
 crossing nodes arcs flows has fits =
@@ -143,7 +143,7 @@ crossing nodes arcs flows has fits =
     let heads = sum_in-flow_at (λ arc. arc.head) nodes arcs flows has (λ k d h. (fits k d h).head) in
     omega (arith, tails, heads, flow_in-both arcs flows has)
 
--- Two sums over a set, of numbers that are the same except at two nodes.
+-- Two sums over a set, whose numbers differ only at two nodes.
 sum_in-same_but_two : (has : ℕ → Bool) (f g : ℕ → ℕ) (last s t : ℕ) → IsNode last s → IsNode last t → s ≢ t
     → ((v : ℕ) → IsNode last v → v ≢ s → v ≢ t → f v ≡ g v) → sum_in has f last + cond (has s) (g s) 0 + cond (has t) (g t) 0 ≡ sum_in has g last + cond (has s)
     (f s) 0 + cond (has t) (f t) 0
@@ -183,14 +183,14 @@ crossing-terminals n flows has network conserved =
     (λ v node not_source not_sink. conserved v (record { node = node; not_source = not_source; not_sink = not_sink })) in
     omega (arith, crossing n.nodes n.arcs flows has network.arcs, same)
 
--- What leaves a cut less what enters it is the value.
+-- The flow that leaves a cut minus the flow that enters it is the value.
 pub value-across : (n : Network) (flows : List ℕ) (has : ℕ → Bool) → IsNetwork n → ((v : ℕ) → IsInnerNode n v → IsConservedAt n flows v) → has n.source ≡ true
     → has n.sink ≡ false → pos (leaving n.arcs flows has) -ℤ pos (entering n.arcs flows has) ≡ flow_value n flows
 value-across n flows has network conserved source sink =
     let terminals = rw (source, sink) at (crossing-terminals n flows has network conserved) in
     omega (arith, ints, terminals)
 
--- As much leaves a set with neither source nor sink as enters it.
+-- The flow that leaves a set with neither source nor sink is the flow that enters it.
 pub none-across : (n : Network) (flows : List ℕ) (has : ℕ → Bool) → IsNetwork n → ((v : ℕ) → IsInnerNode n v → IsConservedAt n flows v) → has n.source ≡ false
     → has n.sink ≡ false → leaving n.arcs flows has ≡ entering n.arcs flows has
 none-across n flows has network conserved source sink =
@@ -201,20 +201,20 @@ sum_by-none : {X : Type 0} (xs : List X) → ◌≡◌ {A = ℕ} (sum_by (λ x. 
 sum_by-none {X} [] = refl
 sum_by-none {X} (x ∷ xs) = let none : X → ℕ = λ y. 0 in omega (arith, sum_by-cons none x xs, sum_by-none xs)
 
--- Source and sink together send out what they take in.
+-- The outflow of source and sink together is their inflow.
 pub terminals-balance : (n : Network) (flows : List ℕ) → IsNetwork n → ((v : ℕ) → IsInnerNode n v → IsConservedAt n flows v)
     → outflow n.arcs flows n.source + outflow n.arcs flows n.sink ≡ inflow n.arcs flows n.source + inflow n.arcs flows n.sink
 terminals-balance n flows network conserved =
     omega (arith, crossing-terminals n flows (λ v. true) network conserved, sum_by-none (zip n.arcs flows))
 
--- As much leaves a set with both source and sink as enters it.
+-- The flow that leaves a set with both source and sink is the flow that enters it.
 pub none-across_both : (n : Network) (flows : List ℕ) (has : ℕ → Bool) → IsNetwork n → ((v : ℕ) → IsInnerNode n v → IsConservedAt n flows v)
     → has n.source ≡ true → has n.sink ≡ true → leaving n.arcs flows has ≡ entering n.arcs flows has
 none-across_both n flows has network conserved source sink =
     let terminals = rw (source, sink) at (crossing-terminals n flows has network conserved) in
     omega (arith, terminals, terminals-balance n flows network conserved)
 
--- What enters a set with the sink and without the source, less what leaves it, is the value.
+-- If a set has the sink and not the source, the flow that enters it minus the flow that leaves it is the value.
 pub value-across_back : (n : Network) (flows : List ℕ) (has : ℕ → Bool) → IsNetwork n → ((v : ℕ) → IsInnerNode n v → IsConservedAt n flows v)
     → has n.source ≡ false → has n.sink ≡ true → pos (entering n.arcs flows has) -ℤ pos (leaving n.arcs flows has) ≡ flow_value n flows
 value-across_back n flows has network conserved source sink =

@@ -1,4 +1,4 @@
--- The edits of drains: they fit the state, and make of it what was asked for.
+-- The edits of drains: they fit the state, and make the change that was asked for.
 use Rattle.std.proofs.Common.{ℕ, ◌≡◌, ◌+◌, ◌-◌, ◌≤◌, ◌^◌, arith, refl, subst, sym, Vec, Global}
 use Rattle.dmf_state.specs.declared.edit.Edit.TheVariants as edit
 use Rattle.dmf_state.specs.declared.edit.Move.{Move}
@@ -55,7 +55,7 @@ module _ (s : NetworkState) (arc old j : ℕ) (moves : Vec Move Global) (same : 
     moves = drained.differ;
   }
 
-  -- What is taken off is what was on the arc above the limit.
+  -- The drain takes off the flow on the arc above the limit.
   pub takes-off : (limit : ℕ) → AreDrainingMoves s arc limit moves.items
       → TakesOff s.network (flow_on s.flows j - limit) s.flows (moved moves.items s.flows)
   takes-off limit drained = subst (λ k. TakesOff s.network (flow_on s.flows k - limit) s.flows (moved moves.items s.flows)) same drained.takes_off

@@ -1,5 +1,4 @@
--- Arcs drained to 0 in turn: what is left is a flow that is 0 on each of them, and its value is less by at most what was on
--- them.
+-- Draining arcs to 0 in turn leaves a flow that is 0 on each of them. Its value is lower by at most the flow that was on them.
 use Rattle.std.proofs.Common.{ℕ, true, ◌≡◌, ◌-◌, ◌≤◌, List, [], ◌∷◌, get_or, zero, suc, refl, ◌∙◌, subst, arith, pos, ◌≤ℤ◌}
 use Rattle.std.proofs.lemmas.Int.{ints}
 use Rattle.std.proofs.lemmas.List.Sums.{sum_by-cons}
@@ -25,20 +24,20 @@ no_more-at (x ∷ xs) [] k less = absurd less
 no_more-at (x ∷ xs) (y ∷ ys) zero less = less.0
 no_more-at (x ∷ xs) (y ∷ ys) (suc k) less = no_more-at xs ys k less.1
 
--- and so on some of the arcs together.
+-- so the flow on some of the arcs together is not more either.
 no_more-on_all : (xs ys js : List ℕ) → IsNoMore xs ys → flow_on_all ys js ≤ flow_on_all xs js
 no_more-on_all xs ys [] less = omega arith
 no_more-on_all xs ys (j ∷ js) less =
     omega (arith, no_more-at xs ys (j - 1) less, no_more-on_all xs ys js less, sum_by-cons (flow_on xs) j js, sum_by-cons (flow_on ys) j js)
 
--- Draining one of them leaves no flow more than it was.
+-- Draining one of them increases no flow.
 pub no_more-drained : (s : NetworkState) (first flows last : List ℕ) (j : ℕ) → IsState (with_flows s flows) → has_arc s.network j ≡ true
     → Drains s.network j 0 flows last → IsNoMore first flows → IsNoMore first last
 no_more-drained s first flows last j state has drains less =
     let once = drains-state s.network j 0 flows last state.network state.flow state.value_from_zero has drains in
     no_more-in_turn first flows last less once.0.no_more
 
--- What is said of the flows that are left.
+-- What holds for the flows that draining leaves.
 pub record AreLeft (n : Network) (js flows last : List ℕ) : Type 0 where
   pub takes_off : TakesOff n (flow_on_all flows js) flows last
   pub value_from_zero : pos 0 ≤ℤ flow_value n last
@@ -70,7 +69,7 @@ left-in_turn n (j ∷ js) flows last network flow from_zero has drains =
       without_flow = (omega (arith, no_more-at next last (j - 1) rest.takes_off.no_more, drains.1.within), rest.without_flow);
     }
 
--- It holds of the moves between the flows before and those that are left.
+-- It holds for the moves between the flows before and after.
 pub shutting-moves : (s : NetworkState) (js last : List ℕ) (moves : List Move) → IsState s → HasArcs s.network js → DrainsInTurn s.network js s.flows last
     → moves ≡ differences 1 s.flows last → AreShuttingMoves s js moves
 shutting-moves s js last moves state has drains is =
@@ -86,15 +85,14 @@ shutting-moves s js last moves state has drains is =
       takes_off = rw made left.takes_off;
     }
 
--- Arcs on which nothing flows are drained.
+-- Arcs that carry no flow are drained.
 pub drained-none_in_turn : (n : Network) (js flows : List ℕ) → flow_on_all flows js ≡ 0 → DrainsInTurn n js flows flows
 drained-none_in_turn n [] flows none = refl
 drained-none_in_turn n (j ∷ js) flows none =
     let sum = sum_by-cons (flow_on flows) j js in
     (flows, record { paths = []; lowers = refl; within = omega (arith, none, sum) }, drained-none_in_turn n js flows (omega (arith, none, sum)))
 
--- The search has come to flows of which draining what is left of the arcs makes what draining all of them makes of the
--- state's.
+-- The flows of the search so far: draining the remaining arcs from them gives what draining all arcs gives from the state's flow.
 pub record AreDrainedUpTo (s : NetworkState) (all left unpaired : List ℕ) (search : Searched) : Type 0 where
   pub carrying : IsCarryingSearch s unpaired search
   pub onward : (last : List ℕ) → DrainsInTurn s.network left (flows_read Along unpaired search.pairs) last → DrainsInTurn s.network all s.flows last

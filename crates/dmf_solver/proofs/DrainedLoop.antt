@@ -1,4 +1,4 @@
--- Draining an arc that comes back to its tail: what is above the limit is taken off at once.
+-- Draining a self loop: one step takes off all flow above the limit.
 use Rattle.std.proofs.Common.{ℕ, ◌≡◌, ◌-◌, ◌<◌, List, [], ◌∷◌, length, set, true, ap, sym, ◌∙◌, arith, get_or-set_same}
 use Rattle.std.proofs.lemmas.Slice.Zip.{AllZip-long}
 use Rattle.dmf_path.specs.Step.{Step}
@@ -9,7 +9,7 @@ use Rattle.dmf_solver.specs.Drain.{carrying_steps, Drains}
 use Rattle.dmf_state.proofs.ChangedArc.{has_arc-within}
 use Rattle.dmf_solver.proofs.Lowering.{lowered-none}
 
--- nothing comes before the path without steps
+-- no path comes before the path without steps
 none-before : (other : List Step) → length other ≡ 0 → ComesBefore (ranks other) [] → ⊥
 none-before [] long before = before
 none-before (s ∷ other) long before = before

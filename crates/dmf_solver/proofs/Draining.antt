@@ -1,4 +1,4 @@
--- Draining an arc has one outcome, and what it leaves is a flow.
+-- Draining an arc has one outcome, which is a flow.
 use Rattle.std.proofs.Common.{ℕ, ◌≡◌, ◌+◌, ◌-◌, ◌<◌, ◌≤◌, zero, suc, true, List, [], ◌∷◌, refl, ap, sym, ◌∙◌, subst, arith, ⊎_elim, pos, ◌≤ℤ◌}
 use Rattle.std.specs.List.{AllZip}
 use Rattle.std.proofs.lemmas.Bool.{cases_lt}
@@ -12,7 +12,7 @@ use Rattle.dmf_path.proofs.SomeLeast.{SomeLeast}
 use Rattle.dmf_solver.proofs.CarryingSteps.{AreSteps-carrying, carrying-least}
 use Rattle.dmf_solver.proofs.Lowering.{lowered-amount, lowered-no_more, lowered-on, lowered-flow, lowered-value}
 
--- No number of the second list is more than that of the first at its place.
+-- No number of the second list exceeds the number at its place in the first.
 abbrev pub IsNoMore : List ℕ → List ℕ → Type 0
 IsNoMore xs ys = AllZip (λ x y. y ≤ x) xs ys
 
@@ -27,7 +27,7 @@ no_more-in_turn (x ∷ xs) [] zs first second = absurd first
 no_more-in_turn (x ∷ xs) (y ∷ ys) [] first second = absurd second
 no_more-in_turn (x ∷ xs) (y ∷ ys) (z ∷ zs) first second = (omega (arith, first.0, second.0), no_more-in_turn xs ys zs first.1 second.1)
 
--- Nothing is taken off where the flows stay.
+-- If the flows stay, nothing is taken off.
 pub TakesOff-none : (n : Network) (amount : ℕ) (flows : List ℕ) → IsFlow n flows → TakesOff n amount flows flows
 TakesOff-none n amount flows flow = record {
   no_more = no_more-same flows;
@@ -36,7 +36,7 @@ TakesOff-none n amount flows flow = record {
   untouched = λ none. refl;
 }
 
--- Lowering along paths in turn leaves a flow, whose value is not below 0.
+-- Lowering along paths in turn gives a flow, whose value is not negative.
 lowers-state : (n : Network) (j limit : ℕ) (flows last : List ℕ) (paths : List (List Step)) → IsNetwork n → IsFlow n flows → pos 0 ≤ℤ flow_value n flows
     → has_arc n j ≡ true → Lowers n j limit flows paths last → TakesOff n (flow_on flows j - limit) flows last × (pos 0 ≤ℤ flow_value n last)
 lowers-state n j limit flows last [] network flow from_zero has is =
@@ -58,7 +58,7 @@ lowers-state n j limit flows last (path ∷ paths) network flow from_zero has go
       rest.1,
     )
 
--- What draining leaves is a flow, and its value is not below 0.
+-- Draining gives a flow, and its value is not negative.
 pub drains-state : (n : Network) (j limit : ℕ) (flows last : List ℕ) → IsNetwork n → IsFlow n flows → pos 0 ≤ℤ flow_value n flows → has_arc n j ≡ true
     → Drains n j limit flows last → TakesOff n (flow_on flows j - limit) flows last × (pos 0 ≤ℤ flow_value n last)
 drains-state n j limit flows last network flow from_zero has drains = lowers-state n j limit flows last drains.paths network flow from_zero has drains.lowers
@@ -87,11 +87,11 @@ pub record SomeDrained (n : Network) (j limit : ℕ) (flows : List ℕ) : Type 0
   pub last : List ℕ
   pub drains : Drains n j limit flows last
 
--- where no more than the limit flows on the arc
+-- if no more than the limit flows on the arc
 already : (n : Network) (j limit : ℕ) (flows : List ℕ) → flow_on flows j ≤ limit → SomeDrained n j limit flows
 already n j limit flows within = record { last = flows; drains = record { paths = []; lowers = refl; within = within } }
 
--- one path more in front
+-- one more path in front
 one-more : (n : Network) (j limit : ℕ) (flows : List ℕ) → limit < flow_on flows j
     → (found : SomeLeast (carrying_steps n flows) (arc_number n j).head (arc_number n j).tail) → SomeDrained n j limit (lowered j limit found.path flows)
     → SomeDrained n j limit flows
@@ -104,7 +104,7 @@ one-more n j limit flows above found rest = record {
   };
 }
 
--- Draining ends: each path takes something off the arc.
+-- Draining ends: each path takes some flow off the arc.
 drained : (n : Network) (j limit : ℕ) → IsNetwork n → has_arc n j ≡ true → (left : ℕ) (flows : List ℕ) → IsFlow n flows → pos 0 ≤ℤ flow_value n flows
     → flow_on flows j ≤ limit + left → SomeDrained n j limit flows
 drained n j limit network has zero flows flow from_zero bound = already n j limit flows (omega (arith, bound))

@@ -1,4 +1,4 @@
--- Draining an arc by a search over the pairs of links that stand for carrying steps, and reading the flows off it.
+-- Draining an arc by a search over the pairs that stand for carrying steps, and reading the flows from it.
 use Rattle.std.proofs.Common.{ℕ, ◌≡◌, ◌≢◌, ◌+◌, ◌-◌, ◌*◌, ◌<◌, ◌≤◌, ◌==◌, Bool, true, false, cond, List, [], ◌∷◌, ◌++◌, length, get_or, zero, suc, refl, ap}
 use Rattle.std.proofs.Common.{sym, ◌∙◌, subst, arith, add-zero, Option, Some, None}
 use Rattle.std.specs.List.{slice_get}
@@ -32,9 +32,9 @@ use Rattle.dmf_solver.proofs.DrainingWalk.{AreDrainedSoFar, drained-none, draine
 use Rattle.dmf_solver.proofs.LoweredPairs.{other-rank, carrying_pairs-lowered}
 use Rattle.dmf_solver.proofs.Lowering.{HaveOwnRanks-least, lowered-amount, lowered-on, unlowered}
 
--- ---- arcs that come back to their tails
+-- ---- self loops
 
--- A carrying step with the rank of such an arc comes back.
+-- A carrying step with the rank of a self loop is a loop.
 comes-back : (n : Network) (flows : List ℕ) (s : Step) (k : ℕ) → k < length n.arcs → (get_or n.arcs k no_arc).tail ≡ (get_or n.arcs k no_arc).head
     → s.rank ≡ 2 * (1 + k) → IsCarrying n flows s → s.to ≡ s.from
 comes-back n flows s k within loop rank (along c) =
@@ -42,7 +42,7 @@ comes-back n flows s k within loop rank (along c) =
     c.leads.head ∙ ap (λ i. (get_or n.arcs i no_arc).head) index ∙ sym loop ∙ sym (ap (λ i. (get_or n.arcs i no_arc).tail) index) ∙ sym c.leads.tail
 comes-back n flows s k within loop rank (returns c) = absurd (omega (arith, c.rank_is, rank, within))
 
--- So a shortest path has not its rank.
+-- So a shortest path does not have its rank.
 loop-unranked : (n : Network) (flows : List ℕ) (a b k : ℕ) (path : List Step) → k < length n.arcs
     → (get_or n.arcs k no_arc).tail ≡ (get_or n.arcs k no_arc).head → IsShortestPath (carrying_steps n flows) a b path → has_rank path (2 * (1 + k)) ≡ false
 loop-unranked n flows a b k [] within loop shortest = refl
@@ -53,7 +53,7 @@ loop-unranked n flows a b k (s ∷ path) within loop shortest =
     omega (arith, short) in
     rw (ne_eqb s.rank (2 * (1 + k)) apart) (loop-unranked n flows s.to b k path within loop (IsShortestPath-tail (carrying_steps n flows) a b s path shortest))
 
--- Lowering along a least path leaves what flows on such an arc.
+-- Lowering along a least path leaves the flow on a self loop.
 KeepLoops-lowered : (n : Network) (unpaired flows : List ℕ) (j limit : ℕ) (path : List Step) → (arc_number n j).head ≢ (arc_number n j).tail → IsFlow n flows
     → IsLeastPath (carrying_steps n flows) (arc_number n j).head (arc_number n j).tail path → KeepLoops n unpaired flows
     → KeepLoops n unpaired (lowered j limit path flows)
@@ -68,7 +68,7 @@ KeepLoops-lowered n unpaired flows j limit path apart flow least kept k within l
 
 -- ---- the pair of an arc
 
--- the pair of an arc, once the pairs are pushed
+-- the pair of an arc, after a push
 slice_get-pushed : (amount i : ℕ) (path : List Step) (arcs : List Arc) (flows : List ℕ) (last : Option Pair) (k : ℕ) → k < length arcs
     → length flows ≡ length arcs → slice_get (pushed_from false i amount path (carrying_from arcs flows ++ last ∷ [])) k ≡ Some
     (pushed_pair false (i + k) amount path (carrying_pair (get_or arcs k no_arc) (get_or flows k 0)))
@@ -81,13 +81,13 @@ slice_get-pushed amount i path (arc ∷ arcs) (flow ∷ flows) last (suc k) with
     slice_get-pushed amount (i + 1) path arcs flows last k (omega (arith, within)) (omega (arith, same))
     ∙ ap (λ m. Some (pushed_pair false m amount path (carrying_pair (get_or arcs k no_arc) (get_or flows k 0)))) place
 
--- The room along the pair of an arc is what flows there; what flows on an arc without a pair is told beside it.
+-- The room along the pair of an arc is the flow on the arc. A list has the flow on arcs without a pair.
 flow-left : (arc : Arc) (unpaired flow : ℕ) (loop : Bool) → (arc.tail == arc.head) ≡ loop → (arc.tail ≡ arc.head → flow ≡ unpaired)
     → unwrap_or (option_map (λ (p : Pair). p.along) (carrying_pair arc flow)) unpaired ≡ flow
 flow-left arc unpaired flow false e kept = rw e refl
 flow-left arc unpaired flow true e kept = let same : unpaired ≡ flow = sym (kept (eqb-true arc.tail arc.head e)) in rw e same
 
--- The flows are read off the pairs of the arcs, and the list.
+-- The flows are read from the pairs of the arcs, and from the list.
 read-flows : (arcs : List Arc) (unpaired flows : List ℕ) (rest : List (Option Pair)) → length unpaired ≡ length arcs → length flows ≡ length arcs
     → ((k : ℕ) → k < length arcs → (get_or arcs k no_arc).tail ≡ (get_or arcs k no_arc).head → get_or flows k 0 ≡ get_or unpaired k 0)
     → flows_read Along unpaired (carrying_from arcs flows ++ rest) ≡ flows
@@ -101,7 +101,7 @@ read-flows (arc ∷ arcs) (u ∷ unpaired) (flow ∷ flows) rest long same kept 
     let later = read-flows arcs unpaired flows rest (omega (arith, long)) (omega (arith, same)) (λ k h loop. kept (suc k) (omega (arith, h)) loop) in
     λ i. here i ∷ later i
 
--- the pair of an arc, once it is pushed
+-- the pair of an arc, after a push
 abbrev pushed_link : ℕ → ℕ → List Step → Arc → ℕ → Pair
 pushed_link amount i path arc flow = record {
   tail = arc.tail;
@@ -110,7 +110,7 @@ pushed_link amount i path arc flow = record {
   against = 0 - cond (has_rank path (2 * i + 1)) amount 0 + 0;
 }
 
--- The pair of arc number `j` has the room that the arc has, when pairs are pushed along a path that has not the arc's rank.
+-- The pair of arc number `j` keeps its room when a push follows a path without the arc's rank.
 has-along : (n : Network) (flows : List ℕ) (j amount : ℕ) (path : List Step) → length flows ≡ length n.arcs → has_arc n j ≡ true
     → (arc_number n j).head ≢ (arc_number n j).tail → amount ≤ flow_on flows j → has_rank path (2 * j) ≡ false
     → HasAlong (pushed_pairs false amount path (carrying_pairs n flows)) (j - 1) amount
@@ -144,27 +144,27 @@ carrying_search n j flows = record {
 pub one_each : (s : NetworkState) (unpaired flows : List ℕ) (search : Searched) → Carries s unpaired flows search → length flows ≡ length s.network.arcs
 one_each s unpaired flows search carries = AllZip-long _ s.network.arcs flows carries.state.flow.within
 
--- and a pair for each, and one more.
+-- and a pair for each arc, and one more.
 pub length-carries : (s : NetworkState) (unpaired flows : List ℕ) (search : Searched) → Carries s unpaired flows search
     → length search.pairs ≡ length s.network.arcs + 1
 length-carries s unpaired flows search carries =
     ap (λ (pairs : List (Option Pair)). length pairs) carries.search_is.pairs_are
     ∙ length-carrying_pairs s.network flows (one_each s unpaired flows search carries)
 
--- The flows are read off the search and the list.
+-- The flows are read from the search and the list.
 pub carries-read : (s : NetworkState) (unpaired flows : List ℕ) (search : Searched) → Carries s unpaired flows search
     → flows_read Along unpaired search.pairs ≡ flows
 carries-read s unpaired flows search carries =
     ap (flows_read Along unpaired) carries.search_is.pairs_are
     ∙ read-flows s.network.arcs unpaired flows (return_pair s.network flows ∷ []) carries.listed (one_each s unpaired flows search carries) carries.loops
 
--- So they are those that are read.
+-- So they are the flows that the search has.
 pub IsCarryingSearch-from : (s : NetworkState) (unpaired flows : List ℕ) (search : Searched) → Carries s unpaired flows search
     → IsCarryingSearch s unpaired search
 IsCarryingSearch-from s unpaired flows search carries =
     subst (λ xs. Carries s unpaired xs search) (sym (carries-read s unpaired flows search carries)) carries
 
--- A search over the carrying steps of the state's flow carries it, and tells its flows.
+-- A search over the carrying steps of the state's flow carries that flow, and the flows read from it are the state's.
 pub carrying-first : (s : NetworkState) (search : Searched) → IsState s → IsCarryingOf s search
     → IsCarryingSearch s s.flows search × (flows_read Along s.flows search.pairs ≡ s.flows)
 carrying-first s search state is =
@@ -176,7 +176,7 @@ carrying-first s search state is =
     } in
     (IsCarryingSearch-from s s.flows s.flows search carries, carries-read s s.flows s.flows search carries)
 
--- After the moves between the flows before and those that are read the search carries these.
+-- After the moves between the flows before and the flows of the search, the search carries the latter.
 pub carries-moved : (s : NetworkState) (unpaired : List ℕ) (moves : List Move) (search : Searched) → IsState s → IsCarryingSearch s unpaired search
     → moves ≡ differences 1 s.flows (flows_read Along unpaired search.pairs) → MayCarry (with_flows s (moved moves s.flows)) search
 carries-moved s unpaired moves search state carries listed =
@@ -185,7 +185,7 @@ carries-moved s unpaired moves search state carries listed =
     subst (λ flows. MayCarry (with_flows s flows) search) (sym (moves-between moves s.flows last same listed).makes)
     (value_or_zero s.network last, carries.search_is)
 
--- What the search tells of an arc that leads to another node is what flows there.
+-- The flow that the search has on an arc that is no self loop is the flow on the arc.
 pub carries-along : (s : NetworkState) (unpaired flows : List ℕ) (search : Searched) (j : ℕ) → has_arc s.network j ≡ true
     → (arc_number s.network j).head ≢ (arc_number s.network j).tail → Carries s unpaired flows search
     → unwrap_or (along_at search.pairs (j - 1)) 0 ≡ flow_on flows j
@@ -199,7 +199,7 @@ carries-along s unpaired flows search j has apart carries =
 
 -- ---- draining
 
--- The search is that of flows to which draining has come from `first`, and `left` is what is still on the arc above the limit.
+-- Draining from `first` has reached the flows of the search, and `left` is the flow on the arc above the limit.
 pub record IsDraining (s : NetworkState) (unpaired first : List ℕ) (j limit left : ℕ) (search : Searched) : Type 0 where
   pub flows : List ℕ
   pub so_far : AreDrainedSoFar (with_flows s first) j limit flows
@@ -226,7 +226,7 @@ draining-begun s unpaired first j limit left search left_is carries = record {
   left_is = left_is;
 }
 
--- A path is left, while more than the limit is on the arc.
+-- A path is left while more than the limit flows on the arc.
 pub draining-has_path : (s : NetworkState) (unpaired first : List ℕ) (j limit left : ℕ) (search : Searched) → has_arc s.network j ≡ true → 0 < left
     → IsDraining s unpaired first j limit left search → ¬ HasNoPath (steps_of search.pairs) search.start search.goal
 draining-has_path s unpaired first j limit left search has some draining none =
@@ -245,7 +245,7 @@ length-draining s unpaired first j limit left search draining =
     ap (λ (x : Searched). length x.pairs) draining.search_is
     ∙ length-carrying_pairs s.network draining.flows (AllZip-long _ s.network.arcs draining.flows draining.so_far.state.flow.within)
 
--- What is said of one path more: the amount is above 0, no more than is left, and the arc's link has room for it.
+-- One more path: its amount is positive and at most `left`, and the arc's link has room for it.
 pub record DrainsOnce (s : NetworkState) (unpaired first : List ℕ) (j limit left amount : ℕ) (next : Searched) : Type 0 where
   pub some : 0 < amount
   pub within : amount ≤ left
@@ -291,7 +291,7 @@ draining-once s unpaired first j limit left found search next has apart some dra
       };
     }
 
--- Where nothing is left, the arc is drained, and the search carries what draining leaves.
+-- If nothing is left above the limit, the arc is drained, and the search carries the flow that draining gives.
 pub draining-done : (s : NetworkState) (unpaired first : List ℕ) (j limit left : ℕ) (search : Searched) → left ≤ 0
     → IsDraining s unpaired first j limit left search → IsCarryingSearch s unpaired search
     × Drains s.network j limit first (flows_read Along unpaired search.pairs)

@@ -1,4 +1,4 @@
--- Draining path by path, and the moves that it makes.
+-- Draining path by path, and its moves.
 use Rattle.std.proofs.Common.{ℕ, ◌≡◌, ◌≢◌, ◌<◌, ◌≤◌, true, ◌+◌, ◌-◌, zero, suc, List, [], ◌∷◌, length, get_or, set, refl, ap, sym, ◌∙◌, arith, eq-eqb}
 use Rattle.std.proofs.lemmas.Bool.{ne_eqb}
 use Rattle.std.proofs.lemmas.Slice.Zip.{AllZip-long}
@@ -17,7 +17,7 @@ use Rattle.dmf_solver.proofs.Draining.{drains-state}
 use Rattle.dmf_state.proofs.Moving.{differences-fit, moved-differences}
 use Rattle.dmf_solver.proofs.Lowering.{lowered-flow, lowered-value}
 
--- The flows are those of a state, and what draining makes of them it makes of the flows of `s`.
+-- The flows are those of a state, and draining them gives what draining the flows of `s` gives.
 pub record AreDrainedSoFar (s : NetworkState) (j limit : ℕ) (flows : List ℕ) : Type 0 where
   pub state : IsState (with_flows s flows)
   pub onward : (last : List ℕ) → Drains s.network j limit flows last → Drains s.network j limit s.flows last
@@ -26,7 +26,7 @@ pub record AreDrainedSoFar (s : NetworkState) (j limit : ℕ) (flows : List ℕ)
 pub drained-none : (s : NetworkState) (j limit : ℕ) → IsState s → AreDrainedSoFar s j limit s.flows
 drained-none s j limit state = record { state = state; onward = λ last drains. drains }
 
--- one path more
+-- one more path
 pub drained-more : (s : NetworkState) (j limit : ℕ) (flows : List ℕ) (path : List Step) → has_arc s.network j ≡ true → limit < flow_on flows j
     → IsLeastPath (carrying_steps s.network flows) (arc_number s.network j).head (arc_number s.network j).tail path → AreDrainedSoFar s j limit flows
     → AreDrainedSoFar s j limit (lowered j limit path flows)
@@ -39,18 +39,18 @@ drained-more s j limit flows path has above least so_far = record {
   onward = λ last drains. so_far.onward last (record { paths = path ∷ drains.paths; lowers = (above, least, drains.lowers); within = drains.within });
 }
 
--- Where no more than the limit flows on the arc, it is drained.
+-- If no more than the limit flows on the arc, it is drained.
 pub drained-all : (s : NetworkState) (j limit : ℕ) (flows : List ℕ) → flow_on flows j ≤ limit → AreDrainedSoFar s j limit flows
     → Drains s.network j limit s.flows flows
 drained-all s j limit flows within so_far = so_far.onward flows (record { paths = []; lowers = refl; within = within })
 
--- the flows that draining leaves are one for each arc
+-- draining leaves one flow for each arc
 pub length-drained : (s : NetworkState) (j limit : ℕ) (last : List ℕ) → IsState s → has_arc s.network j ≡ true → Drains s.network j limit s.flows last
     → length last ≡ length s.flows
 length-drained s j limit last state has drains =
     AllZip-long _ s.flows last (drains-state s.network j limit s.flows last state.network state.flow state.value_from_zero has drains).0.no_more
 
--- It holds of the moves between the flows before and those that draining leaves.
+-- It holds for the moves between the flows before and after draining.
 pub draining-moves : (s : NetworkState) (j limit : ℕ) (last : List ℕ) (moves : List Move) → IsState s → has_arc s.network j ≡ true
     → Drains s.network j limit s.flows last → moves ≡ differences 1 s.flows last → AreDrainingMoves s j limit moves
 draining-moves s j limit last moves state has drains is =
@@ -70,12 +70,12 @@ pub differences-none : (j : ℕ) (flows : List ℕ) → differences j flows flow
 differences-none j [] = refl
 differences-none j (x ∷ flows) = rw (eq-eqb x x refl) (differences-none (j + 1) flows)
 
--- Where no more than the limit flows on the arc, it holds of no moves.
+-- If no more than the limit flows on the arc, it holds for no moves.
 pub draining-none : (s : NetworkState) (j limit : ℕ) → IsState s → has_arc s.network j ≡ true → flow_on s.flows j ≤ limit → AreDrainingMoves s j limit []
 draining-none s j limit state has within =
     draining-moves s j limit s.flows [] state has (drained-all s j limit s.flows within (drained-none s j limit state)) (sym (differences-none 1 s.flows))
 
--- Where the flow of one arc differs, there is one move.
+-- If the flow of one arc differs, there is one move.
 differences-set : (i k arc y : ℕ) (flows : List ℕ) → arc ≡ i + k → k < length flows → get_or flows k 0 ≢ y
     → differences i flows (set flows k y) ≡ record { arc = arc; from = get_or flows k 0; to = y } ∷ []
 differences-set i k arc y [] is within differ = absurd (omega (arith, within))
@@ -85,7 +85,7 @@ differences-set i zero arc y (x ∷ flows) is within differ =
 differences-set i (suc k) arc y (x ∷ flows) is within differ =
     rw (eq-eqb x x refl) (differences-set (i + 1) k arc y flows (omega (arith, is)) (omega (arith, within)) differ)
 
--- It holds of the move of an arc that comes back to its tail.
+-- It holds for the move of a self loop.
 pub draining-loop : (s : NetworkState) (j flow limit : ℕ) (moves : List Move) → IsState s → has_arc s.network j ≡ true
     → (arc_number s.network j).tail ≡ (arc_number s.network j).head → flow ≡ flow_on s.flows j → limit < flow
     → moves ≡ record { arc = j; from = flow; to = limit } ∷ [] → AreDrainingMoves s j limit moves

@@ -14,7 +14,7 @@ use Rattle.dmf_solver.proofs.Reached.{IsClosed, path-stays}
 contains-none : (s : Step) → Contains [] s → ⊥
 contains-none s c = omega (arith, c.1)
 
--- a list that may have one step
+-- a list of at most one step
 only-one : (b : Bool) (t s : Step) → Contains (cond b (t ∷ []) []) s → (b ≡ true) × (t ≡ s)
 only-one true t s c = ⊎_elim (λ (none : Contains [] s). absurd (contains-none s none)) (λ (is : t ≡ s). (refl, is)) (Contains-push_cases [] t s c)
 only-one false t s c = absurd (contains-none s c)
@@ -31,7 +31,7 @@ backward-stays has j arc flow s stays c inside =
     let one = only-one (nat_lt 0 flow) _ s c in
     sym (ap (λ (t : Step). has t.to) one.1) ∙ stays.1 (ltb-true 0 flow one.0) (ap (λ (t : Step). has t.from) one.1 ∙ inside)
 
--- No residual step leaves the set where none of any arc does.
+-- No residual step leaves the set if no residual step of any arc does.
 all-stay : (has : ℕ → Bool) (j : ℕ) (arcs : List Arc) (flows : List ℕ)
     → ((k : ℕ) → k < length arcs → StaysIn has (get_or arcs k no_arc) (get_or flows k 0)) → IsClosed (residual_from j arcs flows) has
 all-stay has j [] flows each s c inside = absurd (contains-none s c)
@@ -46,7 +46,7 @@ all-stay has j (arc ∷ arcs) (flow ∷ flows) each s c inside =
     (λ later. all-stay has (j + 1) arcs flows (λ k h. each (suc k) (omega (arith, h))) s later inside)
     (Contains-append_cases (forward j arc flow ++ backward j arc flow) (residual_from (j + 1) arcs flows) s c)
 
--- So no path leads from a node of it to one that it does not have.
+-- So no path leads from a node of the set to one outside.
 pub none-out : (has : ℕ → Bool) (arcs : List Arc) (flows : List ℕ) (a b : ℕ)
     → ((k : ℕ) → k < length arcs → StaysIn has (get_or arcs k no_arc) (get_or flows k 0)) → has a ≡ true → has b ≡ false
     → HasNoPath (residual_steps arcs flows) a b

@@ -1,4 +1,4 @@
--- The flows that are read off a search.
+-- The flows that are read from a search.
 use Rattle.std.proofs.Common.{ℕ, ◌≡◌, ◌≤◌, ◌<◌, List, [], ◌∷◌, length, get_or, zero, suc, refl, ap, arith, Option}
 use Rattle.dmf_path.specs.declared.pair.Pair.{Pair}
 use Rattle.dmf_path.specs.Search.{pair_number}
@@ -11,7 +11,7 @@ length-flows_read link [] pairs long = refl
 length-flows_read link (first ∷ firsts) [] long = absurd (omega (arith, long))
 length-flows_read link (first ∷ firsts) (pair ∷ pairs) long = ap suc (length-flows_read link firsts pairs (omega (arith, long)))
 
--- and each is read off its pair.
+-- and each is read from its pair.
 pub get_or-flows_read : (link : PairLink) (firsts : List ℕ) (pairs : List (Option Pair)) (k : ℕ) → length firsts ≤ length pairs → k < length firsts
     → get_or (flows_read link firsts pairs) k 0 ≡ flow_read link (get_or firsts k 0) (pair_number pairs k)
 get_or-flows_read link [] pairs k long h = absurd (omega (arith, h))

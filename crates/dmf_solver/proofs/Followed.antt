@@ -1,4 +1,4 @@
--- What becomes of the residual pairs where flows and capacities of arcs change.
+-- The residual pairs after flows and capacities of arcs change.
 use Rattle.std.proofs.Common.{ℕ, ◌≡◌, ◌+◌, ◌-◌, ◌<◌, ◌≤◌, ◌==◌, Bool, true, false, List, [], ◌∷◌, ◌++◌, length, get_or, set, drop, zero, suc, refl, ap}
 use Rattle.std.proofs.Common.{sym, ◌∙◌, subst, arith, Option, Some, None, length-set, Vec, Global}
 use Rattle.std.specs.Option.{option_map}
@@ -79,7 +79,7 @@ flow-pairs (arc ∷ arcs) (first ∷ flows) rest zero flow same h = ap (λ (p : 
 flow-pairs (arc ∷ arcs) (first ∷ flows) rest (suc k) flow same h = ap (λ (ps : List (Option Pair)). residual_pair arc first ∷ ps)
     (flow-pairs arcs flows rest k flow (omega (arith, same)) (omega (arith, h)))
 
--- Another flow on one arc gives the links of its pair other rooms.
+-- A new flow on an arc gives both links of its pair new rooms.
 pub flow-followed : (n : Network) (flows : List ℕ) (k flow : ℕ) → length flows ≡ length n.arcs → k < length n.arcs
     → residual_search n (set flows k flow) ≡ with_pairs (residual_search n flows)
     (with_rooms (network_pairs n flows) k ((get_or n.arcs k no_arc).cap - flow) flow)
@@ -102,14 +102,14 @@ cap-pairs (old ∷ arcs) (flow ∷ flows) rest zero arc h tail head = ap (λ (p 
 cap-pairs (old ∷ arcs) (flow ∷ flows) rest (suc k) arc h tail head = ap (λ (ps : List (Option Pair)). residual_pair old flow ∷ ps)
     (cap-pairs arcs flows rest k arc (omega (arith, h)) tail head)
 
--- Another capacity of one arc gives the link along its pair another room.
+-- A new capacity of an arc gives the link along its pair a new room.
 cap-followed : (n : Network) (flows : List ℕ) (j : ℕ) (arc : Arc) → j - 1 < length (residual_pairs n.arcs flows) → arc.tail ≡ (arc_number n j).tail
     → arc.head ≡ (arc_number n j).head
     → residual_search (with_arc n j arc) flows ≡ with_pairs (residual_search n flows) (with_capacity (network_pairs n flows) (j - 1) arc.cap)
 cap-followed n flows j arc h tail head =
     ap (with_pairs (residual_search n flows)) (cap-pairs n.arcs flows (closed_return n ∷ []) (j - 1) arc h tail head)
 
--- The same, of a search that is the residual one.
+-- The same for a search that is the residual one.
 cap-search : (n : Network) (flows : List ℕ) (j : ℕ) (arc : Arc) (old new : Searched) → length old.pairs ≡ length n.arcs + 1 → j - 1 < length n.arcs
     → arc.tail ≡ (arc_number n j).tail → arc.head ≡ (arc_number n j).head
     → new ≡ with_pairs old (with_capacity old.pairs (j - 1) arc.cap) → old ≡ residual_search n flows → new ≡ residual_search (with_arc n j arc) flows
@@ -123,9 +123,9 @@ cap-search n flows j arc old new long h tail head put is =
 pub length-with_capacity : (pairs : List (Option Pair)) (k cap : ℕ) → length (with_capacity pairs k cap) ≡ length pairs
 length-with_capacity pairs k cap = length-set pairs k (option_map (recapped cap) (pair_number pairs k))
 
--- ---- by the flow that is told
+-- ---- the room, by the flow
 
--- Where there is a pair, these rooms are those that the capacity leaves.
+-- If there is a pair, these are the rooms for this capacity.
 told-some : (pairs : List (Option Pair)) (k cap flow : ℕ) (p : Option Pair) → pair_number pairs k ≡ p → option_map (λ (q : Pair). q.against) p ≡ Some flow
     → with_rooms pairs k (cap - flow) flow ≡ with_capacity pairs k cap
 told-some pairs k cap flow None here is = absurd (cc)
@@ -139,7 +139,7 @@ rooms-told pairs k cap flow is = told-some pairs k cap flow (pair_number pairs k
 
 -- ---- moves in turn
 
--- The first moves are followed: the search is the residual one of flows from which the other moves lead to the last ones.
+-- The first moves are made: the search is the residual one of flows from which the other moves lead to the last ones.
 pub record AreFollowed (n : Network) (moves : List Move) (last : List ℕ) (i : ℕ) (search : Searched) : Type 0 where
   pub flows : List ℕ
   pub put : ArePut moves last i flows
@@ -151,7 +151,7 @@ pub long-followed : (n : Network) (moves : List Move) (last : List ℕ) (i : ℕ
     → length search.pairs ≡ length n.arcs + 1
 long-followed n moves last i search are = ap (λ (o : Searched). length o.pairs) are.is ∙ length-network_pairs n are.flows are.one_each
 
--- the arc of the next one is there
+-- the arc of the next move is there
 pub move-within : (n : Network) (moves : List Move) (last : List ℕ) (i : ℕ) (m : Move) (search : Searched) → IsMoveAt moves i m
     → AreFollowed n moves last i search
     → (1 ≤ m.arc) × (m.arc - 1 < length n.arcs) × (m.arc - 1 < length search.pairs)
@@ -160,7 +160,7 @@ move-within n moves last i m search move are =
     let arc : (get_or moves i no_move).arc ≡ m.arc = ap (λ (x : Move). x.arc) move.is in
     (omega (arith, at.0, arc), omega (arith, at.1, are.one_each, arc), omega (arith, at.1, arc, are.one_each, long-followed n moves last i search are))
 
--- it is followed
+-- the next move is made
 pub followed-next : (n : Network) (moves : List Move) (last : List ℕ) (i : ℕ) (m : Move) (old new : Searched) → IsMoveAt moves i m
     → AreFollowed n moves last i old
     → new ≡ with_pairs old (with_rooms old.pairs (m.arc - 1) ((get_or n.arcs (m.arc - 1) no_arc).cap - m.to) m.to)
@@ -181,7 +181,7 @@ pub followed-all : (n : Network) (moves : List Move) (last : List ℕ) (i : ℕ)
     → search ≡ residual_search n last
 followed-all n moves last i search long are = are.is ∙ ap (residual_search n) (put-all moves last i are.flows long are.put)
 
--- ---- one capacity, made or taken back
+-- ---- one capacity, changed or reverted
 
 pub cap-along : (d : Direction) (s : NetworkState) (flows : List ℕ) (j old new : ℕ) (moves : Vec Move Global) (search after : Searched)
     → length search.pairs ≡ length s.network.arcs + 1 → j - 1 < length s.network.arcs
@@ -208,12 +208,12 @@ abbrev pub shut_along : Direction → List Shutting → Network → Network
 shut_along Forward arcs n = with_closed arcs n
 shut_along Back arcs n = with_opened arcs n
 
--- whether an arc is closed then
+-- whether an arc is closed afterwards
 abbrev is_closed : Direction → Bool
 is_closed Forward = true
 is_closed Back = false
 
--- such an arc then
+-- the arc afterwards
 abbrev shut_arc : Direction → Shutting → Arc → Arc
 shut_arc d a arc = record { tail = arc.tail; head = arc.head; cap = cap_along d a.old 0; closed = is_closed d }
 
@@ -222,7 +222,7 @@ shut-first : (d : Direction) (a : Shutting) (rest : List Shutting) (n : Network)
 shut-first Forward a rest n = refl
 shut-first Back a rest n = refl
 
--- Arcs are closed up to the rest, or opened: whatever the flows, the search is the residual one of the network as it is now.
+-- The arcs before the rest are closed, or opened. Whatever the flows, the search is the residual one of the network now.
 pub record AreShutUpTo (d : Direction) (n last : Network) (rest : List Shutting) (old search : Searched) : Type 0 where
   pub now : Network
   pub has : HasArcs now (numbers rest)
@@ -267,7 +267,7 @@ has-fits (Add tail head cap) n fits = tt
 has-fits (Shut arcs moves) n fits = HasArcs-open 0 arcs.items n fits
 has-fits (Solve moves) n fits = tt
 
--- After an edit that adds none there are as many arcs.
+-- If an edit adds no arc, the number of arcs stays.
 arcs-long : (edit : Edit) (s : NetworkState) → (AddsArc edit → ⊥) → length (applied edit s).network.arcs ≡ length s.network.arcs
 arcs-long (Cap j old new moves) s none = length-set s.network.arcs (j - 1) (with_cap new (arc_number s.network j))
 arcs-long (Close j old moves) s none = length-set s.network.arcs (j - 1) (closed_arc (arc_number s.network j))
@@ -275,7 +275,7 @@ arcs-long (Add tail head cap) s none = absurd (none tt)
 arcs-long (Shut arcs moves) s none = length-closed arcs.items s.network
 arcs-long (Solve moves) s none = refl
 
--- They are there before the edit and after it.
+-- These arcs are there before the edit and after it.
 pub has-along : (d : Direction) (edit : Edit) (s : NetworkState) → (AddsArc edit → ⊥) → FitsAlong d edit s → HasArcs s.network (recapped_arcs edit)
 has-along Forward edit s none fits = has-fits edit s.network fits.arc
 has-along Back edit s none stands =
@@ -284,12 +284,12 @@ has-along Back edit s none stands =
     HasArcs-long b.network s.network (recapped_arcs edit) (ap (λ (u : NetworkState). length u.network.arcs) (sym stands.gives) ∙ long)
     (has-fits edit b.network stands.fits.arc)
 
--- The moves of an edit that fits, or their opposites where it stands, fit the flows,
+-- The moves of an edit that fits, or the reverse moves of one that stands, fit the flows,
 pub moves-along : (d : Direction) (edit : Edit) (s : NetworkState) → FitsAlong d edit s → MovesFit 0 (along d (moves_of edit)) s.flows
 moves-along Forward edit s fits = fits.moves
 moves-along Back edit s stands = fit-back edit s (moves_of edit) stands refl
 
--- and lead to those of the other state, where the edit adds no arc.
+-- and lead to the flows of the other state, if the edit adds no arc.
 pub flows-along : (d : Direction) (edit : Edit) (s : NetworkState) → (AddsArc edit → ⊥)
     → moved (along d (moves_of edit)) s.flows ≡ (edited_along d edit s).flows
 flows-along d (Add tail head cap) s none = absurd (none tt)
@@ -302,7 +302,7 @@ flows-along Back (Close j old moves) s none = refl
 flows-along Back (Shut arcs moves) s none = refl
 flows-along Back (Solve moves) s none = refl
 
--- An edit that is not one of an added arc adds none.
+-- Only an edit that adds an arc changes their number.
 pub none-added : (edit : Edit) → ((tail head cap : ℕ) → edit ≡ Add tail head cap → ⊥) → AddsArc edit → ⊥
 none-added (Cap j old new moves) none adds = adds
 none-added (Close j old moves) none adds = adds

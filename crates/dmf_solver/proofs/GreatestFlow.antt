@@ -1,4 +1,4 @@
--- Every network has a greatest flow, and with it a minimum cut of the same size.
+-- Every network has a maximum flow, and a minimum cut whose capacity is its value.
 use Rattle.std.proofs.Common.{ℕ, ◌≡◌, ◌==◌, List, [], ◌∷◌, Bool, true, false, cond, refl, subst, arith}
 use Rattle.std.specs.List.{zip}
 use Rattle.std.proofs.lemmas.Int.{ints}
@@ -21,7 +21,7 @@ use Rattle.dmf_solver.specs.Laws.{HasGreatestFlow, MaxFlowMinCut}
 
 -- ---- a flow whose residual network has no path from the source to the sink
 
--- It is greatest.
+-- It is a maximum flow.
 pub greatest-from_no_path : (n : Network) (flows : List ℕ) → IsNetwork n → IsFlow n flows → HasNoPath (residual_steps n.arcs flows) n.source n.sink
     → IsGreatest n flows
 greatest-from_no_path n flows network flow none =
@@ -37,7 +37,7 @@ cut-from_no_path n flows network flow none =
     let r = AreReachedFrom-is_reached steps n.nodes n.source in
     record { has = has; cut = reached-cut n flows has network r none; capacity = reached-capacity n flows has network flow none r }
 
--- The theorem that the value of a greatest flow is the capacity of a minimum cut.
+-- The theorem that the value of a maximum flow is the capacity of a minimum cut.
 pub max_flow-min_cut : MaxFlowMinCut
 max_flow-min_cut n flows network greatest =
     let steps = residual_steps n.arcs flows in
@@ -51,9 +51,9 @@ max_flow-min_cut n flows network greatest =
           reached-capacity n flows has network greatest.flow none r;
     }
 
--- ---- there is a greatest flow
+-- ---- there is a maximum flow
 
--- nothing on each arc
+-- no flow on any arc
 abbrev pub no_flow : List Arc → List ℕ
 no_flow [] = []
 no_flow (arc ∷ arcs) = 0 ∷ no_flow arcs
@@ -66,7 +66,7 @@ no_part : (b : Bool) → ◌≡◌ {A = ℕ} (cond b 0 0) 0
 no_part true = refl
 no_part false = refl
 
--- Nothing flows out of a node, or into it.
+-- The outflow and the inflow of a node are 0.
 flow_at-no_flow : (end : Arc → ℕ) (arcs : List Arc) (v : ℕ) → flow_at end arcs (no_flow arcs) v ≡ 0
 flow_at-no_flow end [] v = refl
 flow_at-no_flow end (arc ∷ arcs) v = omega (
@@ -76,7 +76,7 @@ flow_at-no_flow end (arc ∷ arcs) v = omega (
   no_part (end arc == v),
 )
 
--- A network in which nothing flows is a state.
+-- A network without flow is a state.
 IsState-no_flow : (n : Network) → IsNetwork n → IsState (record { network = n; flows = no_flow n.arcs })
 IsState-no_flow n network =
     let none : (end : Arc → ℕ) (v : ℕ) → flow_at end n.arcs (no_flow n.arcs) v ≡ 0 = λ end v. flow_at-no_flow end n.arcs v in
@@ -89,7 +89,7 @@ IsState-no_flow n network =
       value_from_zero = omega (arith, ints, none (λ arc. arc.tail) n.source, none (λ arc. arc.head) n.source);
     }
 
--- Solving from there ends at a greatest flow.
+-- Solving from there ends at a maximum flow.
 pub some-greatest_flow : HasGreatestFlow
 some-greatest_flow n network =
     let s : NetworkState = record { network = n; flows = no_flow n.arcs } in

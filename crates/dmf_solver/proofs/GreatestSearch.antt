@@ -1,4 +1,4 @@
--- Whether a flow is greatest, from what a search for augmenting paths answers.
+-- Whether a flow is greatest, from the result of a search for augmenting paths.
 use Rattle.std.proofs.Common.{ℕ, ◌≡◌, ◌↔◌, true, false, Bool, not, Option, Some, None, refl, subst}
 use Rattle.std.specs.Bool.{IsTrue}
 use Rattle.std.specs.Option.{MatchOption, is_some}
@@ -15,7 +15,7 @@ use Rattle.dmf_solver.proofs.GreatestFlow.{greatest-from_no_path}
 use Rattle.dmf_solver.proofs.LargerFlow.{surpassed, not-surpassed}
 use Rattle.dmf_solver.proofs.NetworkPairs.{network-without_loops}
 
--- The answer is yes where the flow is greatest, and no where it is surpassed.
+-- The answer is yes if the flow is greatest, and no if some flow has a larger value.
 pub record IsAnswer (s : NetworkState) (answer : Bool) : Type 0 where
   pub yes : IsTrue answer ↔ IsGreatest s.network s.flows
   pub no : (answer ≡ false) ↔ IsSurpassed s.network s.flows
@@ -28,7 +28,7 @@ no-of : (b : Bool) → true ≡ not b → b ≡ false
 no-of true e = cc
 no-of false e = refl
 
--- The answer is yes where no residual path leads from the source to the sink.
+-- The answer is yes if no residual path leads from the source to the sink.
 pub enclosed-answers : (s : NetworkState) → IsState s → HasNoPath (residual_steps s.network.arcs s.flows) s.network.source s.network.sink → IsAnswer s true
 enclosed-answers s state none =
     let greatest = greatest-from_no_path s.network s.flows state.network state.flow none in
@@ -37,7 +37,7 @@ enclosed-answers s state none =
       no = (λ told. absurd (let wrong : ⊥ = cc in wrong), λ larger. absurd (not-surpassed s.network s.flows greatest larger));
     }
 
--- No path is found where the flow is greatest, and else one.
+-- The search finds no path if the flow is greatest, and else one.
 pub found-answers : (s : NetworkState) (limit : ℕ) (found : Option AugmentingPath) (old new : Searched) (answer : Bool) → IsState s
     → old ≡ residual_search s.network s.flows
     → MatchOption found (HasNoPath (steps_of old.pairs) old.start old.goal × (new ≡ old)) (λ path. Augments limit path old new) → is_some found ≡ not answer

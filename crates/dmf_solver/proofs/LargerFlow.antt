@@ -1,4 +1,4 @@
--- A flow is greatest just where no residual path leads from the source to the sink.
+-- A flow is greatest if and only if no residual path leads from the source to the sink.
 use Rattle.std.proofs.Common.{ℕ, List, arith, ⊎_elim}
 use Rattle.std.proofs.lemmas.Int.{ints}
 use Rattle.dmf_path.specs.Step.{Step}
@@ -11,7 +11,7 @@ use Rattle.dmf_solver.proofs.Augmenting.{room-positive, augmented-flow, augmente
 use Rattle.dmf_solver.proofs.ResidualSteps.{AreSteps-residual}
 use Rattle.dmf_path.proofs.SomeLeast.{SomeLeast, least-or-none, least-path}
 
--- Where a least path leads from the source to the sink, some flow has a larger value.
+-- If a least path leads from the source to the sink, some flow has a larger value.
 pub surpassed : (n : Network) (flows : List ℕ) (path : List Step) → IsNetwork n → IsFlow n flows
     → IsLeastPath (residual_steps n.arcs flows) n.source n.sink path → IsSurpassed n flows
 surpassed n flows path network flow least = record {
@@ -32,7 +32,7 @@ no_path-from_greatest n flows network greatest = ⊎_elim
     (not-surpassed n flows greatest (surpassed n flows found.path network greatest.flow found.least)))
     (least-or-none (residual_steps n.arcs flows) (AreSteps-residual n.nodes n.arcs flows network.arcs).ascending n.source n.sink)
 
--- Where a path leads from the source to the sink, some flow has a larger value.
+-- If a path leads from the source to the sink, some flow has a larger value.
 pub surpassed-from_path : (n : Network) (flows : List ℕ) (path : List Step) → IsNetwork n → IsFlow n flows
     → IsPath (residual_steps n.arcs flows) n.source n.sink path → IsSurpassed n flows
 surpassed-from_path n flows path network flow leads =

@@ -14,14 +14,14 @@ abbrev pub moves_before : List ℕ → List ℕ → ℕ → List Move
 moves_before before after k = differences 1 (take k before) (take k after)
 
 module _ (before after : List ℕ) (same : length after ≡ length before) where
-  -- what is read past the last arc
+  -- what a read past the last arc gives
   pub stays-past : (k : ℕ) → length before ≤ k → Stays before after k
   stays-past k past = get_or_past before k 0 past ∙ sym (get_or_past after k 0 (omega (arith, past, same)))
 
   moves-all : (k : ℕ) → length before ≤ k → moves_before before after k ≡ differences 1 before after
   moves-all k past = rw (take_all k before past, take_all k after (omega (arith, past, same))) refl
 
-  -- the moves with that of the next arc
+  -- the moves, with the move of the next arc
   moves-next : (k : ℕ) → moves_before before after (k + 1) ≡ moves_before before after k ++ move_of (k + 1) (get_or before k 0) (get_or after k 0)
   moves-next k =
       ⊎_elim
@@ -52,7 +52,7 @@ module _ (before after : List ℕ) (same : length after ≡ length before) where
         moves-between (index_behind indices i) (get_or indices i 0) (not-before count (Stays before after) indices covers i h)
         (λ k from to. is-out count (Stays before after) indices covers i k (omega (arith, h)) from (λ _. to) (omega (arith, to, covers.below i h)))
 
-    -- The moves with that of the arc at the next index.
+    -- The moves, with the move of the arc at the next index.
     pub moves-listed : (i : ℕ) (moves more : List Move) → i < length indices → moves ≡ moves_before before after (index_behind indices i)
         → more ≡ move_of (get_or indices i 0 + 1) (get_or before (get_or indices i 0) 0) (get_or after (get_or indices i 0) 0)
         → moves ++ more ≡ moves_before before after (index_behind indices (i + 1))

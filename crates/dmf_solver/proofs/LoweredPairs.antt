@@ -1,5 +1,5 @@
--- The pairs of links that stand for carrying steps, once an arc is lowered along a least path: they are the pairs, pushed
--- along the path and lowered by the same amount at the arc.
+-- The pairs that stand for carrying steps, after an arc is lowered along a least path: the pairs are pushed along the path, and lowered
+-- by the same amount at the arc.
 use Rattle.std.proofs.Common.{ℕ, ◌≡◌, ◌+◌, ◌-◌, ◌*◌, ◌<◌, ◌==◌, Bool, true, false, cond, List, [], ◌∷◌, ◌++◌, length, zero, suc, refl, ap, ◌∙◌, arith, add-zero}
 use Rattle.std.proofs.Common.{eq-eqb, Option, Some}
 use Rattle.std.specs.Option.{option_map}
@@ -19,24 +19,24 @@ use Rattle.dmf_state.proofs.ChangedArc.{has_arc-within}
 use Rattle.dmf_solver.proofs.LoweredValue.{value_or_zero-lowered}
 use Rattle.dmf_solver.proofs.Lowering.{HaveOwnRanks, HaveOwnRanks-least}
 
--- a pair with other rooms
+-- a pair with these rooms
 pair-rooms : (tail head a b c d : ℕ) → a ≡ c → b ≡ d → ◌≡◌ {A = Option Pair} (Some (record { tail = tail; head = head; along = a; against = b }))
     (Some (record { tail = tail; head = head; along = c; against = d }))
 pair-rooms tail head a b c d first second = λ i. Some (record { tail = tail; head = head; along = first i; against = second i })
 
--- The pair of an arc whose flow is less where the path has its step is the arc's pair, pushed.
+-- If an arc's flow is lower because the path has its step, its new pair is the old one, pushed.
 pair-pushed : (amount j : ℕ) (path : List Step) (arc : Arc) (flow : ℕ) (loop : Bool) → (arc.tail == arc.head) ≡ loop
     → carrying_pair arc (flow - cond (has_rank path (2 * j)) amount 0) ≡ pushed_pair false j amount path (carrying_pair arc flow)
 pair-pushed amount j path arc flow true e = rw e refl
 pair-pushed amount j path arc flow false e = rw e (pair-rooms arc.tail arc.head _ _ _ _ (omega arith) (omega arith))
 
--- The pair of an arc whose flow is less, while the path has not its step, is the arc's pair, pushed and lowered.
+-- If an arc's flow is lower although the path does not have its step, its new pair is the old one, pushed and lowered.
 pair-lowered : (amount j : ℕ) (path : List Step) (arc : Arc) (flow : ℕ) (loop : Bool) → (arc.tail == arc.head) ≡ loop → has_rank path (2 * j) ≡ false
     → carrying_pair arc (flow - amount) ≡ option_map (lowered_pair amount) (pushed_pair false j amount path (carrying_pair arc flow))
 pair-lowered amount j path arc flow true e none = rw e refl
 pair-lowered amount j path arc flow false e none = rw (e, none) (pair-rooms arc.tail arc.head _ _ _ _ (omega arith) (omega arith))
 
--- The pair of the return link carries less where the path has it.
+-- The pair of the return link carries less if the path has the return link.
 return-pushed : (amount : ℕ) (path : List Step) (n : Network) (flows now : List ℕ)
     → value_or_zero n now ≡ value_or_zero n flows - cond (has_rank path (2 * length n.arcs + 2)) amount 0
     → return_pair n now ≡ pushed_pair false (1 + length n.arcs) amount path (return_pair n flows)
@@ -79,7 +79,7 @@ pairs-lowered amount i j (suc k) path (arc ∷ arcs) (flow ∷ flows) last now a
     (is ∙ ap (λ m. pushed_pair false m amount path last) place) in
     rw (ne_eqb i j (omega (arith, at))) (λ t. own t ∷ rest t)
 
--- a path whose ranks are its own has not the rank of arc number `j`
+-- a path that has only its own ranks does not have the rank of arc number `j`
 pub other-rank : (j : ℕ) (path : List Step) → HaveOwnRanks j path → has_rank path (2 * j) ≡ false
 other-rank j [] own = refl
 other-rank j (s ∷ path) own = rw (ne_eqb s.rank (2 * j) own.0) (other-rank j path own.2)

@@ -1,5 +1,5 @@
--- What the sink receives, once an arc is lowered along a least path: it falls by the amount where the path has the return
--- link, and stays where it has not.
+-- The inflow of the sink after an arc is lowered along a least path: it falls by the amount if the path has the return link, and else
+-- stays.
 use Rattle.std.proofs.Common.{ℕ, ◌≡◌, ◌≢◌, ◌+◌, ◌-◌, ◌*◌, ◌<◌, ◌==◌, List, [], ◌∷◌, length, true, false, cond, refl, ap, ◌∙◌, sym, arith, ⊎_elim, eq-eqb}
 use Rattle.std.proofs.lemmas.Bool.Decides.{eqb_tells}
 use Rattle.dmf_path.specs.Step.{Step}
@@ -10,7 +10,7 @@ use Rattle.dmf_solver.specs.Drain.{value_or_zero, carrying_steps, lowered}
 use Rattle.dmf_solver.proofs.Augmenting.{at_end-other}
 use Rattle.dmf_solver.proofs.Lowering.{HaveOwnRanks, HaveOwnRanks-least, returned, returned-none, returned-least, balance}
 
--- The return link carries the amount from the sink to the source where the path has it.
+-- The return link carries the amount from the sink to the source if the path has it.
 returned-once : (j amount : ℕ) (n : Network) (path : List Step) (v : ℕ) → HaveOwnRanks j path
     → returned amount n path v v ≡ cond (has_rank path (2 * length n.arcs + 2)) amount 0
 returned-once j amount n [] v own = refl
@@ -22,7 +22,7 @@ returned-once j amount n (s ∷ path) v own = ⊎_elim
     rw other.0 (omega (arith, returned-once j amount n path v own.2)))
     (eqb_tells s.rank (2 * length n.arcs + 2))
 
--- What the sink receives falls by what the return link carries.
+-- The inflow of the sink falls by what the return link carries.
 pub value_or_zero-lowered : (n : Network) (j limit : ℕ) (flows : List ℕ) (path : List Step) → limit < flow_on flows j → has_arc n j ≡ true → IsNetwork n
     → IsFlow n flows → IsLeastPath (carrying_steps n flows) (arc_number n j).head (arc_number n j).tail path →
     value_or_zero n (lowered j limit path flows) ≡ value_or_zero n flows - cond (has_rank path (2 * length n.arcs + 2))

@@ -1,4 +1,4 @@
--- Lowering an arc along a least path of carrying steps from its head to its tail: what is left is a flow.
+-- Lowering an arc along a least path of carrying steps from its head to its tail gives a flow.
 use Rattle.std.proofs.Common.{ℕ, ◌≡◌, ◌≢◌, ◌+◌, ◌-◌, ◌*◌, ◌<◌, ◌≤◌, ◌==◌, ◌||◌, ◌⊎◌, List, [], ◌∷◌, length, get_or, set, zero, suc, Bool, true, false, cond}
 use Rattle.std.proofs.Common.{refl, ap, ◌∙◌, sym, arith, ⊎_elim, inl, inr, length-set, get_or-set_other, add-zero, eq-eqb, pos, ◌-ℤ◌, ◌≤ℤ◌}
 use Rattle.std.specs.List.{Contains, AllZip}
@@ -22,13 +22,13 @@ use Rattle.dmf_solver.proofs.Augmenting.{at_end-other, bottleneck_up_to-le}
 use Rattle.dmf_path.proofs.OneLeast.{Ascend, step-by_rank}
 use Rattle.dmf_solver.proofs.CarryingSteps.{IsCarrying, along, returns, carrying-contained, carrying-room, carrying-has, AreSteps-carrying}
 
--- ---- the flows once they are lowered, one by one
+-- ---- the lowered flows, one by one
 
 length-lowered_from : (i j amount : ℕ) (path : List Step) (flows : List ℕ) → length (lowered_from i j amount path flows) ≡ length flows
 length-lowered_from i j amount path [] = refl
 length-lowered_from i j amount path (x ∷ flows) = ap suc (length-lowered_from (i + 1) j amount path flows)
 
--- what a flow is, once arc number `i` is lowered by this amount, on arc number `j` and along a path
+-- the flow of arc number `i` after this amount is taken off arc number `j` and along a path
 abbrev flow_lowered : ℕ → ℕ → List Step → ℕ → ℕ → ℕ
 flow_lowered j amount path i flow = flow - cond (i == j || has_rank path (2 * i)) amount 0
 
@@ -58,7 +58,7 @@ pub unlowered : (j amount : ℕ) (path : List Step) (flows : List ℕ) (k : ℕ)
 unlowered j amount path flows k h apart none =
     rw (get_or-lowered_from 1 j amount path flows k h, ne_eqb (1 + k) j apart, none) (omega arith)
 
--- without a path arc number `j` alone is lowered
+-- an empty path lowers arc number `j` alone
 pub lowered-none : (j amount : ℕ) (flows : List ℕ) → 1 ≤ j → j - 1 < length flows
     → lowered_from 1 j amount [] flows ≡ set flows (j - 1) (get_or flows (j - 1) 0 - amount)
 lowered-none j amount flows first h =
@@ -80,7 +80,7 @@ lowered-none j amount flows first h =
     unlowered j amount [] flows k within apart refl ∙ sym (get_or-set_other flows (j - 1) k _ 0 elsewhere))
     (cases_eq k (j - 1)))
 
--- one step more in front lowers its arc
+-- one more step in front lowers its arc
 lowered-along : (j amount : ℕ) (s : Step) (path : List Step) (flows : List ℕ) (k : ℕ) → s.rank ≡ 2 * (1 + k) → s.rank ≢ 2 * j → k < length flows
     → lowered_from 1 j amount (s ∷ path) flows ≡ set (lowered_from 1 j amount path flows) k (get_or flows k 0 - amount)
 lowered-along j amount s path flows k rank apart h =
@@ -118,9 +118,9 @@ lowered-link j amount s path flows rank =
     rw (get_or-lowered_from 1 j amount (s ∷ path) flows i within, ne_eqb s.rank (2 * (1 + i)) (omega (arith, within, rank)))
     (sym (get_or-lowered_from 1 j amount path flows i within)))
 
--- ---- what flows out of a node and into it
+-- ---- the outflow and the inflow of a node
 
--- With one flow less by an amount, the sum at a node is less by it where the arc has its end there.
+-- If one flow is lower by an amount, the sum at a node is lower by it if the node is that end of the arc.
 flow_at-less : (end : Arc → ℕ) (arcs : List Arc) (flows : List ℕ) (k amount v : ℕ) → length flows ≡ length arcs → k < length arcs → amount ≤ get_or flows k 0
     → flow_at end arcs (set flows k (get_or flows k 0 - amount)) v + at_end amount (end (get_or arcs k no_arc)) v ≡ flow_at end arcs flows v
 flow_at-less end arcs flows k amount v same h le =
@@ -130,18 +130,18 @@ flow_at-less end arcs flows k amount v same h le =
     let part : cond here x 0 ≡ cond here (x - amount) 0 + cond here amount 0 = ap (λ y. cond here y 0) (sym old) ∙ more-at here (x - amount) amount in
     omega (arith, flow_at-set end arcs flows k (x - amount) v same h, part)
 
--- the amounts that the return link carries on the path, where the two nodes are one
+-- the amount that the return link carries on the path, if the two nodes are the same
 abbrev pub returned : ℕ → Network → List Step → ℕ → ℕ → ℕ
 returned amount n [] u v = 0
 returned amount n (s ∷ path) u v = cond (s.rank == 2 * length n.arcs + 2) (at_end amount u v) 0 + returned amount n path u v
 
--- The ranks of the path's steps differ, and none is that of arc number `j`.
+-- The ranks of the path's steps differ, and none is the rank of arc number `j`.
 abbrev pub HaveOwnRanks : ℕ → List Step → Type 0
 HaveOwnRanks j [] = Unit {0}
 HaveOwnRanks j (s ∷ path) = (s.rank ≢ 2 * j) × (has_rank path s.rank ≡ false) × HaveOwnRanks j path
 
--- One step more in front: what flows out of a node less what flows into it falls by the amount where the step leaves, and
--- grows by it where the step arrives, but for what the return link carries.
+-- One more step in front: the outflow minus the inflow of a node falls by the amount at the step's tail and grows by it at the step's
+-- head, apart from what the return link carries.
 balance-step : (n : Network) (j amount : ℕ) (flows : List ℕ) (s : Step) (path : List Step) (v : ℕ) → length flows ≡ length n.arcs → IsCarrying n flows s
     → amount ≤ s.room → s.rank ≢ 2 * j → has_rank path s.rank ≡ false →
     outflow n.arcs (lowered_from 1 j amount (s ∷ path) flows) v + inflow n.arcs (lowered_from 1 j amount path flows) v + at_end amount s.from v + cond
@@ -166,8 +166,8 @@ balance-step n j amount flows s path v same (returns c) le apart none =
     rw (lowered-link j amount s path flows (omega (arith, c.rank_is, same)), c.from_sink, c.to_source, eq-eqb s.rank (2 * length n.arcs + 2) c.rank_is)
     (omega arith)
 
--- What flows out of a node less what flows into it falls by the amount where the path begins, and grows by it where the
--- path ends, but for what the return link carries; and likewise for arc number `j`.
+-- The outflow minus the inflow of a node falls by the amount where the path begins and grows by it where the path ends, apart from what
+-- the return link carries; likewise for arc number `j`.
 balance-lowered : (n : Network) (j amount bound : ℕ) (flows : List ℕ) (path : List Step) (a b v : ℕ) → has_arc n j ≡ true → length flows ≡ length n.arcs
     → amount ≤ flow_on flows j → amount ≤ bottleneck_up_to bound path → IsPath (carrying_steps n flows) a b path → HaveOwnRanks j path →
     outflow n.arcs (lowered_from 1 j amount path flows) v + inflow n.arcs flows v + at_end amount
@@ -195,7 +195,7 @@ at_end-le amount u v = part (u == v)
     part true = omega arith
     part false = omega arith
 
--- A rank that no step of the path has is neither the first step's nor one of the others'.
+-- If no step of the path has a rank, neither the first step nor any other has it.
 rank-not_first : (s : Step) (path : List Step) (rank : ℕ) → has_rank (s ∷ path) rank ≡ false → (s.rank ≢ rank) × (has_rank path rank ≡ false)
 rank-not_first s path rank none = ⊎_elim
     (λ (here : ((s.rank == rank) ≡ true) × (s.rank ≡ rank)). absurd (both_ways true (rw here.0 at none) refl))
@@ -212,7 +212,7 @@ link-room : (n : Network) (flows : List ℕ) (s : Step) → IsCarrying n flows s
 link-room n flows s (along c) rank = absurd (omega (arith, rank, c.leads.rank_is, c.leads.within))
 link-room n flows s (returns c) rank = c.room_is
 
--- The return link carries the amount once at most, and no more than the sink receives.
+-- The return link carries the amount at most once, and at most the inflow of the sink.
 returned-le : (n : Network) (j amount bound : ℕ) (flows : List ℕ) (path : List Step) (a b u v : ℕ) → amount ≤ bottleneck_up_to bound path
     → IsPath (carrying_steps n flows) a b path → HaveOwnRanks j path → (returned amount n path u v ≤ at_end amount u v)
     × (returned amount n path u v ≤ value_or_zero n flows)
@@ -229,7 +229,7 @@ returned-le n j amount bound flows (s ∷ path) a b u v le leads own = ⊎_elim
 
 -- ---- the ranks of a shortest path
 
--- A path that avoids an end of a step has not its rank.
+-- A path that avoids an end of a step does not have the step's rank.
 rank-avoided : (steps : List Step) → Ascend steps → (s : Step) (v a b : ℕ) (path : List Step) → Contains steps s → (s.from ≡ v) ⊎ (s.to ≡ v)
     → IsPath steps a b path → Avoids v path → has_rank path s.rank ≡ false
 rank-avoided steps ascend s v a b [] has ends leads avoids = refl
@@ -250,7 +250,7 @@ HaveOwnRanks-shortest steps ascend j a b (s ∷ path) shortest none =
       HaveOwnRanks-shortest steps ascend j s.to b path (IsShortestPath-tail steps a b s path shortest) apart.1,
     )
 
--- A shortest path from where a step arrives to where it leaves is not by the step.
+-- A shortest path from the head of a step to its tail does not use the step.
 rank-not_back : (steps : List Step) → Ascend steps → (s : Step) (a b : ℕ) (path : List Step) → Contains steps s → s.from ≡ b → s.to ≡ a
     → IsShortestPath steps a b path → has_rank path s.rank ≡ false
 rank-not_back steps ascend s a b [] has from to shortest = refl
@@ -262,7 +262,7 @@ rank-not_back steps ascend s a b (t ∷ path) has from to shortest =
     omega (arith, short) in
     rw (ne_eqb t.rank s.rank apart) (rank-avoided steps ascend s a t.to b path has (inr to) shortest.leads.2 (avoids-start steps a b t path shortest))
 
--- The ranks on a least path back along an arc differ from each other, and from the arc's.
+-- The ranks on a least path from an arc's head to its tail differ from each other, and from the arc's rank.
 pub HaveOwnRanks-least : (n : Network) (j : ℕ) (flows : List ℕ) (path : List Step) → has_arc n j ≡ true → IsNetwork n → 0 < flow_on flows j
     → IsLeastPath (carrying_steps n flows) (arc_number n j).head (arc_number n j).tail path → HaveOwnRanks j path
 HaveOwnRanks-least n j flows path has network some least =
@@ -285,7 +285,7 @@ room-positive n flows a b bound (s ∷ path) positive leads =
     let later = room-positive n flows s.to b bound path positive leads.2 in
     omega (arith, first, later)
 
--- Something is taken off, and no more than is above the limit.
+-- The amount is positive, and at most the flow above the limit.
 pub lowered-amount : (n : Network) (j limit : ℕ) (flows : List ℕ) (path : List Step) → limit < flow_on flows j
     → IsLeastPath (carrying_steps n flows) (arc_number n j).head (arc_number n j).tail path
     → (0 < bottleneck_up_to (flow_on flows j - limit) path) × (bottleneck_up_to (flow_on flows j - limit) path ≤ flow_on flows j - limit)
@@ -298,7 +298,7 @@ lowered-amount n j limit flows path above least = (
 pub lowered-no_more : (j limit : ℕ) (path : List Step) (flows : List ℕ) → AllZip (λ x y. y ≤ x) flows (lowered j limit path flows)
 lowered-no_more j limit path flows = lowered_from-no_more 1 j (bottleneck_up_to (flow_on flows j - limit) path) path flows
 
--- The arc's flow is less by that amount.
+-- The arc's flow is lower by that amount.
 pub lowered-on : (n : Network) (j limit : ℕ) (flows : List ℕ) (path : List Step) → has_arc n j ≡ true → IsFlow n flows
     → flow_on (lowered j limit path flows) j ≡ flow_on flows j - bottleneck_up_to (flow_on flows j - limit) path
 lowered-on n j limit flows path has flow =
@@ -308,7 +308,7 @@ lowered-on n j limit flows path has flow =
     rw (get_or-lowered_from 1 j (bottleneck_up_to (flow_on flows j - limit) path) path flows (j - 1) (omega (arith, at.1, same)), eq-eqb (1 + (j - 1)) j place)
     refl
 
--- What flows out of a node less what flows into it stays the same, but for what the return link carries.
+-- The outflow minus the inflow of a node stays the same, apart from what the return link carries.
 pub balance : (n : Network) (j limit : ℕ) (flows : List ℕ) (path : List Step) (v : ℕ) → limit < flow_on flows j → has_arc n j ≡ true → IsNetwork n
     → IsFlow n flows → IsLeastPath (carrying_steps n flows) (arc_number n j).head (arc_number n j).tail path →
     outflow n.arcs (lowered j limit path flows) v + inflow n.arcs flows v + returned (bottleneck_up_to (flow_on flows j - limit) path) n path n.source v
@@ -332,7 +332,7 @@ returned-least n j limit flows path u v above has network least =
     returned-le n j (bottleneck_up_to bound path) bound flows path (arc_number n j).head (arc_number n j).tail u v (omega arith) least.leads
     (HaveOwnRanks-least n j flows path has network (omega (arith, above)) least)
 
--- What is left is a flow.
+-- The lowered flows are a flow.
 pub lowered-flow : (n : Network) (j limit : ℕ) (flows : List ℕ) (path : List Step) → limit < flow_on flows j → has_arc n j ≡ true → IsNetwork n → IsFlow n flows
     → IsLeastPath (carrying_steps n flows) (arc_number n j).head (arc_number n j).tail path → IsFlow n (lowered j limit path flows)
 lowered-flow n j limit flows path above has network flow least = record {
@@ -347,7 +347,7 @@ lowered-flow n j limit flows path above has network flow least = record {
       omega (arith, same, out, into, start, end, flow.conserved v inner);
 }
 
--- The value is less by at most that amount, and not below 0.
+-- The value is lower by at most that amount, and not negative.
 pub lowered-value : (n : Network) (j limit : ℕ) (flows : List ℕ) (path : List Step) → limit < flow_on flows j → has_arc n j ≡ true → IsNetwork n
     → IsFlow n flows → pos 0 ≤ℤ flow_value n flows → IsLeastPath (carrying_steps n flows) (arc_number n j).head (arc_number n j).tail path
     → ((flow_value n flows -ℤ pos (bottleneck_up_to (flow_on flows j - limit) path)) ≤ℤ flow_value n (lowered j limit path flows))

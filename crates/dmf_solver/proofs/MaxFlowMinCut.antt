@@ -26,7 +26,7 @@ part-le : (b : Bool) (x y : ℕ) → x ≤ y → cond b x 0 ≤ cond b y 0
 part-le true x y h = h
 part-le false x y h = omega arith
 
--- No more leaves a set than its arcs can carry.
+-- The flow that leaves a set is at most the capacity of the arcs that leave it.
 pub leaving-le_capacity : (arcs : List Arc) (flows : List ℕ) (has : ℕ → Bool) → AreWithinCapacities arcs flows → leaving arcs flows has ≤ cut_capacity arcs has
 leaving-le_capacity [] [] has within = omega arith
 leaving-le_capacity [] (flow ∷ flows) has within = absurd within
@@ -42,21 +42,21 @@ leaving-le_capacity (arc ∷ arcs) (flow ∷ flows) has within =
       sum_by-cons most arc arcs,
     )
 
--- No flow has a larger value than any cut has capacity.
+-- No flow has a value above the capacity of a cut.
 pub value-le_capacity : (n : Network) (flows : List ℕ) (has : ℕ → Bool) → IsNetwork n → IsFlow n flows → IsCut n has
     → flow_value n flows ≤ℤ pos (cut_capacity n.arcs has)
 value-le_capacity n flows has network flow cut =
     let across = value-across n flows has network flow.conserved cut.source cut.sink in
     omega (arith, ints, across, leaving-le_capacity n.arcs flows has flow.within)
 
--- ---- where they are the same
+-- ---- equality
 
--- The arc is full if it leads out of the set, and empty if it leads into it.
+-- The arc is saturated if it leads out of the set, and empty if it leads into it.
 pub record IsTight (has : ℕ → Bool) (arc : Arc) (flow : ℕ) : Type 0 where
   pub full : has arc.tail ≡ true → has arc.head ≡ false → flow ≡ arc.cap
   pub empty : has arc.tail ≡ false → has arc.head ≡ true → flow ≡ 0
 
--- Each arc with its flow is so.
+-- This holds for each arc with its flow.
 abbrev pub AreTight : (ℕ → Bool) → List Arc → List ℕ → Type 0
 AreTight has arcs flows = AllZip (IsTight has) arcs flows
 
@@ -70,7 +70,7 @@ empty_part true b x empty = refl
 empty_part false true x empty = empty refl refl
 empty_part false false x empty = refl
 
--- As much leaves a tight set as its arcs can carry.
+-- The flow that leaves a tight set is the capacity of the arcs that leave it.
 pub tight-leaving : (has : ℕ → Bool) (arcs : List Arc) (flows : List ℕ) → AreTight has arcs flows → leaving arcs flows has ≡ cut_capacity arcs has
 tight-leaving has [] [] tight = refl
 tight-leaving has [] (flow ∷ flows) tight = absurd tight
@@ -86,7 +86,7 @@ tight-leaving has (arc ∷ arcs) (flow ∷ flows) tight =
       sum_by-cons most arc arcs,
     )
 
--- Nothing enters a tight set.
+-- No flow enters a tight set.
 pub tight-entering : (has : ℕ → Bool) (arcs : List Arc) (flows : List ℕ) → AreTight has arcs flows → entering arcs flows has ≡ 0
 tight-entering has [] [] tight = refl
 tight-entering has [] (flow ∷ flows) tight = absurd tight
@@ -100,7 +100,7 @@ tight-entering has (arc ∷ arcs) (flow ∷ flows) tight =
       sum_by-cons into (arc, flow) (zip arcs flows),
     )
 
--- A set is tight if as much leaves it as its arcs can carry, and nothing enters it.
+-- A set is tight if the flow that leaves it is the capacity of the arcs that leave it, and no flow enters it.
 pub tight-from_sums : (has : ℕ → Bool) (arcs : List Arc) (flows : List ℕ) → AreWithinCapacities arcs flows → cut_capacity arcs has ≤ leaving arcs flows has
     → entering arcs flows has ≤ 0 → AreTight has arcs flows
 tight-from_sums has [] [] within full empty = tt
@@ -124,13 +124,13 @@ tight-from_sums has (arc ∷ arcs) (flow ∷ flows) within full empty =
 
 -- ---- residual steps
 
--- The step goes along the arc, on which more can flow.
+-- The step goes along the arc, which can carry more flow.
 pub record IsAlong (arc : Arc) (flow : ℕ) (s : Step) : Type 0 where
   pub more : flow < arc.cap
   pub from : s.from ≡ arc.tail
   pub to : s.to ≡ arc.head
 
--- The step goes against the arc, on which something flows.
+-- The step goes against the arc, which carries flow.
 pub record IsAgainst (arc : Arc) (flow : ℕ) (s : Step) : Type 0 where
   pub some : 0 < flow
   pub from : s.from ≡ arc.head
@@ -140,7 +140,7 @@ single_read : {X : Type 0} (x y : X) (k : ℕ) → k < 1 → get_or (x ∷ []) k
 single_read x y zero h read = read
 single_read x y (suc k) h read = absurd (omega arith)
 
--- what a list of one element, or of none, has
+-- the element of a list with one element or none
 single_if : {X : Type 0} (b : Bool) (x y : X) → Contains (cond b (x ∷ []) []) y → (b ≡ true) × (x ≡ y)
 single_if true x y c = (refl, single_read x y c.0 c.1 c.2)
 single_if false x y c = absurd (omega (arith, c.1))
@@ -167,7 +167,7 @@ first_arc j arc arcs flow flows s c =
     (λ (rest : Contains (residual_from (j + 1) arcs flows) s). inr (inr rest))
     (Contains-append_cases (forward j arc flow ++ backward j arc flow) (residual_from (j + 1) arcs flows) s c)
 
--- The step along the first arc is residual where more can flow on it.
+-- The step along the first arc is residual if the arc can carry more flow.
 pub along_first : (j : ℕ) (arc : Arc) (arcs : List Arc) (flow : ℕ) (flows : List ℕ) → flow < arc.cap
     → (s : Step) × Contains (residual_from j (arc ∷ arcs) (flow ∷ flows)) s × IsAlong arc flow s
 along_first j arc arcs flow flows more =
@@ -179,7 +179,7 @@ along_first j arc arcs flow flows more =
       record { more = more; from = refl; to = refl },
     )
 
--- The step against the first arc is residual where something flows on it.
+-- The step against the first arc is residual if the arc carries flow.
 pub against_first : (j : ℕ) (arc : Arc) (arcs : List Arc) (flow : ℕ) (flows : List ℕ) → 0 < flow
     → (s : Step) × Contains (residual_from j (arc ∷ arcs) (flow ∷ flows)) s × IsAgainst arc flow s
 against_first j arc arcs flow flows some =
@@ -239,7 +239,7 @@ closed-from_tight has j (arc ∷ arcs) (flow ∷ flows) tight s c inside = ⊎_e
     others)
     (first_arc j arc arcs flow flows s c)
 
--- A residual step arrives at a node.
+-- The head of a residual step is a node.
 pub residual-to_node : (nodes j : ℕ) (arcs : List Arc) (flows : List ℕ) (s : Step) → All (IsArc nodes) arcs → Contains (residual_from j arcs flows) s
     → IsNode nodes s.to
 residual-to_node nodes j [] flows s fits c = absurd (omega (arith, c.1))
@@ -258,15 +258,15 @@ residual-to_node nodes j (arc ∷ arcs) (flow ∷ flows) s fits c = ⊎_elim
 abbrev pub AreReached : Network → List ℕ → (ℕ → Bool) → Type 0
 AreReached n flows has = AreReachedFrom (residual_steps n.arcs flows) n.nodes n.source has
 
--- Residual steps arrive at nodes.
+-- The heads of residual steps are nodes.
 pub residual-arrive : (n : Network) (flows : List ℕ) → IsNetwork n → ArriveAtNodes n.nodes (residual_steps n.arcs flows)
 residual-arrive n flows network s c = residual-to_node n.nodes 1 n.arcs flows s network.arcs c
 
--- No residual step leaves the set of nodes that are reached.
+-- No residual step leaves the set of reached nodes.
 pub reached-closed : (n : Network) (flows : List ℕ) (has : ℕ → Bool) → IsNetwork n → AreReached n flows has → IsClosed (residual_steps n.arcs flows) has
 reached-closed n flows has network r = reached_from-closed (residual_steps n.arcs flows) n.nodes n.source has (residual-arrive n flows network) r
 
--- They are a cut, where no path leads to the sink.
+-- They are a cut, if no path leads to the sink.
 pub reached-cut : (n : Network) (flows : List ℕ) (has : ℕ → Bool) → IsNetwork n → AreReached n flows has
     → HasNoPath (residual_steps n.arcs flows) n.source n.sink → IsCut n has
 reached-cut n flows has network r none = record {
@@ -275,7 +275,7 @@ reached-cut n flows has network r none = record {
   sink = false_from_ne_true (has n.sink) (λ inside. let p = r.reached n.sink inside in none p.0 p.1);
 }
 
--- ---- a flow and a cut of one size
+-- ---- a flow and a cut of the same size
 
 -- The capacity of a tight cut is the value of the flow.
 pub tight-capacity : (n : Network) (flows : List ℕ) (has : ℕ → Bool) → IsNetwork n → IsFlow n flows → IsCut n has → AreTight has n.arcs flows
@@ -284,7 +284,7 @@ tight-capacity n flows has network flow cut tight =
     let across = value-across n flows has network flow.conserved cut.source cut.sink in
     omega (arith, ints, across, tight-leaving has n.arcs flows tight, tight-entering has n.arcs flows tight)
 
--- A cut whose capacity is within the value of the flow is tight.
+-- A cut whose capacity is at most the value of the flow is tight.
 pub tight-from_capacity : (n : Network) (flows : List ℕ) (has : ℕ → Bool) → IsNetwork n → IsFlow n flows → IsCut n has
     → pos (cut_capacity n.arcs has) ≤ℤ flow_value n flows → AreTight has n.arcs flows
 tight-from_capacity n flows has network flow cut within =
@@ -300,7 +300,7 @@ greatest-from_cut n flows has network flow cut same = record {
   none_larger = λ other is_flow. omega (arith, ints, same, value-le_capacity n other has network is_flow cut);
 }
 
--- A cut whose capacity is the value of a flow is least.
+-- A cut whose capacity is the value of a flow is a minimum cut.
 pub minimum_cut-from_flow : (n : Network) (flows : List ℕ) (has : ℕ → Bool) → IsNetwork n → IsFlow n flows → IsCut n has
     → pos (cut_capacity n.arcs has) ≡ flow_value n flows → IsMinimumCut n has
 minimum_cut-from_flow n flows has network flow cut same = record {
@@ -310,8 +310,8 @@ minimum_cut-from_flow n flows has network flow cut same = record {
 
 -- ---- the theorem
 
--- Where no residual path leads from the source to the sink, the nodes that are reached from the source are a cut whose
--- capacity is the value of the flow.
+-- If no residual path leads from the source to the sink, the nodes that are reached from the source are a cut whose capacity is the
+-- value of the flow.
 pub reached-capacity : (n : Network) (flows : List ℕ) (has : ℕ → Bool) → IsNetwork n → IsFlow n flows → HasNoPath (residual_steps n.arcs flows) n.source n.sink
     → AreReached n flows has → pos (cut_capacity n.arcs has) ≡ flow_value n flows
 reached-capacity n flows has network flow none r =
@@ -324,7 +324,7 @@ pub reached-greatest : (n : Network) (flows : List ℕ) (has : ℕ → Bool) →
 reached-greatest n flows has network flow none r =
     greatest-from_cut n flows has network flow (reached-cut n flows has network r none) (reached-capacity n flows has network flow none r)
 
--- And the cut is least.
+-- And the cut is a minimum cut.
 pub reached-minimum_cut : (n : Network) (flows : List ℕ) (has : ℕ → Bool) → IsNetwork n → IsFlow n flows
     → HasNoPath (residual_steps n.arcs flows) n.source n.sink → AreReached n flows has → IsMinimumCut n has
 reached-minimum_cut n flows has network flow none r =

@@ -1,4 +1,4 @@
--- The pairs of the arcs, and after them that of the return link: it has no room, so it gives no step, and no path leads over it.
+-- The pairs of the arcs, and the pair of the return link after them. The return link has no room, so it gives no step, and no path uses it.
 use Rattle.std.proofs.Common.{ℕ, ◌≡◌, ◌+◌, ◌-◌, ◌*◌, ◌^◌, ◌<◌, ◌≤◌, ◌==◌, ◌↔◌, Bool, true, false, List, [], ◌∷◌, ◌++◌, length, get_or}
 use Rattle.std.proofs.Common.{zero, suc, refl, ap, map, sym, ◌∙◌, subst, arith, ⊎_elim, Option, Some, eq-eqb}
 use Rattle.std.specs.List.{slice_get}
@@ -27,7 +27,7 @@ use Rattle.dmf_solver.specs.ResidualNetwork.{residual_pair, residual_pairs, clos
 use Rattle.dmf_solver.proofs.ResidualPairs.{residual-without_loops, residual_pairs-augmented, step-of_least}
 use Rattle.dmf_solver.proofs.ResidualSteps.{along, against, residual-contained}
 
--- ---- how many there are, and which
+-- ---- how many pairs there are, and which
 
 -- one for each arc
 pub length-residual_pairs : (arcs : List Arc) (flows : List ℕ) → length flows ≡ length arcs → length (residual_pairs arcs flows) ≡ length arcs
@@ -52,7 +52,7 @@ pair-of_arc : (n : Network) (flows : List ℕ) (k : ℕ) → length flows ≡ le
     → slice_get (network_pairs n flows) k ≡ Some (residual_pair (get_or n.arcs k no_arc) (get_or flows k 0))
 pair-of_arc n flows k same h = arc-at n.arcs flows (closed_return n ∷ []) k same h
 
--- and that of the return link after them.
+-- and the pair of the return link after them.
 last-at : (arcs : List Arc) (flows : List ℕ) (last : Option Pair) → length flows ≡ length arcs
     → slice_get (residual_pairs arcs flows ++ last ∷ []) (length arcs) ≡ Some last
 last-at [] flows last same = refl
@@ -75,9 +75,9 @@ pair-past s k state within past =
     let long = AllZip-long _ s.network.arcs s.flows state.flow.within in
     pair-of_return s.network s.flows k long (omega (arith, within, past, length-network_pairs s.network s.flows long))
 
--- ---- the pairs of a state's flow are pairs
+-- ---- the pairs of a state's flow are valid pairs
 
--- The pair of an arc on which no more flows than can is one.
+-- If the flow on an arc is at most its capacity, the arc has a valid pair.
 pub pair-is : (nodes : ℕ) (arc : Arc) (flow : ℕ) (p : Pair) (loop : Bool) → IsArc nodes arc → flow ≤ arc.cap → arc.cap < 2 ^ 64 → (arc.tail == arc.head) ≡ loop
     → residual_pair arc flow ≡ Some p → IsPair nodes p
 pair-is nodes arc flow p true is within small e has = let none = rw e at has in absurd (cc)
@@ -92,7 +92,7 @@ pair-is nodes arc flow p false is within small e has =
       fits = omega arith;
     })
 
--- So is that of the return link.
+-- So has the return link.
 return-is : (n : Network) (p : Pair) → IsNetwork n → closed_return n ≡ Some p → IsPair n.nodes p
 return-is n p network has =
     let made : Pair = record { tail = n.sink; head = n.source; along = 0; against = 0 } in
@@ -136,12 +136,12 @@ steps-closed n j (p ∷ pairs) = ap (λ (steps : List Step). pair_steps j p ++ s
 pub network-steps : (n : Network) (flows : List ℕ) → steps_of (network_pairs n flows) ≡ steps_of (residual_pairs n.arcs flows)
 network-steps n flows = steps-closed n 1 (residual_pairs n.arcs flows)
 
--- so the steps of all pairs are the residual ones, but for loops;
+-- so the steps of all pairs are the residual steps, except for self loops;
 pub network-without_loops : (n : Network) (flows : List ℕ) → AreWithoutLoops (residual_steps n.arcs flows) (steps_of (network_pairs n flows))
 network-without_loops n flows =
     subst (AreWithoutLoops (residual_steps n.arcs flows)) (sym (network-steps n flows)) (residual-without_loops n.arcs flows)
 
--- and what the search reaches, residual steps reach.
+-- and if the search reaches a node, residual steps reach it.
 pub reached-residual : (n : Network) (flows : List ℕ) (search : Searched) (v : ℕ) → search ≡ residual_search n flows
     → IsReachable (steps_of search.pairs) search.start v ↔ IsReachable (residual_steps n.arcs flows) n.source v
 reached-residual n flows search v same =
@@ -162,7 +162,7 @@ past-unranked arcs flows a b rank path true leads past e =
       | against k is room some ↦ absurd (omega (arith, past, is.within, is.rank_is, step.rank_is))
     ]
 
--- and a push along one leaves it as it is.
+-- and a push along a path leaves the pair as it is.
 pushed-closed : (n : Network) (amount j i : ℕ) (path : List Step) (pairs : List (Option Pair)) → i ≡ j + length pairs → has_rank path (2 * i) ≡ false
     → has_rank path (2 * i + 1) ≡ false
     → pushed_from true j amount path (pairs ++ closed_return n ∷ []) ≡ pushed_from true j amount path pairs ++ closed_return n ∷ []

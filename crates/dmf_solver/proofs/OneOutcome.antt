@@ -1,5 +1,5 @@
--- A change has one outcome: each path that augments is the least one, and paths are taken until none is left; and so with
--- the paths that lower an arc, until no more than the limit flows on it.
+-- A change has one outcome. Each augmenting path is the least one, and paths are taken until none is left. The same holds for the paths
+-- that lower an arc until no more than the limit flows on it.
 use Rattle.std.proofs.Common.{ℕ, ◌≡◌, List, [], ◌∷◌, All, sym, ◌∙◌, subst}
 use Rattle.dmf_path.specs.Step.{Step}
 use Rattle.dmf_state.specs.Arc.{IsArc, open_arcs_at}

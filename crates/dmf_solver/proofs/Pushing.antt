@@ -10,24 +10,24 @@ use Rattle.dmf_state.proofs.Changing.{flow_at-set, within-set, within-at}
 use Rattle.dmf_solver.proofs.ResidualSteps.{LeadsAlong, LeadsAgainst}
 use Rattle.dmf_path.proofs.ShortestPaths.{Avoids, IsShortestPath, IsShortestPath-tail, avoids-start}
 
--- the index of the arc that the step leads along or against
+-- the index of the arc of the step
 abbrev pub arc_index : Step → ℕ
 arc_index s = s.rank / 2 - 1
 
--- the flow of the step's arc once this amount is pushed along the step
+-- the flow of the step's arc after this amount is pushed along the step
 abbrev pub flow_pushed : ℕ → Step → ℕ → ℕ
 flow_pushed amount s flow = cond (s.rank % 2 == 0) (flow + amount) (flow - amount)
 
--- the flows once this amount is pushed along the step
+-- the flows after this amount is pushed along the step
 abbrev pub pushed_once : ℕ → Step → List ℕ → List ℕ
 pushed_once amount s flows = set flows (arc_index s) (flow_pushed amount s (get_or flows (arc_index s) 0))
 
--- the flows once this amount is pushed along each step of the path in turn
+-- the flows after this amount is pushed along each step of the path in turn
 abbrev pub pushed : ℕ → List Step → List ℕ → List ℕ
 pushed amount [] flows = flows
 pushed amount (s ∷ path) flows = pushed amount path (pushed_once amount s flows)
 
--- This amount can be pushed along the step: that much room is left on its arc, or that much flows there.
+-- This amount can be pushed along the step: its arc has that much residual capacity, or carries that much flow.
 pub data CanPush (amount : ℕ) (arcs : List Arc) (flows : List ℕ) (s : Step) : Type 0 where
   along : (k : ℕ) → LeadsAlong 1 arcs k s → get_or flows k 0 + amount ≤ (get_or arcs k no_arc).cap → CanPush amount arcs flows s
   against : (k : ℕ) → LeadsAgainst 1 arcs k s → amount ≤ get_or flows k 0 → CanPush amount arcs flows s
@@ -40,7 +40,7 @@ pushed-along amount arcs flows s k leads =
     let even : s.rank % 2 ≡ 0 = omega (arith, leads.rank_is) in
     rw (index, even) refl
 
--- At a step against its arc, it falls.
+-- At a step against its arc, that arc's flow falls.
 pushed-against : (amount : ℕ) (arcs : List Arc) (flows : List ℕ) (s : Step) (k : ℕ) → LeadsAgainst 1 arcs k s
     → pushed_once amount s flows ≡ set flows k (get_or flows k 0 - amount)
 pushed-against amount arcs flows s k leads =
@@ -53,7 +53,7 @@ pub rank-pushed : (amount : ℕ) (arcs : List Arc) (flows : List ℕ) (s : Step)
 rank-pushed amount arcs flows s (along k leads room) = omega (arith, leads.rank_is)
 rank-pushed amount arcs flows s (against k leads some) = omega (arith, leads.rank_is)
 
--- there stay as many flows
+-- the number of flows stays
 pub length-pushed_once : (amount : ℕ) (s : Step) (flows : List ℕ) → length (pushed_once amount s flows) ≡ length flows
 length-pushed_once amount s flows = length-set flows _ _
 
@@ -69,7 +69,7 @@ within-pushed_once amount arcs flows s within (along k leads room) =
 within-pushed_once amount arcs flows s within (against k leads some) =
     rw (pushed-against amount arcs flows s k leads) (within-set arcs flows k _ within (let le = within-at arcs flows k within in omega (arith, le)))
 
--- `amount` where the two nodes are one
+-- `amount` if the two nodes are the same
 abbrev pub at_end : ℕ → ℕ → ℕ → ℕ
 at_end amount u v = cond (u == v) amount 0
 
@@ -78,8 +78,7 @@ pub more-at : (b : Bool) (x amount : ℕ) → cond b (x + amount) 0 ≡ cond b x
 more-at true x amount = refl
 more-at false x amount = refl
 
--- What flows out of a node less what flows into it grows by the amount where the step leaves, and falls by it where the
--- step arrives.
+-- The outflow minus the inflow of a node grows by the amount at the step's tail, and falls by it at the step's head.
 pub balance-pushed_once : (amount : ℕ) (arcs : List Arc) (flows : List ℕ) (s : Step) (v : ℕ) → length flows ≡ length arcs → CanPush amount arcs flows s →
     outflow arcs (pushed_once amount s flows) v + inflow arcs flows v + at_end amount s.to v ≡ outflow arcs flows v + inflow arcs
     (pushed_once amount s flows) v + at_end amount s.from v
@@ -106,19 +105,18 @@ abbrev pub Skips : ℕ → List Step → Type 0
 Skips k [] = Unit {0}
 Skips k (s ∷ path) = (s.rank ≢ 2 * (1 + k)) × (s.rank ≢ 2 * (1 + k) + 1) × Skips k path
 
--- This amount can be pushed along each step of the path, at these flows.
+-- This amount can be pushed along each single step of the path, at these flows.
 abbrev pub CanPushEach : ℕ → List Arc → List ℕ → List Step → Type 0
 CanPushEach amount arcs flows [] = Unit {0}
 CanPushEach amount arcs flows (s ∷ path) = CanPush amount arcs flows s × CanPushEach amount arcs flows path
 
--- This amount can be pushed along the steps of the path in turn, and each step has an arc of its own.
+-- This amount can be pushed along the steps of the path in turn, and no two steps share an arc.
 abbrev pub CanPushInTurn : ℕ → List Arc → List ℕ → List Step → Type 0
 CanPushInTurn amount arcs flows [] = Unit {0}
 CanPushInTurn amount arcs flows (s ∷ path) =
     CanPush amount arcs flows s × Skips (arc_index s) path × CanPushInTurn amount arcs (pushed_once amount s flows) path
 
--- What flows out of a node less what flows into it grows by the amount where the path begins, and falls by it where the
--- path ends.
+-- The outflow minus the inflow of a node grows by the amount where the path begins, and falls by it where the path ends.
 pub balance-pushed : (amount : ℕ) (arcs : List Arc) (flows : List ℕ) (steps path : List Step) (a b v : ℕ) → length flows ≡ length arcs → IsPath steps a b path
     → CanPushInTurn amount arcs flows path →
     outflow arcs (pushed amount path flows) v + inflow arcs flows v + at_end amount b v ≡ outflow arcs flows v + inflow arcs
@@ -138,7 +136,7 @@ within-pushed amount arcs flows [] within can = within
 within-pushed amount arcs flows (s ∷ path) within can =
     within-pushed amount arcs (pushed_once amount s flows) path (within-pushed_once amount arcs flows s within can.0) can.2
 
--- a push along a step leaves the arcs of the steps that skip its arc as they were
+-- a push along a step leaves the arcs of all steps that use another arc
 CanPush-other : (amount : ℕ) (arcs : List Arc) (flows : List ℕ) (i y : ℕ) (t : Step) → t.rank ≢ 2 * (1 + i) → t.rank ≢ 2 * (1 + i) + 1
     → CanPush amount arcs flows t → CanPush amount arcs (set flows i y) t
 CanPush-other amount arcs flows i y t not_along not_against (along k leads room) =
@@ -155,7 +153,7 @@ CanPushEach-other amount arcs flows i y [] skips can = tt
 CanPushEach-other amount arcs flows i y (t ∷ path) skips can =
     (CanPush-other amount arcs flows i y t skips.0 skips.1 can.0, CanPushEach-other amount arcs flows i y path skips.2 can.1)
 
--- a step that does not touch the start of another has another arc
+-- a step that does not touch the start of another step has another arc
 skips-other : (amount : ℕ) (arcs : List Arc) (flows : List ℕ) (s t : Step) → CanPush amount arcs flows s → CanPush amount arcs flows t → t.from ≢ s.from
     → t.to ≢ s.from → (t.rank ≢ 2 * (1 + arc_index s)) × (t.rank ≢ 2 * (1 + arc_index s) + 1)
 skips-other amount arcs flows s t (along k leads room) (along i other more) leaves arrives =
@@ -175,7 +173,7 @@ skips-avoiding amount arcs flows s (t ∷ path) can each avoids =
     let apart = skips-other amount arcs flows s t can each.0 avoids.0 avoids.1 in
     (apart.0, apart.1, skips-avoiding amount arcs flows s path can each.1 avoids.2)
 
--- On a shortest path what can be pushed along each step can be pushed along them in turn.
+-- On a shortest path, an amount that can be pushed along each single step can be pushed along them in turn.
 pub CanPushInTurn-shortest : (amount : ℕ) (arcs : List Arc) (flows : List ℕ) (steps : List Step) (a b : ℕ) (path : List Step) → IsShortestPath steps a b path
     → CanPushEach amount arcs flows path → CanPushInTurn amount arcs flows path
 CanPushInTurn-shortest amount arcs flows steps a b [] shortest each = tt

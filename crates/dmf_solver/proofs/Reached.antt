@@ -12,18 +12,18 @@ use Rattle.dmf_path.proofs.SomeLeast.{SomePath, path-or-none}
 abbrev pub IsClosed : List Step → (ℕ → Bool) → Type 0
 IsClosed steps has = (s : Step) → Contains steps s → has s.from ≡ true → has s.to ≡ true
 
--- A path from a node of a set that no step leaves stays in it.
+-- A path from a node of a set that no step leaves stays in the set.
 pub path-stays : (steps : List Step) (has : ℕ → Bool) (a b : ℕ) (path : List Step) → IsClosed steps has → IsPath steps a b path → has a ≡ true → has b ≡ true
 path-stays steps has a b [] closed p inside = sym (ap has p) ∙ inside
 path-stays steps has a b (s ∷ path) closed p inside = path-stays steps has s.to b path closed p.2 (closed s p.0 (ap has p.1 ∙ inside))
 
--- A path and a step from where it arrives are a path.
+-- A path and a step from its last node are a path.
 pub path-push : (steps : List Step) (a b : ℕ) (path : List Step) (s : Step) → IsPath steps a b path → Contains steps s → s.from ≡ b
     → IsPath steps a s.to (path ++ s ∷ [])
 path-push steps a b [] s p c from = (c, from ∙ sym p, refl)
 path-push steps a b (t ∷ path) s p c from = (p.0, p.1, path-push steps t.to b path s p.2 c from)
 
--- Each step arrives at a node.
+-- The head of each step is a node.
 abbrev pub ArriveAtNodes : ℕ → List Step → Type 0
 ArriveAtNodes nodes steps = (s : Step) → Contains steps s → IsNode nodes s.to
 
@@ -33,15 +33,15 @@ pub record AreReachedFrom (steps : List Step) (nodes a : ℕ) (has : ℕ → Boo
   pub reached : (v : ℕ) → has v ≡ true → (path : List Step) × IsPath steps a v path
   pub every : (v : ℕ) → IsNode nodes v → (path : List Step) → IsPath steps a v path → has v ≡ true
 
--- No step leaves the set of nodes that are reached.
+-- No step leaves the set of reached nodes.
 pub reached_from-closed : (steps : List Step) (nodes a : ℕ) (has : ℕ → Bool) → ArriveAtNodes nodes steps → AreReachedFrom steps nodes a has → IsClosed steps has
 reached_from-closed steps nodes a has arrive r s c inside =
     let before = r.reached s.from inside in
     r.every s.to (arrive s c) (before.0 ++ s ∷ []) (path-push steps a s.from before.0 s before.1 c refl)
 
--- ---- the test of the nodes that are reached
+-- ---- a test for reached nodes
 
--- whether a path leads, where it is known that none does or that one does
+-- whether a path leads there, given that one does or none does
 abbrev is_path : (steps : List Step) (a b : ℕ) → HasNoPath steps a b ⊎ SomePath steps a b → Bool
 is_path steps a b (inl none) = false
 is_path steps a b (inr found) = true
@@ -63,7 +63,7 @@ is_node-from nodes v node = and_from (nat_le 1 v) (nat_le v nodes) (le-leb 1 v n
 pub is_reached : List Step → ℕ → ℕ → ℕ → Bool
 is_reached steps nodes a v = is_node nodes v && is_path steps a v (path-or-none steps a v)
 
--- The test has just the nodes that are reached.
+-- The test has just the reached nodes.
 pub AreReachedFrom-is_reached : (steps : List Step) (nodes a : ℕ) → AreReachedFrom steps nodes a (is_reached steps nodes a)
 unfolding is_reached
 AreReachedFrom-is_reached steps nodes a = record {
@@ -72,7 +72,7 @@ AreReachedFrom-is_reached steps nodes a = record {
   every = λ v node path leads. and_from (is_node nodes v) _ (is_node-from nodes v node) (is_path-true steps a v (path-or-none steps a v) path leads);
 }
 
--- Where each set that has node `a` and that no step leaves has node `b`, it is absurd that no path leads from `a` to `b`.
+-- If each set that has node `a` and that no step leaves has node `b`, it is absurd that no path leads from `a` to `b`.
 pub path-not_none : (steps : List Step) (nodes a b : ℕ) → ArriveAtNodes nodes steps → IsNode nodes a
     → ((has : ℕ → Bool) → has a ≡ true → IsClosed steps has → has b ≡ true) → ¬ HasNoPath steps a b
 path-not_none steps nodes a b arrive node kept none =

@@ -1,5 +1,5 @@
--- The pairs of links that stand for residual steps: their steps are those, but for loops, and pushing along a path of them is
--- augmenting.
+-- The pairs of links that stand for residual steps: their steps are the residual steps, except for self loops, and pushing along a path
+-- of them augments.
 use Rattle.std.proofs.Common.{ℕ, ◌≡◌, ◌≢◌, ◌+◌, ◌-◌, ◌*◌, ◌<◌, ◌≤◌, ◌==◌, Bool, true, false, cond, ltb, List, [], ◌∷◌, ◌++◌, length, get_or, suc, refl, ap, sym}
 use Rattle.std.proofs.Common.{◌∙◌, subst, arith, ⊎_elim, Option, Some}
 use Rattle.std.specs.List.{Contains}
@@ -20,21 +20,21 @@ use Rattle.dmf_state.specs.Arc.{no_arc}
 use Rattle.dmf_solver.proofs.Augmenting.{bottleneck_up_to-le}
 use Rattle.dmf_solver.proofs.ResidualSteps.{along, against, in-optional, residual-contained}
 
--- something more can flow where there is room
+-- an arc can carry more flow if there is room
 ltb-room : (flow cap : ℕ) → ltb 0 (cap - flow) ≡ ltb flow cap
 ltb-room flow cap = grind (arith, nat_tests)
 
--- whether an arc comes back to its tail, and so has no pair
+-- whether an arc is a self loop, and so has no pair
 abbrev pub is_loop : Arc → Bool
 is_loop arc = arc.tail == arc.head
 
--- A step of an arc's pair is a residual step of the arc.
+-- The step of an arc's pair is a residual step of the arc.
 pair-within : (j : ℕ) (arc : Arc) (flow : ℕ) (s : Step) (loop : Bool) → is_loop arc ≡ loop → Contains (pair_steps j (residual_pair arc flow)) s
     → Contains (forward j arc flow ++ backward j arc flow) s
 pair-within j arc flow s true e c = let none = rw e at c in absurd (omega (arith, none.1))
 pair-within j arc flow s false e c = let own = rw (e, ltb-room flow arc.cap) at c in own
 
--- A residual step of an arc is one of its pair, unless it comes back to where it leaves.
+-- A residual step of an arc is a step of its pair, unless the arc is a self loop.
 pair-others : (j : ℕ) (arc : Arc) (flow : ℕ) (s : Step) (loop : Bool) → is_loop arc ≡ loop → s.from ≢ s.to
     → Contains (forward j arc flow ++ backward j arc flow) s → Contains (pair_steps j (residual_pair arc flow)) s
 pair-others j arc flow s false e apart c = rw (e, ltb-room flow arc.cap) c
@@ -64,7 +64,7 @@ within-from j (arc ∷ arcs) (flow ∷ flows) s c =
     (residual_from (j + 1) arcs flows) s (within-from (j + 1) arcs flows s later))
     (Contains-append_cases (pair_steps j (residual_pair arc flow)) (steps_from (j + 1) (residual_pairs arcs flows)) s c)
 
--- and all of them that do not come back.
+-- and all of them that are no self loops.
 others-from : (j : ℕ) (arcs : List Arc) (flows : List ℕ) (s : Step) → s.from ≢ s.to → Contains (residual_from j arcs flows) s
     → Contains (steps_from j (residual_pairs arcs flows)) s
 others-from j [] flows s apart c = c
@@ -83,14 +83,14 @@ residual-without_loops arcs flows = record {
   others = λ s c apart. others-from 1 arcs flows s apart c;
 }
 
--- A step of the path that has this rank and so much room.
+-- A step of the path with this rank has at least so much room.
 pub record HasStep (steps : List Step) (amount rank : ℕ) : Type 0 where
   pub step : Step
   pub listed : Contains steps step
   pub rank_is : step.rank ≡ rank
   pub room : amount ≤ step.room
 
--- the step of a path with some rank
+-- the step of a path with this rank
 step-of_rank : (steps : List Step) (a b amount bound rank : ℕ) (path : List Step) → IsPath steps a b path → amount ≤ bottleneck_up_to bound path
     → has_rank path rank ≡ true → HasStep steps amount rank
 step-of_rank steps a b amount bound rank [] leads within has = absurd (cc)
@@ -100,7 +100,7 @@ step-of_rank steps a b amount bound rank (s ∷ path) leads within has =
     (λ (elsewhere : s.rank ≢ rank). step-of_rank steps s.to b amount bound rank path leads.2 (omega (arith, within)) (rw (ne_eqb s.rank rank elsewhere) at has))
     (cases_eq s.rank rank)
 
--- the same, for the bottleneck
+-- the same for the bottleneck
 pub step-of_least : (steps : List Step) (a b rank : ℕ) (path : List Step) → IsPath steps a b path → has_rank path rank ≡ true
     → HasStep steps (bottleneck path) rank
 step-of_least steps a b rank [] leads has = absurd (cc)
@@ -116,12 +116,12 @@ FitOn amount path j (arc ∷ arcs) (flow ∷ flows) =
     (has_rank path (2 * j) ≡ true → amount + flow ≤ arc.cap) × (has_rank path (2 * j + 1) ≡ true → amount ≤ flow)
     × FitOn amount path (j + 1) arcs flows
 
--- a pair with other rooms
+-- a pair with these rooms
 pair-rooms : (tail head a b c d : ℕ) → a ≡ c → b ≡ d → ◌≡◌ {A = Option Pair} (Some (record { tail = tail; head = head; along = a; against = b }))
     (Some (record { tail = tail; head = head; along = c; against = d }))
 pair-rooms tail head a b c d first second = λ i. Some (record { tail = tail; head = head; along = first i; against = second i })
 
--- what more can flow then
+-- the residual capacity then
 rooms-ahead : (ahead behind : Bool) (amount flow cap : ℕ) → flow ≤ cap → (ahead ≡ true → amount + flow ≤ cap) → (behind ≡ true → amount ≤ flow)
     → cap - (flow + cond ahead amount 0 - cond behind amount 0) ≡ cap - flow - cond ahead amount 0 + cond behind amount 0
 rooms-ahead true true amount flow cap within up down = let u = up refl in let d = down refl in omega (arith, within, u, d)
@@ -129,7 +129,7 @@ rooms-ahead true false amount flow cap within up down = let u = up refl in omega
 rooms-ahead false true amount flow cap within up down = let d = down refl in omega (arith, within, d)
 rooms-ahead false false amount flow cap within up down = omega (arith, within)
 
--- and what flows
+-- and the flow
 rooms-behind : (ahead behind : Bool) (amount flow cap : ℕ) → flow ≤ cap → (ahead ≡ true → amount + flow ≤ cap) → (behind ≡ true → amount ≤ flow)
     → flow + cond ahead amount 0 - cond behind amount 0 ≡ flow - cond behind amount 0 + cond ahead amount 0
 rooms-behind true true amount flow cap within up down = let d = down refl in omega (arith, d)

@@ -1,5 +1,4 @@
--- Each residual step of a flow leads along an arc, where more can flow on it, or against one, where some flow on it can
--- be taken back.
+-- Each residual step of a flow leads along an arc that can carry more flow, or against an arc that carries flow.
 use Rattle.std.proofs.Common.{ℕ, ◌≡◌, ◌+◌, ◌*◌, ◌<◌, ◌≤◌, List, [], ◌∷◌, ◌++◌, length, get_or, suc, Bool, true, false, cond, ltb, sym, subst, ap, refl, ◌-◌}
 use Rattle.std.proofs.Common.{arith, ⊎_elim, append_assoc}
 use Rattle.std.specs.List.{Contains, All, AllPairs}
@@ -28,12 +27,12 @@ pub record LeadsAgainst (j : ℕ) (arcs : List Arc) (k : ℕ) (s : Step) : Type 
   pub head : s.from ≡ (get_or arcs k no_arc).head
   pub tail : s.to ≡ (get_or arcs k no_arc).tail
 
--- The step leads along an arc and its room is what more can flow there, or against one and its room is what flows there.
+-- The step leads along an arc, and its room is the arc's residual capacity; or against an arc, and its room is the arc's flow.
 pub data IsResidual (j : ℕ) (arcs : List Arc) (flows : List ℕ) (s : Step) : Type 0 where
   along : (k : ℕ) → LeadsAlong j arcs k s → s.room + get_or flows k 0 ≡ (get_or arcs k no_arc).cap → 0 < s.room → IsResidual j arcs flows s
   against : (k : ℕ) → LeadsAgainst j arcs k s → s.room ≡ get_or flows k 0 → 0 < s.room → IsResidual j arcs flows s
 
--- an arc more in front
+-- one more arc in front
 residual-behind : (j : ℕ) (a : Arc) (arcs : List Arc) (x : ℕ) (flows : List ℕ) (s : Step) → IsResidual (j + 1) arcs flows s
     → IsResidual j (a ∷ arcs) (x ∷ flows) s
 residual-behind j a arcs x flows s (along k leads room has) =
@@ -41,7 +40,7 @@ residual-behind j a arcs x flows s (along k leads room has) =
 residual-behind j a arcs x flows s (against k leads room has) =
     against (suc k) (record { within = omega (arith, leads.within); rank_is = omega (arith, leads.rank_is); head = leads.head; tail = leads.tail }) room has
 
--- the one element of a list that has one where the test holds
+-- the only element of a list that has one if the test holds
 pub in-optional : {A : Type 0} (b : Bool) (x y : A) → Contains (cond b (x ∷ []) []) y → (b ≡ true) × (x ≡ y)
 in-optional true x y c = (refl, subst (λ i. get_or (x ∷ []) i y ≡ y) (let first : c.0 ≡ 0 = omega (arith, c.1) in first) c.2)
 in-optional false x y c = absurd (omega (arith, c.1))
@@ -100,7 +99,7 @@ rank-from : (j : ℕ) (arcs : List Arc) (flows : List ℕ) (s : Step) → IsResi
 rank-from j arcs flows s (along k leads room has) = omega (arith, leads.rank_is)
 rank-from j arcs flows s (against k leads room has) = omega (arith, leads.rank_is)
 
--- so do all in the list
+-- and so do all ranks in the list
 ranks-from : (j : ℕ) (arcs : List Arc) (flows : List ℕ) (k : ℕ) (d : Step) → k < length (residual_from j arcs flows)
     → 2 * j ≤ (get_or (residual_from j arcs flows) k d).rank
 ranks-from j arcs flows k d h = rank-from j arcs flows _ (residual-contained j arcs flows _ (Contains-get_or (residual_from j arcs flows) k d h))
@@ -109,13 +108,13 @@ ranks-from j arcs flows k d h = rank-from j arcs flows _ (residual-contained j a
 abbrev pub IsBefore : Step → Step → Type 0
 IsBefore s t = s.rank < t.rank
 
--- a step in front, where the test holds, of a rank below those after it
+-- a step in front, if the test holds, whose rank is below those after it
 pub ascending-optional : (b : Bool) (s : Step) (steps : List Step) → All (IsBefore s) steps → AllPairs IsBefore steps
     → AllPairs IsBefore (cond b (s ∷ []) [] ++ steps)
 ascending-optional true s steps below ascending = AllPairs-cons IsBefore s steps below ascending
 ascending-optional false s steps below ascending = ascending
 
--- a rank below all, with one step more in front
+-- a rank below all others, with one more step in front
 below-optional : (b : Bool) (s t : Step) (steps : List Step) → IsBefore s t → All (IsBefore s) steps → All (IsBefore s) (cond b (t ∷ []) [] ++ steps)
 below-optional true s t steps first below = All-cons (IsBefore s) t steps first below
 below-optional false s t steps first below = below

@@ -1,4 +1,4 @@
--- The rooms of the links that leave the source: what more can flow out of it, so that they fall as a flow grows.
+-- The rooms of the links that leave the source: the flow that can still leave it, which falls as a flow grows.
 use Rattle.std.proofs.Common.{ℕ, ◌≡◌, ◌+◌, ◌<◌, ◌≤◌, ◌==◌, ◌&&◌, not, cond, List, [], ◌∷◌, sum_by, refl, arith, Option, Some, None}
 use Rattle.std.specs.List.{zip}
 use Rattle.std.proofs.lemmas.Bool.Decides.{nat_tests}
@@ -24,7 +24,7 @@ room_at v (Some p) = cond (p.tail == v) p.along 0 + cond (p.head == v) p.against
 abbrev pub room_leaving : List (Option Pair) → ℕ → ℕ
 room_leaving pairs v = sum_by (room_at v) pairs
 
--- how much can flow on an arc that leaves node `v` for another
+-- the most flow on an arc that leaves node `v` for another node
 abbrev capacity_at : ℕ → Arc → ℕ
 capacity_at v arc = cond (arc.tail == v && not (arc.tail == arc.head)) arc.cap 0
 
@@ -33,7 +33,7 @@ room_at-residual : (v : ℕ) (arc : Arc) (flow : ℕ) → flow ≤ arc.cap → r
     (arc.head == v) flow 0 + capacity_at v arc
 room_at-residual v arc flow within = grind (arith, nat_tests)
 
--- What more can flow out of a node is the capacities of its arcs less what flows out.
+-- The flow that can still leave a node is the capacity of its arcs minus its outflow.
 room_leaving-residual : (v : ℕ) (arcs : List Arc) (flows : List ℕ) → AreWithinCapacities arcs flows
     → room_leaving (residual_pairs arcs flows) v + outflow arcs flows v ≡ inflow arcs flows v + sum_by (capacity_at v) arcs
 room_leaving-residual v [] [] within = refl
@@ -60,7 +60,7 @@ room_leaving-network : (n : Network) (flows : List ℕ) (v : ℕ) → room_leavi
 room_leaving-network n flows v =
     omega (arith, sum_by_push (room_at v) (residual_pairs n.arcs flows) (closed_return n), room_at-return v n)
 
--- It falls with each path.
+-- This falls with each path.
 pub room_leaving-falls : (s : NetworkState) (flows : List ℕ) (path : List Step) → IsState (with_flows s flows) → IsState (with_flows s (augmented path flows))
     → IsLeastPath (residual_steps s.network.arcs flows) s.network.source s.network.sink path
     → room_leaving (network_pairs s.network (augmented path flows)) s.network.source < room_leaving (network_pairs s.network flows) s.network.source

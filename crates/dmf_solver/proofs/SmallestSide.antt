@@ -1,4 +1,4 @@
--- The nodes that residual paths of a greatest flow lead to from the source are those that every minimum cut has.
+-- The nodes to which residual paths of a maximum flow lead from the source are those that every minimum cut has.
 use Rattle.std.proofs.Common.{ℕ, ◌≡◌, List, Bool, true, false, ap, sym, ◌∙◌, subst, arith, pos}
 use Rattle.std.specs.List.Sorted.{IsStrictlyIncreasing}
 use Rattle.std.proofs.lemmas.Bool.{both_ways}
@@ -20,7 +20,7 @@ use Rattle.dmf_solver.proofs.Reached.{path-stays}
 use Rattle.dmf_state.proofs.Ascending.{same-nodes}
 use Rattle.dmf_solver.specs.Laws.{HasOneSmallestSide}
 
--- A minimum cut is tight, where the value of the flow is the capacity of some cut, as of the nodes that are reached.
+-- A minimum cut is tight if the value of the flow is the capacity of some cut, as of the reached nodes.
 pub minimum_cut-tight : (n : Network) (flows : List ℕ) (has other : ℕ → Bool) → IsNetwork n → IsFlow n flows
     → HasNoPath (residual_steps n.arcs flows) n.source n.sink → AreReached n flows has → IsMinimumCut n other → AreTight other n.arcs flows
 minimum_cut-tight n flows has other network flow none r least =
@@ -28,7 +28,7 @@ minimum_cut-tight n flows has other network flow none r least =
     let within = least.least has (reached-cut n flows has network r none) in
     tight-from_capacity n flows other network flow least.cut (omega (arith, ints, same, within))
 
--- Every minimum cut has each node that is reached.
+-- Every minimum cut has each reached node.
 pub reached-in_every : (n : Network) (flows : List ℕ) (has : ℕ → Bool) (v : ℕ) → IsNetwork n → IsFlow n flows
     → HasNoPath (residual_steps n.arcs flows) n.source n.sink → AreReached n flows has → has v ≡ true → IsInEveryMinimumCut n v
 reached-in_every n flows has v network flow none r inside other least =
@@ -41,7 +41,7 @@ pub reached-from_every : (n : Network) (flows : List ℕ) (has : ℕ → Bool) (
     → HasNoPath (residual_steps n.arcs flows) n.source n.sink → AreReached n flows has → IsInEveryMinimumCut n v → has v ≡ true
 reached-from_every n flows has v network flow none r every = every has (reached-minimum_cut n flows has network flow none r)
 
--- The ascending list of the nodes that are reached is the smallest side, and the value of the flow its capacity.
+-- The ascending list of the reached nodes is the smallest side, and the value of the flow is its capacity.
 pub IsSmallestSide-reached : (n : Network) (flows ids : List ℕ) (capacity : ℕ) → IsNetwork n → IsFlow n flows
     → HasNoPath (residual_steps n.arcs flows) n.source n.sink → AreReached n flows (has_node ids) → IsStrictlyIncreasing ids → pos capacity ≡ flow_value n flows
     → IsSmallestSide n (record { ids = ids; capacity = capacity })
@@ -55,7 +55,7 @@ IsSmallestSide-reached n flows ids capacity network flow none r increasing value
   capacity_is = omega (arith, ints, value, reached-capacity n flows (has_node ids) network flow none r);
 }
 
--- The side of the nodes that a search for augmenting paths reaches has those that residual paths reach.
+-- The side that a search for augmenting paths reaches has the nodes that residual paths reach.
 pub reached-by_search : (n : Network) (flows : List ℕ) (search : Searched) (capacity : ℕ) (side : CutSide) → search ≡ residual_search n flows
     → IsReachedSide search capacity side → AreReached n flows (has_node side.ids)
 reached-by_search n flows search capacity side same is =
@@ -66,12 +66,12 @@ reached-by_search n flows search capacity side same is =
       every = λ v node path leads. (is.nodes v).1 (subst (λ last. IsNode last v) (sym nodes) node, (reached-residual n flows search v same).1 (path, leads));
     }
 
--- Where it has not the sink, no path leads there.
+-- If it does not have the sink, no path leads there.
 pub no_path-by_search : (n : Network) (flows : List ℕ) (has : ℕ → Bool) → IsNetwork n → AreReached n flows has → has n.sink ≡ false
     → HasNoPath (residual_steps n.arcs flows) n.source n.sink
 no_path-by_search n flows has network r out path leads = both_ways (has n.sink) out (r.every n.sink network.sink path leads)
 
--- It is the smallest side then.
+-- Then it is the smallest side.
 pub IsSmallestSide-by_search : (n : Network) (flows : List ℕ) (search : Searched) (capacity : ℕ) (side : CutSide) → IsNetwork n → IsFlow n flows
     → HasNoPath (residual_steps n.arcs flows) n.source n.sink → search ≡ residual_search n flows → pos capacity ≡ flow_value n flows
     → IsReachedSide search capacity side → IsSmallestSide n side

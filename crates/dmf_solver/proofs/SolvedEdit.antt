@@ -1,4 +1,4 @@
--- The edit of a solve: its moves list where the flow that the search has reached differs.
+-- The edit of a solve: its moves name the arcs whose flow differs in what the search has reached.
 use Rattle.std.proofs.Common.{ℕ, ◌≡◌, ◌∙◌, List, Option, IfSome, Result, Ok, Err, MatchResult, Vec, Global, ap, inl, inr, pos, refl, subst, sym}
 use Rattle.std.specs.Prelude.{IsErr}
 use Rattle.std.proofs.lemmas.Bool.{false≢true}
@@ -22,7 +22,7 @@ use Rattle.dmf_state.proofs.Moving.{AreMovesBetween, moves-between, flows-long}
 
 module _ (s : NetworkState) (solved : Solved) (moves : Vec Move Global) (state : IsState s) (is : IsSolved s solved)
     (listed : moves.items ≡ differences 1 s.flows (reached_flows s solved.search)) where
-  -- The moves lead from the flow of the state to that which the search has reached.
+  -- The moves lead from the state's flow to the flow that the search has reached.
   between : AreMovesBetween moves.items s.flows (reached_flows s solved.search)
   between = moves-between moves.items s.flows (reached_flows s solved.search) (flows-long s (reached_flows s solved.search) state is.state) listed
 
@@ -50,27 +50,27 @@ module _ (s : NetworkState) (solved : Solved) (moves : Vec Move Global) (state :
   pub flows-listed : (applied (edit.Solve moves) s).flows ≡ reached_flows s solved.search
   flows-listed = between.makes
 
-  -- whose value the side has,
+  -- the side has the value of that flow,
   pub value-listed : (side : Option CutSide) → IfSome side (λ side. pos side.capacity ≡ flow_value s.network (reached_flows s solved.search))
       → IfSome side (λ side. pos side.capacity ≡ flow_value s.network (applied (edit.Solve moves) s).flows)
   value-listed side is = subst (λ flows. IfSome side (λ side. pos side.capacity ≡ flow_value s.network flows)) (sym flows-listed) is
 
-  -- was told as the search told it,
+  -- the watch got the search's report,
   pub told-listed : (before after : Option (List Told)) → TellsSolve s (reached_flows s solved.search) before after
       → TellsSolve s (applied (edit.Solve moves) s).flows before after
   told-listed before after tells = subst (λ flows. TellsSolve s flows before after) (sym flows-listed) tells
 
-  -- and leaves the search's links as those of the residual network.
+  -- and the search has the links of the residual network.
   pub residual-listed : IsResidualOf (applied (edit.Solve moves) s) solved.search
   residual-listed = is.search_is ∙ ap (residual_search s.network) (sym flows-listed)
 
--- Where memory is refused before the search begins, nothing was told.
+-- If memory is refused before the search begins, nothing was reported.
 pub told-nothing : {A E : Type 0} (s : NetworkState) (result : Result A E) (P : A → Type 0) (before : Option (List Told)) → IsErr result
     → MatchResult result P (λ _. MayTellSolve s before before)
 told-nothing s (Ok x) P before refused = absurd (false≢true refused)
 told-nothing s (Err fault) P before refused = inl (AreTold-none before)
 
--- Where it is refused afterwards, what the search told was told.
+-- If memory is refused afterwards, the search's report was made.
 pub told-refused : {A E : Type 0} (s : NetworkState) (last : List ℕ) (result : Result A E) (P : A → Type 0) (before after : Option (List Told))
     → IsErr result → TellsSolve s last before after → MatchResult result P (λ _. MayTellSolve s before after)
 told-refused s last (Ok x) P before after refused told = absurd (false≢true refused)

@@ -11,7 +11,7 @@ use Rattle.dmf_solver.specs.Solve.{Augments}
 use Rattle.dmf_solver.specs.Told.{Told, told_of, AreTold}
 use Rattle.dmf_solver.proofs.Augmenting.{augmented-flow, augmented-value}
 
--- one path more, the last
+-- one more path, the last
 pub Augments-push : (n : Network) (flows : List ℕ) (paths : List (List Step)) (last : List ℕ) (path : List Step) → Augments n flows paths last
     → IsLeastPath (residual_steps n.arcs last) n.source n.sink path → Augments n flows (paths ++ path ∷ []) (augmented path last)
 Augments-push n flows [] last path augments least =
@@ -19,7 +19,7 @@ Augments-push n flows [] last path augments least =
 Augments-push n flows (first ∷ paths) last path augments least =
     (augments.0, Augments-push n (augmented first flows) paths last path augments.1 least)
 
--- The flows were reached from those of the state by augmenting along least paths, and are a flow of a value from 0 on.
+-- Augmenting along least paths leads from the state's flow to these flows, which are a flow whose value is not negative.
 pub record IsReached (s : NetworkState) (flows : List ℕ) : Type 0 where
   pub state : IsState (with_flows s flows)
   pub paths : List (List Step)
@@ -36,7 +36,7 @@ IsState-augmented s flows path state least =
       value_from_zero = omega (arith, ints, value, state.value_from_zero);
     }
 
--- one path more
+-- one more path
 abbrev pub reached-more : (s : NetworkState) (flows : List ℕ) (path : List Step) → IsReached s flows
     → IsLeastPath (residual_steps s.network.arcs flows) s.network.source s.network.sink path → IsReached s (augmented path flows)
 reached-more s flows path reached least = record {
@@ -45,9 +45,9 @@ reached-more s flows path reached least = record {
   augments = Augments-push s.network s.flows reached.paths flows path reached.augments least;
 }
 
--- ---- what is told
+-- ---- what is reported
 
--- One path more is told after the others.
+-- One more path is reported after the others.
 pub told_of-push : (n : Network) (flows : List ℕ) (paths : List (List Step)) (last : List ℕ) (path : List Step) → Augments n flows paths last
     → told_of n flows (paths ++ path ∷ []) ≡ told_of n flows paths ++ record { value = flow_value n (augmented path last); links = length path } ∷ []
 told_of-push n flows [] last path augments = ap (λ now. told_of n now (path ∷ [])) augments
@@ -55,14 +55,14 @@ told_of-push n flows (first ∷ paths) last path augments =
     ap (λ (told : List Told). record { value = flow_value n (augmented first flows); links = length first } ∷ told)
     (told_of-push n (augmented first flows) paths last path augments.1)
 
--- What is told after these is told after all of them.
+-- What is reported after these is reported after all of them.
 pub AreTold-trans : (a b c : Option (List Told)) (these more : List Told) → AreTold a b these → AreTold b c more → AreTold a c (these ++ more)
 AreTold-trans a b None these more p q = tt
 AreTold-trans a None (Some z) these more p q = absurd q
 AreTold-trans None (Some y) (Some z) these more p q = absurd p
 AreTold-trans (Some x) (Some y) (Some z) these more p q = q ∙ ap (λ told. told ++ more) p ∙ append_assoc x these more
 
--- Where nothing is told, what was told stays as it was.
+-- If nothing is reported, the report stays as it was.
 pub AreTold-none : (a : Option (List Told)) → AreTold a a []
 AreTold-none None = tt
 AreTold-none (Some x) = sym (append-nil x)

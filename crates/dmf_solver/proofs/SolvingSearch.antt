@@ -1,4 +1,4 @@
--- Solving by a search among the residual pairs: what the search keeps as it augments, and which flow it tells at the end.
+-- Solving by a search among the residual pairs: what the search keeps as it augments, and the flow that it has at the end.
 use Rattle.std.proofs.Common.{ℕ, ◌≡◌, ◌≢◌, ◌+◌, ◌-◌, ◌*◌, ◌^◌, ◌<◌, ◌≤◌, Bool, true, false, ◌==◌, cond, ltb, min, List, [], ◌∷◌, ◌++◌, length, get_or, refl, ap}
 use Rattle.std.proofs.Common.{sym, ◌∙◌, subst, arith, pos, suc, ⊎_elim, Option}
 use Rattle.std.specs.List.{Contains}
@@ -70,7 +70,7 @@ apart-from j (arc ∷ arcs) (flow ∷ flows) s c =
     (apart-from (j + 1) arcs flows s)
     (Contains-append_cases (pair_steps j (residual_pair arc flow)) (steps_from (j + 1) (residual_pairs arcs flows)) s c)
 
--- the ends of a residual step of an arc that comes back
+-- the ends of a residual step of a self loop
 ends-same : (arcs : List Arc) (flows : List ℕ) (k : ℕ) (s : Step) → (get_or arcs k no_arc).tail ≡ (get_or arcs k no_arc).head → 2 * (1 + k) ≤ s.rank
     → s.rank ≤ 2 * (1 + k) + 1 → IsResidual 1 arcs flows s → s.from ≡ s.to
 ends-same arcs flows k s loop from to (along i is room some) =
@@ -80,7 +80,7 @@ ends-same arcs flows k s loop from to (against i is room some) =
     let place : i ≡ k = omega (arith, is.rank_is) in
     is.head ∙ ap (λ n. (get_or arcs n no_arc).head) place ∙ sym loop ∙ sym (ap (λ n. (get_or arcs n no_arc).tail) place) ∙ sym is.tail
 
--- A path of the pairs has no step of an arc that comes back.
+-- A path of the pairs has no step of a self loop.
 loop-unranked : (arcs : List Arc) (flows : List ℕ) (a b k rank : ℕ) (path : List Step) (has : Bool) → IsPath (steps_of (residual_pairs arcs flows)) a b path
     → (get_or arcs k no_arc).tail ≡ (get_or arcs k no_arc).head → 2 * (1 + k) ≤ rank → rank ≤ 2 * (1 + k) + 1 → has_rank path rank ≡ has
     → has_rank path rank ≡ false
@@ -91,7 +91,7 @@ loop-unranked arcs flows a b k rank path true leads loop from to e =
     absurd (apart-from 1 arcs flows step.step step.listed
     (ends-same arcs flows k step.step loop (omega (arith, step.rank_is)) (omega (arith, step.rank_is)) (residual-contained 1 arcs flows step.step listed)))
 
--- On the arcs that come back the flow is as it was at first.
+-- On self loops the flow stays as it was at first.
 abbrev AreKept : List Arc → List ℕ → List ℕ → Type 0
 AreKept arcs firsts flows =
     (k : ℕ) → k < length arcs → (get_or arcs k no_arc).tail ≡ (get_or arcs k no_arc).head → get_or flows k 0 ≡ get_or firsts k 0
@@ -128,7 +128,7 @@ bottleneck_up_to-least n flows limit (s ∷ path) all is flow leads =
     let least : min s.room limit ≡ s.room = omega arith in
     bottleneck_up_to-min s.room limit path ∙ ap (λ m. bottleneck_up_to m path) least
 
--- The search is that of some flows that augmenting along least paths reaches, and the value is theirs.
+-- The search has flows that augmenting along least paths reaches, and this is their value.
 pub record IsSolving (s : NetworkState) (search : Searched) (value : ℕ) : Type 0 where
   pub flows : List ℕ
   pub reached : IsReached s flows
@@ -136,21 +136,21 @@ pub record IsSolving (s : NetworkState) (search : Searched) (value : ℕ) : Type
   pub search_is : search ≡ residual_search s.network flows
   pub value_is : pos value ≡ flow_value s.network flows
 
--- There are as many pairs as arcs, and one more.
+-- There is one more pair than there are arcs.
 pub solving-long : (s : NetworkState) (search : Searched) (value : ℕ) → IsSolving s search value → length search.pairs ≡ length s.network.arcs + 1
 solving-long s search value is =
     ap (λ (o : Searched). length o.pairs) is.search_is
     ∙ length-network_pairs s.network is.flows (AllZip-long _ s.network.arcs is.flows is.reached.state.flow.within)
 
--- The search augments, the value grows by the amount, what is told grows by that and the links, and the rooms that leave the
--- source fall.
+-- The search augments. The value grows by the amount, the report gets this value and the number of links, and the rooms of the links
+-- that leave the source fall.
 pub record IsNext (s : NetworkState) (before : List (List Step)) (links : ℕ) (old new : Searched) (value : ℕ) : Type 0 where
   pub solving : IsSolving s new value
   pub told : told_of s.network s.flows solving.reached.paths ≡ told_of s.network s.flows before ++ record { value = pos value; links = links } ∷ []
   pub small : value < 2 ^ 64
   pub falls : room_leaving new.pairs s.network.source < room_leaving old.pairs s.network.source
 
--- one path more
+-- one more path
 pub solving-more : (s : NetworkState) (limit value : ℕ) (found : AugmentingPath) (old new : Searched) → limit + 1 ≡ 2 ^ 64 → (is : IsSolving s old value)
     → Augments limit found old new → IsNext s is.reached.paths found.links old new (value + found.amount)
 solving-more s limit value found old new all is augments =
@@ -187,13 +187,13 @@ solving-more s limit value found old new all is augments =
       falls = rw (next, is.search_is) (room_leaving-falls s is.flows path state reached.state least);
     }
 
--- The flow that is read off an arc: the room against its pair, and where it has none, what flowed at first.
+-- The flow that is read from the search for an arc: the room against its pair or, without a pair, its flow at first.
 read-flow : (arc : Arc) (first flow : ℕ) (loop : Bool) → (arc.tail == arc.head) ≡ loop → (arc.tail ≡ arc.head → flow ≡ first)
     → flow_read Against first (residual_pair arc flow) ≡ flow
 read-flow arc first flow true e kept = rw e (sym (kept (exact_unsigned_eq arc.tail arc.head e)))
 read-flow arc first flow false e kept = rw e refl
 
--- So the flows are read off the pairs.
+-- So the flows are read from the pairs.
 read-flows : (arcs : List Arc) (firsts flows : List ℕ) (rest : List (Option Pair)) → AreWithinCapacities arcs firsts → AreWithinCapacities arcs flows
     → AreKept arcs firsts flows → flows_read Against firsts (residual_pairs arcs flows ++ rest) ≡ flows
 read-flows [] [] [] rest below within kept = refl
@@ -206,13 +206,13 @@ read-flows (arc ∷ arcs) (first ∷ firsts) (flow ∷ flows) rest below within 
     let later = read-flows arcs firsts flows rest below.1 within.1 (λ k h loop. kept (suc k) (omega (arith, h)) loop) in
     λ i. here i ∷ later i
 
--- The flows that are read off the search are those that were reached.
+-- The flows that are read from the search are those that it has reached.
 solving-read : (s : NetworkState) (value : ℕ) (old new : Searched) → IsState s → (is : IsSolving s old value) → new ≡ old → is.flows ≡ reached_flows s new
 solving-read s value old new state is same =
     sym (ap (reached_flows s) (same ∙ is.search_is) ∙ read-flows s.network.arcs s.flows is.flows (closed_return s.network ∷ []) state.flow.within
     is.reached.state.flow.within is.kept)
 
--- Where no path is left, they are the outcome of solving,
+-- If no path is left, they are the outcome of solving,
 solving-solves : (s : NetworkState) (value : ℕ) (old : Searched) → (is : IsSolving s old value) → HasNoPath (steps_of old.pairs) old.start old.goal
     → Solves s.network s.flows is.flows
 solving-solves s value old is none =
@@ -222,7 +222,7 @@ solving-solves s value old is none =
     (network-without_loops n is.flows) left in
     record { paths = is.reached.paths; augments = is.reached.augments; no_path = no_path }
 
--- the search has come to it,
+-- the search has reached it,
 pub solving-done : (s : NetworkState) (solved : Solved) (old : Searched) → IsState s → IsSolving s old solved.value
     → HasNoPath (steps_of old.pairs) old.start old.goal → solved.search ≡ old
     → KeepsUntouched solved.touched (network_pairs s.network s.flows) solved.search.pairs → AreBelow (length s.network.arcs + 1) solved.touched
@@ -240,7 +240,7 @@ solving-done s solved old state is none same kept below ascend =
       ascend = ascend;
     }
 
--- and all its paths were told.
+-- and all its paths were reported.
 pub solving-told : (s : NetworkState) (value : ℕ) (old new : Searched) (before after : Option (List Told)) → IsState s → (is : IsSolving s old value)
     → AreTold before after (told_of s.network s.flows is.reached.paths) → HasNoPath (steps_of old.pairs) old.start old.goal → new ≡ old
     → TellsSolve s (reached_flows s new) before after
@@ -251,7 +251,7 @@ solving-told s value old new before after state is told none same =
 
 module _ (s : NetworkState) (search : Searched) (state : IsState s) (is : search ≡ residual_search s.network (reached_flows s search))
     (within : AreWithinCapacities s.network.arcs (reached_flows s search)) where
-  -- There is a pair, or the place of one, for each flow, and one more,
+  -- There is an entry for a pair for each flow, and one more,
   pub pairs-long : length search.pairs ≡ length s.flows + 1
   pairs-long =
       ap (λ (o : Searched). length o.pairs) is

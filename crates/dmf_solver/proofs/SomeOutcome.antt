@@ -41,7 +41,7 @@ value-rises : (n : Network) (flows : List ℕ) → IsNetwork n → IsFlow n flow
 value-rises n flows network flow found =
     omega (arith, ints, room-positive n flows found.path network.two_terminals found.least, augmented-value n flows found.path network flow found.least)
 
--- One path more in front.
+-- One more path in front.
 one-more : (n : Network) (flows : List ℕ) → IsNetwork n → IsFlow n flows → (found : SomeLeast (residual_steps n.arcs flows) n.source n.sink)
     → Solved n (augmented found.path flows) → Solved n flows
 one-more n flows network flow found rest = record {
@@ -55,7 +55,7 @@ one-more n flows network flow found rest = record {
   value = omega (arith, ints, value-rises n flows network flow found, rest.value);
 }
 
--- Augmenting ends: each path raises the value, and the capacities together bound it.
+-- Augmenting ends: each path raises the value, and the sum of the capacities bounds it.
 solved : (n : Network) → IsNetwork n → (left : ℕ) (flows : List ℕ) → IsFlow n flows → pos (capacity_sum n.arcs) <ℤ (flow_value n flows +ℤ pos left)
     → Solved n flows
 solved n network zero flows flow bound = absurd (omega (arith, ints, bound, value-le-capacities n flows flow))
@@ -72,7 +72,7 @@ solved n network (suc left) flows flow bound =
           (omega (arith, ints, bound, value-rises n flows network flow found)))
     ]
 
--- Where there is no fault each test passes.
+-- If there is no fault, each test passes.
 each-passes : (tail head few small : Bool) → option_map plan_fault (cond (tail && head) (cond few (cond small None (Some SumTooLarge)) (Some TooManyArcs))
     (Some NoSuchNode)) ≡ None → (tail ≡ true) × (head ≡ true) × (few ≡ true) × (small ≡ true)
 each-passes false head few small none = absurd (cc)
@@ -93,7 +93,7 @@ cap-passes true true small none = absurd (cc)
 cap-passes true false false none = absurd (cc)
 cap-passes true false true none = (refl, refl, refl)
 
--- Draining an arc to the capacity of another, which has the same ends, makes a state with that in its place.
+-- Draining an arc to the capacity of another one with the same ends makes a state with that one in its place.
 IsState-drained : (s : NetworkState) (j : ℕ) (arc : Arc) (last : List ℕ) → IsState s → has_arc s.network j ≡ true → arc.tail ≡ (arc_number s.network j).tail
     → arc.head ≡ (arc_number s.network j).head → IsNetwork (with_arc s.network j arc) → Drains s.network j arc.cap s.flows last
     → IsState (record { network = with_arc s.network j arc; flows = last })
@@ -116,7 +116,7 @@ some-closed s j state has =
       becomes = (refl, found.drains);
     }
 
--- and so can arcs in turn.
+-- and so can several arcs in turn.
 record SomeClosed (js : List ℕ) (s : NetworkState) : Type 0 where
   after : NetworkState
   state : IsState after

@@ -1,4 +1,4 @@
--- Every network has a smallest side, and every flow is greatest or surpassed.
+-- Every network has a smallest side, and a flow is greatest or some flow has a larger value.
 use Rattle.std.proofs.Common.{ℕ, zero, suc, ◌≡◌, ◌+◌, ◌-◌, List, [], ◌∷◌, ◌++◌, length, get_or, Bool, true, false, refl, ap, sym, ◌∙◌, subst, arith, ⊎_elim}
 use Rattle.std.proofs.Common.{inl, inr}
 use Rattle.std.proofs.lemmas.Bool.{both_ways, cases_eq}
@@ -26,7 +26,7 @@ use Rattle.dmf_solver.proofs.SomeOutcome.{some-outcome}
 
 -- ---- the list of the nodes of a set
 
--- for each of the first `count` nodes, whether the set has it
+-- for each of the first `count` nodes, whether the set has the node
 abbrev marks_of : (ℕ → Bool) → ℕ → List Bool
 marks_of has zero = []
 marks_of has (suc count) = marks_of has count ++ has (suc count) ∷ []
@@ -35,7 +35,7 @@ marks-long : (has : ℕ → Bool) (count : ℕ) → length (marks_of has count) 
 marks-long has zero = refl
 marks-long has (suc count) = omega (arith, length_push (marks_of has count) (has (suc count)), marks-long has count)
 
--- The mark of a node tells whether the set has it.
+-- The mark of a node says whether the set has the node.
 mark-is : (has : ℕ → Bool) (count v : ℕ) → IsNode count v → get_or (marks_of has count) (v - 1) false ≡ has v
 mark-is has zero v node = absurd (omega (arith, node.from_one, node.to_last))
 mark-is has (suc count) v node =
@@ -46,7 +46,7 @@ mark-is has (suc count) v node =
     ∙ mark-is has count v (record { from_one = node.from_one; to_last = omega (arith, earlier, node.to_last) }))
     (cases_eq v (suc count))
 
--- Ascending, the marked ones of the first nodes are listed.
+-- The ascending list of the marked ones among the first nodes.
 record Listed (marks : List Bool) (count : ℕ) : Type 0 where
   ids : List ℕ
   are : AreMarkedUpTo marks count ids
@@ -61,7 +61,7 @@ none-listed marks = record {
   };
 }
 
--- one node more
+-- one more node
 next-listed : (marks : List Bool) (count : ℕ) (mark : Bool) → get_or marks count false ≡ mark → Listed marks count → Listed marks (count + 1)
 next-listed marks count true is before = record { ids = before.ids ++ (count + 1) ∷ []; are = marked-push marks count before.ids is before.are }
 next-listed marks count false is before = record { ids = before.ids; are = marked-skip marks count before.ids is before.are }
@@ -74,7 +74,7 @@ listed marks (suc count) =
 
 -- ---- the smallest side
 
--- Where no path leads to the sink, the list of the nodes that are reached is the smallest side.
+-- If no path leads to the sink, the list of the reached nodes is the smallest side.
 some-side_of : (n : Network) (flows : List ℕ) → IsNetwork n → IsFlow n flows → HasNoPath (residual_steps n.arcs flows) n.source n.sink
     → (side : CutSide) × IsSmallestSide n side
 some-side_of n flows network flow none =
@@ -95,13 +95,13 @@ some-side_of n flows network flow none =
           (reached-capacity n flows (has_node list.ids) network flow none reached),
     )
 
--- A network has a smallest side, as that of its greatest flow.
+-- A network has a smallest side, the one of its maximum flow.
 pub some-smallest_side : HasSmallestSide
 some-smallest_side n network =
     let greatest = some-greatest_flow n network in
     some-side_of n greatest.0 network greatest.1.flow (no_path-from_greatest n greatest.0 network greatest.1)
 
--- ---- greatest flows
+-- ---- maximum flows
 
 -- A flow is greatest, or some flow has a larger value.
 pub greatest-or-surpassed : IsGreatestOrSurpassed
@@ -110,7 +110,7 @@ greatest-or-surpassed n flows network flow = ⊎_elim
     (λ (found : SomeLeast (residual_steps n.arcs flows) n.source n.sink). inr (surpassed n flows found.path network flow found.least))
     (least-or-none (residual_steps n.arcs flows) (AreSteps-residual n.nodes n.arcs flows network.arcs).ascending n.source n.sink)
 
--- The flow that solving makes of a state's is greatest: solving has one outcome, and that is a state.
+-- Solving a state makes a maximum flow: it has one outcome, and that is a state.
 pub solved-greatest : SolvedIsGreatest
 solved-greatest s t state becomes =
     let outcome = some-outcome s Solve state refl in

@@ -1,4 +1,4 @@
--- Draining an arc that comes back to its tail leaves the pairs of the other arcs, and so the search over them.
+-- Draining a self loop leaves the pairs of the other arcs, and so the search over them.
 use Rattle.std.proofs.Common.{ℕ, ◌≡◌, ◌≢◌, ◌-◌, ◌<◌, ◌≤◌, true, List, [], ◌∷◌, ◌++◌, length, get_or, set, zero, suc, refl, ap, sym, ◌∙◌, subst, arith, ⊎_elim}
 use Rattle.std.proofs.Common.{eq-eqb}
 use Rattle.std.proofs.lemmas.Bool.{cases_lt, cases_eq}
@@ -27,7 +27,7 @@ pairs-dropped (arc ∷ arcs) [] k loop = refl
 pairs-dropped (arc ∷ arcs) (x ∷ flows) zero loop = rw (eq-eqb arc.tail arc.head loop) refl
 pairs-dropped (arc ∷ arcs) (x ∷ flows) (suc k) loop = ap (λ pairs. carrying_pair arc x ∷ pairs) (pairs-dropped arcs flows k loop)
 
--- So does what the sink receives.
+-- So does the inflow of the sink.
 value-dropped : (n : Network) (flows : List ℕ) (k : ℕ) → length flows ≡ length n.arcs → k < length n.arcs
     → (get_or n.arcs k no_arc).tail ≡ (get_or n.arcs k no_arc).head → value_or_zero n (set flows k 0) ≡ value_or_zero n flows
 value-dropped n flows k long within loop =
@@ -35,12 +35,12 @@ value-dropped n flows k long within loop =
     let into = rw (sym loop) at (flow_at-set (λ a. a.head) n.arcs flows k 0 n.source long within) in
     omega (arith, out, into)
 
--- What is said of a loop that is drained.
+-- What holds for a drained self loop.
 pub record IsDrainedLoop (s : NetworkState) (j : ℕ) (unpaired : List ℕ) (search : Searched) : Type 0 where
   pub carrying : IsCarryingSearch s (set unpaired (j - 1) 0) search
   pub drains : Drains s.network j 0 (flows_read Along unpaired search.pairs) (flows_read Along (set unpaired (j - 1) 0) search.pairs)
 
--- Setting the flow of a loop to 0 drains it.
+-- Setting the flow of a self loop to 0 drains it.
 loop-drains : (s : NetworkState) (j : ℕ) (unpaired flows : List ℕ) (search : Searched) → has_arc s.network j ≡ true
     → (arc_number s.network j).tail ≡ (arc_number s.network j).head → Carries s unpaired flows search → Drains s.network j 0 flows (set flows (j - 1) 0)
 loop-drains s j unpaired flows search has loop carries = ⊎_elim

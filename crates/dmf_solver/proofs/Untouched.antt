@@ -1,4 +1,4 @@
--- Arcs whose pairs no path has led over: they keep their flows.
+-- An arc keeps its flow if no path used its pair.
 use Rattle.std.proofs.Common.{ℕ, ◌≡◌, ◌+◌, ◌<◌, ◌≤◌, ◌==◌, ◌↔◌, true, false, Bool, List, [], ◌∷◌, ◌++◌, length, get_or, zero, suc, refl, ap, sym, ◌∙◌}
 use Rattle.std.proofs.Common.{⊎_elim, subst, arith, Option, None}
 use Rattle.std.proofs.lemmas.List.{get_or-set_other}
@@ -24,18 +24,18 @@ use Rattle.dmf_solver.proofs.SolvingSearch.{IsSolving, solving-long, pairs-long,
 pub keeps-same : (touched : Option (List ℕ)) (first pairs : List (Option Pair)) → pairs ≡ first → KeepsUntouched touched first pairs
 keeps-same touched first pairs same = λ k untouched. ap (λ ps. pair_number ps k) same
 
--- after one path more each that is not touched then,
+-- after one more path each pair that it does not touch is as it was,
 pub keeps-next : (old new : Option (List ℕ)) (first before after : List (Option Pair)) → KeepsUntouched old first before → Touches old new before after
     → KeepsUntouched new first after
 keeps-next old new first before after keeps touches = λ k untouched.
     touches.kept k untouched ∙ keeps k (λ was. untouched (touches.more k was))
 
--- and in whatever order these are listed.
+-- and this does not depend on the order in which the pairs are listed.
 pub keeps-sorted : (old new : Option (List ℕ)) (first pairs : List (Option Pair)) → KeepsUntouched old first pairs
     → ((k : ℕ) → IsTouched new k ↔ IsTouched old k) → KeepsUntouched new first pairs
 keeps-sorted old new first pairs keeps same = λ k untouched. keeps k (λ was. untouched ((same k).1 was))
 
--- Listed are indices of arcs, and that after them.
+-- The list has indices of arcs, and the index after them.
 pub below-next : (s : NetworkState) (value : ℕ) (search : Searched) (old new : Option (List ℕ)) → IsSolving s search value
     → (AreBelow (length search.pairs) old → AreBelow (length search.pairs) new)
     → AreBelow (length s.network.arcs + 1) old → AreBelow (length s.network.arcs + 1) new
@@ -65,7 +65,7 @@ flow-untouched s search touched k within long h keeps untouched =
     sym (get_or-flows_read Against s.flows search.pairs k long h ∙ ap (flow_read Against flow) same ∙ read-own arc flow
     (arc.tail == arc.head) refl)
 
--- and the touched indices cover all arcs on which the flow differs.
+-- and the touched indices cover all arcs whose flow differs.
 pub touched-cover : (s : NetworkState) (solved : Solved) (indices : List ℕ) → IsState s → IsSolved s solved
     → Covers (length s.network.arcs + 1) (λ k. ¬ IsTouched solved.touched k) indices → CoverDifferences s.flows (reached_flows s solved.search) indices
 touched-cover s solved indices state is covers =
@@ -100,7 +100,7 @@ drained-cover s old new touched indices count old_long new_long most same keeps 
       (cases_lt k (length s.flows))) covers;
 }
 
--- One path more is drained: the pairs of the path are touched, and so is that of the drained arc.
+-- One more path is drained: it touches its pairs, and the pair of the drained arc counts as touched.
 pub touches-lowered : (first old new : Option (List ℕ)) (pairs before after : List (Option Pair)) (i amount : ℕ) → length before ≡ length pairs
     → IsTouched old i → Touches first old pairs before → Touches old new before after → Touches first new pairs (lowered_along after i amount)
 touches-lowered first old new pairs before after i amount long own so_far step = record {

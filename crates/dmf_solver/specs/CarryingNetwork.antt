@@ -1,5 +1,5 @@
--- What carries a flow, as pairs of opposite links, one pair for each arc and one for the return link, over which draining looks
--- for paths.
+-- The network that carries a flow, as pairs of opposite links: one pair for each arc, and one for the return link. Draining looks for
+-- paths over these links.
 -- Public: a public contract says no more than this.
 use Rattle.std.specs.Prelude.{ℕ, ◌≡◌, ◌==◌, false, if◌then◌else◌, List, [], ◌∷◌, ◌++◌, Option, Some, None}
 use Rattle.dmf_path.specs.declared.pair.Pair.{Pair}
@@ -9,8 +9,8 @@ use Rattle.dmf_state.specs.Network.{Network}
 use Rattle.dmf_state.specs.NetworkState.{NetworkState}
 use Rattle.dmf_solver.specs.Drain.{value_or_zero}
 
--- The pair of an arc for its carrying step: along it what flows. An arc that comes back to its tail has none; one on which
--- nothing flows has a pair without room.
+-- The pair of an arc for its carrying step: the room along it is the flow on the arc. A self loop has no pair; an arc without flow has
+-- a pair without room.
 abbrev pub carrying_pair : Arc → ℕ → Option Pair
 carrying_pair arc flow =
     if arc.tail == arc.head then None
@@ -22,7 +22,7 @@ carrying_from [] flows = []
 carrying_from (arc ∷ arcs) [] = []
 carrying_from (arc ∷ arcs) (flow ∷ flows) = carrying_pair arc flow ∷ carrying_from arcs flows
 
--- the pair of the return link, where it has so much room
+-- the pair of the return link with this room
 abbrev pub return_of : Network → ℕ → Option Pair
 return_of n room = Some (record { tail = n.sink; head = n.source; along = room; against = 0 })
 
@@ -34,17 +34,17 @@ return_pair n flows = return_of n (value_or_zero n flows)
 abbrev pub carrying_pairs : Network → List ℕ → List (Option Pair)
 carrying_pairs n flows = carrying_from n.arcs flows ++ return_pair n flows ∷ []
 
--- The search is one over the steps of the arcs on which the state's flow is, and a return link with so much room, from wherever
--- to wherever. What it pushes is not taken back.
+-- The search is over the steps of the arcs that carry the state's flow, and over a return link with this room, between any two ends. It
+-- does not take back what it pushes.
 pub record CarriesWith (s : NetworkState) (room : ℕ) (search : Searched) : Type 0 where
   pub nodes_are : search.nodes ≡ s.network.nodes
   pub pairs_are : search.pairs ≡ carrying_from s.network.arcs s.flows ++ return_of s.network room ∷ []
   pub takes_none_back : search.takes_back ≡ false
 
--- The search is one over the carrying steps of the state's flow.
+-- The search is over the carrying steps of the state's flow.
 abbrev pub IsCarryingOf : NetworkState → Searched → Type 0
 IsCarryingOf s search = CarriesWith s (value_or_zero s.network s.flows) search
 
--- It is that but for the room of the return link, which is any.
+-- The same, with any room of the return link.
 abbrev pub MayCarry : NetworkState → Searched → Type 0
 MayCarry s search = (room : ℕ) × CarriesWith s room search

@@ -17,18 +17,18 @@ use Rattle.dmf_solver.specs.Drain.{Drains}
 
 -- a change, as it is asked for
 pub data Change : Type 0 where
-  -- another capacity for an arc
+  -- a new capacity for an arc
   Cap : (arc cap : ℕ) → Change
   -- a new arc, from a tail to a head, of a capacity
   Add : (tail head cap : ℕ) → Change
-  -- nothing may flow on an arc any more
+  -- closing an arc, which carries no flow any more
   Close : (arc : ℕ) → Change
-  -- nothing may flow any more on the arcs at a node
+  -- closing all arcs at a node
   Shut : (node : ℕ) → Change
-  -- the greatest flow that is reached from the present one
+  -- the maximum flow that augmenting reaches from the present one
   Solve : Change
 
--- why the network cannot take an arc, as planning a change tells it
+-- why the network cannot take an arc, as a fault of a plan
 abbrev pub plan_fault : ArcFault → PlanFault
 plan_fault NoSuchNode = plan.NoSuchNode
 plan_fault TooManyArcs = plan.TooManyArcs
@@ -69,8 +69,8 @@ Becomes s (Add tail head cap) t = t ≡ with_idle_arc s (open_arc tail head cap)
 Becomes s (Shut v) t = Closes (open_arcs_at v 1 s.network.arcs) s t
 Becomes s Solve t = (t.network ≡ s.network) × Solves s.network s.flows t.flows
 
--- The edit is one of this change: of the same kind, for the arc, the ends and the capacity that were asked for. What else
--- it says is pinned down by `Fits` (old capacities) and `ListsDifferences` (the moves); which arcs it shuts, by `shut_arcs`.
+-- The edit is one of this change: of the same kind, for the same arc, ends and capacity. `Fits` fixes the old capacities in it,
+-- `ListsDifferences` its moves, and `shut_arcs` the arcs that it shuts.
 abbrev pub IsEditOf : Change → Edit → Type 0
 IsEditOf (Cap j cap) (edit.Cap arc old new moves) = (arc ≡ j) × (new ≡ cap)
 IsEditOf (Close j) (edit.Close arc old moves) = arc ≡ j

@@ -3,7 +3,7 @@
 use Rattle.std.specs.Prelude.{ℕ, ◌≡◌, ◌<◌, Bool, true, false, List, slice_index_or}
 use Rattle.dmf_state.specs.declared.arc.Arc.{Arc}
 
--- whether the set that these marks tell has a node
+-- whether the marks say that the set has a node
 abbrev pub has_mark : List Bool → ℕ → Bool
 has_mark marks v = slice_index_or marks v false
 

@@ -1,4 +1,4 @@
--- The residual network that a caller keeps while the state changes, and beside it the search that drains use.
+-- The residual network that a caller keeps while the state changes, with the search that drains use.
 -- Public: a public contract says no more than this.
 use Rattle.std.specs.Prelude.{Option, IfSome}
 use Rattle.dmf_path.specs.Search.{Searched}
@@ -6,7 +6,7 @@ use Rattle.dmf_state.specs.NetworkState.{NetworkState}
 use Rattle.dmf_solver.specs.CarryingNetwork.{MayCarry}
 use Rattle.dmf_solver.specs.ResidualNetwork.{IsResidualOf}
 
--- the search for augmenting paths, and that over carrying steps, where it is made
+-- the search for augmenting paths, and the search over carrying steps, if it is made
 pub record KeptNetwork : Type 0 where
   pub residual : Searched
   pub carrying : Option Searched
@@ -16,6 +16,6 @@ pub record IsNetworkOf (s : NetworkState) (kept : KeptNetwork) : Type 0 where
   pub residual : IsResidualOf s kept.residual
   pub carrying : IfSome kept.carrying (MayCarry s)
 
--- Where a network is kept, it is that of this state.
+-- If a network is kept, it is the network of this state.
 abbrev pub Keeps : NetworkState → Option KeptNetwork → Type 0
 Keeps s kept = IfSome kept (IsNetworkOf s)

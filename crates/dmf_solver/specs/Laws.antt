@@ -1,4 +1,4 @@
--- What is so of every network and of every change.
+-- What is true of every network and of every change.
 -- Public: a public contract says no more than this.
 use Rattle.std.specs.Prelude.{ℕ, ◌≡◌, ◌⊎◌, List, None}
 use Rattle.dmf_state.specs.Network.{Network, IsNetwork}
@@ -12,11 +12,11 @@ use Rattle.dmf_solver.specs.Change.{Change, Solve, change_fault, Becomes}
 
 -- ---- networks
 
--- A network has a greatest flow.
+-- A network has a maximum flow.
 abbrev pub HasGreatestFlow : Type 0
 HasGreatestFlow = (n : Network) → IsNetwork n → (flows : List ℕ) × IsGreatest n flows
 
--- Max-flow min-cut: the value of a greatest flow is the capacity of a minimum cut.
+-- Max-flow min-cut: the value of a maximum flow is the capacity of a minimum cut.
 abbrev pub MaxFlowMinCut : Type 0
 MaxFlowMinCut = (n : Network) (flows : List ℕ) → IsNetwork n → IsGreatest n flows → HasMinimumCutOf n (flow_value n flows)
 
@@ -38,7 +38,7 @@ HasOneSmallestSide = (n : Network) (side other : CutSide) → IsSmallestSide n s
 
 -- ---- changes
 
--- A state that the change makes of a state.
+-- A state that the change makes of this one.
 pub record Outcome (s : NetworkState) (change : Change) : Type 0 where
   pub after : NetworkState
   pub state : IsState after
@@ -52,6 +52,6 @@ HasOutcome = (s : NetworkState) (change : Change) → IsState s → change_fault
 abbrev pub HasOneOutcome : Type 0
 HasOneOutcome = (s t u : NetworkState) (change : Change) → IsState s → Becomes s change t → Becomes s change u → t ≡ u
 
--- The flow that solving makes of a state's is greatest.
+-- Solving a state makes a maximum flow.
 abbrev pub SolvedIsGreatest : Type 0
 SolvedIsGreatest = (s t : NetworkState) → IsState s → Becomes s Solve t → IsGreatest t.network t.flows

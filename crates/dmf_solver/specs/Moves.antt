@@ -16,7 +16,7 @@ abbrev pub DrainsInTurn : Network → List ℕ → List ℕ → List ℕ → Typ
 DrainsInTurn n [] flows last = flows ≡ last
 DrainsInTurn n (j ∷ js) flows last = (next : List ℕ) × Drains n j 0 flows next × DrainsInTurn n js next last
 
--- What is said of the moves that drain the arcs of these numbers to 0 in turn.
+-- What holds for the moves that drain the arcs of these numbers to 0 in turn.
 pub record AreShuttingMoves (s : NetworkState) (js : List ℕ) (moves : List Move) : Type 0 where
   pub fit : MovesFit 0 moves s.flows
   pub differ : moves ≡ differences 1 s.flows (moved moves s.flows)
@@ -24,7 +24,7 @@ pub record AreShuttingMoves (s : NetworkState) (js : List ℕ) (moves : List Mov
   pub state : IsState (with_flows s (moved moves s.flows))
   pub takes_off : TakesOff s.network (flow_on_all s.flows js) s.flows (moved moves s.flows)
 
--- What is said of the moves that drain arc number `j`.
+-- What holds for the moves that drain arc number `j`.
 pub record AreDrainingMoves (s : NetworkState) (j limit : ℕ) (moves : List Move) : Type 0 where
   pub fit : MovesFit 0 moves s.flows
   pub differ : moves ≡ differences 1 s.flows (moved moves s.flows)
@@ -32,7 +32,7 @@ pub record AreDrainingMoves (s : NetworkState) (j limit : ℕ) (moves : List Mov
   pub state : IsState (with_flows s (moved moves s.flows))
   pub takes_off : TakesOff s.network (flow_on s.flows j - limit) s.flows (moved moves s.flows)
 
--- Where a search is there, it is one over the carrying steps of the flow after the moves, but for the room of the return link.
+-- If there is a search, it is over the carrying steps of the flow after the moves, with any room of the return link.
 abbrev pub CarriesMoved : NetworkState → Drained → Type 0
 CarriesMoved s drained = IfSome drained.carrying (MayCarry (with_flows s (moved drained.moves.items s.flows)))
 
@@ -40,12 +40,12 @@ CarriesMoved s drained = IfSome drained.carrying (MayCarry (with_flows s (moved 
 abbrev pub Stays : List ℕ → List ℕ → ℕ → Type 0
 Stays before after k = slice_index before k ≡ slice_index after k
 
--- The move is that of the arc at index `k`, whose flow differs.
+-- This is the move of the arc at index `k`, whose flow differs.
 pub record IsMoveAt (before after : List ℕ) (k : ℕ) (m : Move) : Type 0 where
   pub is : m ≡ record { arc = k + 1; from = slice_index before k; to = slice_index after k }
   pub differs : slice_index before k ≢ slice_index after k
 
--- The indices ascend, and each arc whose index is left out has the flow that it had. Some may be past the last arc.
+-- The indices ascend, and each arc whose index is left out keeps its flow. Some indices may be past the last arc.
 pub record CoverDifferences (before after indices : List ℕ) : Type 0 where
   pub count : ℕ
   pub most : length before ≤ count

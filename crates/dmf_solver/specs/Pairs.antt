@@ -1,4 +1,4 @@
--- The pairs of links among which paths are looked for.
+-- The pairs of links among which a search looks for paths.
 -- Private: only contracts inside the crate and proofs use this.
 use Rattle.std.specs.Prelude.{ℕ, ◌≡◌, ◌-◌, ◌<◌, ◌↔◌, length, slice_index, slice_index_or, slice_set, List, [], ◌∷◌}
 use Rattle.std.specs.Prelude.{Option, option_map, IfSome, IsTrue, pos, ◌+◌}
@@ -31,7 +31,7 @@ abbrev pub room_of : PairLink → Pair → ℕ
 room_of Along = λ p. p.along
 room_of Against = λ p. p.against
 
--- the flow on an arc: the room of that link of its pair, and where it has none what flowed at first
+-- the flow on an arc: the room of that link of its pair or, without a pair, its flow at first
 abbrev pub flow_read : PairLink → ℕ → Option Pair → ℕ
 flow_read link first pair = unwrap_or (option_map (room_of link) pair) first
 
@@ -41,33 +41,32 @@ flows_read link [] pairs = []
 flows_read link (first ∷ firsts) [] = []
 flows_read link (first ∷ firsts) (pair ∷ pairs) = flow_read link first pair ∷ flows_read link firsts pairs
 
--- On an arc that comes back to its tail flows what stands in the other list.
+-- The other list has the flow on self loops.
 abbrev pub KeepLoops : Network → List ℕ → List ℕ → Type 0
 KeepLoops n others flows =
     (k : ℕ) → k < length n.arcs → (slice_index_or n.arcs k no_arc).tail ≡ (slice_index_or n.arcs k no_arc).head
     → slice_index flows k ≡ slice_index others k
 
--- The search is one over the carrying steps of these flows. The list, which has a number for each arc, has the flows on arcs
--- without a pair.
+-- The search is over the carrying steps of these flows. The list has a number for each arc: the flow, if the arc has no pair.
 pub record Carries (s : NetworkState) (unpaired flows : List ℕ) (search : Searched) : Type 0 where
   pub state : IsState (with_flows s flows)
   pub listed : length unpaired ≡ length s.network.arcs
   pub loops : KeepLoops s.network unpaired flows
   pub search_is : IsCarryingOf (with_flows s flows) search
 
--- The same, of the flows that are read off the search and the list.
+-- The same for the flows that are read from the search and the list.
 abbrev pub IsCarryingSearch : NetworkState → List ℕ → Searched → Type 0
 IsCarryingSearch s unpaired search = Carries s unpaired (flows_read Along unpaired search.pairs) search
 
--- the flows that a search for augmenting paths has reached from those of the state
+-- the flows that a search for augmenting paths has reached from the state's
 abbrev pub reached_flows : NetworkState → Searched → List ℕ
 reached_flows s search = flows_read Against s.flows search.pairs
 
--- a pair with the room that another capacity leaves along it
+-- a pair with the room along it that a new capacity leaves
 abbrev pub recapped : ℕ → Pair → Pair
 recapped cap p = pair_with (cap - p.against) p.against p
 
--- the pairs, with that at index `k` so, where there is one
+-- the pairs, with the new capacity at index `k`, if there is a pair
 abbrev pub with_capacity : List (Option Pair) → ℕ → ℕ → List (Option Pair)
 with_capacity pairs k cap = slice_set pairs k (option_map (recapped cap) (pair_number pairs k))
 
@@ -77,8 +76,8 @@ pub record IsArcAt (s : NetworkState) (k : ℕ) (at : Arc × ℕ) : Type 0 where
   pub arc_is : at.0 ≡ slice_index_or s.network.arcs k no_arc
   pub flow_is : at.1 ≡ slice_index s.flows k
 
--- The search for augmenting paths has come to the outcome of solving, whose value is this. Each pair that is not touched is as it was,
--- and the touched ones, where they are listed, are so in ascending order.
+-- The search for augmenting paths has reached the outcome of solving, whose value is this. Each pair that is not touched is as it was,
+-- and the list of the touched ones, if there is one, is ascending.
 pub record IsSolved (s : NetworkState) (solved : Solved) : Type 0 where
   pub solves : Solves s.network s.flows (reached_flows s solved.search)
   pub state : IsState (with_flows s (reached_flows s solved.search))
@@ -88,7 +87,7 @@ pub record IsSolved (s : NetworkState) (solved : Solved) : Type 0 where
   pub below : AreBelow (length s.network.arcs + 1) solved.touched
   pub ascend : IfSome solved.touched IsStrictlyIncreasing
 
--- The side has in ascending order just the nodes to which paths of the search lead, and this capacity.
+-- The side has the nodes to which paths of the search lead, and no others, in ascending order, and this capacity.
 pub record IsReachedSide (search : Searched) (capacity : ℕ) (side : CutSide) : Type 0 where
   pub capacity_is : side.capacity ≡ capacity
   pub ascending : IsStrictlyIncreasing side.ids

@@ -6,12 +6,12 @@ use Rattle.dmf_state.specs.declared.arc.Arc.{Arc}
 use Rattle.dmf_path.specs.Step.{Step}
 use Rattle.dmf_path.specs.Path.{has_rank, bottleneck}
 
--- the step along arc number `j`, where more can flow on it
+-- the step along arc number `j`, if the arc can carry more flow
 abbrev pub forward : ℕ → Arc → ℕ → List Step
 forward j arc flow =
     if nat_lt flow arc.cap then record { from = arc.tail; to = arc.head; rank = 2 * j; room = arc.cap - flow } ∷ [] else []
 
--- the step against arc number `j`, where some flow on it can be taken back
+-- the step against arc number `j`, if the arc carries flow
 abbrev pub backward : ℕ → Arc → ℕ → List Step
 backward j arc flow =
     if nat_lt 0 flow then record { from = arc.head; to = arc.tail; rank = 2 * j + 1; room = flow } ∷ [] else []
@@ -26,8 +26,8 @@ residual_from j (arc ∷ arcs) (flow ∷ flows) = forward j arc flow ++ backward
 abbrev pub residual_steps : List Arc → List ℕ → List Step
 residual_steps arcs flows = residual_from 1 arcs flows
 
--- the flows of the arcs from number `j` on, with `amount` more where the path has the arc's forward step, and `amount`
--- less where it has its backward step
+-- the flows of the arcs from number `j` on, plus `amount` if the path has the arc's forward step, and minus `amount` if it has the
+-- backward step
 abbrev pub augmented_from : ℕ → ℕ → List Step → List ℕ → List ℕ
 augmented_from j amount path [] = []
 augmented_from j amount path (flow ∷ flows) =

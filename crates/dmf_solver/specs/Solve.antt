@@ -1,5 +1,5 @@
--- Solving: the augmenting-path method (Ford and Fulkerson) along shortest paths (Edmonds and Karp), with the ties
--- between paths broken by ranks, so that there is one outcome.
+-- Solving: the augmenting-path method (Ford and Fulkerson) along shortest paths (Edmonds and Karp). Ranks break the ties between
+-- shortest paths, so there is one outcome.
 -- Public: a public contract says no more than this.
 use Rattle.std.specs.Prelude.{ℕ, ◌≡◌, List, [], ◌∷◌}
 use Rattle.dmf_path.specs.Step.{Step}

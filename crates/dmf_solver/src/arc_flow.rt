@@ -4,7 +4,7 @@ ghost use Rattle.dmf_solver.specs.Pairs.{IsArcAt};
 
 use dmf_state::{Arc, State};
 
-/// The arc at index `k` with the flow on it, or none past the last arc.
+/// The arc at index `k` with its flow, or `None` past the last arc.
 pub fn arc_at(state: &State, k: usize) -> Option<(Arc, u64)>
     ensures at { MatchOption result (length state.now.network.arcs ≤ k) (IsArcAt state.now k) }
     ensures state { IsState state.now }

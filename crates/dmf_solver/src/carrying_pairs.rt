@@ -5,8 +5,8 @@ use crate::arc_flow::arc_at;
 use dmf_path::{Pair, Pairs};
 use dmf_state::{Arc, State};
 
-/// The pairs of links that stand for the carrying steps of a state's flow: one for each arc, but for those that come back to their
-/// tails, and after all arcs one for the return link.
+/// The pairs of links that stand for the carrying steps of a state's flow: one for each arc except self loops, and after all arcs one
+/// for the return link.
 #[derive(Drop)]
 pub struct CarryingPairs<'a> {
     pub state: &'a State,
@@ -29,7 +29,7 @@ impl Pairs for CarryingPairs<'_> {
     }
 }
 
-/// The pair of an arc on which so much flows.
+/// The pair of an arc with this flow.
 fn carrying_pair(arc: Arc, flow: u64) -> Option<Pair>
     ensures { result ≡ carrying_pair arc flow }
 {
@@ -44,7 +44,7 @@ fn carrying_pair(arc: Arc, flow: u64) -> Option<Pair>
     })
 }
 
-/// The pair of the return link, from the sink to the source, along which the value of the flow flows.
+/// The pair of the return link, from the sink to the source. Its room is the value of the flow.
 fn return_pair(state: &State) -> Option<Pair>
     ensures { result ≡ return_pair state.now.network state.now.flows }
 {

@@ -18,18 +18,18 @@ use dmf_path::{Search, Touched};
 use dmf_state::{Move, State};
 use std::alloc::{AllocError, Global};
 
-/// What draining gives.
+/// The result of draining.
 #[derive(Drop)]
 pub struct Drained {
     /// The moves.
     pub moves: Vec<Move>,
-    /// The carrying search of the flow after them, where one was needed.
+    /// The carrying search of the flow after them, if one was needed.
     pub carrying: Option<Search>,
 }
 
-/// Drains the arc whose turn it is to the limit, and tells the watch of each path. Where no more than the limit flows on it, there are
-/// no moves, and no other arc is looked at. Else the carrying search is taken out of the kept network; where none is kept, a network is
-/// made and kept.
+/// Drains the arc whose turn it is to the limit, and reports each path to the watch. If no more than the limit flows on the arc, there
+/// are no moves, and the call looks at no other arc. Else it takes the carrying search out of the kept network; if none is kept, it
+/// makes a network and keeps it.
 pub fn drain<W: Watch>(
     alloc: Global,
     state: &State,
@@ -66,7 +66,7 @@ pub fn drain<W: Watch>(
     drain_by(alloc, state, turn, carrying, watch)
 }
 
-/// Takes the carrying search of the state's flow out of the kept network. Where none is kept, one is made and kept first.
+/// Takes the carrying search of the state's flow out of the kept network. If none is kept, makes a network and keeps it first.
 pub fn take_carrying(
     alloc: Global,
     state: &State,
@@ -83,7 +83,7 @@ pub fn take_carrying(
     Ok(carrying)
 }
 
-/// The move that drains arc number `j`, which comes back to its tail: no other arc carries its flow.
+/// The move that drains arc number `j`, a self loop: no other arc carries its flow.
 fn loop_moves(alloc: Global, j: u32, flow: u64, limit: u64) -> Result<Vec<Move>, AllocError>
     ensures { IfOk result (λ moves. moves.items ≡ record { arc = j; from = flow; to = limit } ∷ []) }
 {
@@ -96,7 +96,7 @@ fn loop_moves(alloc: Global, j: u32, flow: u64, limit: u64) -> Result<Vec<Move>,
     Ok(moves)
 }
 
-/// Drains the arc whose turn it is, which leads from a node to another, to the limit, by this carrying search.
+/// Drains the arc whose turn it is, which is no self loop, to the limit, by this carrying search.
 fn drain_by<W: Watch>(
     alloc: Global,
     state: &State,
@@ -128,9 +128,9 @@ fn drain_by<W: Watch>(
     })
 }
 
-/// Drains the arc whose turn it is, which leads from a node to another, to the limit: it takes flow off along the paths that the search
-/// over carrying steps finds, and tells the watch of each. Where no more than the limit flows on the arc, it does nothing. The pairs
-/// that it changes count as touched.
+/// Drains the arc whose turn it is, which is no self loop, to the limit: takes flow off along the paths of carrying steps that the
+/// search finds, and reports each to the watch. If no more than the limit flows on the arc, does nothing. The pairs that it changes
+/// count as touched.
 pub fn drain_along<W: Watch>(
     state: &State,
     turn: Turn,

@@ -1,10 +1,10 @@
-//! The flows that draining has left.
+//! The flows after draining.
 use crate::moves::Flows;
 use dmf_path::Search;
 use dmf_state::State;
 use std::marker::Model;
 
-/// The flows that draining has left of a state's. The flow on an arc without a pair stands in the list.
+/// The flows of a state after draining. The list has the flow on each arc without a pair.
 #[derive(Drop)]
 pub struct DrainedFlows<'a> {
     pub state: &'a State,

@@ -1,4 +1,4 @@
-//! Whether a few looks at the arcs show that no residual path leads from the source to the sink.
+//! Whether a few passes over the arcs show that no residual path leads from the source to the sink.
 ghost use Rattle.std.specs.Prelude.{◌≡◌, ◌<◌, ◌+◌, true, false, length, slice_index, slice_index_or, IfOk};
 ghost use Rattle.dmf_path.specs.Path.{HasNoPath};
 ghost use Rattle.dmf_state.specs.Arc.{no_arc};
@@ -9,14 +9,15 @@ ghost use Rattle.dmf_solver.specs.Residual.{residual_steps};
 use dmf_state::{Arc, State};
 use std::alloc::{AllocError, Global};
 
-/// How often all arcs are looked at, from each end.
+/// The most passes over all arcs, from each end.
 const LOOKS: u32 = 8;
 
-/// Whether a few looks at all arcs show that no residual path leads from the source to the sink. Where they do not, there may be such a
+/// Whether a few passes over all arcs show that no residual path leads from the source to the sink. If the answer is no, there may be a
 /// path or none. Takes memory for a mark a node.
 ///
-/// The marks tell a set of nodes that has the source and not the sink. At first it is the source alone, or all nodes but the sink. A look
-/// mends it at each residual step that leads out of it. If that takes many nodes, no more looks are worth while.
+/// The marks say which nodes are in a set with the source and without the sink. At first this is the source alone, or all nodes but the
+/// sink. A pass moves nodes into the set, or out of it, wherever a residual step leads out. If more than a quarter of the nodes move,
+/// the call gives up.
 pub fn is_enclosed(alloc: Global, state: &State) -> Result<bool, AllocError>
     ensures no_path { IfOk result (λ answer. answer ≡ true
         → HasNoPath (residual_steps state.now.network.arcs state.now.flows) state.now.network.source state.now.network.sink) }
@@ -32,7 +33,7 @@ pub fn is_enclosed(alloc: Global, state: &State) -> Result<bool, AllocError>
     Ok(is_mended(state, &mut marks, true))
 }
 
-/// Whether a few looks leave no residual step that leads out of the set. Nodes are put into it, or taken out where `mark` is not set.
+/// Whether a few passes give a set that no residual step leaves. A pass puts nodes into the set if `mark` is set, else it takes them out.
 fn is_mended(state: &State, marks: &mut [bool], mark: bool) -> bool
     requires { length marks.old ≡ state.now.network.nodes + 1 }
     ensures { result ≡ true
@@ -53,7 +54,7 @@ fn is_mended(state: &State, marks: &mut [bool], mark: bool) -> bool
     false
 }
 
-/// Marks both ends of each arc with a residual step that leads out of the set. Answers how many there were.
+/// Sets the marks of both ends of each arc with a residual step that leads out of the set. Returns how many such arcs there were.
 fn mend(state: &State, marks: &mut [bool], mark: bool) -> usize
     requires { length marks.old ≡ state.now.network.nodes + 1 }
 {

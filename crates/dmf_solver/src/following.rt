@@ -1,5 +1,4 @@
-//! The searches of a kept network follow an edit that is made or taken back: the links of the arcs that the edit names get other
-//! rooms.
+//! The searches of a kept network follow an edit that is applied or reverted: the links of the arcs that the edit names get new rooms.
 ghost use Rattle.std.specs.Prelude.{◌≡◌, ◌+◌, ◌-◌, ◌<◌, ◌≤◌, ℕ, List, length, IfSome};
 ghost use Rattle.dmf_path.specs.Search.{with_pairs};
 ghost use Rattle.dmf_state.specs.Direction.{along, edited_along, FitsAlong};
@@ -25,7 +24,7 @@ pub fn moves_of(edit: &Edit) -> &[Move]
     }
 }
 
-/// Gives the links of each arc that the moves name the rooms that its flow leaves once the moves are made, or taken back.
+/// Gives the links of each arc that the moves name the rooms for its flow after the moves are made, or reverted.
 pub fn put_flows(search: &mut Search, state: &State, moves: &[Move], direction: Direction)
     requires residual { IsResidualOf state.now search.old }
     requires fit { MovesFit 0 (along direction moves.now) state.now.flows }
@@ -41,8 +40,8 @@ pub fn put_flows(search: &mut Search, state: &State, moves: &[Move], direction: 
     }
 }
 
-/// The carrying search after the moves, or before them where they are taken back: the link along each arc that they name gets as its
-/// room what flows then. The return link keeps its room.
+/// The carrying search after the moves, or before them if they are reverted: the link along each arc that they name gets the arc's flow
+/// as its room. The return link keeps its room.
 pub fn carry_flows(
     carrying: Option<Search>,
     state: &State,
@@ -62,8 +61,8 @@ pub fn carry_flows(
     Some(search)
 }
 
-/// Gives the link along each arc whose capacity the edit changes the room that its new capacity leaves; or its old one, where the
-/// edit is taken back.
+/// Gives the link along each arc whose capacity the edit changes the room for its new capacity, or for its old one if the edit is
+/// reverted.
 pub fn put_capacities(search: &mut Search, state: &State, edit: &Edit, direction: Direction)
     requires fits { FitsAlong direction edit.now state.now }
     requires adds_none { ¬ AddsArc edit.now }
@@ -83,7 +82,7 @@ pub fn put_capacities(search: &mut Search, state: &State, edit: &Edit, direction
     }
 }
 
-/// Gives the link along the pair of arc number `j` the room that this capacity leaves, where there is a pair.
+/// Gives the link along the pair of arc number `j` the room for this capacity, if there is a pair.
 fn put_capacity(search: &mut Search, j: u32, cap: u64)
     requires from_one { 1 ≤ j }
     requires within { j - 1 < length search.old.pairs }

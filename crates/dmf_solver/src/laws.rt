@@ -6,14 +6,12 @@ pub fn change_has_one_outcome()
     ensures { HasOneOutcome }
 {}
 
-/// The law that a change which is not refused has an outcome, which is a state. So asking for the greatest flow ends on
-/// every state.
+/// The law that a change which is not refused has an outcome, which is a state. So a solve ends on every state.
 pub fn change_has_outcome()
     ensures { HasOutcome }
 {}
 
-/// Max-flow min-cut: every network has a greatest flow, and the value of each greatest flow is the capacity of a minimum
-/// cut.
+/// Max-flow min-cut: every network has a maximum flow, and the value of each maximum flow is the capacity of a minimum cut.
 pub fn max_flow_min_cut()
     ensures flow { HasGreatestFlow }
     ensures cut { MaxFlowMinCut }
@@ -41,7 +39,7 @@ pub fn flow_is_greatest_or_surpassed()
     ensures { IsGreatestOrSurpassed }
 {}
 
-/// The law that the flow which solving makes of a state's is greatest.
+/// The law that solving a state makes a maximum flow.
 pub fn solved_is_greatest()
     ensures { SolvedIsGreatest }
 {}

@@ -1,4 +1,4 @@
-//! The moves from a state's flows to those after them, in whatever way these are known.
+//! The moves from a state's flows to later flows, however these are kept.
 ghost use Rattle.std.specs.Prelude.{◌≡◌, ◌<◌, length, IfOk, MatchOption};
 ghost use Rattle.dmf_path.specs.Search.{indices_of};
 ghost use Rattle.dmf_state.specs.Edit.{differences};
@@ -21,7 +21,7 @@ pub trait Flows {
         ensures { result ≡ slice_index (flows self.now) k };
 }
 
-/// The moves of all arcs on which another flow comes after that of the state, in the order of their numbers.
+/// The moves of all arcs whose flow differs from the state's flow, in the order of their numbers.
 pub fn list_all_moves<F: Flows>(
     alloc: Global,
     state: &State,
@@ -33,7 +33,7 @@ pub fn list_all_moves<F: Flows>(
     list_moves(alloc, state, after, Indices::Below(state.flows().len()))
 }
 
-/// The same, where only the flows on the arcs at these indices may differ: no other arc is looked at.
+/// The same if only the flows on the arcs at these indices may differ: the call looks at no other arc.
 pub fn list_moves<F: Flows>(
     alloc: Global,
     state: &State,
@@ -54,7 +54,7 @@ pub fn list_moves<F: Flows>(
     Ok(moves)
 }
 
-/// The move of the arc at index `k`: none where there is no such arc, or its flow does not differ.
+/// The move of the arc at index `k`. `None` if there is no such arc, or if its flow does not differ.
 fn move_at<F: Flows>(state: &State, after: &F, k: usize) -> Option<Move>
     requires { length (F.flows after.now) ≡ length state.now.flows }
     ensures { MatchOption result

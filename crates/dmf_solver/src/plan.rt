@@ -23,7 +23,7 @@ use dmf_path::{Search, Touched};
 use dmf_state::{Edit, Side, State};
 use std::alloc::Global;
 
-/// Another capacity for an arc, as it is asked for.
+/// A new capacity for an arc.
 #[derive(Clone, Copy, Debug)]
 pub struct NewCap {
     /// The number of the arc.
@@ -32,13 +32,12 @@ pub struct NewCap {
     pub cap: u64,
 }
 
-/// Plans the capacity `cap` for arc number `j`. The state stays as it is. Where more than `cap` flows on the arc, the plan drains
-/// it first.
+/// Plans the capacity `cap` for arc number `j`. The state does not change. If more than `cap` flows on the arc, the plan drains the arc
+/// first.
 ///
-/// The first of these that holds refuses the plan, before it drains anything: [`PlanFault::NoSuchArc`], [`PlanFault::Closed`],
+/// Fails with the first of these faults, before it drains anything: [`PlanFault::NoSuchArc`], [`PlanFault::Closed`],
 /// [`PlanFault::SumTooLarge`]. Only draining takes memory: for the links of the residual network, for the flows on them and for some
-/// numbers a node. Where that is refused, the answer is [`PlanFault::NoMemory`]. Where nothing is drained, the plan looks at no other
-/// arc.
+/// numbers a node. If that is refused, fails with [`PlanFault::NoMemory`]. A plan that drains nothing looks at no other arc.
 pub fn plan_cap(alloc: Global, state: &State, j: u64, cap: u64) -> Result<Edit, PlanFault>
     ensures refused { IsRefusedFor state.now (Cap j cap) result }
     ensures at_once { flow_on state.now.flows j ≤ cap → result ≢ Err PlanFault.NoMemory }
@@ -106,11 +105,11 @@ pub fn plan_cap_watched<W: Watch>(
     Ok(edit)
 }
 
-/// Plans to close arc number `j`. The state stays as it is. Where something flows on the arc, the plan drains it first.
+/// Plans to close arc number `j`. The state does not change. If the arc carries flow, the plan drains it first.
 ///
-/// The first of these that holds refuses the plan, before it drains anything: [`PlanFault::NoSuchArc`], [`PlanFault::Closed`]. Only
-/// draining takes memory: for the links of the residual network, for the flows on them and for some numbers a node. Where that is
-/// refused, the answer is [`PlanFault::NoMemory`]. Where nothing is drained, the plan looks at no other arc.
+/// Fails with the first of these faults, before it drains anything: [`PlanFault::NoSuchArc`], [`PlanFault::Closed`]. Only draining
+/// takes memory: for the links of the residual network, for the flows on them and for some numbers a node. If that is refused, fails
+/// with [`PlanFault::NoMemory`]. A plan that drains nothing looks at no other arc.
 pub fn plan_close(alloc: Global, state: &State, j: u64) -> Result<Edit, PlanFault>
     ensures refused { IsRefusedFor state.now (Close j) result }
     ensures at_once { flow_on state.now.flows j ≡ 0 → result ≢ Err PlanFault.NoMemory }
@@ -170,13 +169,13 @@ pub fn plan_close_watched<W: Watch>(
     Ok(edit)
 }
 
-/// Plans to close every open arc at node `v`, one after the other in the order of their numbers: those that leave the node or enter
-/// it. The state stays as it is. Where something flows on an arc when its turn comes, the plan drains it first. The source and the
-/// sink may be shut, and so may a node without open arcs.
+/// Plans to close every open arc that leaves node `v` or enters it, one after the other in the order of their numbers. The state does
+/// not change. If an arc carries flow when its turn comes, the plan drains it first. The source and the sink may be shut, and so may a
+/// node without open arcs.
 ///
-/// [`PlanFault::NoSuchNode`] refuses the plan before it drains anything. The plan takes memory for the arcs and, where something
-/// flows on one of them, for the links of the residual network, for the flows on them and for some numbers a node. Where that is
-/// refused, the answer is [`PlanFault::NoMemory`].
+/// Fails with [`PlanFault::NoSuchNode`] before it drains anything. Takes memory for the arcs and, if one of them carries flow, for the
+/// links of the residual network, for the flows on them and for some numbers a node. If that is refused, fails with
+/// [`PlanFault::NoMemory`].
 pub fn plan_shut(alloc: Global, state: &State, v: u64) -> Result<Edit, PlanFault>
     ensures refused { IsRefusedFor state.now (Shut v) result }
     ensures plan { IfOk result (Plans state.now (Shut v)) }
@@ -238,7 +237,7 @@ pub fn plan_shut_watched<W: Watch>(
     Ok(edit)
 }
 
-/// Makes the kept network that of the state that an edit makes. The carrying search is that of the flow after the edit's moves.
+/// Makes the kept network the network of the state after an edit. The carrying search is the one of the flow after the edit's moves.
 fn follow_drained(
     state: &State,
     edit: &Edit,
@@ -259,9 +258,9 @@ fn follow_drained(
     *kept = Some(network.with_carrying(carrying));
 }
 
-/// Plans a new last arc from `tail` to `head` with capacity `cap`. The state stays as it is.
+/// Plans a new last arc from `tail` to `head` with capacity `cap`. The state does not change.
 ///
-/// The plan takes no memory. The first of these that holds refuses it: [`PlanFault::NoSuchNode`], [`PlanFault::TooManyArcs`],
+/// Takes no memory. Fails with the first of these faults: [`PlanFault::NoSuchNode`], [`PlanFault::TooManyArcs`],
 /// [`PlanFault::SumTooLarge`].
 pub fn plan_add(state: &State, tail: u64, head: u64, cap: u64) -> Result<Edit, PlanFault>
     ensures refused { result_err result ≡ change_fault state.now (Add tail head cap) }
@@ -275,12 +274,11 @@ pub fn plan_add(state: &State, tail: u64, head: u64, cap: u64) -> Result<Edit, P
     })
 }
 
-/// Plans the greatest flow that augmenting along shortest paths reaches from the present flow. The state stays as it is.
+/// Plans the maximum flow that augmenting along shortest paths reaches from the present flow. The state does not change.
 ///
 /// No flow of the network has a larger value, and some cut has that value as its capacity.
 ///
-/// The plan takes memory for two links an arc, some numbers a node and the moves. Where that is refused, the answer is
-/// [`PlanFault::NoMemory`].
+/// Takes memory for two links an arc, some numbers a node and the moves. If that is refused, fails with [`PlanFault::NoMemory`].
 pub fn plan_solve(alloc: Global, state: &State) -> Result<Edit, PlanFault>
     ensures refused { IsOkUnless result PlanFault.NoMemory }
     ensures edit { IfOk result (PlansSolve state.now) }
@@ -289,9 +287,9 @@ pub fn plan_solve(alloc: Global, state: &State) -> Result<Edit, PlanFault>
     Ok(edit)
 }
 
-/// Plans the same greatest flow, and tells the smallest side of the network, which a solve does not change. One search finds both.
+/// Plans the same maximum flow, and finds the smallest side of the network, which a solve does not change. One search finds both.
 ///
-/// The plan takes memory for the side too. Where that is refused, the answer is [`PlanFault::NoMemory`].
+/// Takes memory for the side too. If that is refused, fails with [`PlanFault::NoMemory`].
 pub fn plan_solve_with_side(alloc: Global, state: &State) -> Result<(Edit, Side), PlanFault>
     ensures refused { IsOkUnless result PlanFault.NoMemory }
     ensures edit { IfOk result (λ planned. PlansSolve state.now planned.0) }
@@ -302,9 +300,9 @@ pub fn plan_solve_with_side(alloc: Global, state: &State) -> Result<(Edit, Side)
     Ok((edit, side.unwrap()))
 }
 
-/// Plans the same greatest flow, with the smallest side where `want_side` asks for it, and tells the watch of each path on the way.
+/// Plans the same maximum flow, with the smallest side if `want_side` asks for it, and reports each path to the watch on the way.
 ///
-/// The plan takes memory for a side that is wanted too. Where memory is refused, the answer is [`PlanFault::NoMemory`].
+/// Takes memory for the side too, if it is wanted. If memory is refused, fails with [`PlanFault::NoMemory`].
 pub fn plan_solve_watched<W: Watch>(
     alloc: Global,
     state: &State,
@@ -327,7 +325,7 @@ pub fn plan_solve_watched<W: Watch>(
     Ok((Edit::Solve { moves }, side))
 }
 
-/// The number of an arc that can be changed and its capacity, or why arc number `j` cannot.
+/// The number and the capacity of arc number `j`, or why the arc cannot be changed.
 fn open_arc(state: &State, j: u64) -> Result<(u32, u64), PlanFault>
     ensures refused { result_err result ≡ arc_refusal state.now.network j }
     ensures arc { IfOk result (λ found. (found.0 ≡ j) × IsOpenWith state.now.network j found.1) }

@@ -1,10 +1,10 @@
-//! The flows that a solve has reached.
+//! The flows after a solve.
 use crate::moves::Flows;
 use crate::solve::Solved;
 use dmf_state::State;
 use std::marker::Model;
 
-/// The flows that a solve of a state has reached.
+/// The flows of a state after a solve.
 #[derive(Drop)]
 pub struct ReachedFlows<'a> {
     pub state: &'a State,

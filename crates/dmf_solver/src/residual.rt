@@ -23,8 +23,8 @@ pub fn residual_search(alloc: Global, state: &State) -> Result<Search, AllocErro
     )
 }
 
-/// The pairs of links that stand for the residual steps of a state's flow: one for each arc, but for those that come back
-/// to their tails, and after all arcs one for the return link.
+/// The pairs of links that stand for the residual steps of a state's flow: one for each arc except self loops, and after all arcs one
+/// for the return link.
 #[derive(Clone, Copy)]
 struct ResidualPairs<'a> {
     state: &'a State,
@@ -62,7 +62,7 @@ pub fn residual_pair(arc: Arc, flow: u64) -> Option<Pair>
     })
 }
 
-/// The pair of the return link, from the sink to the source: no augmenting path leads over it.
+/// The pair of the return link, from the sink to the source. No augmenting path uses it.
 fn closed_return(state: &State) -> Option<Pair>
     ensures { result ≡ closed_return state.now.network }
 {

@@ -26,18 +26,18 @@ use dmf_state::{Arc, Direction, Edit, Move, NoMemory, Side, State};
 use std::alloc::{AllocError, Global};
 use std::marker::Model;
 
-/// How many solves and drains look at all arcs for their moves before the links are numbered, so that the next ones need not: numbering
-/// takes as long as about so many looks.
+/// After so many solves and drains that looked at all arcs for their moves, the links get numbers, so that later ones need not look at
+/// all arcs. Numbering takes as long as about so many looks.
 const MOST_LOOKS: u32 = 8;
 
-/// The residual network of a state: the links along which a solve augments. A caller that solves again and again keeps it, and has
-/// it follow each change of the state. So its links need not be made anew for each solve. From the first drain on it has a search over
-/// the same links for drains too, so that they need not be made anew for each of these.
+/// The residual network of a state: the links along which a solve augments. A caller that solves again and again keeps it, and it
+/// follows each change of the state, so no solve has to make its links anew. From the first drain on it also has a search over the same
+/// links for drains, so no drain has to make them anew.
 #[derive(Drop)]
 pub struct ResidualNetwork {
     /// The search for augmenting paths.
     search: Search,
-    /// The search over carrying steps, where it is made.
+    /// The search over carrying steps, if it is made.
     carrying: Option<Search>,
     /// How many solves and drains have looked at all arcs for their moves.
     looks: u32,
@@ -52,7 +52,7 @@ impl Model for ResidualNetwork {
 }
 
 impl ResidualNetwork {
-    /// The residual network of the state. This takes memory for two links an arc and some numbers a node.
+    /// Makes the residual network of the state. Takes memory for two links an arc and some numbers a node.
     pub fn new(alloc: Global, state: &State) -> Result<ResidualNetwork, NoMemory>
         ensures { IfOk result (IsNetworkOf state.now) }
     {
@@ -60,15 +60,15 @@ impl ResidualNetwork {
         Ok(network)
     }
 
-    /// Plans what [`plan_solve_watched`](crate::plan_solve_watched) plans, and gives the residual network of the state that the edit
-    /// makes.
+    /// Plans what [`plan_solve_watched`](crate::plan_solve_watched) plans, and returns the residual network of the state after the
+    /// edit.
     ///
-    /// The first solves and drains look at all arcs for their moves. Then the links are numbered, and each further one looks at the
-    /// arcs of its paths alone, unless these have an eighth as many links as there are nodes.
+    /// The first solves and drains look at all arcs for their moves. Then the links get numbers, and each later one looks only at the
+    /// arcs of its paths, unless these have an eighth as many links as there are nodes.
     ///
-    /// The plan takes memory for the moves, and for a side that is wanted, with marks and numbers while it looks for it. One that
-    /// numbers the links takes memory for a number a link, and from then on each for an eighth of a number a node. Where memory is
-    /// refused, the answer is [`PlanFault::NoMemory`].
+    /// Takes memory for the moves, and for a side that is wanted, with marks and numbers while it looks for the side. A plan that
+    /// numbers the links takes memory for a number a link, and each later one for an eighth of a number a node. If memory is refused,
+    /// fails with [`PlanFault::NoMemory`].
     pub fn plan_solve<W: Watch>(
         self,
         alloc: Global,
@@ -108,11 +108,11 @@ impl ResidualNetwork {
         Ok((Edit::Solve { moves }, side, kept))
     }
 
-    /// The smallest side of the state's network, as [`smallest_side`](crate::smallest_side) tells it. The state's flow must be
+    /// The smallest side of the state's network, as [`smallest_side`](crate::smallest_side) finds it. The state's flow must be
     /// greatest.
     ///
-    /// The answer is [`CutFault::NotGreatest`] where some flow has a larger value. The call takes memory for the side, a mark and two
-    /// numbers a node; where that is refused, the answer is [`CutFault::NoMemory`].
+    /// Fails with [`CutFault::NotGreatest`] if some flow has a larger value. Takes memory for the side, a mark and two numbers a node;
+    /// if that is refused, fails with [`CutFault::NoMemory`].
     pub fn smallest_side(&self, alloc: Global, state: &State) -> Result<Side, CutFault>
         requires { IsNetworkOf state.now self.now }
         ensures { TellsSide state.now result }
@@ -120,9 +120,9 @@ impl ResidualNetwork {
         side_along(alloc, &self.search, state)
     }
 
-    /// The residual network of the state that an edit makes of this one, which the edit fits. There is none where the edit adds an
-    /// arc: then the links have to be made anew. The call takes no memory, and time for the arcs that the edit names; the first call
-    /// after a solve also takes time for each node that has a label.
+    /// The residual network of the state after an edit, which fits this one. `None` if the edit adds an arc: then the caller has to
+    /// make the links anew. Takes no memory, and time for the arcs that the edit names; the first call after a solve also takes time
+    /// for each node that has a label.
     pub fn follow(self, state: &State, edit: &Edit) -> Option<ResidualNetwork>
         requires network { IsNetworkOf state.now self }
         requires fits { Fits edit.now state.now }
@@ -132,8 +132,8 @@ impl ResidualNetwork {
         self.follow_along(state, edit, Direction::Forward)
     }
 
-    /// The residual network of the state before an edit that stands in this one. There is none where the edit added an arc: then the
-    /// links have to be made anew. The call takes as much memory and time as [`follow`](ResidualNetwork::follow).
+    /// The residual network of the state before an edit that stands in this one. `None` if the edit added an arc: then the caller has
+    /// to make the links anew. Takes as much memory and time as [`follow`](ResidualNetwork::follow).
     pub fn follow_back(self, state: &State, edit: &Edit) -> Option<ResidualNetwork>
         requires network { IsNetworkOf state.now self }
         requires stands { Stands edit.now state.now }
@@ -143,9 +143,9 @@ impl ResidualNetwork {
         self.follow_along(state, edit, Direction::Back)
     }
 
-    /// The residual network of the state that an edit makes of this one, which the edit fits, also where it adds an arc: then the links
-    /// of the arc go in among the others. That takes memory for two links an arc, and time for each link. There is no network where memory
-    /// is refused, or where the arc begins and ends at one node.
+    /// The residual network of the state after an edit, which fits this one, also if the edit adds an arc: then the links of the arc go
+    /// in among the others. That takes memory for two links an arc, and time for each link. `None` if memory is refused, or if the new
+    /// arc is a self loop.
     pub fn follow_any(self, alloc: Global, state: &State, edit: &Edit) -> Option<ResidualNetwork>
         requires network { IsNetworkOf state.now self }
         requires fits { Fits edit.now state.now }
@@ -209,9 +209,9 @@ impl ResidualNetwork {
         })
     }
 
-    /// Takes the carrying search of the state's flow out of the network, which has none afterwards. Where it had none, the search is
-    /// made over the links of the network: this takes memory for a room and a flag a link, and for some numbers a node. Once the links
-    /// are numbered, it has their numbers.
+    /// Takes the carrying search of the state's flow out of the network, which has none afterwards. If it had none, makes the search
+    /// over the links of the network: this takes memory for a room and a flag a link, and for some numbers a node. Once the links have
+    /// numbers, so has the search.
     pub(crate) fn take_carrying(
         &mut self,
         alloc: Global,
@@ -231,7 +231,7 @@ impl ResidualNetwork {
         Ok(carrying)
     }
 
-    /// The network with this carrying search, where there is one, in place of its own.
+    /// The network with this carrying search in place of its own. `None` keeps its own.
     pub(crate) fn with_carrying(self, carrying: Option<Search>) -> ResidualNetwork
         ensures { (s : NetworkState) → IsNetworkOf s self → IfSome carrying (MayCarry s) → IsNetworkOf s result }
     {
@@ -266,7 +266,7 @@ pub fn kept_or_new(
     })
 }
 
-/// Counts one look more at all arcs; after enough of them, numbers the links in its place. The answer is how many there were.
+/// Counts one more look at all arcs, or after enough of them numbers the links. Returns how many looks there were.
 fn look_or_number(alloc: Global, search: &mut Search, looks: u32) -> Result<u32, AllocError>
     ensures { search.new ≡ search.old }
 {
@@ -277,7 +277,7 @@ fn look_or_number(alloc: Global, search: &mut Search, looks: u32) -> Result<u32,
     Ok(looks)
 }
 
-/// The moves of a solve: of the arcs whose pairs are not touched none is looked at.
+/// The moves of a solve. Looks at no arc whose pair is not touched.
 pub fn touched_moves(alloc: Global, state: &State, solved: &Solved) -> Result<Vec<Move>, AllocError>
     requires { IsSolved state.now solved.now }
     ensures { IfOk result (λ moves. moves.items ≡ differences 1 state.now.flows (reached_flows state.now solved.now.search)) }

@@ -1,4 +1,4 @@
-//! Every open arc at a node is closed.
+//! Closing every open arc at a node.
 ghost use Rattle.std.specs.Prelude.{◌≡◌, ◌+◌, ◌≤◌, ℕ, true, [], length, map, IfOk};
 ghost use Rattle.dmf_state.specs.Arc.{open_arcs_at};
 ghost use Rattle.dmf_solver.specs.CarryingNetwork.{IsCarryingOf};
@@ -38,8 +38,8 @@ pub fn open_arcs_at(alloc: Global, state: &State, v: u32) -> Result<Vec<Shutting
     Ok(open)
 }
 
-/// Drains these arcs in turn, and tells the watch of each path. Where nothing flows on any of them, there are no moves, and no other arc
-/// is looked at. Else the carrying search is taken out of the kept network; where none is kept, a network is made and kept.
+/// Drains these arcs in turn, and reports each path to the watch. If none of them carries flow, there are no moves, and the call looks
+/// at no other arc. Else it takes the carrying search out of the kept network; if none is kept, it makes a network and keeps it.
 pub fn drain_all<W: Watch>(
     alloc: Global,
     state: &State,
@@ -105,7 +105,7 @@ fn drain_all_by<W: Watch>(
     })
 }
 
-/// Whether nothing flows on any of these arcs.
+/// Whether none of these arcs carries flow.
 fn are_without_flow(state: &State, arcs: &[Shutting]) -> bool
     requires { AreOpenWith 0 arcs.now state.now.network }
     ensures { result ≡ true → flow_on_all state.now.flows (numbers arcs.now) ≡ 0 }
@@ -118,8 +118,8 @@ fn are_without_flow(state: &State, arcs: &[Shutting]) -> bool
     true
 }
 
-/// Drains the arc whose turn it is to 0, where the search and the list tell the flows. The search drains an arc that leads to another
-/// node. One that comes back to its tail has no pair: its flow in the list becomes 0.
+/// Drains the arc whose turn it is to 0, in the search and the list that have the flows. The search drains an arc that is no self loop.
+/// A self loop has no pair: its flow in the list becomes 0.
 fn drain_in_turn<W: Watch>(
     state: &State,
     turn: Turn,

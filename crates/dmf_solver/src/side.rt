@@ -19,8 +19,8 @@ use std::alloc::{AllocError, Global};
 
 /// The smallest side of the state's network: the nodes that every minimum cut has. The state's flow must be greatest.
 ///
-/// The answer is [`CutFault::NotGreatest`] where some flow has a larger value. The call takes memory for two links an arc and some
-/// numbers a node; where that is refused, the answer is [`CutFault::NoMemory`].
+/// Fails with [`CutFault::NotGreatest`] if some flow has a larger value. Takes memory for two links an arc and some numbers a node; if
+/// that is refused, fails with [`CutFault::NoMemory`].
 pub fn smallest_side(alloc: Global, state: &State) -> Result<Side, CutFault>
     ensures { TellsSide state.now result }
 {
@@ -28,7 +28,7 @@ pub fn smallest_side(alloc: Global, state: &State) -> Result<Side, CutFault>
     side_along(alloc, &search, state)
 }
 
-/// The same, by a search that is there already.
+/// The same with a search that already exists.
 pub fn side_along(alloc: Global, search: &Search, state: &State) -> Result<Side, CutFault>
     requires { IsResidualOf state.now search.now }
     ensures { TellsSide state.now result }
@@ -40,11 +40,10 @@ pub fn side_along(alloc: Global, search: &Search, state: &State) -> Result<Side,
     Ok(side)
 }
 
-/// The smallest side of the network of the state that an edit makes of this one. The edit fits the state, as one that was planned on
-/// it does. The state stays as it is.
+/// The smallest side of the network of the state after an edit. The edit has to fit the state, as one that was planned on it does. The
+/// state does not change.
 ///
-/// The flow that the edit makes must be greatest; else the answer is that of [`smallest_side`]. The call takes memory for a copy of
-/// the state too.
+/// The flow after the edit must be greatest; else the call fails as [`smallest_side`] does. Takes memory for a copy of the state too.
 pub fn side_after(alloc: Global, state: &State, edit: &Edit) -> Result<Side, CutFault>
     requires { Fits edit.now state.now }
     ensures { TellsSide (applied edit.now state.now) result }
@@ -54,7 +53,7 @@ pub fn side_after(alloc: Global, state: &State, edit: &Edit) -> Result<Side, Cut
     smallest_side(alloc, &after)
 }
 
-/// The smallest side of the network of a state that was solved, or none where none is wanted.
+/// The smallest side of the network of a solved state, or `None` if it is not wanted.
 pub fn wanted_side(
     alloc: Global,
     state: &State,
@@ -82,7 +81,7 @@ fn reached_side(alloc: Global, search: &Search, capacity: u64) -> Result<Side, A
     Ok(Side::new(ids, capacity))
 }
 
-/// The numbers of the nodes that are marked, ascending. The first mark is that of node 1.
+/// The numbers of the marked nodes, ascending. The first mark belongs to node 1.
 fn marked_nodes(alloc: Global, marks: &[bool]) -> Result<Vec<u32>, AllocError>
     requires { length marks.now ≤ 2 ^ 24 }
     ensures ascending { IfOk result (λ ids. IsStrictlyIncreasing ids.items) }

@@ -13,7 +13,7 @@ use dmf_path::{Search, Touched};
 use dmf_state::{NoMemory, State};
 use std::alloc::Global;
 
-/// A search for augmenting paths that has none left, the value of the flow that it has reached, and which pairs its paths led over.
+/// A search for augmenting paths that finds no more, the value of the flow that it has reached, and the pairs that its paths used.
 #[derive(Drop)]
 pub struct Solved {
     pub search: Search,
@@ -21,8 +21,8 @@ pub struct Solved {
     pub touched: Touched,
 }
 
-/// Augments the flow of the state along least paths until none is left, and tells the watch of each. The pairs of these paths count
-/// as touched then.
+/// Augments the flow of the state along least paths until none is left, and reports each to the watch. Afterwards the pairs of these
+/// paths count as touched.
 pub fn solve<W: Watch>(
     mut search: Search,
     state: &State,
@@ -49,8 +49,8 @@ pub fn solve<W: Watch>(
     }
 }
 
-/// Whether no flow of the state's network has a larger value than the state's flow. The call takes memory for a mark a node and, where
-/// a few looks at all arcs do not tell it, for two links an arc and some numbers a node.
+/// Whether no flow of the state's network has a larger value than the state's flow. Takes memory for a mark a node and, if a few passes
+/// over all arcs do not decide it, for two links an arc and some numbers a node.
 pub fn is_greatest(alloc: Global, state: &State) -> Result<bool, NoMemory>
     ensures greatest { IfOk result (λ answer. IsTrue answer ↔ IsGreatest state.now.network state.now.flows) }
     ensures surpassed { IfOk result (λ answer. (answer ≡ false) ↔ IsSurpassed state.now.network state.now.flows) }
@@ -59,7 +59,7 @@ pub fn is_greatest(alloc: Global, state: &State) -> Result<bool, NoMemory>
         return Ok(true);
     }
     let mut search = residual_search(alloc, state)?;
-    // A search that is aimed labels from both ends. Where no path is left, often few nodes can be reached from one of them.
+    // A search that is aimed labels from both ends. If no path is left, often one of the ends reaches few nodes.
     search.aim(state.source(), state.sink());
     Ok(search.augment(u64::MAX, &mut Touched::all()).is_none())
 }

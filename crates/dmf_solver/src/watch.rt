@@ -3,30 +3,30 @@ ghost use Rattle.dmf_solver.specs.Told.{Told, AreTold};
 
 use dmf_state::State;
 
-/// A watch is told how far a solve or a drain is. A solve tells it of each path that augments the flow, in turn, and of nothing else; a
-/// run tells it also from which state each solve begins. A drain tells it what each path takes off. Whatever a watch does, the solve or
-/// the drain gives the same. The contracts of plans and of a session's step say what they tell; what a run tells is only tested.
+/// A watch gets reports of how far a solve or a drain is. A solve reports each augmenting path, in turn, and nothing else; a run also
+/// reports the state from which each solve begins. A drain reports what each path takes off. Whatever a watch does, the result of the
+/// solve or the drain is the same. The contracts of plans and of a session's step say what they report; what a run reports is only
+/// tested.
 pub trait Watch {
-    // What it was told of solves, in order, as far as that is known. A watch that keeps no record knows nothing of it.
+    // The reports of solves, in order, if they are known. A watch that keeps no record knows none.
     ghost told: { Self → Option (List Told) } = { λ _. None };
 
-    // How much flow it knows to be taken off by drains, at most what it was told. A watch that does not add it up knows of none.
+    // The flow that drains took off, as far as the watch knows: at most the sum of their reports. A watch that does not add them up knows 0.
     ghost drained: { Self → ℕ } = { λ _. 0 };
 
-    /// A run begins to solve this state. No path is told by that.
+    /// A run begins to solve this state. This reports no path.
     fn begun(&mut self, _state: &State)
         ensures told { AreTold (told self.old) (told self.new) [] }
         ensures drained { drained self.new ≤ drained self.old }
     {}
 
-    /// The flow was augmented along one path more, of so many links, and its value is this now. No path of a solve has fewer
-    /// links than the one before: one that has more begins a phase.
+    /// The flow was augmented along one more path, of so many links, and now has this value. No path of a solve has fewer links than
+    /// the one before; a path with more links begins a phase.
     fn augmented(&mut self, value: u64, links: u32)
         ensures told { AreTold (told self.old) (told self.new) (record { value = pos value; links = links } ∷ []) }
         ensures drained { drained self.new ≤ drained self.old };
 
-    /// A path that comes back to the arc whose turn it is took so much flow off it. An arc that comes back to its tail by itself is
-    /// drained without a word.
+    /// A path that comes back to the arc whose turn it is took so much flow off it. A self loop is drained without a report.
     fn lowered(&mut self, _turn: Turn, amount: u64)
         ensures told { AreTold (told self.old) (told self.new) [] }
         ensures drained { drained self.new ≤ drained self.old + amount }
@@ -40,9 +40,9 @@ pub struct Turn {
     pub arc: u32,
     /// How much may stay on it.
     pub limit: u64,
-    /// Which of the arcs that a change drains it is, from 1.
+    /// The arc's place among the arcs that the change drains, from 1.
     pub place: usize,
-    /// How many these are.
+    /// How many arcs the change drains.
     pub count: usize,
 }
 

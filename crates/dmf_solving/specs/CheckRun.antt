@@ -1,5 +1,5 @@
--- What checking a solution gave: the problem is read whole, then its solution, and then it is told whether no flow has a
--- larger value.
+-- What checking a solution gives: the run reads the whole problem, then the whole solution, and then writes whether a flow has a larger
+-- value.
 -- Public: a public contract says no more than this.
 use Rattle.std.specs.Prelude.{ℕ, ◌≡◌, ◌⊎◌, List, [], ◌∷◌, Bool, true, false, Option, Some, None, Result, Ok, Err, IfOk, codes, decimal, nat_abs, if◌then◌else◌}
 use Rattle.dmf_state.specs.Flow.{flow_value}
@@ -16,9 +16,9 @@ use Rattle.dmf_streams.specs.declared.fault.EngineFault.TheVariants as fault
 use Rattle.dmf_text.specs.Streams.{Reader, Writer}
 use Rattle.dmf_streams.specs.Reading.{HasGiven, Reads, ReadsProblem}
 
--- ---- what is told of a flow
+-- ---- the verdict on a flow
 
--- No flow has a larger value, or one has.
+-- No flow has a larger value, or some flow has.
 abbrev pub IsVerdict : NetworkState → Bool → Type 0
 IsVerdict s true = IsGreatest s.network s.flows
 IsVerdict s false = IsSurpassed s.network s.flows
@@ -32,7 +32,7 @@ abbrev pub verdict_line : Bool → ℕ → List ℕ
 verdict_line greatest value =
     written_line (codes "c" ∷ (if greatest then codes "greatest" else codes "flow") ∷ decimal value ∷ [])
 
--- the line of a state, whose value is not below 0
+-- the line of a state, whose value is not negative
 abbrev pub verdict_text : NetworkState → Bool → List ℕ
 verdict_text s greatest = verdict_line greatest (nat_abs (flow_value s.network s.flows))
 
@@ -46,7 +46,7 @@ solution_fault_in other = None
 abbrev pub ReadsSolution : NetworkState → Reader → Reader → List ℕ → Result NetworkState EngineFault → Type 0
 ReadsSolution s old new text result = Reads (solution_of s) solution_fault_in old new text result
 
--- what a run is given and gives: its two readers and its writer before and after, and the texts that were given
+-- what a run gets and gives: its two readers and its writer before and after, and the texts that the readers gave
 pub record Checked : Type 0 where
   pub problem_old : Reader
   pub problem_new : Reader
@@ -57,14 +57,14 @@ pub record Checked : Type 0 where
   pub problem_text : List ℕ
   pub solution_text : List ℕ
 
--- It was written whether the state's flow is greatest, or a front of this where the writer failed, and the status tells it too.
+-- The run wrote whether the state's flow is greatest, or a prefix of that if the writer failed. The status says the same.
 pub record TellsVerdict (s : NetworkState) (old new : Writer) (result : Result Status EngineFault) : Type 0 where
   pub greatest : Bool
   pub verdict : IsVerdict s greatest
   pub writes : Writes old new result (verdict_text s greatest)
   pub status : IfOk result (λ status. status ≡ verdict_status greatest)
 
--- The problem text stands for a state, and the solution text for the same network with a flow, whose verdict was told.
+-- The problem text stands for a state, and the solution text for the same network with a flow, whose verdict was written.
 pub record WritesVerdict (run : Checked) (result : Result Status EngineFault) : Type 0 where
   pub state : NetworkState
   pub problem : ReadsProblem run.problem_old run.problem_new run.problem_text (Ok state)
@@ -72,26 +72,26 @@ pub record WritesVerdict (run : Checked) (result : Result Status EngineFault) : 
   pub solution : ReadsSolution state run.solution_old run.solution_new run.solution_text (Ok solved)
   pub told : TellsVerdict solved run.old run.new result
 
--- Reading the problem gave this fault. Nothing was read of the solution, and nothing was written.
+-- Reading the problem failed with this fault. The run read nothing of the solution, and wrote nothing.
 pub record StopsAtProblem (run : Checked) (told : EngineFault) : Type 0 where
   pub problem : ReadsProblem run.problem_old run.problem_new run.problem_text (Err told)
   pub unread : run.solution_new ≡ run.solution_old
   pub unwritten : run.new ≡ run.old
 
--- The problem text stands for a state, and reading the solution gave this fault. Nothing was written.
+-- The problem text stands for a state, and reading the solution failed with this fault. The run wrote nothing.
 pub record StopsAtSolution (run : Checked) (told : EngineFault) : Type 0 where
   pub state : NetworkState
   pub problem : ReadsProblem run.problem_old run.problem_new run.problem_text (Ok state)
   pub solution : ReadsSolution state run.solution_old run.solution_new run.solution_text (Err told)
   pub unwritten : run.new ≡ run.old
 
--- Memory was refused. No read failed, and nothing was written.
+-- Memory was refused. No read failed, and the run wrote nothing.
 pub record IsRefusedMemory (run : Checked) : Type 0 where
   pub problem_mark : run.problem_new.has_failed ≡ run.problem_old.has_failed
   pub solution_mark : run.solution_new.has_failed ≡ run.solution_old.has_failed
   pub unwritten : run.new ≡ run.old
 
--- what a run answers that checks a solution
+-- the result of a run that checks a solution
 abbrev pub CheckAnswered : Checked → Result Status EngineFault → Type 0
 CheckAnswered run (Ok status) = WritesVerdict run (Ok status)
 CheckAnswered run (Err fault.Write) = WritesVerdict run (Err fault.Write)

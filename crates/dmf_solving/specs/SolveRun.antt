@@ -1,5 +1,5 @@
--- What solving a problem gave: the problem is read whole, it is solved, and then its solution is written, and a cut after
--- it where one is wanted.
+-- What solving a problem gives: the run reads the whole problem, solves it, and writes its solution, with a cut after it if one is
+-- wanted.
 -- Public: a public contract says no more than this.
 use Rattle.std.specs.Prelude.{ℕ, ◌≡◌, List, Bool, Option, Result, Ok, Err}
 use Rattle.dmf_state.specs.NetworkState.{NetworkState}
@@ -15,8 +15,8 @@ use Rattle.dmf_solving.specs.Solved.{solved_text}
 use Rattle.dmf_text.specs.Streams.{Reader, Writer}
 use Rattle.dmf_streams.specs.Reading.{HasGiven, ReadsProblem}
 
--- The text stands for a state. The solution of what solving makes of it was written, and where one is wanted the smallest cut
--- after it, or a front of that where the writer failed.
+-- The text stands for a state. The run wrote the solution that solving gives and, if one is wanted, the smallest cut after it, or a
+-- prefix of that if the writer failed.
 pub record WritesSolved (want_cut : Bool) (from to : Reader) (old new : Writer) (text : List ℕ) (result : Result Status EngineFault) : Type 0 where
   pub state : NetworkState
   pub problem : ReadsProblem from to text (Ok state)
@@ -26,8 +26,8 @@ pub record WritesSolved (want_cut : Bool) (from to : Reader) (old new : Writer) 
   pub side_is : IsSideWanted want_cut solved.network side
   pub writes : Writes old new result (solved_text solved side)
 
--- What a run answers that solves a problem, of whose text this much was given; no answer but these is given. At every
--- fault but that of the writer nothing was written.
+-- The result of a run that solves a problem and read this much of its text; no other results are possible. With every error but that of
+-- the writer it wrote nothing.
 abbrev pub SolveAnswered : Bool → Reader → Reader → Writer → Writer → List ℕ → Result Status EngineFault → Type 0
 SolveAnswered want_cut from to old new text (Ok Well) = WritesSolved want_cut from to old new text (Ok Well)
 SolveAnswered want_cut from to old new text (Ok status) = ⊥

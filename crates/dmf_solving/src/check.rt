@@ -11,8 +11,8 @@ use dmf_text::LineField::{Number, Text};
 use dmf_text::{LineBuffer, Sink, SolutionFaultKind, Source, line_of, read_solution};
 use std::alloc::Global;
 
-/// Reads a problem and a solution of it. Writes `c greatest V` if no flow has a larger value than the solution, else `c flow V`,
-/// and flushes. The status tells the same.
+/// Reads a problem and a solution of it. Writes `c greatest V` if no flow has a larger value than the solution, else `c flow V`, and
+/// flushes. The status says the same.
 ///
 /// Fails before it writes anything with [`EngineFault::Problem`] or [`EngineFault::Solution`] if a text has a fault, with
 /// [`EngineFault::Read`], [`EngineFault::TooMuchInput`] or [`EngineFault::NoMemory`]. Fails with [`EngineFault::Write`] if a write
@@ -48,14 +48,14 @@ fn read_solved<C: Source>(alloc: Global, state: State, source: &mut C) -> Result
     }
 }
 
-/// Whether no flow of the network has a larger value than that of the state.
+/// Whether no flow of the network has a larger value than the flow of the state.
 fn verdict_of(alloc: Global, state: &State) -> Result<bool, NoMemory>
     ensures { IfOk result (IsVerdict state.now) }
 {
     is_greatest(alloc, state)
 }
 
-/// Writes whether the state's flow is greatest, and flushes. The status tells the same.
+/// Writes whether the state's flow is greatest, and flushes. The status says the same.
 fn tell_verdict<W: Sink>(state: &State, greatest: bool, out: &mut W) -> Result<Status, EngineFault>
     requires { IsVerdict state.now greatest }
     ensures told { TellsVerdict state.now (W.written out.old) (W.written out.new) result }

@@ -31,7 +31,7 @@ pub fn run_solve<P: Source, W: Sink>(
     run_solve_watched(alloc, problem, out, want_cut, &mut Unwatched)
 }
 
-/// As [`run_solve`]. Also tells the watch of the state that it solves, and of each augmenting path.
+/// As [`run_solve`]. Also reports to the watch the state that it solves, and each augmenting path.
 pub fn run_solve_watched<P: Source, W: Sink, V: Watch>(
     alloc: Global,
     problem: &mut P,
@@ -50,15 +50,15 @@ pub fn run_solve_watched<P: Source, W: Sink, V: Watch>(
     Ok(Status::Well)
 }
 
-/// A state with a greatest flow, and a cut if one is wanted.
+/// A state with a maximum flow, and a cut if one is wanted.
 #[derive(Drop)]
 struct Solved {
     state: State,
     side: Option<Side>,
 }
 
-/// Augments the state's flow to a greatest one, and finds the smallest side of its network if that is wanted. Drops the state if
-/// memory is refused.
+/// Augments the state's flow to a maximum flow, and finds the smallest side of its network if that is wanted. Drops the state if memory
+/// is refused.
 fn solve<V: Watch>(
     alloc: Global,
     mut state: State,

@@ -14,7 +14,7 @@ use Rattle.std.proofs.lemmas.List.Sorted.{searched}
 use Rattle.dmf_node.specs.Node.{IsNode}
 use Rattle.dmf_state.specs.Side.{has_node}
 
--- A node of the list stands at some place of it.
+-- Each node of the list has an index in it.
 pub has_node-place : (ids : List ℕ) (v : ℕ) → has_node ids v ≡ true → (k : ℕ) × (k < length ids) × (get_or ids k 0 ≡ v)
 has_node-place [] v has = absurd (both_ways false refl has)
 has_node-place (u ∷ ids) v has = ⊎_elim
@@ -22,7 +22,7 @@ has_node-place (u ∷ ids) v has = ⊎_elim
     (λ (later : has_node ids v ≡ true). let p = has_node-place ids v later in (suc p.0, omega (arith, p.1), p.2))
     (or_cases (u == v) (has_node ids v) has)
 
--- What stands at a place is a node of the list.
+-- The number at an index of the list is a node of the list.
 pub has_node-at : (ids : List ℕ) (k v : ℕ) → k < length ids → get_or ids k 0 ≡ v → has_node ids v ≡ true
 has_node-at ids k v h is = list_any_at (λ u. u == v) ids k 0 h (eq-eqb (get_or ids k 0) v is)
 
@@ -59,7 +59,7 @@ within-tail u ids others ascend within v has = ⊎_elim
     (λ (later : has_node others v ≡ true). later)
     (or_cases (u == v) (has_node others v) (within v (or_right (u == v) (has_node ids v) has)))
 
--- Ascending lists with the same nodes are the same.
+-- Two ascending lists with the same nodes are equal.
 pub same-nodes : (ids others : List ℕ) → Ascend ids → Ascend others → Within ids others → Within others ids → ids ≡ others
 same-nodes [] [] ascend rise within back = refl
 same-nodes [] (w ∷ others) ascend rise within back = absurd (both_ways false refl (back w (has-first w others)))
@@ -81,7 +81,7 @@ not-descending ids ascend i j le h = ⊎_elim
     (λ differ. let below : get_or ids i 0 < get_or ids j 0 = ascend i j 0 (omega (arith, le, differ)) h in omega (arith, below))
     (cases_eq i j)
 
--- A binary search of an ascending list tells whether it has the node.
+-- A binary search of an ascending list decides whether the list has the node.
 pub has_node-searched : (ids : List ℕ) (v : ℕ) (r : Result ℕ ℕ) → IsStrictlyIncreasing ids → IsBinarySearchResult (λ u. nat_cmp u v) ids r
     → is_ok r ≡ has_node ids v
 has_node-searched ids v (Ok i) increasing is =
@@ -98,12 +98,12 @@ has_node-searched ids v (Err i) increasing is =
 
 -- ---- the walk over the marks of nodes
 
--- The list has in ascending order just those of the first `count` nodes that are marked.
+-- The list has those of the first `count` nodes that are marked, and no others, in ascending order.
 pub record AreMarkedUpTo (marks : List Bool) (count : ℕ) (ids : List ℕ) : Type 0 where
   pub ascending : IsStrictlyIncreasing ids
   pub marked : (v : ℕ) → IsTrue (has_node ids v) ↔ (IsNode count v × IsTrue (get_or marks (v - 1) false))
 
--- Nodes that stay within the first ones are nodes of one more.
+-- A node among the first `count` is one among the first `count` + 1.
 one-more : (count v : ℕ) → IsNode count v → IsNode (count + 1) v
 one-more count v node = record { from_one = node.from_one; to_last = omega (arith, node.to_last) }
 
@@ -123,7 +123,7 @@ marked-skip marks count ids unmarked are = record {
   );
 }
 
--- A number that is above all others goes to the end.
+-- A list stays ascending if a number that is above all others is appended.
 increasing-push : (ids : List ℕ) (x : ℕ) → IsStrictlyIncreasing ids → ((v : ℕ) → has_node ids v ≡ true → v < x) → IsStrictlyIncreasing (ids ++ x ∷ [])
 increasing-push ids x increasing above k h = ⊎_elim
     (λ (inside : k + 1 < length ids).

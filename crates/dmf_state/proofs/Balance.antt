@@ -1,4 +1,4 @@
--- From the sums at the nodes to conservation and the value.
+-- The sums at the nodes give conservation and the value.
 use Rattle.std.proofs.Common.{ℕ, ◌≡◌, ◌+◌, ◌-◌, ◌<◌, ◌≤◌, List, length, slice_index, arith, sym, ap, subst, ◌∙◌, pos, ◌<ℤ◌}
 use Rattle.std.proofs.lemmas.Int.{ints}
 use Rattle.dmf_state.specs.declared.arc.Arc.{Arc}
@@ -10,12 +10,12 @@ use Rattle.dmf_state.specs.NetworkState.{NetworkState, IsState, with_flows}
 use Rattle.dmf_state.specs.Totals.{KeepsTotals}
 use Rattle.dmf_state.specs.FlowSums.{IsNodeFlow, AreFlowSums, IsLeast, IsUnbalanced, IsInnerUpTo, AreSameAt, DifferAt}
 
--- The sums at the tails and those at the heads.
+-- One list has the sums at the tails, the other the sums at the heads.
 pub record AreBothSums (n : Network) (flows leaving entering : List ℕ) : Type 0 where
   pub tails : AreFlowSums (λ arc. arc.tail) n.nodes n.arcs flows leaving
   pub heads : AreFlowSums (λ arc. arc.head) n.nodes n.arcs flows entering
 
--- the same, where the parts of the network stand for themselves
+-- the same, with the parts of the network in place of the record
 pub AreBothSums-of_parts : (n : Network) (nodes : ℕ) (arcs : List Arc) (flows leaving entering : List ℕ) → nodes ≡ n.nodes → arcs ≡ n.arcs
     → AreFlowSums (λ arc. arc.tail) nodes arcs flows leaving → AreFlowSums (λ arc. arc.head) nodes arcs flows entering → AreBothSums n flows leaving entering
 AreBothSums-of_parts n nodes arcs flows leaving entering of_nodes of_arcs tails heads = record {
@@ -92,7 +92,7 @@ pub value-from_source : (n : Network) (flows : List ℕ) (at : NodeFlow) → IsN
     → pos (at.leaving - at.entering) ≡ flow_value n flows
 value-from_source n flows at is le = omega (arith, ints, le, is.leaving, is.entering)
 
--- and where it is not
+-- and where the inflow exceeds the outflow
 pub negative-from_source : (n : Network) (flows : List ℕ) (at : NodeFlow) → IsNodeFlow n.arcs flows n.source at → at.leaving < at.entering
     → flow_value n flows <ℤ pos 0
 negative-from_source n flows at is less = omega (arith, ints, less, is.leaving, is.entering)
@@ -110,7 +110,7 @@ IsState-from_source n flows at network flow is le = record {
 pub entering-le-leaving : (s : NetworkState) (at : NodeFlow) → IsState s → IsNodeFlow s.network.arcs s.flows s.network.source at → at.entering ≤ at.leaving
 entering-le-leaving s at state is = omega (arith, ints, state.value_from_zero, is.leaving, is.entering)
 
--- the totals with another flow
+-- the totals with these flows in place of the state's
 pub KeepsTotals-with_flows : (s : NetworkState) (flows : List ℕ) (sum : ℕ) (before at : NodeFlow) (count : ℕ) → KeepsTotals s sum before count
     → IsState (with_flows s flows) → IsNodeFlow s.network.arcs flows s.network.source at → KeepsTotals (with_flows s flows) sum at count
 KeepsTotals-with_flows s flows sum before at count keeps state is = record {

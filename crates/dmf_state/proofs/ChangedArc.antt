@@ -1,4 +1,4 @@
--- Another arc in the place of one, with the same ends: the sums of a flow stay as they were.
+-- Replacing an arc by one with the same ends leaves the sums of a flow as they are.
 use Rattle.std.proofs.Common.{ℕ, ◌≡◌, ◌+◌, ◌-◌, ◌^◌, ◌<◌, ◌≤◌, ◌==◌, List, [], ◌∷◌, length, get_or, set, zero, suc, true, cond, refl, ap, sym, subst, arith}
 use Rattle.std.proofs.Common.{length-set}
 use Rattle.std.specs.List.{zip}
@@ -11,14 +11,14 @@ use Rattle.dmf_state.specs.Arc.{IsArc, no_arc, capacity_sum}
 use Rattle.dmf_state.specs.Network.{Network, IsNetwork, arc_number, has_arc, with_arc}
 use Rattle.dmf_state.specs.Flow.{flow_on, flow_at, AreWithinCapacities, IsFlow, flow_value}
 
--- Where there is an arc number `j`, its index is within the list.
+-- If there is an arc number `j`, its index is within the list.
 pub has_arc-within : (n : Network) (j : ℕ) → has_arc n j ≡ true → (1 ≤ j) × (j - 1 < length n.arcs)
 has_arc-within n j has =
     let first : 1 ≤ j = grind (arith, nat_tests) in
     let last : j ≤ length n.arcs = grind (arith, nat_tests) in
     (first, omega (arith, first, last))
 
--- The sum at a node with another arc in the place of one, which has the same end.
+-- Replacing an arc by one that has the same end leaves the sum at a node as it is.
 pub flow_at-replaced : (end : Arc → ℕ) (arcs : List Arc) (flows : List ℕ) (k : ℕ) (arc : Arc) (v : ℕ) → end arc ≡ end (get_or arcs k no_arc)
     → flow_at end (set arcs k arc) flows v ≡ flow_at end arcs flows v
 flow_at-replaced end [] flows k arc v same = refl
@@ -33,7 +33,7 @@ flow_at-replaced end (a ∷ arcs) (x ∷ flows) (suc k) arc v same =
     let rest = flow_at-replaced end arcs flows k arc v same in
     omega (arith, rest, sum_by-cons f (a, x) (zip (set arcs k arc) flows), sum_by-cons f (a, x) (zip arcs flows))
 
--- The flows are within the capacities with another arc in the place of one, if its flow is within it.
+-- The flows stay within the capacities if an arc is replaced by one that can carry its flow.
 pub within-replaced : (arcs : List Arc) (flows : List ℕ) (k : ℕ) (arc : Arc) → AreWithinCapacities arcs flows → get_or flows k 0 ≤ arc.cap
     → AreWithinCapacities (set arcs k arc) flows
 within-replaced [] flows k arc within le = within
@@ -41,8 +41,7 @@ within-replaced (a ∷ arcs) [] k arc within le = absurd within
 within-replaced (a ∷ arcs) (x ∷ flows) zero arc within le = (le, within.1)
 within-replaced (a ∷ arcs) (x ∷ flows) (suc k) arc within le = (within.0, within-replaced arcs flows k arc within.1 le)
 
--- A network with another arc in the place of arc number `j` is one, if the arc has the same ends and the capacities are
--- not too large together.
+-- Replacing arc number `j` gives a network again, if the new arc has the same ends and the sum of the capacities is not too large.
 pub IsNetwork-with_arc : (n : Network) (j : ℕ) (arc : Arc) → IsNetwork n → has_arc n j ≡ true → arc.tail ≡ (arc_number n j).tail
     → arc.head ≡ (arc_number n j).head → (arc.closed ≡ true → arc.cap ≡ 0) → capacity_sum n.arcs - (arc_number n j).cap + arc.cap < 2 ^ 64
     → IsNetwork (with_arc n j arc)
@@ -68,8 +67,7 @@ IsNetwork-with_arc n j arc network has tail head closed small =
       capacities = omega (arith, sums, small);
     }
 
--- A flow is one of the network with another arc in the place of arc number `j`, if the arc has the same ends and its flow
--- is within it.
+-- A flow stays a flow if arc number `j` is replaced by one that has the same ends and can carry its flow.
 pub IsFlow-with_arc : (n : Network) (j : ℕ) (arc : Arc) (flows : List ℕ) → has_arc n j ≡ true → arc.tail ≡ (arc_number n j).tail
     → arc.head ≡ (arc_number n j).head → flow_on flows j ≤ arc.cap → IsFlow n flows → IsFlow (with_arc n j arc) flows
 IsFlow-with_arc n j arc flows has tail head le flow = record {

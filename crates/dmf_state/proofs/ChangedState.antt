@@ -1,4 +1,4 @@
--- A state with another arc in the place of one.
+-- A state in which one arc is replaced.
 use Rattle.std.proofs.Common.{ℕ, ◌≡◌, ◌+◌, ◌-◌, ◌^◌, ◌≤◌, ◌<◌, get_or, set, Bool, true, false, cond, not, refl, ap, ◌∙◌, sym, subst, arith}
 use mir.Val.{bool_byte}
 use Rattle.std.proofs.lemmas.List.{get_or-set_same, set-set, set-get_or, length-set}
@@ -15,11 +15,11 @@ use Rattle.dmf_state.specs.Totals.{KeepsTotals}
 use Rattle.dmf_state.proofs.Changing.{within-at}
 use Rattle.dmf_state.proofs.ChangedArc.{has_arc-within, flow_at-replaced, IsNetwork-with_arc, IsFlow-with_arc, flow_value-with_arc}
 
--- the state with another arc in the place of arc number `j`
+-- the state with this arc in place of arc number `j`
 abbrev pub with_arc_at : NetworkState → ℕ → Arc → NetworkState
 with_arc_at s j arc = record { network = with_arc s.network j arc; flows = s.flows }
 
--- It is a state, if the network is one and the arc's flow is within it.
+-- It is a state, if the network is one and the new arc can carry the flow.
 pub IsState-with_arc : (s : NetworkState) (j : ℕ) (arc : Arc) → IsState s → has_arc s.network j ≡ true → arc.tail ≡ (arc_number s.network j).tail
     → arc.head ≡ (arc_number s.network j).head → IsNetwork (with_arc s.network j arc) → flow_on s.flows j ≤ arc.cap → IsState (with_arc_at s j arc)
 IsState-with_arc s j arc state has tail head network within = record {
@@ -36,14 +36,14 @@ bool_byte-cond : (b : Bool) → bool_byte b ≡ cond b 1 0
 bool_byte-cond true = refl
 bool_byte-cond false = refl
 
--- The capacity of an arc is part of the sum of all.
+-- The capacity of an arc is part of the sum of all capacities.
 pub cap-in_sum : (s : NetworkState) (j sum : ℕ) (source : NodeFlow) (count : ℕ) → KeepsTotals s sum source count → has_arc s.network j ≡ true
     → (arc_number s.network j).cap ≤ sum
 cap-in_sum s j sum source count keeps has =
     let cap : Arc → ℕ = λ a. a.cap in
     omega (arith, keeps.sum_is, get_or-le-sum_by cap s.network.arcs (j - 1) no_arc (has_arc-within s.network j has).1)
 
--- The totals with another arc in the place of arc number `j`, which has the same ends.
+-- the totals where arc number `j` is replaced by an arc with the same ends
 pub KeepsTotals-with_arc : (s : NetworkState) (j : ℕ) (arc : Arc) (sum : ℕ) (source : NodeFlow) (count : ℕ) → KeepsTotals s sum source count
     → has_arc s.network j ≡ true → arc.tail ≡ (arc_number s.network j).tail → arc.head ≡ (arc_number s.network j).head → IsState (with_arc_at s j arc)
     → KeepsTotals (with_arc_at s j arc) (sum - (arc_number s.network j).cap + arc.cap) source
@@ -66,7 +66,7 @@ KeepsTotals-with_arc s j arc sum source count keeps has tail head state =
       count_is = omega (arith, keeps.count_is, opens, open_le, bool_byte-cond (not (arc_number s.network j).closed), bool_byte-cond (not arc.closed));
     }
 
--- What was a state with other capacities is one with those before, if the arc's flow is within the capacity before.
+-- If the network with the new arc makes a state, so does the network with the old one, whose capacity is no smaller.
 pub IsState-with_arc_back : (s : NetworkState) (j : ℕ) (arc : Arc) → IsNetwork s.network → IsState (with_arc_at s j arc) → has_arc s.network j ≡ true
     → arc.tail ≡ (arc_number s.network j).tail → arc.head ≡ (arc_number s.network j).head → arc.cap ≤ (arc_number s.network j).cap → IsState s
 IsState-with_arc_back s j arc network state has tail head falls =
@@ -83,7 +83,7 @@ IsState-with_arc_back s j arc network state has tail head falls =
     (IsState-with_arc (with_arc_at s j arc) j old state has_it (sym tail ∙ ap (λ a. a.tail) (sym here)) (sym head ∙ ap (λ a. a.head) (sym here))
     (subst IsNetwork (sym back) network) flow)
 
--- Another capacity for an open arc makes a state, if the flow and the sum of the capacities are within what they may be.
+-- An open arc can get any capacity that its flow and the sum of the capacities allow: the result is a state.
 pub IsState-with_cap : (s : NetworkState) (j cap : ℕ) → IsState s → has_arc s.network j ≡ true → (arc_number s.network j).closed ≡ false
     → flow_on s.flows j ≤ cap → sum_with s.network j cap < 2 ^ 64 → IsState (with_arc_at s j (with_cap cap (arc_number s.network j)))
 IsState-with_cap s j cap state has is_open within small =
@@ -92,7 +92,7 @@ IsState-with_cap s j cap state has is_open within small =
     (IsNetwork-with_arc s.network j arc state.network has refl refl (λ closed. absurd (cc)) small)
     within
 
--- Closing an arc without flow makes a state.
+-- Closing an arc without flow gives a state.
 pub IsState-closed : (s : NetworkState) (j : ℕ) → IsState s → has_arc s.network j ≡ true → flow_on s.flows j ≤ 0
     → IsState (with_arc_at s j (closed_arc (arc_number s.network j)))
 IsState-closed s j state has within =

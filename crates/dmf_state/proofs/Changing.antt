@@ -10,7 +10,7 @@ use Rattle.dmf_state.specs.Flow.{flow_at, AreWithinCapacities}
 use Rattle.dmf_state.specs.Arc.{no_arc}
 use Rattle.dmf_state.proofs.Summing.{part-le}
 
--- the arcs beside their flows, with one flow changed
+-- pairing the arcs with the flows, of which one is changed
 pub zip-set : (arcs : List Arc) (flows : List ℕ) (k y : ℕ) → zip arcs (set flows k y) ≡ set (zip arcs flows) k (get_or arcs k no_arc, y)
 zip-set [] flows k y = refl
 zip-set (a ∷ arcs) [] k y = refl
@@ -21,7 +21,7 @@ nothing-more : (b : Bool) (without part whole : ℕ) → without + part ≡ whol
 nothing-more true without part whole e = omega (arith, e)
 nothing-more false without part whole e = omega (arith, e)
 
--- With one flow changed, the sum at a node gains the new flow and loses the old one where the arc has its end there.
+-- If one flow changes, the sum at a node gains the new flow and loses the old one where the node is that end of the arc.
 pub flow_at-set : (end : Arc → ℕ) (arcs : List Arc) (flows : List ℕ) (k y v : ℕ) → length flows ≡ length arcs → k < length arcs
     → flow_at end arcs (set flows k y) v + cond (end (get_or arcs k no_arc) == v) (get_or flows k 0) 0 ≡ flow_at end arcs flows v + cond
     (end (get_or arcs k no_arc) == v) y 0
@@ -34,7 +34,7 @@ flow_at-set end arcs flows k y v same h =
     ∙ ap (λ ps. sum_by f ps + f (get_or (zip arcs flows) k (no_arc, 0))) (zip-set arcs flows k y)
     ∙ sum_by-set f (zip arcs flows) k (get_or arcs k no_arc, y) (no_arc, 0) long
 
--- A flow stays within the capacities when one arc's flow becomes another that is.
+-- Flows stay within the capacities when one of them changes to another that its arc can carry.
 pub within-set : (arcs : List Arc) (flows : List ℕ) (k y : ℕ) → AreWithinCapacities arcs flows → y ≤ (get_or arcs k no_arc).cap
     → AreWithinCapacities arcs (set flows k y)
 within-set [] [] k y w h = tt
@@ -51,7 +51,7 @@ within-at (a ∷ arcs) [] k w = absurd w
 within-at (a ∷ arcs) (x ∷ flows) zero w = w.0
 within-at (a ∷ arcs) (x ∷ flows) (suc k) w = within-at arcs flows k w.1
 
--- What flows out of a node, or into it, is within the capacities together.
+-- The outflow or inflow of a node is at most the sum of all capacities.
 pub flow_at-le : (end : Arc → ℕ) (arcs : List Arc) (flows : List ℕ) (v : ℕ) → AreWithinCapacities arcs flows → flow_at end arcs flows v ≤ capacity_sum arcs
 flow_at-le end [] [] v w = omega arith
 flow_at-le end [] (x ∷ flows) v w = absurd w
@@ -61,7 +61,7 @@ flow_at-le end (a ∷ arcs) (x ∷ flows) v w =
     let g : Arc → ℕ = λ b. b.cap in
     omega (arith, w.0, part-le (end a == v) x, flow_at-le end arcs flows v w.1, sum_by-cons f (a, x) (zip arcs flows), sum_by-cons g a arcs)
 
--- A flow is a part of the sum at its arc's end.
+-- The flow on an arc is part of the sum at its end.
 pub flow_at-part : (end : Arc → ℕ) (arcs : List Arc) (flows : List ℕ) (k v : ℕ) → length flows ≡ length arcs → k < length arcs
     → cond (end (get_or arcs k no_arc) == v) (get_or flows k 0) 0 ≤ flow_at end arcs flows v
 flow_at-part end arcs flows k v same h = nothing-more (end (get_or arcs k no_arc) == v) _ _ _ (flow_at-set end arcs flows k 0 v same h)

@@ -1,4 +1,4 @@
--- Arcs closed together, on which nothing flows.
+-- Closing several arcs without flow.
 use Rattle.std.proofs.Common.{ℕ, ◌≡◌, ◌≢◌, ◌+◌, ◌-◌, ◌<◌, ◌≤◌, true, List, [], ◌∷◌, length, get_or, drop, zero, suc, ap, ◌∙◌, subst, arith}
 use Rattle.std.proofs.lemmas.List.{length-set, get_or-set_other}
 use Rattle.std.proofs.Math.ListN.{drop_of_length-le}
@@ -28,7 +28,7 @@ AreWithoutFlow flows (j ∷ js) = (flow_on flows j ≤ 0) × AreWithoutFlow flow
 
 -- ---- arcs that can be closed
 
--- what is read past the last of them
+-- what a read past the last of them gives
 abbrev pub no_shutting : Shutting
 no_shutting = record { arc = 0; old = 0 }
 
@@ -39,7 +39,7 @@ open-at last [] n i are h = absurd (omega (arith, h))
 open-at last (a ∷ arcs) n zero are h = are.1
 open-at last (a ∷ arcs) n (suc i) are h = open-at a.arc arcs n i are.2 (omega (arith, h))
 
--- Those that are left, the next one first.
+-- The remaining arcs are the next one and the arcs after it.
 pub left-next : (arcs : List Shutting) (i : ℕ) → i < length arcs → drop i arcs ≡ get_or arcs i no_shutting ∷ drop (i + 1) arcs
 left-next arcs i h =
     let next : suc i ≡ i + 1 = omega arith in
@@ -55,7 +55,7 @@ pub HasArcs-open : (last : ℕ) (arcs : List Shutting) (n : Network) → AreOpen
 HasArcs-open last [] n are = tt
 HasArcs-open last (a ∷ arcs) n are = (are.1.is_there, HasArcs-open a.arc arcs n are.2)
 
--- The arcs past one that is closed are as they were.
+-- Closing one arc leaves those with larger numbers as they are.
 open-past : (last j : ℕ) (arcs : List Shutting) (n : Network) → 1 ≤ j → j ≤ last → AreOpenWith last arcs n → AreOpenWith last arcs (closed_at n j)
 open-past last j [] n from_one past are = tt
 open-past last j (a ∷ arcs) n from_one past are =
@@ -67,13 +67,13 @@ open-past last j (a ∷ arcs) n from_one past are =
       open-past a.arc j arcs n from_one (omega (arith, past, are.0)) are.2,
     )
 
--- Once the first of them is closed, the others are open.
+-- Once the first of them is closed, the others are still open.
 pub open-rest : (last : ℕ) (a : Shutting) (arcs : List Shutting) (n : Network) → AreOpenWith last (a ∷ arcs) n → AreOpenWith a.arc arcs (closed_at n a.arc)
 open-rest last a arcs n are = open-past a.arc a.arc arcs n (omega (arith, are.0)) (omega arith) are.2
 
 -- ---- states
 
--- With arcs closed on which nothing flows a state is one.
+-- Closing arcs without flow gives a state.
 pub IsState-all_closed : (last : ℕ) (arcs : List Shutting) (n : Network) (flows : List ℕ) → IsState (record { network = n; flows = flows })
     → AreOpenWith last arcs n → AreWithoutFlow flows (numbers arcs) → IsState (record { network = with_closed arcs n; flows = flows })
 IsState-all_closed last [] n flows state are none = state

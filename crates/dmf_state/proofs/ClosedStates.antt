@@ -1,4 +1,4 @@
--- States with arcs closed, and opened again, one after the other.
+-- States whose arcs are closed, or opened again, one after the other.
 use Rattle.std.proofs.Common.{ℕ, ◌≡◌, ◌+◌, ◌-◌, ◌<◌, ◌≤◌, true, List, [], ◌∷◌, length, get_or, drop, refl, ap, sym, ◌∙◌, subst, arith, Vec, Global}
 use Rattle.std.proofs.lemmas.List.{get_or-set_same}
 use Rattle.dmf_state.specs.declared.arc.Arc.{Arc}
@@ -18,7 +18,7 @@ use Rattle.dmf_state.proofs.Changing.{within-at}
 use Rattle.dmf_state.proofs.ClosedArcs.{closed_at, no_shutting, left-next, open-rest, IsState-all_closed, AreWithoutFlow}
 use Rattle.dmf_state.proofs.ClosedTogether.{IsNetwork-closed, open-before, with_open-replaced, length-closed}
 
--- The flow of a state with arcs closed is one with them open, and nothing flows on them.
+-- A flow of the network with these arcs closed is also a flow with them open, and is 0 on them.
 pub IsState-before_closed : (last : ℕ) (arcs : List Shutting) (n : Network) (flows : List ℕ) → IsNetwork n → AreOpenWith last arcs n
     → IsState (record { network = with_closed arcs n; flows = flows }) → IsState (record { network = n; flows = flows }) × AreWithoutFlow flows (numbers arcs)
 IsState-before_closed last [] n flows network are state = (state, tt)
@@ -35,7 +35,7 @@ IsState-before_closed last (a ∷ arcs) n flows network are state =
 
 -- ---- closing them one by one
 
--- Closing those that are left makes the network that closing all of them makes.
+-- Closing the remaining arcs gives the network that closing all of them gives.
 pub record AreClosedUpTo (final : Network) (left : List Shutting) (t : NetworkState) (flows : List ℕ) : Type 0 where
   pub last : ℕ
   pub are : AreOpenWith last left t.network
@@ -64,7 +64,7 @@ closes-next final arcs i t flows state inside up_to =
 
 -- ---- opening them one by one
 
--- Arcs that an edit shut stand closed together in the state that it made.
+-- Where an edit that shut arcs stands in a state, these arcs are closed together in it.
 pub AreClosed-stands : (arcs : Vec Shutting Global) (moves : Vec Move Global) (t : NetworkState) → Stands (Shut arcs moves) t → AreClosed arcs.items t
 AreClosed-stands arcs moves t stands =
     let s : NetworkState = stands.before in
@@ -77,7 +77,7 @@ AreClosed-stands arcs moves t stands =
       gives = ap (λ (u : NetworkState). u.network) stands.gives;
     }
 
--- Opening those that are left makes the network that opening all of them makes.
+-- Opening the remaining arcs gives the network that opening all of them gives.
 pub record AreOpenedUpTo (final : Network) (left : List Shutting) (t : NetworkState) (flows : List ℕ) : Type 0 where
   pub last : ℕ
   pub before : Network
@@ -91,7 +91,7 @@ pub record OpensNext (final : Network) (a : Shutting) (left : List Shutting) (t 
   pub state : IsState (record { network = with_open t.network a.arc a.old; flows = t.flows })
   pub up_to : AreOpenedUpTo final left (record { network = with_open t.network a.arc a.old; flows = t.flows }) flows
 
--- The network has the next of them.
+-- The network has the next of these arcs.
 pub opens-has : (final : Network) (arcs : List Shutting) (i : ℕ) (t : NetworkState) (flows : List ℕ) → i < length arcs
     → AreOpenedUpTo final (drop i arcs) t flows → has_arc t.network (get_or arcs i no_shutting).arc ≡ true
 opens-has final arcs i t flows inside up_to =

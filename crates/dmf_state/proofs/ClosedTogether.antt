@@ -1,4 +1,4 @@
--- Arcs that are closed one after the other: what the network is then, and how opening them gives back the one before.
+-- Closing arcs one after the other: the network that this gives, and how opening them restores the network before.
 use Rattle.std.proofs.Common.{ℕ, ◌≡◌, ◌≢◌, ◌-◌, ◌<◌, ◌≤◌, List, [], ◌∷◌, length, set, zero, suc, true, false, refl, ap, sym, ◌∙◌, subst, arith}
 use Rattle.std.proofs.lemmas.List.{get_or-set_same, get_or-set_other, length-set, set-set, set-get_or}
 use Rattle.dmf_state.specs.declared.arc.Arc.{Arc}
@@ -13,12 +13,12 @@ use Rattle.dmf_state.proofs.OpenArcs.{listed_from, numbers-listed, open-listed}
 
 -- ---- one of them
 
--- The network with an arc closed is one.
+-- A network with an arc closed is a network.
 pub IsNetwork-closed : (n : Network) (j : ℕ) → IsNetwork n → has_arc n j ≡ true → IsNetwork (closed_at n j)
 IsNetwork-closed n j network has = IsNetwork-with_arc n j (closed_arc (arc_number n j)) network has refl refl (λ closed. refl)
     (omega (arith, network.capacities))
 
--- A network with as many arcs has arcs of the same numbers.
+-- A network with as many arcs as another has arcs of the same numbers.
 pub HasArcs-long : (n m : Network) (js : List ℕ) → length m.arcs ≡ length n.arcs → HasArcs n js → HasArcs m js
 HasArcs-long n m [] long has = tt
 HasArcs-long n m (j ∷ js) long has = (rw long has.0, HasArcs-long n m js long has.1)
@@ -38,11 +38,11 @@ length-closed (a ∷ arcs) n = length-closed arcs (closed_at n a.arc) ∙ length
 
 -- ---- opened again
 
--- An open arc is the one with its ends and its capacity.
+-- An open arc is determined by its ends and its capacity.
 open_arc-same : (a : Arc) (cap : ℕ) → a.closed ≡ false → a.cap ≡ cap → open_arc a.tail a.head cap ≡ a
 open_arc-same a cap is_open is_cap = λ i. record { tail = a.tail; head = a.head; cap = sym is_cap i; closed = sym is_open i }
 
--- The open arc put back in the place of another with its ends.
+-- Putting the open arc back in place of one with its ends restores the network.
 pub with_open-replaced : (n : Network) (j cap : ℕ) (arc : Arc) → IsOpenWith n j cap → arc.tail ≡ (arc_number n j).tail → arc.head ≡ (arc_number n j).head
     → with_open (with_arc n j arc) j cap ≡ n
 with_open-replaced n j cap arc is tail head =
@@ -55,7 +55,7 @@ with_open-replaced n j cap arc is tail head =
     (arc_number n j) ∙ set-get_or n.arcs k no_arc in
     λ i. record { nodes = n.nodes; source = n.source; sink = n.sink; arcs = arcs i }
 
--- Elements put at two places may be put in either order.
+-- Two writes at different places may be made in either order.
 set-apart : {A : Type 0} (xs : List A) (i k : ℕ) (x y : A) → i ≢ k → set (set xs i x) k y ≡ set (set xs k y) i x
 set-apart [] i k x y apart = refl
 set-apart (a ∷ xs) zero zero x y apart = absurd (apart refl)
@@ -76,7 +76,7 @@ open-apart n b j cap apart =
     ∙ ap (λ a. set (set n.arcs (j - 1) opened) (b - 1) (closed_arc a)) (sym (get_or-set_other n.arcs (j - 1) (b - 1) opened no_arc other)) in
     λ i. record { nodes = n.nodes; source = n.source; sink = n.sink; arcs = arcs i }
 
--- And so with several that are closed past it.
+-- So is opening one arc, where several with larger numbers are closed.
 pub open-before : (last : ℕ) (arcs : List Shutting) (m n : Network) (j cap : ℕ) → 1 ≤ j → j ≤ last → AreOpenWith last arcs m
     → with_open (with_closed arcs n) j cap ≡ with_closed arcs (with_open n j cap)
 open-before last [] m n j cap first le are = refl
@@ -85,7 +85,7 @@ open-before last (b ∷ arcs) m n j cap first le are =
     open-before b.arc arcs m (closed_at n b.arc) j cap first (omega (arith, past)) are.2
     ∙ ap (with_closed arcs) (open-apart n b.arc j cap (λ e. omega (arith, e, first, past)))
 
--- Opening them gives back the network.
+-- Opening these arcs restores the network.
 pub with_opened-closed : (last : ℕ) (arcs : List Shutting) (n : Network) → AreOpenWith last arcs n → with_opened arcs (with_closed arcs n) ≡ n
 with_opened-closed last [] n are = refl
 with_opened-closed last (a ∷ arcs) n are =

@@ -1,4 +1,4 @@
--- What `==` computes of arcs, of networks and of states tells whether the two are equal.
+-- What `==` computes of arcs, of networks and of states says whether the two are equal.
 use Rattle.std.proofs.Common.{◌≡◌, Bool}
 use Rattle.std.specs.Bool.{Decides}
 use Rattle.std.specs.Cmp.{booleans_Decides}
@@ -9,7 +9,7 @@ use Rattle.dmf_state.specs.Network.{Network}
 use Rattle.dmf_state.specs.NetworkState.{NetworkState}
 use Rattle.dmf_state.specs.Equality.{same_arc, same_network, same_state}
 
--- A test decides a statement where it decides one that says the same.
+-- A test that decides a statement decides each equivalent one.
 Decides-same : {P Q : Type 0} (r : Bool) → Decides r P → (P → Q) → (Q → P) → Decides r Q
 Decides-same r decides there back = (λ e. there (decides.0 e), λ q. decides.1 (back q))
 
@@ -27,7 +27,7 @@ same_network-Decides a b =
     (λ h i. record { nodes = h.0 i; source = h.1.0 i; sink = h.1.1.0 i; arcs = h.1.1.1 i })
     (λ e. (λ i. (e i).nodes, (λ i. (e i).source, (λ i. (e i).sink, λ i. (e i).arcs))))
 
--- A bool that is what `==` computes of two states tells whether they are equal.
+-- If a bool is what `==` computes of two states, it decides whether they are equal.
 pub same_state-Decides : (a b : NetworkState) (r : Bool) → r ≡ same_state a b → Decides r (a ≡ b)
 same_state-Decides a b r is =
     rw is (Decides-same _ (Decides-and _ _ (same_network-Decides a.network b.network) (pointwise_decides Decides-eqb a.flows b.flows))

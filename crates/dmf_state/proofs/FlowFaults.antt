@@ -1,4 +1,4 @@
--- The fault of a flow, from what is found of it.
+-- The fault of a flow, from what a walk over it finds.
 use Rattle.std.proofs.Common.{ℕ, ◌≡◌, ◌+◌, ◌-◌, ◌<◌, ◌≤◌, zero, suc, List, length, get_or, Bool, true, false, nat_lt, Some, None, refl, ap, ◌∙◌, arith, ℤ, pos}
 use Rattle.std.proofs.Common.{negsuc, ◌<ℤ◌, ◌≤ℤ◌, ⊎_elim, eq-eqb}
 use Rattle.std.specs.List.{find, range_with_len}
@@ -17,7 +17,7 @@ use Rattle.dmf_state.specs.FlowSums.{IsLeast, IsOverCapacity, IsUnbalanced}
 use Rattle.dmf_state.specs.NetworkState.{IsState}
 use Rattle.dmf_state.proofs.Changing.{within-at}
 
--- the first of some numbers
+-- the least number with a property, among several
 find-least : (p : ℕ → Bool) (a n v : ℕ) → a ≤ v → v < a + n → p v ≡ true → ((i : ℕ) → a ≤ i → i < v → p i ≡ false) → find p (range_with_len a n) ≡ Some v
 find-least p a zero v from below holds least = absurd (omega (arith, from, below))
 find-least p a (suc n) v from below holds least =
@@ -53,7 +53,7 @@ below-told (negsuc a) less = omega (arith, ints)
 
 -- ---- arcs
 
--- Where all are within their capacities, no arc is over it.
+-- Where all flows are within the capacities, no arc is over its capacity.
 pub none-over : (arcs : List Arc) (flows : List ℕ) → AreWithinCapacities arcs flows → first_over_capacity arcs flows ≡ None
 none-over arcs flows within =
     find-none (is_over_capacity arcs flows) 1 (length arcs) (λ j from below. not_less-told _ _ (within-at arcs flows (j - 1) within))
@@ -85,7 +85,7 @@ least-over arcs flows j least =
 -- ---- nodes
 
 module _ (n : Network) (flows : List ℕ) where
-  -- a node at which outflow and inflow do not differ, if it is an inner one
+  -- a node whose outflow is its inflow, if it is an inner node
   balanced-at : (v : ℕ) → 1 ≤ v → v ≤ n.nodes → (IsInnerNode n v → IsConservedAt n flows v) → is_unbalanced n flows v ≡ false
   balanced-at v from to conserved =
       ⊎_elim (λ source. rw source.0 refl)

@@ -1,4 +1,4 @@
--- A new last arc without flow leaves every sum of flows as it was.
+-- Appending an arc without flow leaves every sum of flows as it is.
 use Rattle.std.proofs.Common.{ℕ, ◌≡◌, ◌+◌, ◌^◌, ◌<◌, ◌≤◌, ◌==◌, List, [], ◌∷◌, ◌++◌, length, Bool, true, false, cond, refl, ap, ◌∙◌, sym, sum_by, arith}
 use Rattle.std.proofs.Common.{add-zero, eq-eqb}
 use Rattle.std.specs.List.{zip}
@@ -54,7 +54,7 @@ IsFlow-idle n flows arc flow =
           cc;
     }
 
--- A network that can take the arc is a state with it.
+-- If a network can take the arc, the result is a state.
 pub IsState-idle : (s : NetworkState) (arc : Arc) → IsState s → IsArc s.network.nodes arc → length s.network.arcs < 2 ^ 27
     → capacity_sum s.network.arcs + arc.cap < 2 ^ 64 → IsState (with_idle_arc s arc)
 IsState-idle s arc state fits few small =
@@ -92,7 +92,7 @@ KeepsTotals-idle s arc sum source count keeps is_open state =
       count_is = rw (sum_by_push, is_open) (ap (λ x. x + 1) keeps.count_is);
     }
 
--- no flow differs where one is added at the end
+-- no flow differs where a flow of 0 is appended
 pub differences-push : (j : ℕ) (flows : List ℕ) (x : ℕ) → differences j flows (flows ++ x ∷ []) ≡ []
 differences-push j [] x = refl
 differences-push j (y ∷ flows) x = rw (eq-eqb y y refl) (differences-push (j + 1) flows x)

@@ -1,4 +1,4 @@
--- The moves of an edit: making them, listing them, and what they say of the flows.
+-- The moves of an edit: making them, listing them, and what they say about the flows.
 use Rattle.std.proofs.Common.{ℕ, ◌≡◌, ◌≢◌, ◌+◌, ◌-◌, ◌<◌, ◌≤◌, ◌==◌, List, [], ◌∷◌, ◌++◌, length, get_or, set, take, drop, true, false, cond, if◌then◌else◌}
 use Rattle.std.proofs.Common.{◌^◌, refl, ap, ◌∙◌, sym, subst, arith, suc, zero, Some, Bool, add-zero, length-append, ⊎_elim, eq-eqb}
 use Rattle.std.specs.List.{slice_get}
@@ -23,7 +23,7 @@ use Rattle.dmf_state.specs.Edit.{moved, MovesFit, differences}
 abbrev pub no_move : Move
 no_move = record { arc = 0; from = 0; to = 0 }
 
--- a write before the arcs that the moves name keeps what they say
+-- a write to an arc before those that the moves name keeps what the moves say
 pub MovesFit-set : (last k y : ℕ) (moves : List Move) (flows : List ℕ) → k < last → MovesFit last moves flows → MovesFit last moves (set flows k y)
 MovesFit-set last k y [] flows h fit = tt
 MovesFit-set last k y (m ∷ moves) flows h fit =
@@ -35,12 +35,12 @@ MovesFit-set last k y (m ∷ moves) flows h fit =
     (get_or-set_other flows k i y 0 other ∙ get_or_from_slice_get flows i m.from 0 fit.1) in
     (fit.0, read, MovesFit-set m.arc k y moves flows (omega (arith, fit.0, h)) fit.2)
 
--- what moves past an arc say, they say past each arc before it
+-- what is true of moves past an arc is true of them past each arc before it
 pub MovesFit-earlier : (last first : ℕ) (moves : List Move) (flows : List ℕ) → first ≤ last → MovesFit last moves flows → MovesFit first moves flows
 MovesFit-earlier last first [] flows h fit = tt
 MovesFit-earlier last first (m ∷ moves) flows h fit = (omega (arith, fit.0, h), fit.1, fit.2)
 
--- one move made, the others fit
+-- one move is made, and the others still fit
 pub MovesFit-made : (last : ℕ) (m : Move) (moves : List Move) (flows : List ℕ) → MovesFit last (m ∷ moves) flows
     → MovesFit m.arc moves (set flows (m.arc - 1) m.to)
 MovesFit-made last m moves flows fit = MovesFit-set m.arc (m.arc - 1) m.to moves flows (omega (arith, fit.0)) fit.2
@@ -53,7 +53,7 @@ moved-other last k (m ∷ moves) flows h fit =
     moved-other m.arc k moves (set flows (m.arc - 1) m.to) (omega (arith, fit.0, h)) (MovesFit-made last m moves flows fit)
     ∙ get_or-set_other flows (m.arc - 1) k m.to 0 other
 
--- and the flow of the first arc that is named is the one that it is given
+-- the first arc that the moves name gets the flow that its move gives it
 pub moved-first : (last : ℕ) (m : Move) (moves : List Move) (flows : List ℕ) → MovesFit last (m ∷ moves) flows
     → get_or (moved (m ∷ moves) flows) (m.arc - 1) 0 ≡ m.to
 moved-first last m moves flows fit =
@@ -61,7 +61,7 @@ moved-first last m moves flows fit =
     moved-other m.arc (m.arc - 1) moves (set flows (m.arc - 1) m.to) (omega (arith, fit.0)) (MovesFit-made last m moves flows fit)
     ∙ get_or-set_same flows (m.arc - 1) m.to 0 within
 
--- a read that was overwritten
+-- a read of a value that was overwritten
 pub unset : (flows : List ℕ) (m : Move) → slice_get flows (m.arc - 1) ≡ Some m.from → set (set flows (m.arc - 1) m.to) (m.arc - 1) m.from ≡ flows
 unset flows m read =
     set-set flows (m.arc - 1) m.to m.from
@@ -81,12 +81,12 @@ pub moved-none : (arcs : List Arc) (moves : List Move) (v : ℕ) (flows : List �
     → IsNodeFlow arcs flows v sums → AreMoved arcs moves (moved moves flows) v 0 flows sums
 moved-none arcs moves v flows sums fit within at_node = record { last = 0; fit = fit; rest = refl; within = within; at_node = at_node }
 
--- The next move is of an arc of the network, and gives its flow as it is and as it will be.
--- The move that stands at this index.
+-- the move at this index
 pub record IsMoveAt (moves : List Move) (i : ℕ) (m : Move) : Type 0 where
   pub within : i < length moves
   pub is : get_or moves i no_move ≡ m
 
+-- The next move names an arc of the network, its flow now, and its flow after the move.
 pub record IsNextMove (arcs : List Arc) (last_flows flows : List ℕ) (m : Move) : Type 0 where
   pub from_one : 1 ≤ m.arc
   pub in_flows : m.arc - 1 < length flows
@@ -121,7 +121,7 @@ module _ (arcs : List Arc) (moves : List Move) (last_flows : List ℕ) (v i : �
         will_be = ap (λ xs. get_or xs (m.arc - 1) 0) (sym rest) ∙ moved-first a.last m (drop (i + 1) moves) flows fit;
       }
 
-  -- the capacity takes what will flow
+  -- the capacity allows the flow after the move
   to-le : AreWithinCapacities arcs last_flows → m.to ≤ (get_or arcs (m.arc - 1) no_arc).cap
   to-le within = omega (arith, within-at arcs last_flows (m.arc - 1) within, next-move.will_be)
 
@@ -191,7 +191,7 @@ differences-next j (suc i) (x ∷ xs) (y ∷ ys) h same =
     (λ k. differences (j + 1) (take (suc i) xs) (take (suc i) ys) ≡ differences (j + 1) (take i xs) (take i ys) ++ move_of k (get_or xs i 0)
     (get_or ys i 0)) place after)
 
--- the moves with that of the next arc
+-- the moves, with the move of the next arc
 pub differences-more : (i : ℕ) (xs ys : List ℕ) → i < length xs → length ys ≡ length xs
     → differences 1 (take (i + 1) xs) (take (i + 1) ys) ≡ differences 1 (take i xs) (take i ys) ++ move_of (i + 1) (get_or xs i 0) (get_or ys i 0)
 differences-more i xs ys h same =
@@ -251,7 +251,7 @@ moved-differences done (x ∷ xs) (y ∷ ys) same =
     ∙ ap (moved (differences (length done + 1 + 1) xs ys)) (set-middle done x y xs) ∙ rest))
     (eqb_tells x y)
 
--- The moves make the first flows into the second, and are those of the arcs whose flow differs.
+-- The moves turn the first flows into the second, and name just the arcs whose flow differs.
 pub record AreMovesBetween (moves : List Move) (before after : List ℕ) : Type 0 where
   pub fit : MovesFit 0 moves before
   pub makes : moved moves before ≡ after
@@ -267,7 +267,7 @@ moves-between moves before after same is =
       differ = is ∙ ap (differences 1 before) (sym makes);
     }
 
--- Two flows of one network are of one length.
+-- Two flows of one network have the same length.
 pub flows-long : (s : NetworkState) (flows : List ℕ) → IsState s → IsState (with_flows s flows) → length flows ≡ length s.flows
 flows-long s flows before after =
     let long_before = AllZip-long _ s.network.arcs s.flows before.flow.within in

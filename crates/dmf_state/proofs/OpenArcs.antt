@@ -1,4 +1,4 @@
--- The open arcs at a node, listed in one walk over the arcs.
+-- Listing the open arcs at a node in one pass over the arcs.
 use Rattle.std.proofs.Common.{ℕ, ◌≡◌, ◌+◌, ◌-◌, ◌<◌, ◌==◌, ◌&&◌, ◌||◌, not, Bool, true, false, cond, List, [], ◌∷◌, ◌++◌, length, get_or, take, zero, suc, refl}
 use Rattle.std.proofs.Common.{ap, sym, ◌∙◌, subst, arith, append_assoc, add-zero, append-nil}
 use Rattle.std.proofs.lemmas.Bool.{both_ways}
@@ -48,7 +48,7 @@ numbers-listed v j [] = refl
 numbers-listed v j (arc ∷ arcs) = numbers-step v j arc (listed_from v (j + 1) arcs) (open_arcs_at v (j + 1) arcs) (is_open_at v arc) refl
     (numbers-listed v (j + 1) arcs)
 
--- The arcs of the list are those of the network from number `j` on.
+-- The list has arcs of the network from number `j` on.
 abbrev AreFrom : Network → ℕ → List Arc → Type 0
 AreFrom n j arcs = (k : ℕ) → k < length arcs → (has_arc n (j + k) ≡ true) × (arc_number n (j + k) ≡ get_or arcs k no_arc)
 

@@ -1,4 +1,4 @@
--- What taking an edit back makes of the state that the edit made.
+-- What reverting an edit makes of the state that the edit made.
 use Rattle.std.proofs.Common.{ℕ, ◌≡◌, ◌-◌, ◌+◌, ◌≤◌, List, [], ◌∷◌, ◌++◌, length, take, map, get_or, false, refl, ap, ◌∙◌, sym, subst, arith}
 use Rattle.std.proofs.lemmas.List.{take_at, length_push, get_or_push}
 use Rattle.std.proofs.lemmas.List.Sums.{sum_by_push}
@@ -20,7 +20,7 @@ use Rattle.dmf_state.proofs.ClosedTogether.{with_open-replaced, with_opened-clos
 use Rattle.dmf_state.proofs.TakenBack.{moved_back-moved, MovesFit-opposite}
 use Rattle.dmf_state.specs.Laws.{HasOneBefore, GivesBack}
 
--- a list without what was put at its end
+-- a list without the element that was appended to it
 take-push : {A : Type 0} (xs : List A) (x : A) → take (length (xs ++ x ∷ []) - 1) (xs ++ x ∷ []) ≡ xs
 take-push xs x = take_at xs (x ∷ []) (length (xs ++ x ∷ []) - 1) (omega (arith, length_push xs x))
 
@@ -54,7 +54,7 @@ gives-back (Solve moves) s fits =
 pub one-before : HasOneBefore
 one-before edit s t fits_s fits_t same = sym (gives-back edit s fits_s) ∙ ap (reverted edit) same ∙ gives-back edit t fits_t
 
--- Where an edit stands, the moves that take its moves back fit the flows,
+-- Where an edit stands, the reverting moves fit the flows,
 pub fit-back : (edit : Edit) (t : NetworkState) (moves : List Move) → Stands edit t → moves_of edit ≡ moves → MovesFit 0 (map opposite moves) t.flows
 fit-back (Add tail head cap) t moves stands is = rw (← is) tt
 fit-back (Cap j old new of_it) t moves stands is = rw (← is) (rw (← stands.gives) (MovesFit-opposite 0 of_it.items stands.before.flows stands.fits.moves))
@@ -62,12 +62,12 @@ fit-back (Close j old of_it) t moves stands is = rw (← is) (rw (← stands.giv
 fit-back (Shut arcs of_it) t moves stands is = rw (← is) (rw (← stands.gives) (MovesFit-opposite 0 of_it.items stands.before.flows stands.fits.moves))
 fit-back (Solve of_it) t moves stands is = rw (← is) (rw (← stands.gives) (MovesFit-opposite 0 of_it.items stands.before.flows stands.fits.moves))
 
--- and what is left without it is a state.
+-- and the result, without the added arc, is a state.
 pub IsState-reverted : (edit : Edit) (t : NetworkState) → Stands edit t → IsState (reverted edit t)
 IsState-reverted edit t stands =
     subst IsState (sym (gives-back edit stands.before stands.fits) ∙ ap (reverted edit) stands.gives) stands.state
 
--- the totals without an idle last arc
+-- the totals without the last arc, which carries no flow
 totals-before : (s : NetworkState) (arc : Arc) (sum : ℕ) (source : NodeFlow) (count : ℕ) → IsState s → arc.closed ≡ false
     → KeepsTotals (with_idle_arc s arc) sum source count → KeepsTotals s (sum - arc.cap) source (count - 1)
 totals-before s arc sum source count state is_open keeps =
@@ -84,7 +84,7 @@ totals-before s arc sum source count state is_open keeps =
       count_is = omega (arith, keeps.count_is, counts);
     }
 
--- The last arc of a state that has an idle one, and the totals without it.
+-- the last arc of a state, where it carries no flow, and the totals without it
 pub KeepsTotals-without_last : (t : NetworkState) (sum : ℕ) (source : NodeFlow) (count : ℕ) → HasIdleLast t → KeepsTotals t sum source count
     → KeepsTotals (without_last t) (sum - (get_or t.network.arcs (length t.network.arcs - 1) no_arc).cap) source (count - 1)
 KeepsTotals-without_last t sum source count has keeps =

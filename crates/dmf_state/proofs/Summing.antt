@@ -1,4 +1,4 @@
--- Summing the flows at each node in one walk over the arcs.
+-- Summing the flows at each node in one pass over the arcs.
 use Rattle.std.proofs.Common.{ℕ, ◌≡◌, ◌≢◌, ◌+◌, ◌-◌, ◌<◌, ◌≤◌, ◌==◌, List, [], ◌∷◌, length, get_or, set, take, replicate, Bool, true, false, cond, ap, ◌∙◌, sym}
 use Rattle.std.proofs.Common.{sum_by, arith, add-zero, ⊎_elim}
 use Rattle.std.specs.List.{zip}
@@ -13,7 +13,7 @@ use Rattle.dmf_state.specs.Arc.{capacity_sum}
 use Rattle.dmf_state.specs.Flow.{AreWithinCapacities}
 use Rattle.dmf_state.specs.FlowSums.{AreFlowSums}
 
--- what an arc with its flow adds at a node
+-- what an arc adds to the sum at a node
 abbrev pub at_node : (Arc → ℕ) → ℕ → Arc × ℕ → ℕ
 at_node end v p = cond (end p.0 == v) p.1 0
 
@@ -66,7 +66,7 @@ sums-all end nodes arcs flows sums i same long s = record {
       s.each k (omega (arith, s.one_each)) ∙ ap (sum_by (at_node end (k + 1))) whole;
 }
 
--- all flows together are within the capacities together
+-- the sum of all flows is at most the sum of the capacities
 pub flows-le-capacities : (arcs : List Arc) (flows : List ℕ) → AreWithinCapacities arcs flows → sum_by (λ p. p.1) (zip arcs flows) ≤ capacity_sum arcs
 flows-le-capacities [] [] w = omega arith
 flows-le-capacities [] (x ∷ flows) w = absurd w
@@ -76,12 +76,12 @@ flows-le-capacities (a ∷ arcs) (x ∷ flows) w =
     let g : Arc → ℕ = λ b. b.cap in
     omega (arith, w.0, flows-le-capacities arcs flows w.1, sum_by-cons f (a, x) (zip arcs flows), sum_by-cons g a arcs)
 
--- a part that may be missing
+-- a summand that may be absent
 pub part-le : (b : Bool) (x : ℕ) → cond b x 0 ≤ x
 part-le true x = omega arith
 part-le false x = omega arith
 
--- no sum passes the capacities together
+-- no sum at a node exceeds the sum of the capacities
 pub sums-le : (end : Arc → ℕ) (nodes : ℕ) (arcs : List Arc) (flows : List ℕ) (i : ℕ) (sums : List ℕ) (old : ℕ) → AreWithinCapacities arcs flows
     → i < length arcs → IsNode nodes (end (get_or arcs i no_arc)) → old ≡ get_or sums (end (get_or arcs i no_arc) - 1) old
     → AreSumsSoFar end nodes arcs flows i sums → old + get_or flows i 0 ≤ capacity_sum arcs

@@ -1,4 +1,4 @@
--- Moves taken back: they fit the flows after the moves, and make the flows before them.
+-- Reverting moves: the reverting moves fit the flows after the moves, and restore the flows before them.
 use Rattle.std.proofs.Common.{ℕ, ◌≡◌, ◌≢◌, ◌-◌, ◌<◌, ◌≤◌, List, [], ◌∷◌, length, get_or, set, map, refl, ap, ◌∙◌, sym, arith, Some}
 use Rattle.std.specs.List.{slice_get}
 use Rattle.std.proofs.lemmas.List.{set_comm, length-set, length-map, get_or-map}
@@ -15,7 +15,7 @@ pub length-moved : (moves : List Move) (flows : List ℕ) → length (moved move
 length-moved [] flows = refl
 length-moved (m ∷ moves) flows = length-moved moves (set flows (m.arc - 1) m.to) ∙ length-set flows (m.arc - 1) m.to
 
--- A write before the arcs that the moves name may come before the moves or after them.
+-- A write to an arc before those that the moves name may come before or after the moves.
 set-moved : (last k y : ℕ) (moves : List Move) (flows : List ℕ) → k < last → MovesFit last moves flows
     → set (moved moves flows) k y ≡ moved moves (set flows k y)
 set-moved last k y [] flows h fit = refl
@@ -24,7 +24,7 @@ set-moved last k y (m ∷ moves) flows h fit =
     set-moved m.arc k y moves (set flows (m.arc - 1) m.to) (omega (arith, fit.0, h)) (MovesFit-made last m moves flows fit)
     ∙ ap (moved moves) (set_comm flows (m.arc - 1) k m.to y other)
 
--- Moves that are made and taken back leave the flows.
+-- Moves that are made and reverted leave the flows as they were.
 pub moved_back-moved : (last : ℕ) (moves : List Move) (flows : List ℕ) → MovesFit last moves flows → moved_back moves (moved moves flows) ≡ flows
 moved_back-moved last [] flows fit = refl
 moved_back-moved last (m ∷ moves) flows fit =
@@ -32,7 +32,7 @@ moved_back-moved last (m ∷ moves) flows fit =
     ∙ ap (λ xs. moved_back moves (moved moves xs)) (unset flows m fit.1)
     ∙ moved_back-moved m.arc moves flows fit.2
 
--- The moves that take them back fit the flows that they make.
+-- The reverting moves fit the flows that the moves make.
 pub MovesFit-opposite : (last : ℕ) (moves : List Move) (flows : List ℕ) → MovesFit last moves flows → MovesFit last (map opposite moves) (moved moves flows)
 MovesFit-opposite last [] flows fit = tt
 MovesFit-opposite last (m ∷ moves) flows fit =
@@ -43,7 +43,7 @@ MovesFit-opposite last (m ∷ moves) flows fit =
     slice_get-get_or after (m.arc - 1) 0 (omega (arith, within, long)) ∙ ap Some (moved-first last m moves flows fit) in
     (fit.0, read, MovesFit-opposite m.arc moves (set flows (m.arc - 1) m.to) (MovesFit-made last m moves flows fit))
 
--- The steps along a list of moves are as many as the moves,
+-- Walking the list of moves takes as many steps as there are moves,
 length-along : (direction : Direction) (moves : List Move) → length (along direction moves) ≡ length moves
 length-along Forward moves = refl
 length-along Back moves = length-map moves opposite
@@ -51,7 +51,7 @@ length-along Back moves = length-map moves opposite
 pub long-along : (direction : Direction) (moves : List Move) (i : ℕ) → length moves ≤ i → length (along direction moves) ≤ i
 long-along direction moves i over = omega (arith, length-along direction moves, over)
 
--- and each is that of the move in its place.
+-- and each step is the move at its place.
 get_or-along : (direction : Direction) (moves : List Move) (i : ℕ) (m : Move) → i < length moves → m ≡ step_along direction (get_or moves i no_move)
     → get_or (along direction moves) i no_move ≡ m
 get_or-along Forward moves i m h is = sym is

@@ -4,7 +4,7 @@ use Rattle.std.specs.Prelude.{ℕ, ◌≡◌, ◌+◌, ◌==◌, ◌&&◌, ◌||
 use Rattle.dmf_state.specs.declared.arc.Arc.{Arc}
 use Rattle.dmf_node.specs.Node.{IsNode}
 
--- Both ends are nodes, and nothing may flow on a closed arc.
+-- Both ends are nodes, and a closed arc has capacity 0.
 pub record IsArc (nodes : ℕ) (arc : Arc) : Type 0 where
   pub tail : IsNode nodes arc.tail
   pub head : IsNode nodes arc.head
@@ -14,7 +14,7 @@ pub record IsArc (nodes : ℕ) (arc : Arc) : Type 0 where
 abbrev pub open_arc : ℕ → ℕ → ℕ → Arc
 open_arc tail head cap = record { tail = tail; head = head; cap = cap; closed = false }
 
--- what is read past the last arc
+-- what a read past the last arc gives
 abbrev pub no_arc : Arc
 no_arc = record { tail = 0; head = 0; cap = 0; closed = false }
 
@@ -38,8 +38,7 @@ open_count arcs = count_by (λ arc. not arc.closed) arcs
 abbrev pub is_open_at : ℕ → Arc → Bool
 is_open_at v arc = not arc.closed && (arc.tail == v || arc.head == v)
 
--- the numbers of the open arcs at node `v`, which have it as their tail or their head, ascending, the first arc of the list being
--- number `j`
+-- the numbers of the open arcs that have node `v` as their tail or their head, ascending; the first arc of the list has number `j`
 abbrev pub open_arcs_at : ℕ → ℕ → List Arc → List ℕ
 open_arcs_at v j [] = []
 open_arcs_at v j (arc ∷ arcs) =

@@ -18,7 +18,7 @@ arc_fault n tail head cap =
     else Some TooManyArcs)
     else Some NoSuchNode
 
--- the same reason, as building a network tells it
+-- the same reason, as a fault of building a network
 abbrev pub net_fault : ArcFault → NetFault
 net_fault NoSuchNode = net.NoSuchNode
 net_fault TooManyArcs = net.TooManyArcs

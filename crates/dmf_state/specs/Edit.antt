@@ -1,4 +1,4 @@
--- Edits: changes that were planned on a state, written down so that they can be applied to it.
+-- Edits: planned changes of a state, written down so that they can be applied to it.
 -- Public: a public contract says no more than this.
 use Rattle.std.specs.Prelude.{ℕ, ◌≡◌, ◌+◌, ◌-◌, ◌<◌, ◌==◌, if◌then◌else◌, List, [], ◌∷◌, map, slice_get, slice_set, Some, true, false, ⊤}
 use Rattle.dmf_state.specs.declared.edit.Move.{Move}
@@ -36,7 +36,7 @@ abbrev pub with_closed : List Shutting → Network → Network
 with_closed [] n = n
 with_closed (a ∷ arcs) n = with_closed arcs (with_arc n a.arc (closed_arc (arc_number n a.arc)))
 
--- the state that an edit makes of a state
+-- the state that an edit makes of this one
 abbrev pub applied : Edit → NetworkState → NetworkState
 applied (Cap j old new moves) s =
     record {
@@ -77,7 +77,7 @@ abbrev pub AreOpenWith : ℕ → List Shutting → Network → Type 0
 AreOpenWith last [] n = Unit {0}
 AreOpenWith last (a ∷ arcs) n = (last < a.arc) × IsOpenWith n a.arc a.old × AreOpenWith a.arc arcs n
 
--- What the edit says of arcs besides their flow is so.
+-- What the edit says about the arcs, apart from their flow, is true.
 abbrev pub ArcFits : Edit → Network → Type 0
 ArcFits (Cap j old new moves) n = IsOpenWith n j old
 ArcFits (Close j old moves) n = IsOpenWith n j old
@@ -85,13 +85,13 @@ ArcFits (Add tail head cap) n = Unit {0}
 ArcFits (Shut arcs moves) n = AreOpenWith 0 arcs.items n
 ArcFits (Solve moves) n = Unit {0}
 
--- The edit fits the state: what it says of the state is so, and what it makes of it is a state.
+-- The edit fits the state: what it says about the state is true, and what it makes of the state is a state.
 pub record Fits (edit : Edit) (s : NetworkState) : Type 0 where
   pub arc : ArcFits edit s.network
   pub moves : MovesFit 0 (moves_of edit) s.flows
   pub applied : IsState (applied edit s)
 
--- the moves of the arcs whose flow differs, ascending, the first arc of the lists being number `j`
+-- the moves of the arcs whose flow differs, ascending; the first arc of the lists has number `j`
 abbrev pub differences : ℕ → List ℕ → List ℕ → List Move
 differences j [] after = []
 differences j (x ∷ before) [] = []

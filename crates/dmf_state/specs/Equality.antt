@@ -1,4 +1,4 @@
--- What `==` of states and of sides computes. Their contracts say that it tells whether the two are equal.
+-- What `==` of states and of sides computes. Their contracts say that it decides whether the two are equal.
 -- Public: a public contract says no more than this.
 use Rattle.std.specs.Prelude.{◌==◌, Bool}
 use Rattle.std.specs.Bool.{beq}

@@ -19,11 +19,11 @@ flow_on_all flows numbers = sum_by (flow_on flows) numbers
 abbrev pub flow_at : (Arc → ℕ) → List Arc → List ℕ → ℕ → ℕ
 flow_at end arcs flows v = sum_by (λ p. if end p.0 == v then p.1 else 0) (zip arcs flows)
 
--- what flows out of node `v`
+-- the outflow of node `v`
 abbrev pub outflow : List Arc → List ℕ → ℕ → ℕ
 outflow arcs flows v = flow_at (λ arc. arc.tail) arcs flows v
 
--- what flows into node `v`
+-- the inflow of node `v`
 abbrev pub inflow : List Arc → List ℕ → ℕ → ℕ
 inflow arcs flows v = flow_at (λ arc. arc.head) arcs flows v
 
@@ -31,7 +31,7 @@ inflow arcs flows v = flow_at (λ arc. arc.head) arcs flows v
 abbrev pub AreWithinCapacities : List Arc → List ℕ → Type 0
 AreWithinCapacities arcs flows = AllZip (λ arc flow. flow ≤ arc.cap) arcs flows
 
--- What flows out of node `v` is what flows into it.
+-- The outflow of node `v` is its inflow.
 abbrev pub IsConservedAt : Network → List ℕ → ℕ → Type 0
 IsConservedAt n flows v = outflow n.arcs flows v ≡ inflow n.arcs flows v
 
@@ -46,6 +46,6 @@ pub record IsFlow (n : Network) (flows : List ℕ) : Type 0 where
   pub within : AreWithinCapacities n.arcs flows
   pub conserved : (v : ℕ) → IsInnerNode n v → IsConservedAt n flows v
 
--- the value of a flow: what flows out of the source less what flows into it, so it may be below 0
+-- the value of a flow: the outflow of the source minus its inflow, so it may be negative
 abbrev pub flow_value : Network → List ℕ → ℤ
 flow_value n flows = pos (outflow n.arcs flows n.source) -ℤ pos (inflow n.arcs flows n.source)

@@ -1,4 +1,4 @@
--- Why numbers on the arcs of a network, one for each, are no flow of a value from 0 on: the first fault that they have.
+-- Why numbers on the arcs of a network are no flow, or a flow of negative value: the first fault that they have.
 -- Public: a public contract says no more than this.
 use Rattle.std.specs.Prelude.{ℕ, ◌-◌, ◌==◌, ◌&&◌, if◌then◌else◌, not, Bool, List, length, slice_index_or, Option, Some, None, nat_lt, int_lt, pos}
 use Rattle.std.specs.List.{find, range_with_len}
@@ -10,7 +10,7 @@ use Rattle.dmf_state.specs.Arc.{no_arc}
 use Rattle.dmf_state.specs.Network.{Network}
 use Rattle.dmf_state.specs.Flow.{flow_on, outflow, inflow, flow_value}
 
--- whether more flows on arc number `j` than it can carry
+-- whether the flow on arc number `j` exceeds its capacity
 abbrev pub is_over_capacity : List Arc → List ℕ → ℕ → Bool
 is_over_capacity arcs flows j = nat_lt (slice_index_or arcs (j - 1) no_arc).cap (flow_on flows j)
 
@@ -27,7 +27,7 @@ is_unbalanced n flows v =
 abbrev pub first_unbalanced : Network → List ℕ → Option ℕ
 first_unbalanced n flows = find (is_unbalanced n flows) (range_with_len 1 n.nodes)
 
--- a value below 0
+-- a negative value
 abbrev pub value_fault : Network → List ℕ → Option FlowFault
 value_fault n flows = if int_lt (flow_value n flows) (pos 0) then Some Negative else None
 

@@ -6,12 +6,12 @@ use Rattle.dmf_state.specs.declared.flow_sums.NodeFlow.{NodeFlow}
 use Rattle.dmf_state.specs.Network.{Network}
 use Rattle.dmf_state.specs.Flow.{flow_at, outflow, inflow, IsInnerNode, IsConservedAt}
 
--- The two numbers are what flows out of node `v` and into it.
+-- The two numbers are the outflow and the inflow of node `v`.
 pub record IsNodeFlow (arcs : List Arc) (flows : List ℕ) (v : ℕ) (sums : NodeFlow) : Type 0 where
   pub leaving : sums.leaving ≡ outflow arcs flows v
   pub entering : sums.entering ≡ inflow arcs flows v
 
--- The list has, for each node from node 1 on, the sum of the flows of the arcs that have the node at this end.
+-- For each node, from node 1 on, the list has the sum of the flows of the arcs that have the node at this end.
 pub record AreFlowSums (end : Arc → ℕ) (nodes : ℕ) (arcs : List Arc) (flows sums : List ℕ) : Type 0 where
   pub one_each : length sums ≡ nodes
   pub each : EachIndex sums (λ k. slice_index sums k ≡ flow_at end arcs flows (k + 1))
@@ -21,7 +21,7 @@ pub record IsLeast (P : ℕ → Type 0) (k : ℕ) : Type 0 where
   pub holds : P k
   pub least : (i : ℕ) → i < k → ¬ P i
 
--- More flows on arc number `j` than it can carry.
+-- The flow on arc number `j` exceeds its capacity.
 pub record IsOverCapacity (arcs : List Arc) (flows : List ℕ) (j : ℕ) : Type 0 where
   pub from_one : 1 ≤ j
   pub arc : Arc
@@ -30,7 +30,7 @@ pub record IsOverCapacity (arcs : List Arc) (flows : List ℕ) (j : ℕ) : Type 
   pub flow_is : slice_get flows (j - 1) ≡ Some flow
   pub over : arc.cap < flow
 
--- At the inner node `v` outflow and inflow differ.
+-- Outflow and inflow of the inner node `v` differ.
 pub record IsUnbalanced (n : Network) (flows : List ℕ) (v : ℕ) : Type 0 where
   pub inner : IsInnerNode n v
   pub differ : ¬ IsConservedAt n flows v

@@ -7,14 +7,14 @@ use Rattle.dmf_node.specs.Node.{IsNode}
 use Rattle.dmf_state.specs.Arc.{IsArc, no_arc, capacity_sum}
 
 -- A directed network: the nodes 1 to `nodes`, of which one is the source and one the sink, and a list of arcs.
--- Arc number j is the j-th of the list, counted from 1.
+-- Arc number `j` is the `j`-th of the list, counted from 1.
 pub record Network : Type 0 where
   pub nodes : ℕ
   pub source : ℕ
   pub sink : ℕ
   pub arcs : List Arc
 
--- What makes such a record a network.
+-- The conditions under which such a record is a network.
 pub record IsNetwork (n : Network) : Type 0 where
   pub at_least_two_nodes : 2 ≤ n.nodes
   pub at_most_nodes : n.nodes ≤ 2 ^ 24
@@ -33,11 +33,11 @@ arc_number n j = slice_index_or n.arcs (j - 1) no_arc
 abbrev pub has_arc : Network → ℕ → Bool
 has_arc n j = nat_le 1 j && nat_le j (length n.arcs)
 
--- the network with another arc in the place of arc number `j`
+-- the network with this arc in place of arc number `j`
 abbrev pub with_arc : Network → ℕ → Arc → Network
 with_arc n j arc =
     record { nodes = n.nodes; source = n.source; sink = n.sink; arcs = slice_set n.arcs (j - 1) arc }
 
--- the sum of the capacities with `cap` in place of that of arc number `j`
+-- the sum of the capacities with `cap` in place of the capacity of arc number `j`
 abbrev pub sum_with : Network → ℕ → ℕ → ℕ
 sum_with n j cap = capacity_sum n.arcs - (arc_number n j).cap + cap

@@ -5,12 +5,12 @@ use Rattle.dmf_state.specs.declared.arc.Arc.{Arc}
 use Rattle.dmf_state.specs.Network.{Network, IsNetwork}
 use Rattle.dmf_state.specs.Flow.{IsFlow, flow_value}
 
--- a network, and beside it one number for each of its arcs
+-- a network, and one number for each of its arcs
 pub record NetworkState : Type 0 where
   pub network : Network
   pub flows : List ℕ
 
--- It is a state if the numbers are a flow whose value is not below 0.
+-- It is a state if the numbers are a flow whose value is not negative.
 pub record IsState (s : NetworkState) : Type 0 where
   pub network : IsNetwork s.network
   pub flow : IsFlow s.network s.flows
@@ -30,6 +30,6 @@ abbrev pub with_last_arc : Network → Arc → Network
 with_last_arc n arc =
     record { nodes = n.nodes; source = n.source; sink = n.sink; arcs = n.arcs ++ arc ∷ [] }
 
--- the state with one more arc, the last, on which nothing flows
+-- the state with one more arc, the last, which carries no flow
 abbrev pub with_idle_arc : NetworkState → Arc → NetworkState
 with_idle_arc s arc = record { network = with_last_arc s.network arc; flows = s.flows ++ 0 ∷ [] }

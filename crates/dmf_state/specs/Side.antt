@@ -16,8 +16,8 @@ pub record CutSide : Type 0 where
 abbrev pub has_node : List ℕ → ℕ → Bool
 has_node ids v = list_any (λ u. u == v) ids
 
--- The list has in ascending order just the nodes that every minimum cut has. They are a minimum cut themselves, and the
--- capacity is theirs.
+-- The list has the nodes that every minimum cut has, and no others, in ascending order. They are a minimum cut, and the capacity is its
+-- capacity.
 pub record IsSmallestSide (n : Network) (side : CutSide) : Type 0 where
   pub ascending : IsStrictlyIncreasing side.ids
   pub in_every : (v : ℕ) → IsTrue (has_node side.ids v) ↔ (IsNode n.nodes v × IsInEveryMinimumCut n v)

@@ -6,7 +6,7 @@ use Rattle.dmf_state.specs.Arc.{capacity_sum, open_count}
 use Rattle.dmf_state.specs.FlowSums.{IsNodeFlow}
 use Rattle.dmf_state.specs.NetworkState.{NetworkState, IsState}
 
--- The numbers that a `State` keeps beside its network and flow, so that they need not be summed again.
+-- The numbers that a `State` keeps beside its network and flow, so that no call has to sum them again.
 pub record KeepsTotals (s : NetworkState) (sum : ℕ) (source : NodeFlow) (count : ℕ) : Type 0 where
   pub state : IsState s
   pub sum_is : sum ≡ capacity_sum s.network.arcs

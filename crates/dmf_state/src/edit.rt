@@ -57,7 +57,7 @@ pub enum Edit {
         /// The arcs whose flow differs, in the order of their numbers.
         moves: Vec<Move>,
     },
-    /// Augments the flow to a greatest one.
+    /// Augments the flow to a maximum flow.
     Solve {
         /// The arcs whose flow differs, in the order of their numbers.
         moves: Vec<Move>,

@@ -16,7 +16,7 @@ impl<'a> Model for SideIds<'a> {
 }
 
 impl<'a> SideIds<'a> {
-    /// These numbers.
+    /// Iterates over these numbers.
     pub(crate) fn new(ids: &'a [u32]) -> SideIds<'a>
         ensures { result ≡ ids.now }
     {

@@ -121,7 +121,7 @@ impl State {
         self.flows[j as usize - 1]
     }
 
-    /// The flows in the order of the arcs' numbers: that of arc number `j` is at index `j - 1`.
+    /// The flows in the order of the arcs' numbers: the flow on arc number `j` is at index `j - 1`.
     pub fn flows(&self) -> &[u64]
         ensures value { result.now ≡ self.now.flows }
         ensures state { IsState self.now }

@@ -1,4 +1,4 @@
--- What a reader gave, once more is known of it.
+-- What a reader gave, when more is known about it.
 use Rattle.std.proofs.Common.{ℕ, List}
 use Rattle.dmf_text.specs.Streams.{Reader}
 use Rattle.dmf_streams.specs.Reading.{HasGiven}

@@ -4,7 +4,7 @@ use Rattle.std.proofs.lemmas.List.{length-take, length_push, take_all, take-appe
 use Rattle.std.proofs.lemmas.Bool.{lt-ltb, le-ltb, ltb-false}
 use Rattle.dmf_streams.specs.KeptLine.{Kept, IsKept}
 
--- a byte more, where it is kept
+-- one more byte, if the buffer keeps it
 pub IsKept-push : (kept : Kept) (line : List ℕ) (byte : ℕ) → length kept.bytes < 4096 → IsKept kept line
     → IsKept (record { bytes = kept.bytes ++ byte ∷ []; is_long = kept.is_long }) (line ++ byte ∷ [])
 IsKept-push kept line byte space is =
@@ -15,7 +15,7 @@ IsKept-push kept line byte space is =
       long_is = is.long_is ∙ le-ltb _ _ (omega arith) ∙ sym (le-ltb _ _ (omega (arith, length_push line byte)));
     }
 
--- and where it is not
+-- and if it does not
 pub IsKept-full : (kept : Kept) (line : List ℕ) (byte : ℕ) → length kept.bytes ≡ 4096 → IsKept kept line
     → IsKept (record { bytes = kept.bytes; is_long = true }) (line ++ byte ∷ [])
 IsKept-full kept line byte full is =
@@ -25,7 +25,7 @@ IsKept-full kept line byte full is =
       long_is = sym (lt-ltb _ _ (omega (arith, length_push line byte)));
     }
 
--- a line that is not too long is kept whole
+-- the buffer keeps a line whole that is not too long
 pub whole-line : (kept : Kept) (line : List ℕ) → kept.is_long ≡ false → IsKept kept line → kept.bytes ≡ line
 whole-line kept line short is =
     let le : length line ≤ 4096 = ltb-false 4096 (length line) (sym is.long_is ∙ short) in

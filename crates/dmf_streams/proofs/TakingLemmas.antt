@@ -20,7 +20,7 @@ pub Consumes-pending : (known : Option (List ℕ)) (byte : ℕ) (rest : List ℕ
 Consumes-pending None byte rest = tt
 Consumes-pending (Some xs) byte rest = refl
 
--- the pending bytes at one place more
+-- the pending bytes, after one more is taken
 pub pending-more : (piece : List ℕ) (start end : ℕ) → start < end → end ≤ length piece
     → slice_range piece start end ≡ get_or piece start 0 ∷ slice_range piece (start + 1) end
 pending-more piece start end some within =
@@ -40,13 +40,13 @@ nothing-pending piece start end none =
     let no : end - start ≡ 0 = omega arith in
     rw no refl
 
--- bytes that were read are pending, so that none is taken yet
+-- bytes that were read are pending, and none of them is taken yet
 Consumes-read : (from to : Option (List ℕ)) (bytes : List ℕ) → Consumes from to bytes → Consumes (prepend_known [] from) (prepend_known bytes to) []
 Consumes-read None to bytes read = tt
 Consumes-read (Some xs) None bytes read = absurd read
 Consumes-read (Some xs) (Some ys) bytes read = read
 
--- what the reader gave is pending where nothing was
+-- if no byte was pending, the bytes that the reader gave are pending
 pub Takes-read : (old new : Pending) (from to : Reader) → old.bytes ≡ [] → new.count ≡ old.count → Consumes from.known to.known new.bytes
     → Takes (input_over old from) (input_over new to) []
 Takes-read old new from to none count read = record {

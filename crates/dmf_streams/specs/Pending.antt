@@ -1,4 +1,4 @@
--- What an input holds between two bytes.
+-- What an input keeps between two bytes.
 -- Private: only contracts inside the crate and proofs use this.
 use Rattle.std.specs.Prelude.{ℕ, List}
 

@@ -1,4 +1,4 @@
--- The status of the program, by what a run gave.
+-- The status of the program, by the result of its run.
 -- Public: a public contract says no more than this.
 use Rattle.std.specs.Prelude.{ℕ, Result, Ok, Err}
 use Rattle.dmf_streams.specs.declared.fault.Status.{Status}

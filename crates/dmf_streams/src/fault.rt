@@ -7,10 +7,10 @@ use dmf_text::{ProblemFault, SolutionFault, WriteFault};
 use std::alloc::AllocError;
 use std::fmt;
 
-/// How a run ended that met no fault.
+/// How a run ended without a fault.
 #[derive(Clone, Copy, Debug, PartialEq, Eq)]
 pub enum Status {
-    /// Nothing was refused.
+    /// No command was refused.
     Well,
     /// At least one command was refused.
     SomeRefused,
@@ -23,7 +23,7 @@ pub enum Status {
 pub enum EngineFault {
     /// A read failed.
     Read,
-    /// A write or a flush failed, or the writer took none of the bytes that it was given.
+    /// A write or a flush failed, or the writer took none of the bytes that it got.
     Write,
     /// The problem text has a fault.
     Problem(ProblemFault),
@@ -31,7 +31,7 @@ pub enum EngineFault {
     Solution(SolutionFault),
     /// A request for memory was refused.
     NoMemory,
-    /// A text or the list of commands passes its limit.
+    /// A text or the list of commands exceeds its limit.
     TooMuchInput,
 }
 
@@ -74,8 +74,8 @@ impl From<AllocError> for EngineFault {
     }
 }
 
-/// The exit status of the program after a run: 0 if all is well, 1 if a command was refused or a checked flow is not greatest,
-/// 3 for a fault in a text, 4 for a failed read or write or a passed limit, 5 for want of memory.
+/// The exit status of the program after a run: 0 if all is well, 1 if a command was refused or a checked flow is not greatest, 3 for a
+/// fault in a text, 4 for a failed read or write or an exceeded limit, 5 if memory is refused.
 pub fn status_of(outcome: &Result<Status, EngineFault>) -> u8
     ensures { result ≡ status_of outcome.now }
 {

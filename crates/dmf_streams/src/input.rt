@@ -7,17 +7,17 @@ use crate::kept_line::KeptLine;
 use dmf_text::Source;
 use std::marker::Model;
 
-/// The largest number of bytes of all command lines together.
+/// The largest number of bytes that all command lines have together.
 pub const MAX_BYTES: u64 = 1_073_741_824;
 
 const PIECE: usize = 2048;
 
-/// What a request for a line gives.
+/// The result of a request for a line.
 #[derive(Clone, Copy)]
 pub enum Next {
     /// A line.
     Line {
-        /// Whether a line feed ended it, or else the end of the input.
+        /// Whether a line feed ended it; else the end of the input did.
         ended: bool,
     },
     /// The end of the input.
@@ -45,7 +45,7 @@ impl Model for Input {
 }
 
 impl Input {
-    /// An input of which nothing is read yet.
+    /// An input that has read nothing yet.
     pub fn new() -> Self
         ensures { result ≡ record { bytes = []; count = 0 } }
     {
@@ -57,7 +57,7 @@ impl Input {
         }
     }
 
-    /// Reads the next piece if no byte is pending. At the end of the input none is pending afterwards.
+    /// Reads the next piece if no byte is pending. If the input has ended, no byte is pending afterwards.
     fn fill<C: Source>(&mut self, source: &mut C) -> Result<(), EngineFault>
         ensures { Fills
             (input_over self.old (C.left source.old))
@@ -96,7 +96,7 @@ impl Input {
         Ok(Some(byte))
     }
 
-    /// Takes the next line, if there is one, in place of the kept one. Asks for no byte past its line feed.
+    /// Takes the next line, if there is one, in place of the kept one. Reads no byte past its line feed.
     pub fn next_line<C: Source>(
         &mut self,
         source: &mut C,
@@ -120,7 +120,7 @@ impl Input {
         Ok(Next::Line { ended: false })
     }
 
-    /// Fails if there is a further byte.
+    /// Fails if there is another byte.
     pub fn expect_end<C: Source>(&mut self, source: &mut C) -> Result<(), EngineFault>
         ensures { GivesEnd
             (input_over self.old (C.left source.old))

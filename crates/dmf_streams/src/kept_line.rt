@@ -4,7 +4,7 @@ ghost use Rattle.dmf_streams.specs.KeptLine.{IsKept};
 
 use std::marker::Model;
 
-/// The largest number of bytes of a command line, a carriage return counted and the line feed not.
+/// The largest number of bytes of a command line. A carriage return counts, the line feed does not.
 pub const MAX_LINE: usize = 4096;
 
 /// A line that keeps at most its first [`MAX_LINE`] bytes.

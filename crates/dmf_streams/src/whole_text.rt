@@ -10,7 +10,7 @@ use std::alloc::{AllocError, Global};
 
 const PIECE: usize = 65536;
 
-/// Reads a whole text, of at most [`MAX_BYTES`] bytes. Takes the buffer for reads before the first of them.
+/// Reads a whole text, of at most [`MAX_BYTES`] bytes. Allocates its read buffer before the first read.
 pub fn read_all<P: Source>(alloc: Global, source: &mut P) -> Result<Vec<u8>, EngineFault>
     ensures { let from = P.left source.old in
         let to = P.left source.new in

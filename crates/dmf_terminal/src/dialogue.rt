@@ -11,15 +11,15 @@ use std::io::IsTerminal;
 use std::rt::HostRuntime;
 use std::time::SystemTime;
 
-/// A problem of so many bytes is read again to explain a refusal.
+/// A problem of at most so many bytes is read again to explain a refusal.
 const MOST_READ: u64 = 67_108_864;
 
-/// What is known of a session. Where standard error is no terminal, nothing is kept and nothing is told.
+/// What the dialogue knows of a session. If standard error is no terminal, it keeps nothing and writes nothing.
 #[derive(Drop)]
 pub struct Dialogue<'a> {
     rt: &'a HostRuntime,
     is_told: bool,
-    /// The path of the problem, and its file's size and time as the session began.
+    /// The path of the problem, and the size and time of its file as the session began.
     path: &'a str,
     stamp: Option<(u64, SystemTime)>,
     typed: RefCell<TypedLines>,
@@ -83,7 +83,7 @@ impl<'a> Dialogue<'a> {
         }
     }
 
-    /// The problem's text, if that helps, and the file is still as it was.
+    /// The problem's text, if it helps and the file has not changed.
     fn problem_for(&self, refused: Refused) -> Option<Vec<u8>> {
         let stamp = self.stamp?;
         if refused.is_about_problem() && stamp_of(self.rt, self.path) == Some(stamp) {
@@ -101,13 +101,13 @@ fn stamp_of(rt: &HostRuntime, path: &str) -> Option<(u64, SystemTime)> {
     Some((told.len(), modified))
 }
 
-/// Tells why this command line was refused.
+/// Writes why the session refused this command line.
 fn tell(rt: &HostRuntime, reason: Refusal, line: &[u8], known: Known<'_>) {
     let said = Said(refusal_advice(reason, line, known));
     let _ = eprintln!(rt; "dmf: {said}");
 }
 
-/// A source of commands that the dialogue keeps.
+/// A source of commands, whose lines the dialogue keeps.
 #[derive(Drop)]
 pub struct KeptCommands<'a, S> {
     source: S,

@@ -7,7 +7,7 @@ use dmf_explain::{
 use dmf_session::Refusal;
 use dmf_text::{NumberFault, number};
 
-/// A refusal, as the reply to a command line tells it.
+/// A refusal, as the reply to a command line names it.
 #[derive(Clone, Copy)]
 pub struct Refused {
     pub line: u64,
@@ -15,7 +15,7 @@ pub struct Refused {
 }
 
 impl Refused {
-    /// The refusal that a reply is.
+    /// The refusal that a reply states.
     pub fn of_reply(reply: &[u8]) -> Option<Refused> {
         if !reply.starts_with(b"c refused ") {
             return None;
@@ -53,7 +53,7 @@ const REFUSALS: &[Refusal] = &[
     Refusal::LineTooLong,
 ];
 
-/// The refusal that this text tells.
+/// The refusal with this text.
 fn refusal_told(text: &[u8]) -> Option<Refusal> {
     for refusal in REFUSALS {
         if refusal.text().as_bytes() == text {
@@ -87,7 +87,7 @@ const VERBS: &[(&[u8], Verb)] = &[
     (b"print", Verb::Print),
 ];
 
-/// What stands beside this text in a table.
+/// The entry beside this text in a table.
 fn beside<T: Copy>(table: &[(&[u8], T)], text: &[u8]) -> Option<T> {
     for (key, value) in table {
         if *key == text {
@@ -97,7 +97,7 @@ fn beside<T: Copy>(table: &[(&[u8], T)], text: &[u8]) -> Option<T> {
     None
 }
 
-/// What is known of the problem of a session.
+/// What is known about the problem of a session.
 #[derive(Clone, Copy)]
 pub struct Known<'a> {
     /// Its text, where that can be read again.
@@ -110,7 +110,7 @@ const COMMANDS: &str =
     "the commands are cap I U, add V W U, close I, shut V, solve, undo [K], redo [K] and \
 print problem, print flow, print cut; Ctrl-D ends the session";
 
-/// What explains a refusal of this command line.
+/// The explanation of why this command line was refused.
 pub fn refusal_advice<'a>(reason: Refusal, line: &'a [u8], known: Known<'_>) -> Parts<'a> {
     let word = field_at(line, 1).unwrap_or(&[]);
     let verb = beside(VERBS, word);
@@ -155,7 +155,7 @@ fn unknown_command<'a>(word: &'a [u8]) -> Parts<'a> {
     about_with(word, " is no command: ", Part::Words(COMMANDS))
 }
 
-/// Whether somebody asks with this word for help or for the end.
+/// Whether this word asks for help or for the end of the session.
 fn is_asking(word: &[u8]) -> bool {
     matches!(word, b"help" | b"?" | b"quit" | b"exit" | b"q" | b"h")
 }
@@ -168,7 +168,7 @@ fn field_count<'a>(verb: Option<Verb>, line: &'a [u8], known: Known<'_>) -> Part
     }
 }
 
-/// What explains names of several words after the first word of a command, or else how many fields it takes.
+/// The explanation for names of several words after the first word of a command, or else how many fields the command takes.
 fn by_names<'a>(
     verb: Option<Verb>,
     line: &'a [u8],
@@ -208,7 +208,7 @@ fn two_names<'a>(text: &[u8], names: &[u8], otherwise: Parts<'a>) -> Parts<'a> {
     }
 }
 
-/// What a command takes.
+/// The fields that a command takes.
 fn form_of<'a>(verb: Option<Verb>) -> &'a str {
     match verb {
         Some(Verb::Cap) => "cap takes an arc and its new capacity (cap I U, 3 fields)",
@@ -238,7 +238,7 @@ fn not_a_number<'a>(verb: Option<Verb>, line: &'a [u8], known: Known<'_>) -> Par
     }
 }
 
-/// What the field at this place of a command is the number of.
+/// What the number in this field of a command stands for.
 fn thing_at(verb: Option<Verb>, place: usize) -> Option<Thing> {
     match (verb?, place) {
         (Verb::Cap | Verb::Close, 2) => Some(Thing::Arc),

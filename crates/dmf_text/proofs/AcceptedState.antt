@@ -1,4 +1,4 @@
--- What a problem text without a fault stands for is a state.
+-- A problem text without a fault stands for a state.
 use Rattle.std.proofs.Common.{◌≡◌, ◌≢◌, ℕ, ◌+◌, ◌^◌, ◌<◌, ◌≤◌, ◌==◌, ◌&&◌, ◌||◌, List, [], ◌∷◌, ◌++◌, length, map, replicate, Bool, true, false, not, Option}
 use Rattle.std.proofs.Common.{Some, None, is_some, is_none, unwrap_or, Result, Ok, Err, codes, arith, refl, sym, ap, ◌∙◌, subst, ⊎_elim, append-nil}
 use Rattle.std.proofs.Common.{length-append, sum_by, zero-add, if◌then◌else◌, nat_lt, nat_le}
@@ -31,7 +31,7 @@ use Rattle.dmf_text.proofs.PassedJudgements.{passed, held, passed-value, at-line
 use Rattle.dmf_text.proofs.ProblemLemmas.{facts_of-push}
 use Rattle.dmf_text.proofs.ReadingLemmas.{node-from}
 
--- ---- what good fields and absent values are
+-- ---- what good fields give, and absent values
 
 -- the field spells the number
 spelled : (behind : List (List ℕ)) (i n : ℕ) → number_in i behind ≡ Ok n → number_at i behind ≡ n
@@ -74,7 +74,7 @@ sound-nothing = record {
   fits = omega arith;
 }
 
--- a line that says nothing leaves it as it is
+-- a line that says nothing about a fact leaves it as it is
 silent : (facts : Facts) → ◌≡◌ {A = Facts}
     (record { counts = option_or facts.counts None; source = option_or facts.source None; sink = option_or facts.sink None; arcs = facts.arcs ++ [] }) facts
 silent facts = λ i. record {
@@ -84,7 +84,7 @@ silent facts = λ i. record {
   arcs = append-nil facts.arcs i;
 }
 
--- nor does one of another kind
+-- nor does a line of another kind say anything about it
 other-line : (facts : Facts) (kind : List ℕ) (behind : List (List ℕ)) → bytes_eq kind (codes "a") ≡ false → bytes_eq kind (codes "n") ≡ false
     → bytes_eq kind (codes "p") ≡ false
     → with_line facts (kind ∷ behind) ≡ facts
@@ -287,12 +287,12 @@ sound-line facts (kind ∷ behind) sound good =
 
 -- ---- the end
 
--- no flow is within the capacities
+-- a flow of 0 is within the capacities
 idle-within : (arcs : List Arc) → AreWithinCapacities arcs (replicate (length arcs) 0)
 idle-within [] = tt
 idle-within (arc ∷ arcs) = (omega arith, idle-within arcs)
 
--- and sums up to nothing
+-- and its sums are 0
 nothing-either : (b : Bool) → ◌≡◌ {A = ℕ} (if b then 0 else 0) 0
 nothing-either true = refl
 nothing-either false = refl

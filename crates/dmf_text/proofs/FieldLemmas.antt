@@ -14,7 +14,7 @@ use Rattle.dmf_text.specs.Fields.{is_blank, fields}
 abbrev has_byte : List ℕ → Bool
 has_byte piece = nat_lt 0 (length piece)
 
--- a blank in front is no part of a field
+-- a leading blank belongs to no field
 fields-blank : (b : ℕ) (bs : List ℕ) → is_blank b ≡ true → fields (b ∷ bs) ≡ fields bs
 unfolding fields
 fields-blank b bs blank = ap (filter has_byte) (slice_split-cons_yes is_blank b bs blank)
@@ -34,7 +34,7 @@ fields-skip (b ∷ bs) =
     (λ other. ap fields (sym (ap (λ k. drop k (b ∷ bs)) (cond-false _ _ _ other))))
     (cases_Bool (is_blank b))
 
--- the field in front ends at the first blank
+-- the first field ends at the first blank
 fields-ended : (bytes : List ℕ) → 0 < position_or_len is_blank bytes → position_or_len is_blank bytes < length bytes
     → fields bytes ≡ take (position_or_len is_blank bytes) bytes ∷ fields (drop (position_or_len is_blank bytes) bytes)
 unfolding fields
@@ -48,14 +48,14 @@ fields-ended bytes some inside =
     ∙ ap (λ k. field ∷ fields (drop k bytes)) (add-one n)
     ∙ ap (λ more. field ∷ more) (sym (ap fields (drop-cons bytes n 0 inside) ∙ fields-blank (get_or bytes n 0) (drop (suc n) bytes) blank))
 
--- or it is all there is
+-- or the first field is the whole line
 fields-whole : (bytes : List ℕ) → 0 < length bytes → length bytes ≤ position_or_len is_blank bytes → fields bytes ≡ bytes ∷ []
 unfolding fields
 fields-whole bytes some whole =
     let none : All (λ b. is_blank b ≡ false) bytes = λ k d below. not-true _ (prefix_len_passes (λ b. not (is_blank b)) bytes k d (omega arith)) in
     ap (filter has_byte) (slice_split_none is_blank bytes none) ∙ cond-true _ _ _ (lt-ltb 0 (length bytes) some)
 
--- a field in front, and what is left
+-- the first field, and the rest of the line
 pub fields-first : (bytes : List ℕ) → 0 < position_or_len is_blank bytes
     → fields bytes ≡ take (position_or_len is_blank bytes) bytes ∷ fields (drop (position_or_len is_blank bytes) bytes)
 fields-first bytes some =
@@ -68,7 +68,7 @@ fields-first bytes some =
     (ap fields (drop_all n bytes whole) ∙ fields-nil [] refl)))
     (cases_lt n (length bytes))
 
--- past the blanks there is a field, or nothing
+-- past the leading blanks stands a field, or nothing
 pub skipped-empty : (bytes : List ℕ) → position_or_len is_blank (drop (prefix_len is_blank bytes) bytes) ≡ 0
     → length (drop (prefix_len is_blank bytes) bytes) ≡ 0
 skipped-empty bytes none =
@@ -86,7 +86,7 @@ skipped-empty bytes none =
     (λ gone. omega arith)
     (cases_lt n (length bytes))
 
--- the bytes of a line, past its blanks, cut at the next blank
+-- the bytes of a line past its leading blanks, cut at the next blank
 pub record IsSplit (line field after : List ℕ) : Type 0 where
   pub rest : List ℕ
   pub skipped : rest ≡ drop (prefix_len is_blank line) line

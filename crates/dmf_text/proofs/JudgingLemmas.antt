@@ -1,4 +1,4 @@
--- Texts that are judged line by line, by a reader that takes one line after the other.
+-- Judging a text line by line, with a reader that takes one line after the other.
 use Rattle.std.proofs.Common.{◌≡◌, ℕ, ◌+◌, ◌≤◌, List, [], ◌∷◌, ◌++◌, length, map, Option, Some, None, Result, Ok, Err, refl, sym, ap, ◌∙◌, arith, length-append}
 use Rattle.std.proofs.lemmas.List.FromFn.{length-enumerate_from}
 use Rattle.std.specs.Option.{option_or}
@@ -51,21 +51,21 @@ module _ {Facts Kind Fault A : Type 0} (facts_of : List Line → Facts) (judged 
     unfolding outcome_after
     outcome-good good = ap (λ j. at_line fault (length before + 1) j >> outcome_after facts_of judged ended fault (before ++ line ∷ []) more) good
 
-    -- a bad one is told
+    -- the fault of a bad line is the outcome
     pub outcome-bad : (kind : Kind) → judged (facts_of before) line ≡ Err kind
         → outcome_after facts_of judged ended fault before (line ∷ more) ≡ Err (fault (length before + 1) kind)
     unfolding outcome_after
     outcome-bad kind bad = ap (λ j. at_line fault (length before + 1) j >> outcome_after facts_of judged ended fault (before ++ line ∷ []) more) bad
 
-  -- with no line left the end is judged
+  -- with no line left, the end decides
   pub outcome-end : (end : Result A Kind) → end ≡ ended (facts_of before)
       → outcome_after facts_of judged ended fault before [] ≡ at_line fault (length before + 1) end
   unfolding outcome_after
   outcome-end end is = ap (at_line fault (length before + 1)) (sym is)
 
--- ---- a reader on its way through a text
+-- ---- a reader within a text
 
--- Some lines were taken, which say this and of which the last had this number, and these are left.
+-- The reader took some lines, which say this and of which the last had this number; these lines are left.
 pub record Walk {Facts Kind Fault A : Type 0} (facts_of : List Line → Facts) (judged : Facts → Line → Result (Unit {0}) Kind)
     (ended : Facts → Result A Kind) (fault : ℕ → Kind → Fault) (text : List ℕ) (facts : Facts) (last : ℕ) (left : List (ℕ × List ℕ)) : Type 0 where
   pub before : List Line
@@ -123,7 +123,7 @@ module _ {Facts Kind Fault A : Type 0} {facts_of : List Line → Facts} {judged 
           ∙ outcome-bad facts_of judged ended fault walk.before (fields line) (map fields first.others) kind bad_here
           ∙ ap (λ n. Err (fault n kind)) (sym first.number_is)
 
-    -- there is no next line
+    -- no line is left
     pub walk-end : left ≡ [] → (end : Result A Kind) → end ≡ ended facts
         → outcome_after facts_of judged ended fault [] (map fields (lines text)) ≡ at_line fault (last + 1) end
     walk-end none end is =

@@ -1,4 +1,4 @@
--- The lines of a text, as bstr cuts them and as std does.
+-- bstr and std cut a text into the same lines.
 use Rattle.std.proofs.Common.{◌≡◌, ℕ, zero, suc, ◌+◌, ◌-◌, ◌<◌, ◌≤◌, ◌==◌, ◌≢◌, List, [], ◌∷◌, length, take, drop, slice_index, map, Bool, false, cond, not}
 use Rattle.std.proofs.Common.{arith, refl, sym, ap, ◌∙◌, ⊎_elim, take_all, length-take-le, length-drop, get_or-take, ◌&&◌}
 use Rattle.std.proofs.lemmas.Bool.{cond-true, cond-false, cond_both, cases_lt, lt-ltb, not-false, not-true, eqb-true, eqb-false, eq-eqb, ne_eqb, and_from}
@@ -14,7 +14,7 @@ use Rattle.bstr.proofs.lemmas.LineLemmas.{lines-empty, lines-step, line_len-at, 
 abbrev is_feed : ℕ → Bool
 is_feed b = b == 10
 
--- how long the line in front is
+-- the length of the first line
 abbrev width : List ℕ → ℕ
 width text = position_or_len is_feed text
 
@@ -26,7 +26,7 @@ parts-more x (b ∷ bs) =
     cond_both (is_feed b) ([] ∷ slice_split is_feed bs) (onto_first b (slice_split is_feed bs)) P (λ _. refl)
     (λ _. elim (slice_split is_feed bs) as (λ parts. P (onto_first b parts)) [ [] ↦ refl | y ∷ ys ↦ refl ])
 
--- the line in front and its line feed
+-- the first line and its line feed
 lines-ended : (text : List ℕ) → width text < length text → lines text ≡ strip_carriage_return (take (width text) text) ∷ lines (drop (width text + 1) text)
 lines-ended text inside = ap lines_of_parts (slice_split_first is_feed text 0 inside) ∙ parts-more (take (width text) text) (drop (width text + 1) text)
 
@@ -35,7 +35,7 @@ lines-whole text some whole =
     let none : All (λ b. is_feed b ≡ false) text = λ k d below. not-true _ (prefix_len_passes (λ b. not (is_feed b)) text k d (omega arith)) in
     ap lines_of_parts (slice_split_none is_feed text none) ∙ cond-false _ _ _ (ne_eqb (length text) 0 (omega arith))
 
--- a carriage return at the end, as bstr drops it
+-- bstr drops a carriage return at the end
 no_cr-is : (line : List ℕ) → no_cr line ≡ strip_carriage_return line
 no_cr-is [] = refl
 no_cr-is (b ∷ bs) =
@@ -58,7 +58,7 @@ without-feed text n inside feed =
 without-none : (text : List ℕ) → slice_index text (length text - 1) ≢ 10 → without_terminator text ≡ text
 without-none text other = cond-false _ _ _ (and_right _ _ (ne_eqb _ _ other))
 
--- no byte of the line in front is a line feed, and the one after it is
+-- no byte of the first line is a line feed, and the byte after it is one
 before-width : (text : List ℕ) (k : ℕ) → k < width text → slice_index text k ≢ 10
 before-width text k below = eqb-false _ _ (not-true _ (prefix_len_passes (λ b. not (is_feed b)) text k 0 below))
 

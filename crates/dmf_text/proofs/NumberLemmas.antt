@@ -1,4 +1,4 @@
--- Numbers that grow digit by digit, and where they pass 2^64.
+-- Numbers read digit by digit, and where they exceed 64 bits.
 use Rattle.std.proofs.Common.{◌≡◌, ℕ, ◌+◌, ◌*◌, ◌^◌, ◌<◌, ◌≤◌, Option, Some, None, List, [], ◌∷◌, length, take, take_all, get_or, ◌-◌, true, false, Err, ok_or}
 use Rattle.std.proofs.Common.{arith, sym, ap, ◌∙◌, ⊎_elim, refl, Ok}
 use Rattle.std.proofs.lemmas.Bool.{cond-true, cond-false, lt-ltb, le-ltb, cases_lt, and_right, and_from, and_parts, leb-true}
@@ -27,7 +27,7 @@ past-within n e = ⊎_elim (λ below. let is = within-below n below in cc) (λ p
 pub value-within : (n value : ℕ) → Some value ≡ within n → n ≡ value
 value-within n value e = ⊎_elim (λ below. let is = within-below n below in cc) (λ past. let is = within-past n past in cc) (cases_lt n (2 ^ 64))
 
--- what a checked sum of the number's tenfold and a digit gives
+-- the checked value of ten times the number plus a digit
 pub within-sum : (n value digit : ℕ) (sum : Option ℕ) → Some value ≡ within n → SomeIff sum (value * 10 + digit < 2 ^ 64) (value * 10 + digit)
     → sum ≡ within (n * 10 + digit)
 within-sum n value digit None e past =
@@ -70,7 +70,7 @@ more-digits field i below digit =
       value = omega arith;
     }
 
--- all of them
+-- all the digits
 pub number_of-all : (field : List ℕ) (i : ℕ) (value : Option ℕ) → 0 < length field → length field ≤ i → list_all is_ascii_digit (take i field) ≡ true
     → value ≡ within (digits_value 10 (take i field)) → ok_or value TooLarge ≡ number_of field
 number_of-all field i value some end all is =

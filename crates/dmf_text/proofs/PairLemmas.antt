@@ -1,4 +1,4 @@
--- Lemmas on the pairs of arcs, and on what is kept of them.
+-- Lemmas on the pairs of arcs, and on the entries that are kept of them.
 use Rattle.std.proofs.Common.{◌≡◌, ℕ, zero, suc, ◌+◌, ◌-◌, ◌<◌, ◌≤◌, ◌^◌, ◌⊎◌, min, List, [], ◌∷◌, ◌++◌, length, take, drop, get_or, map, replicate, true}
 use Rattle.std.proofs.Common.{false, ◌||◌, if◌then◌else◌, Option, Some, None, is_some, Ok, Err, refl, sym, ap, ◌∙◌, subst, ⊎_elim, arith, drop-cons}
 use Rattle.std.proofs.lemmas.Bool.{cases_Bool, cond-true, cond-false, le-leb, lt-leb, or_left, or_right, true≢false}
@@ -21,7 +21,7 @@ use Rattle.dmf_text.proofs.PlaceLemmas.{same-is, same-self, some-kept, none-coun
 
 -- ---- pairs
 
--- no arc has a pair with a number that is too large for its ends
+-- no arc has a pair with a number that is too large to be a node
 none-same : (arc : Arc) (pair : Pair) → HasSmallEnds arc → (2 ^ 32 ≤ pair.0) ⊎ (2 ^ 32 ≤ pair.1) → same_pair (ends arc) pair ≡ false
 none-same arc pair small large =
     ⊎_elim
@@ -79,7 +79,7 @@ bad-at arcs facts pair flow kind (Some known) has cap before cannot =
     let past : pair_capacity arcs pair < pair_flow facts.flows pair + flow = omega (arith, cap, before, over) in
     rw (sym has, lt-leb (pair_flow facts.flows pair + flow) (pair_capacity arcs pair) past) (ap (λ k. Err k) (sym cannot.1))
 
--- ---- what is kept of pairs
+-- ---- the entries of pairs
 
 any-ends : (arcs : List Arc) (pair : Pair) → list_any (λ p. same_pair p pair) (map ends arcs) ≡ has_pair arcs pair
 any-ends [] pair = refl
@@ -95,7 +95,7 @@ some-of : (o : Option PairFlow) → is_some o ≡ true → (known : PairFlow) ×
 some-of None none = absurd (true≢false (sym none))
 some-of (Some known) some = (known, refl)
 
--- No arc is counted.
+-- No arc is counted yet.
 pub keeps-none : (arcs : List Arc) (pairs : Pairs) → IsPermutation (map ends arcs) pairs.ends.items
     → pairs.known.items ≡ replicate (length pairs.ends.items) (record { cap = 0; flow = 0 }) → KeepsCounted arcs [] (λ _. 0) pairs
 keeps-none arcs pairs same none =
@@ -111,7 +111,7 @@ keeps-none arcs pairs same none =
 
 module _ (arcs counted later : List Arc) (flow more : Pair → ℕ) (old new : Pairs) (pair : Pair) (known : PairFlow)
     (kept : KeepsCounted arcs counted flow old) (updates : Updates old pair known new) where
-  -- A pair's entry is changed, and nothing else differs.
+  -- The entry of one pair changes, and no other.
   pub keeps-updated : has_pair arcs pair ≡ true → known.cap ≡ pair_capacity later pair → known.flow ≡ more pair
       → ((q : Pair) → same_pair pair q ≡ false → pair_capacity counted q ≡ pair_capacity later q)
       → ((q : Pair) → same_pair pair q ≡ false → flow q ≡ more q)
@@ -131,7 +131,7 @@ module _ (arcs counted later : List Arc) (flow more : Pair → ℕ) (old new : P
         (cases_Bool (same_pair pair q));
   }
 
--- One arc more is counted.
+-- One more arc is counted.
 pub keeps-more : (arcs : List Arc) (i : ℕ) (old new : Pairs) → i < length arcs → KeepsCounted arcs (take i arcs) (λ _. 0) old
     → ((known : PairFlow) → known_of old (ends (get_or arcs i no_arc)) ≡ Some known
     → Updates old (ends (get_or arcs i no_arc)) (record { cap = known.cap + (get_or arcs i no_arc).cap; flow = known.flow }) new)
@@ -158,7 +158,7 @@ keeps-more arcs i old new below kept counts =
     omega (arith, more, nothing))
     (λ q other. refl)
 
--- A flow is added to that of its pair.
+-- A flow is added to the flow of its pair.
 pub keeps-added : (arcs : List Arc) (flows : List (Pair × ℕ)) (old new : Pairs) (pair : Pair) (flow : ℕ)
     → KeepsPairs arcs (pair_flow flows) old → AddsFlow old pair flow new → KeepsPairs arcs (pair_flow (flows ++ (pair, flow) ∷ [])) new
 keeps-added arcs flows old new pair flow kept added =
@@ -177,7 +177,7 @@ keeps-added arcs flows old new pair flow kept added =
     let none : (if same_pair pair q then flow else 0) ≡ 0 = cond-false _ _ _ other in
     omega (arith, more, none))
 
--- The judgement of a flow that was added.
+-- The judgement of a flow that was added,
 pub fits-good : (arcs : List Arc) (facts : Facts) (old new : Pairs) (pair : Pair) (flow : ℕ)
     → KeepsPairs arcs (pair_flow facts.flows) old → AddsFlow old pair flow new → flow_fits arcs facts pair flow ≡ Ok tt
 fits-good arcs facts old new pair flow kept added =
@@ -189,13 +189,13 @@ fits-good arcs facts old new pair flow kept added =
     let within : pair_flow facts.flows pair + flow ≤ pair_capacity arcs pair = omega (arith, cap, before, fits) in
     rw (has, le-leb (pair_flow facts.flows pair + flow) (pair_capacity arcs pair) within) refl
 
--- And of one that was not.
+-- and of a flow that was not.
 pub fits-bad : (arcs : List Arc) (facts : Facts) (old : Pairs) (pair : Pair) (flow : ℕ) (kind : SolutionFaultKind)
     → KeepsPairs arcs (pair_flow facts.flows) old → CannotAdd (known_of old pair) flow kind → flow_fits arcs facts pair flow ≡ Err kind
 fits-bad arcs facts old pair flow kind kept cannot =
     bad-at arcs facts pair flow kind (known_of old pair) (kept.there pair) (kept.caps pair) (kept.flows pair) cannot
 
--- What is counted of a pair and one arc more are within the capacities of all arcs.
+-- The capacities counted of a pair and one more arc are within the capacities of all arcs.
 pub capacity-fits : (arcs : List Arc) (i : ℕ) (old : Pairs) → KeepsCounted arcs (take i arcs) (λ _. 0) old → i < length arcs
     → cap_of (known_of old (ends (get_or arcs i no_arc))) + (get_or arcs i no_arc).cap ≤ capacity_sum arcs
 capacity-fits arcs i old kept below =
@@ -209,9 +209,9 @@ capacity-fits arcs i old kept below =
     let before = kept.caps (ends arc) in
     omega (arith, sums, before)
 
--- ---- what is put on the arcs
+-- ---- the flows that the arcs get
 
--- that on one arc, and on those after it
+-- the flow of one arc, and the flows of the arcs after it
 pub put-more : (flows : List (Pair × ℕ)) (arcs : List Arc) (i : ℕ) (d : Arc) → i < length arcs → put_behind flows (take i arcs) (drop i arcs)
     ≡ min (get_or arcs i d).cap (pair_flow flows (ends (get_or arcs i d)) - pair_capacity (take i arcs) (ends (get_or arcs i d)))
     ∷ put_behind flows (take (i + 1) arcs) (drop (i + 1) arcs)

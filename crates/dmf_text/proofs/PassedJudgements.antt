@@ -1,4 +1,4 @@
--- What a judgement without a fault has passed.
+-- What follows from a judgement without a fault.
 use Rattle.std.proofs.Common.{◌≡◌, ℕ, Bool, true, false, Result, Ok, Err, refl, ap}
 use Rattle.dmf_text.specs.Judging.{◌>>=◌, ◌>>◌, expect, at_line}
 
@@ -11,7 +11,7 @@ pub held : {Kind : Type 0} (test : Bool) (kind : Kind) → expect test kind ≡ 
 held true kind good = refl
 held false kind good = absurd (let no : ⊥ = cc in no)
 
--- there was a value, of which what comes after it has no fault
+-- there was a value, and what comes after it has no fault
 pub record IsPassed {A B Kind : Type 0} (first : Result A Kind) (next : A → Result B Kind) (x : B) : Type 0 where
   pub value : A
   pub is : first ≡ Ok value

@@ -1,4 +1,4 @@
--- What a problem text says, line after line.
+-- What a problem text says, line by line.
 use Rattle.std.proofs.Common.{◌≡◌, List, [], ◌∷◌, ◌++◌, Some, None, refl, ap, ◌∙◌, codes}
 use Rattle.std.proofs.lemmas.List.Elements.{filter_map-append}
 use Rattle.std.specs.Option.{option_to_list}

@@ -7,10 +7,10 @@ use Rattle.dmf_node.specs.Node.{IsNode, is_node}
 pub node-from : (nodes v : ℕ) → is_node nodes v ≡ true → IsNode nodes v
 node-from nodes v range = let parts = and_parts _ _ range in record { from_one = leb-true _ _ parts.0; to_last = leb-true _ _ parts.1 }
 
--- a terminal is the node that was named now
+-- the terminal is the node that this line names,
 pub node-now : (nodes node v : ℕ) → is_node nodes node ≡ true → Some node ≡ Some v → IsNode nodes v
 node-now nodes node v range is = let same : node ≡ v = cc in node-from nodes v (ap (is_node nodes) (sym same) ∙ range)
 
--- or it was named before
+-- or an earlier line named it
 pub node-before : (nodes v : ℕ) (terminal : Option ℕ) → ForSome terminal (λ w. IsTrue (is_node nodes w)) → terminal ≡ Some v → IsNode nodes v
 node-before nodes v terminal nodes_alone is = node-from nodes v (nodes_alone v is)

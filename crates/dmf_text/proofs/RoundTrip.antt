@@ -1,4 +1,4 @@
--- What a written problem stands for.
+-- Reading a written problem gives the network of its open arcs.
 use Rattle.std.proofs.Common.{◌≡◌, ◌≢◌, ℕ, ◌+◌, ◌^◌, ◌<◌, ◌≤◌, List, [], ◌∷◌, ◌++◌, length, map, true, false, not, Some, None, Ok, codes, decimal, arith, refl}
 use Rattle.std.proofs.Common.{sym, ap, ◌∙◌, append_assoc, append-nil, length-append, zero-add}
 use Rattle.std.proofs.lemmas.Bool.{cond_both, and_from, not-true, lt-ltb, le-leb, ne_eqb}

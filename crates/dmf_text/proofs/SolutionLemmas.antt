@@ -1,4 +1,4 @@
--- What a solution text says, line after line, and its end.
+-- What a solution text says, line by line, and its end.
 use Rattle.std.proofs.Common.{◌≡◌, ◌≢◌, ◌⊎◌, ◌≤◌, ◌^◌, ℕ, List, [], ◌∷◌, ◌++◌, Bool, true, false, Option, Some, None, Result, Ok, Err, MatchResult, refl, sym}
 use Rattle.std.proofs.Common.{ap, ◌∙◌, subst, inl, inr, ⊎_elim, arith, codes, pos}
 use Rattle.std.proofs.lemmas.Bool.{cases_Bool}
@@ -41,7 +41,7 @@ facts_of-push lines line = λ i. record {
       ∙ ap (λ more. filter_map flow_in lines ++ more) (elim (flow_in line) as (λ o. cons_option o [] ≡ option_to_list o) [ None ↦ refl | Some x ↦ refl ])) i;
 }
 
--- a flow line whose numbers are these, by what came of adding its flow
+-- a flow line with these numbers, by the result of adding its flow
 module _ (arcs : List Arc) (facts : Facts) (reading now : SolutionReading) (f g h : List ℕ) (tail head flow : ℕ)
     (first : number_of f ≡ Ok tail) (second : number_of g ≡ Ok head) (third : number_of h ≡ Ok flow)
     (kept : Keeps arcs facts reading) (value : now.value ≡ reading.value) where
@@ -62,7 +62,7 @@ module _ (arcs : List Arc) (facts : Facts) (reading now : SolutionReading) (f g 
       (line-judged ∙ fits-good arcs facts reading.pairs now.pairs (tail, head) flow kept.pairs added, subst (λ s. Keeps arcs s now) (sym line-says) keeps)
   line-taken (Err kind) cannot = line-judged ∙ fits-bad arcs facts reading.pairs (tail, head) flow kind kept.pairs cannot
 
-  -- A number past 32 bits is no node's, and no arc's pair has it.
+  -- A number of more than 32 bits is no node, so no arc's pair has it.
   pub line-unknown : (2 ^ 32 ≤ tail) ⊎ (2 ^ 32 ≤ head) → judged_flow arcs facts (f ∷ g ∷ h ∷ []) ≡ Err NoSuchPair
   line-unknown large = line-judged ∙ rw (none-large arcs (tail, head) kept.ends large) refl
 
@@ -87,7 +87,7 @@ module _ (s : NetworkState) (facts : Facts) (value : ℕ) (told : facts.value �
   ended-good flow same =
       rw (told, none-unbalanced s.network flows flow, (Decides-int_eq (flow_value s.network flows) (pos value)).1 same) refl
 
-  -- Flows that are not taken have the fault that is found in them, and none is over capacity.
+  -- If the state refuses the flows, the text has the fault that was found in them, and none is over capacity.
   refused-by : (why : FlowFault) (unbalanced : Option ℕ) (negative : Bool) → first_unbalanced s.network flows ≡ unbalanced → int_lt (flow_value s.network flows)
       (pos 0) ≡ negative
       → Some why ≡ option_or (option_map fault.NotConserved unbalanced) (if negative then Some fault.Negative else None) → Err (flow_kind why) ≡ ended s facts

@@ -48,7 +48,7 @@ module _ {X : Type 0} (bytes : X → List ℕ) (fields : List X) (i : ℕ) (d : 
       let long = length-map (drop (i + 1) fields) bytes ∙ length-drop (i + 1) fields in
       ap written_line from-one ∙ line-more (bytes (get_or fields i d)) (map bytes (drop (i + 1) fields)) (omega (arith, long))
 
--- The lines of those of a list that are to be written: open arcs, or open arcs with their flows.
+-- The lines of a list's elements that are to be written: open arcs, or open arcs with their flows.
 module _ {X : Type 0} (is_kept : X → Bool) (fields : X → Line) where
   abbrev pub kept_text : List X → List ℕ
   kept_text xs = written (map fields (filter is_kept xs))
@@ -69,7 +69,7 @@ module _ {X : Type 0} (is_kept : X → Bool) (fields : X → Line) where
       ∙ ap written (map-append fields (filter is_kept xs) (filter is_kept ys))
       ∙ flat_map-append written_line (map fields (filter is_kept xs)) (map fields (filter is_kept ys))
 
-  -- the lines of the list up to one, of that one, and of those after it
+  -- the lines of the elements before one, of this one, and of those after it
   pub kept-more : (xs : List X) (i : ℕ) (d : X) → i < length xs → kept_text (take (i + 1) xs) ≡ kept_text (take i xs) ++ kept_text (get_or xs i d ∷ [])
   kept-more xs i d below = ap kept_text (take_more xs i d below) ∙ kept-append (take i xs) (get_or xs i d ∷ [])
 
@@ -80,7 +80,7 @@ module _ {X : Type 0} (is_kept : X → Bool) (fields : X → Line) where
       ∙ kept-append (take i xs) (get_or xs i d ∷ drop (suc i) xs)
       ∙ ap (λ l. kept_text (take i xs) ++ l) (kept-append (get_or xs i d ∷ []) (drop (suc i) xs))
 
--- The lines of all of a list.
+-- The lines of all elements of a list.
 module _ {X : Type 0} (fields : X → Line) where
   abbrev pub all_text : List X → List ℕ
   all_text xs = written (map fields xs)
@@ -97,7 +97,7 @@ module _ {X : Type 0} (fields : X → Line) where
   unfolding written
   all-append xs ys = ap written (map-append fields xs ys) ∙ flat_map-append written_line (map fields xs) (map fields ys)
 
-  -- the lines of a list with one element at its end, and with one in its midst
+  -- the lines of a list with one element at its end, and with one in its middle
   pub all-last : (xs : List X) (x : X) → all_text (xs ++ x ∷ []) ≡ all_text xs ++ written_line (fields x)
   all-last xs x = all-append xs (x ∷ []) ∙ ap (λ l. all_text xs ++ l) (all-one x)
 

@@ -1,4 +1,4 @@
--- What written lines are when they are read again.
+-- Reading written lines again.
 use Rattle.std.proofs.Common.{◌≡◌, ◌≢◌, ℕ, ◌-◌, ◌^◌, ◌<◌, ◌==◌, ◌&&◌, List, [], ◌∷◌, ◌++◌, length, get_or, slice_index, map, filter, nat_lt, Bool, true, false}
 use Rattle.std.proofs.Common.{not, Ok, ok_or, decimal, arith, refl, ap, ◌∙◌, ⊎_elim, append_assoc}
 use Rattle.std.proofs.lemmas.Bool.{cond-true, cond-false, cases_Bool, both_ways, and_parts, and_from, or_from, not-true, not_from_false, lt-ltb, le-leb}
@@ -20,15 +20,15 @@ use Rattle.dmf_text.specs.Written.{written_line, written}
 use Rattle.dmf_text.proofs.LineLemmas.{parts-more}
 use Rattle.dmf_text.proofs.NumberLemmas.{within-below, number_of-digits}
 
--- a byte that ends no line and is not dropped at the end of one
+-- a byte that ends no line, and that no reader drops at the end of one
 abbrev pub inner : ℕ → Bool
 inner b = not (b == 10) && not (b == 13)
 
--- and ends no field
+-- and that ends no field
 abbrev pub plain : ℕ → Bool
 plain b = not (is_blank b) && inner b
 
--- a text that can stand as a field
+-- a text that can be a field
 pub record IsField (text : List ℕ) : Type 0 where
   pub some : 0 < length text
   pub all : list_all plain text ≡ true

@@ -7,6 +7,6 @@ use Rattle.std.specs.List.{slice_split}
 abbrev pub is_blank : ℕ → Bool
 is_blank b = b == 32 || b == 9
 
--- the longest runs of other bytes: of the pieces between blanks, those that have a byte
+-- The longest runs of bytes that are no blank: the pieces between blanks that have a byte.
 unfoldable pub fields : List ℕ → List (List ℕ)
 fields line = filter (λ piece. nat_lt 0 (length piece)) (slice_split is_blank line)

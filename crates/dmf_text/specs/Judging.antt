@@ -1,4 +1,4 @@
--- Texts that are judged line by line, each line by what the lines before it say, and then by their end.
+-- Texts that are judged line by line: each line by what the lines before it say, and then the end.
 -- Public: a public contract says no more than this.
 use Rattle.std.specs.Prelude.{ℕ, List, [], ◌∷◌, ◌++◌, ◌+◌, Bool, true, false, Option, None, unwrap_or, Result, Ok, Err, length, slice_get}
 use Rattle.std.specs.Option.{option_or}
@@ -8,19 +8,19 @@ use Rattle.dmf_text.specs.Number.{number_of}
 
 -- ---- lines
 
--- A line is a list of fields. Its first field tells its kind; the fields after that are counted from 0.
+-- A line is a list of fields. Its first field says its kind; the fields after that are counted from 0.
 abbrev pub Line : Type 0
 Line = List (List ℕ)
 
--- field i, nothing where there is none
+-- field i, empty if there is none
 abbrev pub field : ℕ → List (List ℕ) → List ℕ
 field i behind = unwrap_or (slice_get behind i) []
 
--- the number that field i spells, 0 where it spells none
+-- the number that field i spells, or 0 if it spells none
 abbrev pub number_at : ℕ → List (List ℕ) → ℕ
 number_at i behind = result_unwrap_or (number_of (field i behind)) 0
 
--- what the first line says that says it
+-- the value that the first line says that says one
 abbrev pub first_fact : {X : Type 0} → (Line → Option X) → List Line → Option X
 first_fact say [] = None
 first_fact say (line ∷ more) = option_or (say line) (first_fact say more)
@@ -42,23 +42,23 @@ abbrev pub expect : {Kind : Type 0} → Bool → Kind → Result (Unit {0}) Kind
 expect true kind = Ok tt
 expect false kind = Err kind
 
--- a number, or why a field is none, as a fault of such a kind
+-- a number, or the fault of a field as the fault of a line
 abbrev pub map_fault : {Kind : Type 0} → (NumberFault → Kind) → Result ℕ NumberFault → Result ℕ Kind
 map_fault kind_of (Ok n) = Ok n
 map_fault kind_of (Err fault) = Err (kind_of fault)
 
 -- ---- what a text stands for
 
--- what is judged, with the fault that a line with this number has where it has one of this kind
+-- a judgement, whose fault gets the number of the line
 abbrev pub at_line : {A Kind Fault : Type 0} → (ℕ → Kind → Fault) → ℕ → Result A Kind → Result A Fault
 at_line fault number (Ok x) = Ok x
 at_line fault number (Err kind) = Err (fault number kind)
 
--- Lines say something together, a line is judged by what the lines before it say, and the end by what all say.
+-- Lines say something together. What the lines before it say judges a line, and what all lines say judges the end.
 module _ {Facts Kind Fault A : Type 0} (facts_of : List Line → Facts) (judged : Facts → Line → Result (Unit {0}) Kind)
     (ended : Facts → Result A Kind) (fault : ℕ → Kind → Fault) where
-  -- what a text stands for, of which `before` are the first lines, each good, and these are the others: the first
-  -- fault of a line, or that of the end, which has the number of lines plus one, or what the end gives
+  -- What a text stands for: `before` are its first lines, each good, and these are the others. It is the first fault of a line, or the
+  -- fault of the end, which has the number of lines plus one, or else what the end gives.
   unfoldable pub outcome_after : List Line → List Line → Result A Fault
   outcome_after before [] = at_line fault (length before + 1) (ended (facts_of before))
   outcome_after before (line ∷ more) =

@@ -1,5 +1,5 @@
--- The lines of a text are std's `lines`: the pieces between line feeds, where an empty last piece is no line, and
--- where one carriage return directly before a line feed is no part of the line.
+-- The lines of a text are std's `lines`: the pieces between line feeds. An empty last piece is no line, and a carriage return directly
+-- before a line feed does not belong to the line.
 -- Public: a public contract says no more than this.
 use Rattle.std.specs.Prelude.{ℕ, List}
 use Rattle.std.specs.List.{enumerate_from}

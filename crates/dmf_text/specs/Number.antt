@@ -11,7 +11,7 @@ use Rattle.dmf_text.specs.declared.digits.NumberFault.TheVariants.{NotANumber, T
 abbrev pub is_digits : List ℕ → Bool
 is_digits field = nat_lt 0 (length field) && list_all is_ascii_digit field
 
--- a number, where it is below 2^64
+-- the number, if it is below 2^64
 unfoldable pub within : ℕ → Option ℕ
 within n = if nat_lt n (2 ^ 64) then Some n else None
 

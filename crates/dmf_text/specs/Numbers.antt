@@ -9,7 +9,7 @@ use Rattle.dmf_text.specs.Fields.{fields, is_blank}
 use Rattle.dmf_text.specs.Number.{number_of}
 use Rattle.dmf_text.specs.Judging.{field, ◌>>=◌, ◌>>◌, expect, map_fault}
 
--- the numbers that three fields spell, or why they are none
+-- the numbers that three fields spell, or why they spell none
 abbrev pub numbers_in : List (List ℕ) → Result (ℕ × ℕ × ℕ) NumbersFault
 numbers_in behind = do
   expect (length behind == 3) FieldCount
@@ -18,12 +18,12 @@ numbers_in behind = do
   third ← map_fault Number (number_of (field 2 behind))
   Ok (first, second, third)
 
--- why they are none, as the fault of a line: that of the number of fields, or of one field
+-- why they spell none, as the fault of a line: the fault of the number of fields, or of one field
 abbrev pub numbers_kind : {Kind : Type 0} → Kind → (NumberFault → Kind) → NumbersFault → Kind
 numbers_kind count_kind number_kind FieldCount = count_kind
 numbers_kind count_kind number_kind (Number fault) = number_kind fault
 
--- The fields are three, and spell these numbers.
+-- There are three fields, and they spell these numbers.
 pub record AreSpelled (behind : List (List ℕ)) (a b c : ℕ) : Type 0 where
   pub first : List ℕ
   pub second : List ℕ
@@ -39,7 +39,7 @@ pub record IsAhead (line : List ℕ) (n : ℕ) (behind : List ℕ) : Type 0 wher
   pub splits : fields line ≡ first ∷ fields behind
   pub spells : number_of first ≡ Ok n
 
--- The bytes before the first blank are so many, and spell this number.
+-- So many bytes stand before the first blank, and they spell this number.
 pub record IsNumberInFront (bytes : List ℕ) (n count : ℕ) : Type 0 where
   pub some : 0 < count
   pub within : count ≤ length bytes

@@ -63,7 +63,7 @@ facts_of lines = record {
   arcs = filter_map arc_in lines;
 }
 
--- NODES and ARCS, 0 where no line says them
+-- NODES and ARCS, or 0 if no line says them
 abbrev pub node_count : Facts → ℕ
 node_count facts = unwrap_or (option_map (λ counts. counts.nodes) facts.counts) 0
 
@@ -72,7 +72,7 @@ arc_count facts = unwrap_or (option_map (λ counts. counts.arcs) facts.counts) 0
 
 -- ---- the judgement of a line, given what the lines before it say
 
--- why a field is no number, as the fault of a line
+-- why a field spells no number, as the fault of a line
 abbrev pub number_fault : NumberFault → ProblemFaultKind
 number_fault digits.NotANumber = NotANumber
 number_fault digits.TooLarge = TooLarge
@@ -99,7 +99,7 @@ judged_problem facts behind = do
   counts ← counts_named behind
   Ok tt
 
--- `ID s` or `ID t`, where ID is one of so many nodes
+-- `ID s` or `ID t`, where ID is a node of so many
 unfoldable pub node_named : ℕ → List (List ℕ) → Result ℕ ProblemFaultKind
 node_named nodes behind = do
   expect (length behind == 2) FieldCount
@@ -108,7 +108,7 @@ node_named nodes behind = do
   expect (is_node nodes node) NodeOutOfRange
   Ok node
 
--- of the two terminals, that of this letter, and the other one
+-- of the two terminals, the one of this letter, and the other one
 abbrev pub own : List ℕ → Facts → Option ℕ
 own letter facts = if bytes_eq letter (codes "s") then facts.source else facts.sink
 
@@ -142,8 +142,7 @@ judged_arc facts behind = do
   expect (is_node (node_count facts) head) NodeOutOfRange
   expect (nat_lt (capacity_sum facts.arcs + cap) (2 ^ 64)) SumTooLarge
 
--- a line of any kind: a line without fields is blank and one whose first field begins with `c` is a comment, and
--- these have no fault
+-- A line of any kind. A line without fields is blank, and a line whose first field begins with `c` is a comment; neither has a fault.
 abbrev pub judged : Facts → Line → Result (Unit {0}) ProblemFaultKind
 judged facts [] = Ok tt
 judged facts (kind ∷ behind) =
@@ -155,7 +154,7 @@ judged facts (kind ∷ behind) =
 
 -- ---- what a text stands for
 
--- the network that lines say, with no flow on it
+-- the network that the lines say, without flow
 abbrev pub state_of : Facts → NetworkState
 state_of facts = record {
   network = record {
@@ -179,7 +178,7 @@ ended facts = do
 abbrev pub problem_fault : ℕ → ProblemFaultKind → ProblemFault
 problem_fault number kind = record { line = number; kind = kind }
 
--- what a problem text stands for, of which `before` are the first lines, each good, and these are the others
+-- what a problem text stands for: `before` are its first lines, each good, and these are the others
 abbrev pub problem_after : List Line → List Line → Result NetworkState ProblemFault
 problem_after before more = outcome_after facts_of judged ended problem_fault before more
 
@@ -187,6 +186,6 @@ problem_after before more = outcome_after facts_of judged ended problem_fault be
 abbrev pub problem_of : List ℕ → Result NetworkState ProblemFault
 problem_of text = problem_after [] (map fields (lines text))
 
--- the fault that is told where memory was refused: it is of no line
+-- the fault where memory was refused, whose line is 0
 abbrev pub out_of_memory : ProblemFault
 out_of_memory = record { line = 0; kind = NoMemory }

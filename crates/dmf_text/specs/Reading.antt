@@ -13,7 +13,7 @@ use Rattle.dmf_text.specs.declared.reading.Reading.TheVariants.{Start, Terminals
 use Rattle.dmf_text.specs.Judging.{Line}
 use Rattle.dmf_text.specs.Problem.{Facts, counts_in, terminal_in, arc_in}
 
--- the fault of an arc line whose arc a network does not take
+-- the fault of an arc line whose arc the network refuses
 abbrev pub arc_kind : NetFault → ProblemFaultKind
 arc_kind net.NoSuchNode = NodeOutOfRange
 arc_kind net.TooManyArcs = TooManyArcs
@@ -24,7 +24,7 @@ arc_kind net.NoMemory = NoMemory
 abbrev pub no_facts : Facts
 no_facts = record { counts = None; source = None; sink = None; arcs = [] }
 
--- what the lines say that were taken before both terminals are named
+-- the facts of the lines so far, until both terminals are named
 abbrev pub facts_in_head : Head → Facts
 facts_in_head head = record {
   counts = Some (record { nodes = head.nodes; arcs = head.arcs });
@@ -56,8 +56,8 @@ with_line facts line = record {
   arcs = facts.arcs ++ option_to_list (arc_in line);
 }
 
--- The line was taken, of which this is the judgement, by a reader that had these facts before it and has those
--- of `now` after it; or its fault is told.
+-- A reader with these facts took the line, whose judgement this is, and has the facts of `now` after it; or the call failed with the
+-- line's fault.
 abbrev pub Takes : {A : Type 0} → Facts → Line → Result (Unit {0}) ProblemFaultKind → Facts → Result A ProblemFaultKind → Type 0
 Takes facts line judgement now outcome =
     MatchResult outcome (λ _. (judgement ≡ Ok tt) × (now ≡ with_line facts line)) (λ kind. judgement ≡ Err kind)

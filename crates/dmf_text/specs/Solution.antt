@@ -1,5 +1,5 @@
 -- Solution texts, in the format of the First DIMACS Implementation Challenge (Problem Definitions and Specifications,
--- 1990, maximum flow): which line is at fault, and what a text stands for, given the network that it speaks of.
+-- 1990, maximum flow): which line is at fault, and what a text stands for, given the network that its flows are on.
 -- Public: a public contract says no more than this.
 use Rattle.std.specs.Prelude.{ℕ, List, [], ◌∷◌, ◌++◌, ◌+◌, ◌-◌, ◌==◌, ◌&&◌, Bool, Option, Some, None, is_none, Result, Ok, Err, ok_or, if◌then◌else◌, length}
 use Rattle.std.specs.Prelude.{map, codes, min, nat_eq, nat_le, pos, sum_by}
@@ -38,7 +38,7 @@ ends arc = (arc.tail, arc.head)
 abbrev pub has_pair : List Arc → Pair → Bool
 has_pair arcs pair = list_any (λ arc. same_pair (ends arc) pair) arcs
 
--- The capacities of the arcs of a pair together. That of a closed arc is 0, so it counts for nothing.
+-- The sum of the capacities of the arcs of a pair. The capacity of a closed arc is 0.
 abbrev pub pair_capacity : List Arc → Pair → ℕ
 pair_capacity arcs pair = sum_by (λ arc. if same_pair (ends arc) pair then arc.cap else 0) arcs
 
@@ -49,7 +49,7 @@ abbrev pub value_in : Line → Option ℕ
 value_in [] = None
 value_in (kind ∷ behind) = if bytes_eq kind (codes "s") then Some (number_at 0 behind) else None
 
--- `f SRC DST FLOW`: so much flows on the arcs of the pair
+-- `f SRC DST FLOW`: the arcs of the pair carry this flow together
 abbrev pub flow_in : Line → Option (Pair × ℕ)
 flow_in [] = None
 flow_in (kind ∷ behind) =
@@ -63,13 +63,13 @@ pub record Facts : Type 0 where
 abbrev pub facts_of : List Line → Facts
 facts_of lines = record { value = first_fact value_in lines; flows = filter_map flow_in lines }
 
--- the flows of all lines of a pair together
+-- the sum of the flows that the lines give to a pair
 abbrev pub pair_flow : List (Pair × ℕ) → Pair → ℕ
 pair_flow flows pair = sum_by (λ flow. if same_pair flow.0 pair then flow.1 else 0) flows
 
 -- ---- the judgement of a line, given the arcs of the network and what the lines before it say
 
--- why a field is no number, as the fault of a line
+-- why a field spells no number, as the fault of a line
 abbrev pub number_fault : NumberFault → SolutionFaultKind
 number_fault digits.NotANumber = NotANumber
 number_fault digits.TooLarge = TooLarge
@@ -86,7 +86,7 @@ judged_value facts behind = do
   value ← number_in 0 behind
   Ok tt
 
--- so much more flows on the arcs of the pair
+-- the arcs of the pair carry this much more flow
 abbrev pub flow_fits : List Arc → Facts → Pair → ℕ → Result (Unit {0}) SolutionFaultKind
 flow_fits arcs facts pair flow = do
   expect (has_pair arcs pair) NoSuchPair
@@ -101,8 +101,7 @@ judged_flow arcs facts behind = do
   flow ← number_in 2 behind
   flow_fits arcs facts (tail, head) flow
 
--- a line of any kind: a line without fields is blank and one whose first field begins with `c` is a comment, and
--- these have no fault
+-- A line of any kind. A line without fields is blank, and a line whose first field begins with `c` is a comment; neither has a fault.
 abbrev pub judged : List Arc → Facts → Line → Result (Unit {0}) SolutionFaultKind
 judged arcs facts [] = Ok tt
 judged arcs facts (kind ∷ behind) =
@@ -113,15 +112,15 @@ judged arcs facts (kind ∷ behind) =
 
 -- ---- what a text stands for
 
--- What flows on arcs that come after others in the network. Of the flow of its pair an arc takes as much as its
--- capacity allows of what is left by the arcs of the pair before it. Nothing is left where their capacities together
--- are more than that flow: a difference of whole numbers is then 0.
+-- The flows on arcs that come after others in the network. An arc takes of the flow of its pair as much as its capacity allows of what
+-- the arcs of the pair before it have left. If their capacities together exceed that flow, nothing is left: a difference of natural
+-- numbers is then 0.
 abbrev pub put_behind : List (Pair × ℕ) → List Arc → List Arc → List ℕ
 put_behind flows before [] = []
 put_behind flows before (arc ∷ more) =
     min arc.cap (pair_flow flows (ends arc) - pair_capacity before (ends arc)) ∷ put_behind flows (before ++ arc ∷ []) more
 
--- what flows on the arcs of a network
+-- the flows on the arcs of a network
 abbrev pub put_on : List (Pair × ℕ) → List Arc → List ℕ
 put_on flows arcs = put_behind flows [] arcs
 
@@ -147,6 +146,6 @@ abbrev pub solution_of : NetworkState → List ℕ → Result NetworkState Solut
 solution_of s text =
     outcome_after facts_of (judged s.network.arcs) (ended s) solution_fault [] (map fields (lines text))
 
--- the fault that is told where memory was refused: it is of no line
+-- the fault where memory was refused, whose line is 0
 abbrev pub solution_out_of_memory : SolutionFault
 solution_out_of_memory = record { line = 0; kind = NoMemory }

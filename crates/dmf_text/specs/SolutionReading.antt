@@ -14,24 +14,24 @@ use Rattle.dmf_text.specs.Judging.{Line}
 use Rattle.dmf_text.specs.PairOrder.{keeper_of}
 use Rattle.dmf_text.specs.Solution.{Pair, same_pair, has_pair, pair_capacity, pair_flow, Facts, value_in, flow_in}
 
--- the fault of a text whose flows are not taken
+-- the fault of a text whose flows the state refuses
 abbrev pub flow_kind : FlowFault → SolutionFaultKind
 flow_kind (flow.OverCapacity arc) = OverCapacity
 flow_kind (flow.NotConserved node) = NotConserved node
 flow_kind flow.Negative = ValueDiffers
 flow_kind flow.NoMemory = NoMemory
 
--- what is known of a pair: it is kept at the pair's keeper
+-- what is known of a pair: the entry at the pair's keeper
 abbrev pub known_of : Pairs → Pair → Option PairFlow
 known_of pairs pair = slice_get pairs.known.items (keeper_of pairs.ends.items pairs.numbers.items pair)
 
--- This is known of the pair, and it is kept at this number.
+-- The number is the keeper of the pair, and this is the pair's entry.
 pub record IsKnownAt (pairs : Pairs) (pair : Pair) (found : ℕ × PairFlow) : Type 0 where
   pub keeper : found.0 ≡ keeper_of pairs.ends.items pairs.numbers.items pair
   pub within : found.0 < length pairs.known.items
   pub known : known_of pairs pair ≡ Some found.1
 
--- a capacity and a flow of a pair, 0 where nothing is known of it
+-- the capacity and the flow of a pair, 0 where nothing is known of it
 abbrev pub cap_of : Option PairFlow → ℕ
 cap_of None = 0
 cap_of (Some known) = known.cap
@@ -40,23 +40,22 @@ abbrev pub flow_of : Option PairFlow → ℕ
 flow_of None = 0
 flow_of (Some known) = known.flow
 
--- Just the pairs of these arcs are known, each with the capacities of its arcs together, as far as they are counted, and with
--- its flow.
+-- The pairs of these arcs, and no others, have entries. Each has the sum of the capacities of its arcs that are counted, and its flow.
 pub record KeepsCounted (arcs counted : List Arc) (flow : Pair → ℕ) (pairs : Pairs) : Type 0 where
   pub there : (pair : Pair) → is_some (known_of pairs pair) ≡ has_pair arcs pair
   pub caps : (pair : Pair) → cap_of (known_of pairs pair) ≡ pair_capacity counted pair
   pub flows : (pair : Pair) → flow_of (known_of pairs pair) ≡ flow pair
 
--- The same, where all arcs are counted.
+-- The same, with all arcs counted.
 abbrev pub KeepsPairs : List Arc → (Pair → ℕ) → Pairs → Type 0
 KeepsPairs arcs flow pairs = KeepsCounted arcs arcs flow pairs
 
--- This is known of the pair now, and of others what was known before.
+-- This is known of the pair now, and the other pairs have the entries that they had.
 pub record Updates (old : Pairs) (pair : Pair) (known : PairFlow) (new : Pairs) : Type 0 where
   pub here : known_of new pair ≡ Some known
   pub others : (other : Pair) → same_pair pair other ≡ false → known_of new other ≡ known_of old other
 
--- The flow was added to that of its pair, whose capacities allow it.
+-- The flow was added to the flow of its pair, whose capacities allow it.
 pub record AddsFlow (old : Pairs) (pair : Pair) (flow : ℕ) (new : Pairs) : Type 0 where
   pub known : PairFlow
   pub is_there : known_of old pair ≡ Some known
@@ -72,7 +71,7 @@ CannotAdd (Some known) flow kind = (known.cap < known.flow + flow) × (kind ≡ 
 abbrev pub HasSmallEnds : Arc → Type 0
 HasSmallEnds arc = (arc.tail < 2 ^ 32) × (arc.head < 2 ^ 32)
 
--- The reader has what is said of a network with these arcs.
+-- The reader has these facts, for a network with these arcs.
 pub record Keeps (arcs : List Arc) (facts : Facts) (reading : SolutionReading) : Type 0 where
   pub ends : All HasSmallEnds arcs
   pub value : reading.value ≡ facts.value
@@ -85,7 +84,7 @@ with_line facts line = record {
   flows = facts.flows ++ option_to_list (flow_in line);
 }
 
--- The line was taken, of which this is the judgement, by a reader that had these facts before it; or its fault is told.
+-- A reader with these facts took the line, whose judgement this is; or the call failed with the line's fault.
 abbrev pub TakesLine : List Arc → Facts → Line → Result (Unit {0}) SolutionFaultKind → SolutionReading → Result (Unit {0}) SolutionFaultKind → Type 0
 TakesLine arcs facts line judgement now outcome =
     MatchResult outcome (λ _. (judgement ≡ Ok tt) × Keeps arcs (with_line facts line) now) (λ kind. judgement ≡ Err kind)

@@ -30,7 +30,7 @@ arc_fields arc = codes "a" ∷ decimal arc.tail ∷ decimal arc.head ∷ decimal
 abbrev pub arcs_text : List Arc → List ℕ
 arcs_text arcs = written (map arc_fields (open_arcs arcs))
 
--- the problem of a network: its open arcs in order, with the problem line and the node lines before them
+-- the problem of a network: the problem line, the node lines, and its open arcs in order
 abbrev pub problem_lines : Network → List Line
 problem_lines n =
     (codes "p" ∷ codes "max" ∷ decimal n.nodes ∷ decimal (open_count n.arcs) ∷ [])
@@ -45,11 +45,11 @@ problem_text n = written (problem_lines n)
 abbrev pub open_network : Network → Network
 open_network n = record { nodes = n.nodes; source = n.source; sink = n.sink; arcs = open_arcs n.arcs }
 
--- a network with no flow on it
+-- a network without flow
 abbrev pub idle_state : Network → NetworkState
 idle_state n = record { network = n; flows = replicate (length n.arcs) 0 }
 
--- the open ones of arcs that stand beside their flows
+-- the open arcs of a list of arcs with their flows
 abbrev pub open_flows : List (Arc × ℕ) → List (Arc × ℕ)
 open_flows flows = filter (λ p. not p.0.closed) flows
 
@@ -61,8 +61,8 @@ flow_fields p = codes "f" ∷ decimal p.0.tail ∷ decimal p.0.head ∷ decimal 
 abbrev pub flows_text : List (Arc × ℕ) → List ℕ
 flows_text flows = written (map flow_fields (open_flows flows))
 
--- the solution of a state: the value of its flow, which is not below 0, and then the flow on each open arc in order,
--- those without flow too
+-- the solution of a state: the value of its flow, which is not negative, and then the flow on each open arc in order, also where it is
+-- 0
 abbrev pub solution_lines : NetworkState → List Line
 solution_lines s =
     (codes "s" ∷ decimal (nat_abs (flow_value s.network s.flows)) ∷ [])

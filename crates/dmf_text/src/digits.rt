@@ -4,18 +4,18 @@ ghost use Rattle.dmf_text.specs.Number.{number_of, within};
 
 use thiserror::Error;
 
-/// Why a field is no number.
+/// Why a field spells no number.
 #[derive(Clone, Copy, Debug, PartialEq, Eq, Error)]
 pub enum NumberFault {
     /// The field is empty, or has a byte that is no ASCII digit.
     #[error("not a number")]
     NotANumber,
-    /// The number is past 18446744073709551615.
+    /// The number exceeds 18446744073709551615.
     #[error("number too large")]
     TooLarge,
 }
 
-// A number up to this one stays below 2^64 with any one more digit.
+// A number up to this one stays below 2^64 with any one digit appended.
 const MAX_FRONT: u64 = (u64::MAX - 9) / 10;
 
 /// The number that a field spells in decimal digits, however many there are. Takes no memory.
@@ -39,7 +39,7 @@ pub fn number(field: &[u8]) -> Result<u64, NumberFault>
     Ok(value)
 }
 
-// The same of a field that is not empty, with a test at each digit that the number still fits.
+// The same for a field that is not empty. Tests at each digit that the number still fits.
 #[cold]
 fn long_number(field: &[u8]) -> Result<u64, NumberFault>
     requires { 0 < length field.now }
@@ -56,7 +56,7 @@ fn long_number(field: &[u8]) -> Result<u64, NumberFault>
     value.ok_or(NumberFault::TooLarge)
 }
 
-// The number with one more digit, as long as it fits.
+// The number with one more digit, if it fits 64 bits.
 fn with_digit(value: Option<u64>, digit: u8) -> Option<u64>
     ensures { (n : ℕ) → value ≡ within n → result ≡ within (n * 10 + digit) }
 {

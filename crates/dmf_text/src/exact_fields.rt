@@ -7,7 +7,7 @@ use crate::field::Fields;
 #[derive(Clone, Copy)]
 pub(crate) struct WrongFieldCount;
 
-/// The field, if there is just one.
+/// The field, if there is exactly one.
 pub(crate) fn one_field<'a>(mut behind: Fields<'a>) -> Result<&'a [u8], WrongFieldCount>
     ensures { MatchResult result (λ one. behind.entry ≡ one.now ∷ []) (λ _. length behind.entry ≢ 1) }
 {
@@ -17,7 +17,7 @@ pub(crate) fn one_field<'a>(mut behind: Fields<'a>) -> Result<&'a [u8], WrongFie
     }
 }
 
-/// The fields, if there are just two.
+/// The fields, if there are exactly two.
 pub(crate) fn two_fields<'a>(
     mut behind: Fields<'a>,
 ) -> Result<(&'a [u8], &'a [u8]), WrongFieldCount>
@@ -31,7 +31,7 @@ pub(crate) fn two_fields<'a>(
     }
 }
 
-/// The fields, if there are just three.
+/// The fields, if there are exactly three.
 pub(crate) fn three_fields<'a>(
     mut behind: Fields<'a>,
 ) -> Result<(&'a [u8], &'a [u8], &'a [u8]), WrongFieldCount>

@@ -31,11 +31,11 @@ pub enum ProblemFaultKind {
     FieldCount = 5,
     /// A field that should be a number has a byte that is no digit.
     NotANumber = 6,
-    /// A number is past 2^64 - 1.
+    /// A number exceeds 2^64 - 1.
     TooLarge = 7,
-    /// The number of nodes is not from 2 to [`dmf_state::MAX_NODES`], or that of arcs is past [`dmf_state::MAX_ARCS`].
+    /// The number of nodes is not from 2 to [`dmf_state::MAX_NODES`], or the number of arcs exceeds [`dmf_state::MAX_ARCS`].
     CountOutOfRange = 8,
-    /// A node is 0 or past the number of nodes.
+    /// A node is 0 or exceeds the number of nodes.
     NodeOutOfRange = 9,
     /// The letter of a node line is not `s` or `t`.
     NotSourceOrSink = 10,
@@ -51,7 +51,7 @@ pub enum ProblemFaultKind {
     TooFewArcs = 15,
     /// The text ends without a node line of the source or of the sink.
     TerminalMissing = 16,
-    /// The sum of the capacities up to this line is past 2^64 - 1.
+    /// The sum of the capacities up to this line exceeds 2^64 - 1.
     SumTooLarge = 17,
     /// A request for memory was refused.
     NoMemory = 18,
@@ -165,7 +165,7 @@ pub enum SolutionFaultKind {
     FieldCount,
     /// A field that should be a number has a byte that is no digit.
     NotANumber,
-    /// A number is past 2^64 - 1.
+    /// A number exceeds 2^64 - 1.
     TooLarge,
     /// No arc leads from this tail to this head.
     NoSuchPair,
@@ -177,7 +177,7 @@ pub enum SolutionFaultKind {
     ValueMissing,
     /// This node, neither source nor sink, does not conserve flow. It is the least such node.
     NotConserved(u32),
-    /// The value of the flow is not that of the value line.
+    /// The value of the flow differs from the value that the value line says.
     ValueDiffers,
     /// A request for memory was refused.
     NoMemory,
@@ -287,7 +287,7 @@ impl SolutionFault {
     }
 }
 
-/// The line that a fault of this line is told of: line 0 where memory was refused.
+/// The number of the line that a fault names: this line's number, or 0 where memory was refused.
 fn told_line(line: u64, is_memory: bool) -> u64
     ensures { result ≡ (if is_memory then 0 else line) }
 {

@@ -27,7 +27,7 @@ impl<'a> Fields<'a> {
         Fields { rest: line }
     }
 
-    /// A line of the fields that are left.
+    /// The fields that are left, as a line.
     pub(crate) fn rest(&self) -> &'a [u8]
         ensures { fields result.now ≡ self.now }
     {

@@ -8,8 +8,8 @@ use bstr::ByteSlice;
 use std::marker::Model;
 
 /// An iterator over the lines of a text, each with its number, counted from 1. A line ends at a line feed or at the end of the text. A
-/// carriage return directly before the line feed is no part of it. An empty rest after the last line feed is no line. Each line is a
-/// slice of the text. Takes no memory.
+/// carriage return directly before the line feed does not belong to it. What follows the last line feed is a line unless it is empty.
+/// Each line is a slice of the text. Takes no memory.
 #[derive(Drop)]
 pub struct Lines<'a> {
     given: u64,

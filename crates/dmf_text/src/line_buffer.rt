@@ -32,7 +32,7 @@ impl Model for LineBuffer {
 impl LineBuffer {
     ghost use Rattle.dmf_text.specs.LineField.{field_bytes, most_bytes};
 
-    // Makes a line of the line feed alone. `add` puts fields in front of it, the last one first.
+    // Makes the line that is only a line feed. `add` puts fields in front of it, the last one first.
     fn new() -> LineBuffer
         ensures { result ≡ 10 ∷ [] }
     {

@@ -8,15 +8,15 @@ use crate::digits::{NumberFault, number};
 use crate::exact_fields::{WrongFieldCount, three_fields};
 use crate::field::{Fields, is_blank, leading_blanks};
 
-/// So many digits spell a number below 2^64, whatever they are.
+/// A number of so many digits is below 2^64, whatever they are.
 const SHORT: usize = 19;
 
-/// Why fields are no three numbers.
+/// Why fields are not three numbers.
 #[derive(Clone, Copy)]
 pub(crate) enum NumbersFault {
     /// There are too few fields, or too many.
     FieldCount,
-    /// One of them is no number.
+    /// One of them spells no number.
     Number(NumberFault),
 }
 
@@ -36,7 +36,7 @@ impl From<NumberFault> for NumbersFault {
     }
 }
 
-/// The numbers that the fields spell, if there are just three. Where each is short, its bytes are read once.
+/// The numbers that the fields spell, if there are exactly three. Where each is short, reads its bytes once.
 pub(crate) fn three_numbers(behind: Fields<'_>) -> Result<(u64, u64, u64), NumbersFault>
     ensures spelled { IfOk result (λ three. AreSpelled behind.entry three.0 three.1 three.2) }
     ensures fault { IfErr result (λ fault. numbers_in behind.entry ≡ Err fault) }
@@ -51,7 +51,7 @@ pub(crate) fn three_numbers(behind: Fields<'_>) -> Result<(u64, u64, u64), Numbe
     Ok((first, second, third))
 }
 
-/// The three numbers that the fields of a line spell. Nothing where they spell other things, or one of the numbers is long.
+/// The three numbers that the fields of a line spell. `None` if they spell anything else, or if one of the numbers is long.
 fn short_numbers(line: &[u8]) -> Option<(u64, u64, u64)>
     ensures { IfSome result (λ three. AreSpelled (fields line.now) three.0 three.1 three.2) }
 {
@@ -74,7 +74,7 @@ fn short_number(line: &[u8]) -> Option<(u64, &[u8])>
     Some((value, behind))
 }
 
-/// The number that the bytes before the first blank spell, and how many these are. Nothing where they are more than [`SHORT`].
+/// The number that the bytes before the first blank spell, and how many bytes these are. `None` if they are more than [`SHORT`].
 fn number_in_front(bytes: &[u8]) -> Option<(u64, usize)>
     ensures { IfSome result (λ front. IsNumberInFront bytes.now front.0 front.1) }
 {
@@ -93,7 +93,7 @@ fn number_in_front(bytes: &[u8]) -> Option<(u64, usize)>
     Some((value, most))
 }
 
-/// A number of so many digits, if there are some, and the byte after them is a blank.
+/// The number that so many digits spell, if there are some and the byte after them is a blank.
 fn ended(value: u64, count: usize, behind: u8) -> Option<(u64, usize)>
     ensures { IfSome result (λ front. (front ≡ (value, count)) × (0 < count) × (is_blank behind ≡ true)) }
 {

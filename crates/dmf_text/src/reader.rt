@@ -14,18 +14,18 @@ pub struct Failed;
 
 /// A reader of bytes.
 pub trait Source {
-    // What is left: the bytes that reads will give from here on, if they are known; and the mark, whether a read has failed.
+    // The bytes that reads will still give, if they are known; and the mark, which says whether a read has failed.
     ghost left: { Self → Reader };
 
-    /// Reads some bytes into the front of the buffer, and answers how many. If it reads none into a buffer that is not empty, this is
-    /// the end. A failed read takes no byte.
+    /// Reads some bytes into the beginning of the buffer, and returns how many. If it reads none into a buffer that is not empty, the
+    /// source has ended. A failed read takes no byte.
     fn read(&mut self, buffer: &mut [u8]) -> Result<usize, Failed>
         ensures bound { IfOk result (λ n. n ≤ length buffer.new) }
         ensures bytes { ReadConsumes (left self.old).known (left self.new).known result buffer.new }
         ensures mark { (left self.new).has_failed ≡ (is_err result || (left self.old).has_failed) };
 }
 
-/// A reader of std as a source. Each error is [`Failed`], also one of kind `Interrupted`.
+/// A std reader as a source. Each error becomes [`Failed`], also one of kind `Interrupted`.
 #[derive(Drop)]
 pub struct StdSource<R> {
     reader: R,
@@ -33,7 +33,7 @@ pub struct StdSource<R> {
 }
 
 impl<R: Read> StdSource<R> {
-    /// Makes a source of what the reader has left. Takes no memory.
+    /// Makes a source of the bytes that the reader has left. Takes no memory.
     pub fn new(reader: R) -> StdSource<R>
         ensures bytes { (⟦<StdSource<R> as Source>⟧.left result).known ≡ R.remaining reader }
         ensures mark { (⟦<StdSource<R> as Source>⟧.left result).has_failed ≡ false }
@@ -55,7 +55,7 @@ impl<R: Read> Source for StdSource<R> {
     }
 }
 
-/// The answer of a call of std, with `Failed` for each error.
+/// The result of a std call, with each error as [`Failed`].
 pub(crate) fn without_reason<T>(answer: io::Result<T>) -> Result<T, Failed>
     ensures { MatchResult answer (λ value. result ≡ Ok value) (λ _. IsErr result) }
 {

@@ -13,7 +13,7 @@ use crate::terminal::{Terminal, named};
 use dmf_state::{MAX_ARCS, MAX_NODES, State};
 use std::alloc::Global;
 
-/// What the problem line says, and the source or the sink if one of them is named.
+/// What the problem line says, and the source or the sink if a node line names one of them.
 #[derive(Drop)]
 pub(crate) struct Head {
     nodes: u32,
@@ -54,7 +54,7 @@ impl Reading {
     ghost use Rattle.dmf_text.specs.Problem.{judged, judged_problem, judged_node, judged_arc, ended};
     ghost use Rattle.dmf_text.specs.Reading.{facts_in, Takes, TakesInMemory};
 
-    /// Takes the next line, unless it has a fault or memory is refused.
+    /// Takes the next line. Fails with its fault, or if memory is refused.
     pub(crate) fn take_line(&mut self, alloc: Global, line: &[u8]) -> Result<(), ProblemFaultKind>
         ensures { TakesInMemory (facts_in self.old) (fields line.now)
             (judged (facts_in self.old) (fields line.now)) (facts_in self.new) result }
@@ -76,7 +76,7 @@ impl Reading {
         }
     }
 
-    /// Takes a problem line with these fields after its first.
+    /// Takes a problem line. These are the fields after its first.
     #[tactic(auto, unfolding(crate::specs::Problem::judged_problem))]
     fn take_problem_line(&mut self, behind: Fields<'_>) -> Result<(), ProblemFaultKind>
         ensures { Takes (facts_in self.old) (codes "p" ∷ behind.entry)
@@ -89,7 +89,7 @@ impl Reading {
         Ok(())
     }
 
-    /// Takes a node line with these fields after its first.
+    /// Takes a node line. These are the fields after its first.
     #[tactic(auto, unfolding(crate::specs::Problem::judged_node))]
     fn take_node_line(&mut self, alloc: Global, behind: Fields<'_>) -> Result<(), ProblemFaultKind>
         ensures { Takes (facts_in self.old) (codes "n" ∷ behind.entry)
@@ -108,7 +108,7 @@ impl Reading {
         }
     }
 
-    /// Takes an arc line with these fields after its first.
+    /// Takes an arc line. These are the fields after its first.
     #[tactic(auto, unfolding(crate::specs::Problem::judged_arc))]
     fn take_arc_line(&mut self, behind: Fields<'_>) -> Result<(), ProblemFaultKind>
         ensures { TakesInMemory (facts_in self.old) (codes "a" ∷ behind.entry)
@@ -138,7 +138,7 @@ impl Head {
     ghost use Rattle.dmf_text.specs.Problem.{counts_named, judged_node};
     ghost use Rattle.dmf_text.specs.Reading.{facts_in, facts_in_head, with_line, no_facts, Takes};
 
-    /// What a problem line says that has these fields after its first.
+    /// What a problem line says. These are the fields after its first.
     #[tactic(auto, unfolding(crate::specs::Problem::counts_named))]
     fn of_problem_line(behind: Fields<'_>) -> Result<Head, ProblemFaultKind>
         ensures { MatchResult result
@@ -163,7 +163,7 @@ impl Head {
         })
     }
 
-    /// Takes a node line with these fields after its first. Once source and sink are named, there is a network.
+    /// Takes a node line. These are the fields after its first. Once source and sink are named, there is a network.
     #[tactic(auto, unfolding(crate::specs::Problem::judged_node))]
     fn with_terminal(&self, alloc: Global, behind: Fields<'_>) -> Result<Reading, ProblemFaultKind>
         ensures { MatchResult result
@@ -200,7 +200,7 @@ impl Body {
     ghost use Rattle.dmf_text.specs.Problem.{judged_arc, ended};
     ghost use Rattle.dmf_text.specs.Reading.{facts_in_body, TakesInMemory};
 
-    /// Takes an arc line with these fields after its first.
+    /// Takes an arc line. These are the fields after its first.
     #[tactic(auto, unfolding(crate::specs::Problem::judged_arc))]
     fn take_arc_line(&mut self, behind: Fields<'_>) -> Result<(), ProblemFaultKind>
         ensures { TakesInMemory (facts_in_body self.old) (codes "a" ∷ behind.entry)

@@ -9,8 +9,8 @@ use crate::solution_reading::SolutionReading;
 use dmf_state::State;
 use std::alloc::Global;
 
-/// Reads a solution text of a state's network, in the format of the First DIMACS Implementation Challenge (1990), maximum
-/// flow. The flow of the state plays no part.
+/// Reads a solution text for a state's network, in the format of the First DIMACS Implementation Challenge (1990), maximum flow.
+/// Ignores the flow of the state.
 ///
 /// Adds up the flows of all lines with the same tail and head, and fills the arcs from this tail to this head with the sum, one after
 /// the other. Fails with the first fault of the text, or with [`SolutionFaultKind::NoMemory`] at line 0 if memory is refused.

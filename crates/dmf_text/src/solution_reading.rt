@@ -20,14 +20,14 @@ use std::alloc::{AllocError, Global};
 pub(crate) struct SolutionReading<'a> {
     pairs: Pairs<'a>,
     value: Option<u64>,
-    /// The number of flow lines so far. It is the guess of where the next line's arc stands, since lines mostly come in arc order.
+    /// The number of flow lines so far, which guesses the arc of the next line, since lines mostly come in arc order.
     flow_count: usize,
 }
 
 impl<'a> SolutionReading<'a> {
     ghost use Rattle.std.specs.Prelude.{IfOk, None, []};
 
-    /// What no line says.
+    /// The reading before the first line. Takes memory for the pairs of the network.
     pub(crate) fn new(alloc: Global, state: &'a State) -> Result<SolutionReading<'a>, AllocError>
         ensures { IfOk result (Keeps state.now.network.arcs (record { value = None; flows = [] })) }
     {
@@ -39,7 +39,7 @@ impl<'a> SolutionReading<'a> {
         })
     }
 
-    /// Takes the next line, unless it has a fault.
+    /// Takes the next line. Fails with its fault.
     pub(crate) fn take_line(&mut self, line: &[u8]) -> Result<(), SolutionFaultKind>
         ensures { (arcs : List Arc) (facts : Facts) → Keeps arcs facts self.old
             → TakesLine arcs facts (fields line.now) (judged arcs facts (fields line.now)) self.new result }
@@ -59,7 +59,7 @@ impl<'a> SolutionReading<'a> {
         }
     }
 
-    /// Takes a value line with these fields after its first.
+    /// Takes a value line. These are the fields after its first.
     #[tactic(auto, unfolding(crate::specs::Solution::judged_value))]
     fn take_value_line(&mut self, behind: Fields<'_>) -> Result<(), SolutionFaultKind>
         ensures { (arcs : List Arc) (facts : Facts) → Keeps arcs facts self.old
@@ -72,7 +72,7 @@ impl<'a> SolutionReading<'a> {
         Ok(())
     }
 
-    /// Takes a flow line with these fields after its first.
+    /// Takes a flow line. These are the fields after its first.
     #[tactic(auto, unfolding(crate::specs::Solution::judged_flow))]
     fn take_flow_line(&mut self, behind: Fields<'_>) -> Result<(), SolutionFaultKind>
         ensures { (arcs : List Arc) (facts : Facts) → Keeps arcs facts self.old
@@ -87,7 +87,7 @@ impl<'a> SolutionReading<'a> {
         self.pairs.add_flow(pair, flow, guess)
     }
 
-    /// The state that the lines stand for at the end of the text: the network of `state` with their flows.
+    /// The state that the lines stand for at the end of the text: the network of `state`, with the flows of the lines.
     #[tactic(auto, unfolding(crate::specs::Solution::ended))]
     pub(crate) fn finish(self, alloc: Global, state: &State) -> Result<State, SolutionFaultKind>
         ensures { (facts : Facts) → Keeps state.now.network.arcs facts self.entry → (result ≡ Err NoMemory) ⊎ (result ≡ ended state.now facts) }

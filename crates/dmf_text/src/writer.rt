@@ -9,17 +9,17 @@ use std::io;
 use std::io::Write;
 use thiserror::Error;
 
-/// A put failed, so only a front of the text was written.
+/// A put failed, so only a prefix of the text was written.
 #[derive(Clone, Copy, Debug, PartialEq, Eq, Error)]
 #[error("write failed")]
 pub struct WriteFault;
 
 /// A writer of bytes.
 pub trait Sink {
-    // What was written: the bytes that the writer holds, if they are known; and the mark, whether a call has failed.
+    // The bytes that the writer holds, if they are known; and the mark, which says whether a call has failed.
     ghost written: { Self → Writer };
 
-    /// Writes a front of the bytes, and answers its length, which is 0 only if there are no bytes. A failed put writes no byte.
+    /// Writes a prefix of the bytes, and returns its length, which is 0 only if there are no bytes. A failed put writes no byte.
     fn put(&mut self, bytes: &[u8]) -> Result<usize, Failed>
         ensures bound { IfOk result (λ n. n ≤ length bytes.now) }
         ensures some { IfOk result (λ n. 0 < length bytes.now → 0 < n) }
@@ -32,7 +32,7 @@ pub trait Sink {
         ensures mark { (written self.new).has_failed ≡ (is_err result || (written self.old).has_failed) };
 }
 
-/// A writer of std as a sink. Each error is [`Failed`], also one of kind `Interrupted`, and so is a write that takes none of some bytes.
+/// A std writer as a sink. Each error becomes [`Failed`], also one of kind `Interrupted`, and so does a write that takes none of some bytes.
 #[derive(Drop)]
 pub struct StdSink<W> {
     writer: W,
@@ -40,7 +40,7 @@ pub struct StdSink<W> {
 }
 
 impl<W: Write> StdSink<W> {
-    /// Makes a sink into the writer. Takes no memory.
+    /// Makes a sink of the writer. Takes no memory.
     pub fn new(writer: W) -> StdSink<W>
         ensures bytes { (⟦<StdSink<W> as Sink>⟧.written result).contents ≡ W.contents writer }
         ensures mark { (⟦<StdSink<W> as Sink>⟧.written result).has_failed ≡ false }
@@ -68,7 +68,7 @@ impl<W: Write> Sink for StdSink<W> {
     }
 }
 
-/// The answer of a write of the bytes, with `Failed` also for a count of 0 of some bytes.
+/// The result of writing the bytes. A count of 0 for some bytes is [`Failed`] too.
 fn taken(answer: io::Result<usize>, bytes: &[u8]) -> Result<usize, Failed>
     ensures fails { IsErr result ↔ (IsErr answer ⊎ ((answer ≡ Ok 0) × (bytes.now ≢ []))) }
     ensures count { IfOk result (λ n. answer ≡ Ok n) }
@@ -79,7 +79,7 @@ fn taken(answer: io::Result<usize>, bytes: &[u8]) -> Result<usize, Failed>
     }
 }
 
-/// Writes the whole text, by as many puts as that needs. Takes no memory, and does not flush.
+/// Writes the whole text, in as many puts as that needs. Takes no memory, and does not flush.
 pub fn put_all<W: Sink>(out: &mut W, text: &[u8]) -> Result<(), WriteFault>
     ensures { Writes (W.written out.old) (W.written out.new) result text.now }
 {

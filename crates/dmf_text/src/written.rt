@@ -23,8 +23,8 @@ pub fn write_problem<W: Sink>(state: &State, out: &mut W) -> Result<(), WriteFau
     put_problem(state, out)
 }
 
-/// Writes the solution of a state: the value of its flow, and then the flow on each open arc in order, those without flow too. Puts
-/// each line at once. Takes no memory, and does not flush.
+/// Writes the solution of a state: the value of its flow, and then the flow on each open arc in order, also where it is 0. Puts each
+/// line at once. Takes no memory, and does not flush.
 pub fn write_solution<W: Sink>(state: &State, out: &mut W) -> Result<(), WriteFault>
     ensures written { Writes (W.written out.old) (W.written out.new) result (solution_text state.now) }
 {

@@ -1,6 +1,6 @@
-//! Calls of the libraries, and after each of them all that then stands, on standard output: a test refuses the program memory,
-//! request by request, and compares. With a word after its name the program appends changes that alter nothing, and tells how
-//! many are kept: a test counts the requests.
+//! Calls the libraries, and after each call writes the whole state on standard output. A test refuses the program memory, request by
+//! request, and compares. With a word after its name the program appends changes that alter nothing, and writes how many are kept; a
+//! test counts the requests.
 #![tactic(auto)]
 
 ghost use Rattle.std.specs.Prelude.{◌≤◌};
@@ -35,7 +35,7 @@ fn has_word(rt: &HostRuntime) -> bool {
     env::args(rt).is_ok_and(|words| words.count() > 1)
 }
 
-/// Tells how many states stand before the present one after changes that alter nothing, or what could not be done.
+/// Writes how many states stand before the present one after changes that alter nothing, or which call failed.
 fn alter_nothing(rt: &HostRuntime) -> io::Result<()> {
     match past_of_same(rt.alloc()) {
         Ok(past) => println!(rt; "past {past}"),
@@ -43,8 +43,8 @@ fn alter_nothing(rt: &HostRuntime) -> io::Result<()> {
     }
 }
 
-/// Appends 200 changes of an arc's capacity to what it is. Gives the number of states before the present one, or else what
-/// could not be done.
+/// Appends 200 changes that give an arc the capacity that it has. Returns the number of states before the present one, or which call
+/// failed.
 fn past_of_same(alloc: Global) -> Result<u32, &'static str> {
     let Ok(state) = example(alloc) else {
         return Err("no state");
@@ -56,7 +56,7 @@ fn past_of_same(alloc: Global) -> Result<u32, &'static str> {
     Ok(history.past())
 }
 
-/// Appends the change of an arc's capacity to what it is.
+/// Appends a change that gives an arc the capacity that it has.
 fn append_same(alloc: Global, history: &mut DeltaHistory) -> Result<(), &'static str> {
     match plan_cap(alloc, history.present(), 1, 3) {
         Ok(edit) => history.append(edit).or(Err("not appended")),
@@ -107,7 +107,7 @@ fn example(alloc: Global) -> Result<State, NetFault> {
     Ok(state)
 }
 
-/// Gives the session over the history of this name all commands, if it was made.
+/// Gives all commands to the session over the history of this name, if the session was made.
 fn hold<H: History + Drop>(
     rt: &HostRuntime,
     name: &str,
@@ -120,7 +120,7 @@ fn hold<H: History + Drop>(
     }
 }
 
-/// Gives the session all commands, one after the other; with `want_cut` each solve is to tell a cut.
+/// Gives all commands to the session, one after the other. With `want_cut` each solve also finds a cut.
 fn step_all<H: History>(
     rt: &HostRuntime,
     name: &str,
@@ -200,7 +200,7 @@ fn tell_place(rt: &HostRuntime, past: u32, future: u32, state: &State) -> io::Re
     tell_state(rt, state)
 }
 
-/// The value, and each arc with what flows on it.
+/// The value, and each arc with its flow.
 fn tell_state(rt: &HostRuntime, state: &State) -> io::Result<()> {
     println!(rt; "value {}", state.value())?;
     for (arc, &flow) in state.arcs().iter().zip(state.flows()) {

@@ -2,7 +2,7 @@
 use std::io;
 use std::io::{ErrorKind, Read, Write};
 
-/// Passes its calls on, and counts those that read or write.
+/// Passes its calls on, and counts the reads or the writes.
 #[derive(Drop)]
 pub struct Counted<'a, T> {
     pub inner: T,
@@ -27,7 +27,7 @@ impl<'a, T: Write> Write for Counted<'a, T> {
     }
 }
 
-/// Takes all that it is given and keeps none of it, and counts its flushes. Each of them fails, or none.
+/// Takes all bytes, keeps none, and counts its flushes. Either each flush fails or none.
 #[derive(Drop)]
 pub struct FlushCounter<'a> {
     pub flushes: &'a mut usize,

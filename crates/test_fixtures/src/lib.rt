@@ -1,5 +1,5 @@
-//! What tests give to runs: problem texts, the words of commands, readers and writers that are slow or fail, or are counted, and
-//! numbers that look random.
+//! The inputs of tests of runs: problem texts, words of commands, readers and writers that are slow, fail or count, and numbers that
+//! look random.
 #![tactic(auto)]
 
 pub use counts::{Counted, FlushCounter};

@@ -2,7 +2,7 @@
 use std::io;
 use std::io::{ErrorKind, Write};
 
-/// Takes at most `most` bytes a call, and fails once it holds `limit` of them. Each of its flushes fails, or none.
+/// Takes at most `most` bytes a call, and fails once it holds `limit` of them. Either each flush fails or none.
 #[derive(Drop)]
 pub struct SlowWriter<'a> {
     held: &'a mut Vec<u8>,
@@ -46,7 +46,7 @@ impl<'a> Write for SlowWriter<'a> {
     }
 }
 
-/// Whether just the first `len` bytes of the text are held.
+/// Whether the writer holds just the first `len` bytes of the text.
 pub fn is_front(held: &[u8], text: &[u8], len: usize) -> bool {
     held.len() == len && text.starts_with(held)
 }

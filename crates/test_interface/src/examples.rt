@@ -1,4 +1,4 @@
-//! Examples of the libraries, to which their README files lead, and one of a bounded history.
+//! Examples of the libraries, to which their README files link, and one of a bounded history.
 mod history;
 mod net;
 mod run;

@@ -46,7 +46,7 @@ impl History for Own {
     }
 }
 
-/// Appends a solve to a history, and takes it back and makes it again.
+/// Appends a solve to a history, undoes it and redoes it.
 fn step_over_a_solve<H: History>(
     rt: &impl Abort,
     alloc: Global,
@@ -102,7 +102,7 @@ fn a_session_is_held_over_a_history_of_a_caller_s_own(rt: HostRuntime) -> Result
     Ok(())
 }
 
-/// What a reply tells: its kind, and its numbers; of a side its capacity.
+/// The contents of a reply: its kind, and its numbers; of a side its capacity.
 fn told(reply: &Reply) -> (u32, [u64; 2]) {
     match reply {
         Reply::Value(value) => (1, [*value, 0]),
@@ -115,7 +115,7 @@ fn told(reply: &Reply) -> (u32, [u64; 2]) {
     }
 }
 
-/// Commands, each with what its reply tells, or why it is refused.
+/// Commands, each with the contents of its reply, or why it is refused.
 const COMMANDS: &[(Command, Result<(u32, [u64; 2]), Refusal>)] = &[
     (Command::Cap { arc: 1, cap: 5 }, Ok((1, [0, 0]))),
     (

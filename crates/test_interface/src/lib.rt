@@ -1,5 +1,5 @@
-//! Tests that use each call and each type of the four libraries `dmf_net`, `dmf_text`, `dmf_session` and `dmf_run` by its name
-//! there, as a user of them would: no other library of the repository is named here.
+//! Tests that use each call and each type of the four libraries `dmf_net`, `dmf_text`, `dmf_session` and `dmf_run`, as a user would: by
+//! its name in these libraries, and by no other library of the repository.
 #![tactic(auto)]
 
 #[cfg(test)]

@@ -48,7 +48,7 @@ fn flows_are_put_on_a_copy(rt: HostRuntime) -> Result<(), Fail> {
     Ok(())
 }
 
-/// The number that the documents give to a fault of an arc.
+/// The number that the documents give to this fault of an arc.
 fn arc_fault_number(fault: NetFault) -> u32 {
     match fault {
         NetFault::NoSuchNode => 1,
@@ -58,7 +58,7 @@ fn arc_fault_number(fault: NetFault) -> u32 {
     }
 }
 
-/// The number that they give to a fault of flows, and the arc or the node that it names.
+/// The number that the documents give to this fault of flows, and the arc or the node that the fault names.
 fn flow_fault_number(fault: FlowFault) -> (u32, Option<u32>) {
     match fault {
         FlowFault::OverCapacity(arc) => (1, Some(arc)),

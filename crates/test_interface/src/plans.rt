@@ -6,7 +6,7 @@ use dmf_net::{
 };
 use std::test::Fail;
 
-/// What an edit tells: its kind, the numbers beside its moves, and how many arcs it moves.
+/// The contents of an edit: its kind, the numbers beside its moves, and how many arcs it moves.
 fn told(edit: &Edit) -> (u32, [u64; 3], usize) {
     match edit {
         Edit::Cap {
@@ -93,7 +93,7 @@ fn the_smallest_side_is_told(rt: HostRuntime) -> Result<(), Fail> {
     Ok(())
 }
 
-/// The number that the documents give to a refusal of a change.
+/// The number that the documents give to this refusal of a change.
 fn refusal_number(fault: PlanFault) -> u32 {
     match fault {
         PlanFault::NoSuchArc => 1,

@@ -21,13 +21,13 @@ fn a_command_line_is_read(rt: HostRuntime) {
     };
     assert!(rt; read == Ok(Some(cap)) && read_command(b"c undo") == Ok(None));
     assert!(rt; read_command(b"cap x 18446744073709551616") == Err(Refusal::NotANumber));
-    // No network of a test is large enough for one arc too many, so the program never shows this text.
+    // No network of a test is large enough for one arc too many, so the program never writes this text.
     let text: &'static [u8] = refusal_text(&Refusal::TooManyArcs);
     let told: &'static str = Refusal::TooManyArcs.text();
     assert!(rt; text == b"too many arcs".as_slice() && told.as_bytes() == text);
 }
 
-/// The number that the documents give to a fault of a run.
+/// The number that the documents give to this fault of a run.
 fn fault_number(fault: EngineFault) -> u32 {
     match fault {
         EngineFault::Read => 1,
@@ -70,7 +70,7 @@ fn a_solution_is_checked(rt: HostRuntime) {
     assert!(rt; written.as_slice() == b"c flow 1\n".as_slice());
 }
 
-/// Holds a session on the problem in each of the three ways, one after the other, and tells how each ended.
+/// Holds a session on the problem in each of the three ways, one after the other, and says how each ended.
 fn hold_each(alloc: Global, written: &mut Vec<u8>) -> Result<[Status; 3], EngineFault> {
     let mut problem = StdSource::new(PROBLEM);
     let mut commands = StdSource::new(b"solve\n".as_slice());

@@ -7,7 +7,7 @@ use std::alloc::Global;
 use std::process::Abort;
 use std::test::Fail;
 
-/// Another capacity for an arc: its number, the old capacity and the new one, the moves, and the value that then flows.
+/// A new capacity for an arc: its number, the old capacity and the new one, the moves, and the value afterwards.
 #[derive(Clone, Copy)]
 struct Capacity<'a> {
     arc: u32,
@@ -18,7 +18,7 @@ struct Capacity<'a> {
 }
 
 impl Capacity<'_> {
-    /// Gives the arc the capacity, comparing the plan and what then flows.
+    /// Gives the arc the capacity, and compares the plan and the flow afterwards.
     fn give(self, rt: &impl Abort, alloc: Global, state: &mut State) -> Result<(), Fail> {
         let edit = plan_cap(alloc, state, u64::from(self.arc), self.new)?;
         let moves = listed(alloc, self.moves)?;
@@ -37,7 +37,7 @@ impl Capacity<'_> {
     }
 }
 
-/// Gives each of these arcs its capacity on a copy of its own.
+/// Gives each of these arcs its capacity, each on a new copy.
 fn give_each(
     rt: &impl Abort,
     alloc: Global,
@@ -106,11 +106,11 @@ const LOWERED_BACK: &[Capacity<'static>] = &[
     },
 ];
 
-/// From node 2, the head of arc number 2, two paths of two steps lead back to its tail, node 3: over arc number 3
-/// or over the return link, and on along arc number 1. The arc ranks before the link, so its path is lowered first, by
-/// the 1 that flows on it; the path over the link is lowered by the 1 that is then left above the limit. Were the link
-/// the first, both would be taken off by it, and arc number 3 would keep its flow. So would it where 1 is taken off arc
-/// number 1, which goes on over arc number 2 and by the arc or the link.
+/// From node 2, the head of arc number 2, two paths of two steps lead back to its tail, node 3: over arc number 3 or over the return
+/// link, and on along arc number 1. The arc ranks before the link, so the drain lowers its path first, by the 1 that flows on it. It
+/// lowers the path over the link by the 1 that is then left above the limit. If the link came first, it would take off both, and arc
+/// number 3 would keep its flow. It would also keep its flow if 1 is taken off arc number 1, whose path goes on over arc number 2 and
+/// then over the arc or the link.
 #[test]
 fn the_return_link_ranks_after_the_arcs(rt: HostRuntime) -> Result<(), Fail> {
     let alloc = rt.alloc();
@@ -119,10 +119,10 @@ fn the_return_link_ranks_after_the_arcs(rt: HostRuntime) -> Result<(), Fail> {
     give_each(&rt, alloc, &state, LOWERED_BACK)
 }
 
-/// Arc number 4 has 5 above the limit. From its head, node 3, two steps lead to its tail over node 4, by arcs 5 and 6, which
-/// rank first: that takes 2 off. The other 3 go over the link, and along the first of the arcs side by side. What is taken
-/// off arc 3 goes over arc 4 and the link. From arcs 5 and 6 on one goes round, and so the value stays; an arc that comes back
-/// to its tail is lowered alone.
+/// Arc number 4 has 5 above the limit. From its head, node 3, two steps lead to its tail over node 4, by arcs 5 and 6, which rank
+/// first: that takes 2 off. The other 3 go over the link, and along the first of the parallel arcs. What is taken off arc 3 goes over
+/// arc 4 and the link. Of the flow on arcs 5 and 6, 1 circulates, so the value does not change. An arc that returns to its tail is
+/// lowered alone.
 const LOWERED_TANGLE: &[Capacity<'static>] = &[
     Capacity {
         arc: 4,
@@ -161,7 +161,7 @@ const LOWERED_TANGLE: &[Capacity<'static>] = &[
     },
 ];
 
-/// A node that is shut: its open arcs with their capacities, the moves, and the value that then flows.
+/// A node to shut: its open arcs with their capacities, the moves, and the value afterwards.
 #[derive(Clone, Copy)]
 struct ShutNode<'a> {
     node: u64,
@@ -174,8 +174,8 @@ struct ShutNode<'a> {
 #[rattlefmt::skip]
 const ALL_AT_2: [(u32, u64, u64); 6] = [(1, 4, 0), (2, 5, 0), (3, 2, 0), (4, 8, 0), (5, 2, 0), (6, 2, 0)];
 
-/// Node 1 leaves what goes round. At node 2 the arcs from node 1 take 6 off arc 4, which then takes off what goes round. At
-/// node 3 arc 4 takes off what goes round first, and then both arcs from node 1, over the link. Node 4 leaves the value.
+/// Shutting node 1 leaves the circulation. At node 2 the arcs from node 1 take 6 off arc 4, which then takes off the circulation. At
+/// node 3 arc 4 takes off the circulation first, and then both arcs from node 1 follow, over the link. Node 4 leaves the value.
 const SHUT_TANGLE: &[ShutNode<'static>] = &[
     ShutNode {
         node: 1,
@@ -204,7 +204,7 @@ const SHUT_TANGLE: &[ShutNode<'static>] = &[
 ];
 
 impl ShutNode<'_> {
-    /// Shuts the node, comparing the plan and what then flows.
+    /// Shuts the node, and compares the plan and the flow afterwards.
     fn shut(self, rt: &impl Abort, alloc: Global, state: &mut State) -> Result<(), Fail> {
         let edit = plan_shut(alloc, state, self.node)?;
         let arcs = shuttings(alloc, self.arcs)?;
@@ -216,7 +216,7 @@ impl ShutNode<'_> {
     }
 }
 
-/// Parallel arcs, arcs that come back to their tails, and a flow that goes round by the sink.
+/// Parallel arcs, self loops, and a flow that circulates through the sink.
 #[test]
 fn a_tangle_is_drained(rt: HostRuntime) -> Result<(), Fail> {
     let alloc = rt.alloc();

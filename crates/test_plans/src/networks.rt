@@ -1,4 +1,4 @@
-//! Networks that tests of plans begin with, some with a flow.
+//! The networks of the tests of plans, some with a flow.
 ghost use Rattle.std.specs.Prelude.{◌≢◌, ◌^◌, ◌≤◌};
 ghost use Rattle.dmf_node.specs.Node.{IsNode};
 
@@ -28,7 +28,7 @@ pub fn network(
     Ok(state)
 }
 
-/// The network of a state with these flows, one for each arc.
+/// The network of this state, with these flows, one for each arc.
 pub fn flowing(alloc: Global, state: &State, flows: &[u64]) -> Result<State, Fail> {
     if flows.len() != state.arcs().len() {
         return Err(Fail::from("there is not one flow for each arc"));
@@ -53,20 +53,20 @@ pub fn solved_example(alloc: Global) -> Result<State, Fail> {
 #[rattlefmt::skip]
 const DETOUR: [(u64, u64, u64); 7] = [(3, 2, 1), (1, 3, 1), (2, 5, 1), (1, 2, 1), (3, 5, 1), (2, 4, 1), (4, 5, 1)];
 
-/// Seven arcs of capacity 1, and on the first three of them a flow of 1 from node 1 to node 5. It makes a detour: from node 3,
-/// which an arc joins to node 5, it goes by node 2.
+/// Seven arcs of capacity 1. On the first three of them flows 1 from node 1 to node 5, with a detour: from node 3, which an arc joins
+/// to node 5, it goes through node 2.
 pub fn detour(alloc: Global) -> Result<State, Fail> {
     let empty = network(alloc, 5, 1, 5, &DETOUR)?;
     flowing(alloc, &empty, &[1, 1, 1, 0, 0, 0, 0])
 }
 
-/// Two nodes, source 1 and sink 2: on an arc of capacity 5 at the source, which comes back to it, flow 3.
+/// Two nodes, source 1 and sink 2. A self loop at the source, of capacity 5, carries 3.
 pub fn self_loop(alloc: Global) -> Result<State, Fail> {
     let empty = network(alloc, 2, 1, 2, &[(1, 1, 5)])?;
     flowing(alloc, &empty, &[3])
 }
 
-/// Four nodes, source 1 and sink 2: 4 flow round between nodes 3 and 4.
+/// Four nodes, source 1 and sink 2: 4 circulate between nodes 3 and 4.
 pub fn going_round(alloc: Global) -> Result<State, Fail> {
     let empty = network(alloc, 4, 1, 2, &[(3, 4, 5), (4, 3, 5)])?;
     flowing(alloc, &empty, &[4, 4])
@@ -81,8 +81,8 @@ pub fn coming_back(alloc: Global) -> Result<State, Fail> {
 #[rattlefmt::skip]
 const TANGLE: [(u64, u64, u64); 7] = [(1, 2, 4), (2, 2, 9), (1, 2, 7), (2, 3, 9), (3, 4, 5), (4, 2, 5), (4, 4, 1)];
 
-/// Four nodes, source 1 and sink 3: 4 and 2 flow side by side from 1 to 2, and on to 3; 2 more go round from 2 over 3 and 4, and
-/// on an arc at node 2 and one at node 4 flow 5 and 1 that come back to it at once.
+/// Four nodes, source 1 and sink 3. Parallel arcs carry 4 and 2 from 1 to 2, and the flow goes on to 3. 2 more circulate from 2 over 3
+/// and 4. Self loops at nodes 2 and 4 carry 5 and 1.
 pub fn tangle(alloc: Global) -> Result<State, Fail> {
     let empty = network(alloc, 4, 1, 3, &TANGLE)?;
     flowing(alloc, &empty, &[4, 5, 2, 8, 2, 2, 1])

@@ -1,5 +1,5 @@
-//! Edits that are planned on the present state and applied, one after the other, and then reverted in the opposite order: each
-//! state comes back, and a residual network that is kept follows.
+//! Edits that are planned on the present state, applied one after the other, and then reverted in the opposite order. Each state comes
+//! back, and a kept residual network follows.
 ghost use Rattle.std.specs.Prelude.{◌≡◌, IfOk, IfSome, OnOk};
 ghost use Rattle.dmf_solver.specs.KeptNetwork.{IsNetworkOf};
 ghost use Rattle.dmf_state.specs.Edit.{applied, Fits};
@@ -15,7 +15,7 @@ use std::process::Abort;
 use std::test::Fail;
 use test_fixtures::Draws;
 
-/// A change that is asked for.
+/// A change to ask for.
 #[derive(Clone, Copy)]
 enum Change {
     Cap(u64, u64),
@@ -37,21 +37,21 @@ fn plan(alloc: Global, state: &State, change: Change) -> Result<Edit, PlanFault>
     }
 }
 
-/// Applies an edit, which can then be taken back.
+/// Applies an edit, which can then be reverted.
 fn apply(state: &mut State, edit: &Edit) -> Result<(), NoMemory>
     requires { Fits edit.now state.old }
     ensures applied { OnOk result (state.new ≡ applied edit.now state.old) }
     ensures stands { OnOk result (Stands edit.now state.new) }
     ensures back { OnOk result (reverted edit.now state.new ≡ state.old) }
 {
-    // Each reader promises that the state is one.
+    // The contract of each reader says that this is a state.
     let _nodes = state.nodes();
     reverting_gives_back();
     state.apply(edit)?;
     Ok(())
 }
 
-/// The network that was kept, or one that is made anew where none was.
+/// The kept network, or a new one if none was kept.
 fn kept_or_new(
     alloc: Global,
     state: &State,
@@ -66,7 +66,7 @@ fn kept_or_new(
     }
 }
 
-/// Compares a solve along the network that is kept with one along a network that is made anew, and gives the network back.
+/// Compares a solve along the kept network with one along a new network, and returns the kept one.
 fn solve_by(
     rt: &impl Abort,
     alloc: Global,
@@ -133,7 +133,7 @@ fn each_state_comes_back(rt: HostRuntime) -> Result<(), Fail> {
     Ok(())
 }
 
-/// A change whose arc or node has a number from 0 to 6. There is none of number 0; most of these changes are accepted.
+/// A change whose arc or node has a number from 0 to 6. Number 0 does not exist; most of these changes are accepted.
 fn draw(draws: &mut Draws) -> Change {
     let number = u64::from(draws.below(7));
     match draws.below(8) {

@@ -5,8 +5,8 @@ use dmf_solver::plan_solve;
 use dmf_state::Edit;
 use std::test::Fail;
 
-/// The least path has the ranks 8, 3, 10: it comes before that of 8, 12, 14, and takes back what flows from node 3 to
-/// node 2 by way of node 1's arc.
+/// The least path has the ranks 8, 3, 10. It comes before the one of ranks 8, 12, 14, and cancels the flow from node 3 to node 2, over
+/// the opposite link of node 1's arc.
 #[test]
 fn a_backward_step_goes_by_its_rank(rt: HostRuntime) -> Result<(), Fail> {
     let state = detour(rt.alloc())?;

@@ -6,7 +6,7 @@ use std::test::Fail;
 
 const HALF: u64 = 1 << 63;
 
-/// Arcs that are pushed on two nodes one after the other, each with the answer.
+/// Arcs that are pushed on two nodes one after the other, each with the result.
 const PUSHED_ARCS: [(u64, u64, u64, Result<(), NetFault>); 8] = [
     (3, 1, 0, Err(NetFault::NoSuchNode)),
     (1, 0, 0, Err(NetFault::NoSuchNode)),
@@ -60,7 +60,7 @@ fn a_flow_is_taken(rt: HostRuntime) -> Result<(), Fail> {
     Ok(())
 }
 
-/// The fault of these flows. There is none where they are taken, or are not one for each arc.
+/// The fault of these flows. `None` if the state takes them, or if there is not one for each arc.
 fn fault_of(alloc: Global, state: &State, flows: &[u64]) -> Option<FlowFault> {
     if flows.len() != state.arcs().len() {
         return None;

@@ -5,7 +5,7 @@ use std::alloc::Global;
 use std::test::Fail;
 use test_fixtures::{FlushCounter, NO_ARCS};
 
-/// How a session of these commands ends, and how often it flushes. Each flush fails, or none.
+/// How a session of these commands ends, and how often it flushes. Either each flush fails or none.
 fn run_counted(
     alloc: Global,
     commands: &[u8],
@@ -36,7 +36,7 @@ fn a_line_without_a_reply_flushes_nothing(rt: HostRuntime) -> Result<(), Fail> {
     Ok(())
 }
 
-/// Four lines are answered: a solve, a print, a command that is refused, and an undo that no line feed ends.
+/// Four lines have replies: a solve, a print, a refused command, and an undo that no line feed ends.
 #[test]
 fn each_reply_is_flushed_once(rt: HostRuntime) -> Result<(), Fail> {
     let lines = b"c\nsolve\n\nprint flow\nsolve it\nc\nundo".as_slice();
@@ -45,7 +45,7 @@ fn each_reply_is_flushed_once(rt: HostRuntime) -> Result<(), Fail> {
     Ok(())
 }
 
-/// The first reply is the last line that is carried out.
+/// The first reply belongs to the last line that is carried out.
 #[test]
 fn a_failed_flush_ends_the_session(rt: HostRuntime) -> Result<(), Fail> {
     let lines = b"c\n\nprint flow\nprint flow\n".as_slice();

@@ -59,7 +59,7 @@ fn hold(
     run_commands(alloc, session, &mut commands, &mut out, false)
 }
 
-/// The script's session is to write the same over both histories with the bound, and to end the same.
+/// The script's session has to write the same over both histories with the bound, and to end the same.
 fn compare(alloc: Global, problem: &[u8], script: &[u8], bound: u32) -> Result<(), Fail>
     requires { bound ≤ 1000000 }
 {
@@ -110,7 +110,7 @@ fn worked_sessions_are_the_same_over_both_histories(rt: HostRuntime) -> Result<(
     Ok(())
 }
 
-/// Commands of which fewer can be undone where one state is kept, or none.
+/// Commands of which fewer can be undone if one state is kept, or none.
 const BOUNDED: &[&[u8]] = &[
     b"cap 1 4\nclose 2\nundo 2\nundo\nredo\nprint problem\n",
     b"solve\nundo\nprint flow\n",

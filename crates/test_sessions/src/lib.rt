@@ -1,5 +1,5 @@
-//! Tests of runs from the bytes that come in to the bytes that go out: over both histories, under a watch, and over slow readers
-//! and writers and ones that fail. What the runs write of worked texts is tested on the built program.
+//! Tests of runs from bytes to bytes: over both histories, with a watch, and over readers and writers that are slow or fail. What the
+//! runs write for worked texts is tested on the built program.
 #![tactic(auto)]
 
 #[cfg(test)]

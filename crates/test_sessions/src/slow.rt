@@ -4,7 +4,7 @@ use dmf_text::{StdSink, StdSource};
 use std::test::Fail;
 use test_fixtures::{ByteReader, LENIENT, SlowWriter, is_front};
 
-/// What is written of [`LENIENT`] solved with its cut.
+/// What the run writes for [`LENIENT`], with its cut.
 const SOLUTION_AND_CUT: &[u8] =
     b"s 9\nf 1 2 4\nf 2 2 0\nf 1 2 5\nf 2 1 0\nf 2 3 9\nc cut 9\nc side 1\nc side 2\n";
 
@@ -65,7 +65,7 @@ fn a_solution_is_checked_byte_by_byte(rt: HostRuntime) -> Result<(), Fail> {
     Ok(())
 }
 
-/// The program's verdicts are shorter than its buffer, so that none of its writes fails before the flush.
+/// The program's verdicts are shorter than its buffer, so none of its writes fails before the flush.
 #[test]
 fn a_failed_write_leaves_a_front_of_the_verdict(rt: HostRuntime) -> Result<(), Fail> {
     let mut written = Vec::new(rt.alloc());

@@ -1,4 +1,4 @@
-//! What a watch is told of the solves of a session.
+//! What the solves of a session report to a watch.
 ghost use Rattle.std.specs.Prelude.{map, pos, Some, None, if◌then◌else◌};
 
 use dmf_history::MAX_BOUND;
@@ -8,11 +8,11 @@ use dmf_text::{StdSink, StdSource};
 use std::test::Fail;
 use test_fixtures::NETWORK_A;
 
-/// Keeps the paths that it is told of: the value that each leads to, and how many links it has.
+/// Keeps the reported paths: the value that each leads to, and how many links it has.
 #[derive(Drop)]
 struct Paths {
     told: Vec<(u64, u32)>,
-    /// Whether memory was refused for none of them.
+    /// Whether memory was never refused for them.
     is_whole: bool,
 }
 

@@ -2,7 +2,7 @@
 use dmf_text::{Fields, Lines, NumberFault, number};
 use std::test::Fail;
 
-/// Fields, each with the number that is read, or why there is none.
+/// Fields, each with the number that it spells, or why it spells none.
 const NUMBERS: &[(&[u8], Result<u64, NumberFault>)] = &[
     (b"0", Ok(0)),
     (b"007", Ok(7)),

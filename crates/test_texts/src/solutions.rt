@@ -1,5 +1,5 @@
-//! Tests of solution texts: which flows single arcs have where several lead from the one node to the other. All else is tested on
-//! the built program.
+//! Tests of solution texts: the flows of single arcs, where several lead from one node to another. All else is tested on the built
+//! program.
 use dmf_text::{
     ProblemFault, ProblemFaultKind, SolutionFault, SolutionFaultKind, read_problem, read_solution,
 };

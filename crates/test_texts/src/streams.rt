@@ -1,4 +1,4 @@
-//! Tests of what texts are read from and written to.
+//! Tests of sources and sinks.
 use dmf_text::{Sink, Source, StdSink, StdSource, WriteFault, put_all};
 use std::alloc::Global;
 use std::test::Fail;
@@ -54,8 +54,8 @@ fn a_source_gives_bytes_and_failures(rt: HostRuntime) -> Result<(), Fail> {
     Ok(())
 }
 
-/// Puts the text by so many bytes a call, up to the limit, and tells what is answered, and whether the flush fails and just so
-/// many bytes are held then.
+/// Puts the text by so many bytes a call, up to the limit. Returns the result, and whether the flush fails and the sink then holds just
+/// so many bytes.
 fn put(alloc: Global, most: usize, limit: usize, held: usize) -> (Result<(), WriteFault>, bool) {
     let text = b"p max 4 5\n";
     let mut written = Vec::new(alloc);
@@ -65,7 +65,7 @@ fn put(alloc: Global, most: usize, limit: usize, held: usize) -> (Result<(), Wri
     (answer, fails && is_front(&written, text, held))
 }
 
-/// Bytes a call, the limit, what is answered, and how many bytes are held then.
+/// Bytes a call, the limit, the result, and how many bytes the sink holds afterwards.
 const WRITERS: &[(usize, usize, Result<(), WriteFault>, usize)] = &[
     (1, 99, Ok(()), 10),
     (99, 99, Ok(()), 10),

@@ -1,9 +1,9 @@
-//! Words that are read, beside what they are to give.
+//! Words, beside what they have to ask for.
 use dmf_arguments::{Arguments, WordsFault, read_arguments};
 use std::alloc::{AllocError, Global};
 use std::test::Fail;
 
-/// Reads the words after the program's name, which are given with one space between them.
+/// Reads the words after the program's name. There is one space between two of them.
 #[inline(never)]
 fn read(alloc: Global, line: &str) -> Result<Arguments, WordsFault> {
     read_arguments(alloc, words_of(alloc, line)?)
@@ -18,12 +18,12 @@ fn words_of(alloc: Global, line: &str) -> Result<Vec<String>, AllocError> {
     Ok(words)
 }
 
-/// What is told of words that give something else.
+/// The fault of words that ask for something else.
 fn differs(line: &str, read: &Result<Arguments, WordsFault>) -> Fail {
     Fail::new(format_args!("{line}: {read:?}"))
 }
 
-/// These words are to ask for just this.
+/// These words have to ask for just this.
 #[inline(never)]
 pub fn expect(alloc: Global, line: &str, wanted: Arguments) -> Result<(), Fail> {
     let read = read(alloc, line);

@@ -1,4 +1,4 @@
-//! Tests of the program's arguments: which run they ask for. What is told where they ask for none is tested on the built program.
+//! Tests of the program's arguments: which run they ask for. Why they ask for none is tested on the built program.
 #![tactic(auto)]
 
 #[cfg(test)]

@@ -4,7 +4,7 @@ use dmf_arguments::{Arguments, MAX_HISTORY, Mode, read_words};
 use std::alloc::Global;
 use std::test::Fail;
 
-/// Words that ask to solve, each with whether the cut and the progress are told.
+/// Words that ask for a solve, each with whether they ask for the cut and for progress.
 const SOLVES: [(&str, bool, bool); 6] = [
     ("", false, false),
     ("solve", false, false),
@@ -53,7 +53,7 @@ const PROBLEMS: [(&str, &str); 4] = [
     ("session solve", "solve"),
 ];
 
-/// These words are to ask for a session with these flags and this bound, on this problem.
+/// These words have to ask for a session with these flags and this bound, on this problem.
 fn expect_session(
     alloc: Global,
     line: &str,

@@ -1,4 +1,4 @@
-//! A search takes in a pair more.
+//! Adding a pair to a search.
 ghost use Rattle.std.specs.Prelude.{◌≡◌, ◌+◌, ◌-◌, ◌^◌, ◌<◌, ◌≤◌, length, insert, Some, IfOk};
 ghost use Rattle.dmf_path.specs.Links.{ArePlaces, pairs_at};
 ghost use Rattle.dmf_path.specs.LinkTable.{links_of};
@@ -22,8 +22,8 @@ struct Grown {
 }
 
 impl Search {
-    /// The search with this pair before the last one. It takes memory for all links, and time for reading and writing them once in
-    /// their order. Labelling begins anew.
+    /// The search with this pair before the last one. Takes memory for all links, and time for reading and writing them once in their
+    /// order. Labelling begins anew.
     pub fn insert(self, alloc: Global, pair: Pair) -> Result<Search, AllocError>
         requires pair { IsPair self.nodes pair }
         requires some { 0 < length self.pairs }
@@ -51,7 +51,7 @@ impl Search {
     }
 }
 
-/// The links of the pairs at these places, with those of this pair before the last one. Takes memory for all of them.
+/// The links of the pairs at these places, with the links of this pair before those of the last one. Takes memory for all of them.
 fn grow(alloc: Global, links: Links, places: &Places, pair: Pair) -> Result<Grown, AllocError>
     requires places { ArePlaces (links_of links.table.value) places.now }
     requires pair { IsPair links.table.value.nodes pair }

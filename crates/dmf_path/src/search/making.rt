@@ -1,4 +1,4 @@
-//! A search is made of pairs, or over the links of another search.
+//! Making a search from pairs, or over the links of another search.
 ghost use Rattle.std.specs.Prelude.{◌≡◌, ◌≢◌, ◌^◌, ◌≤◌, length, map, replicate, [], IfOk};
 ghost use Rattle.dmf_node.specs.Node.{IsNode};
 ghost use Rattle.dmf_path.specs.Pair.{ArePairs, emptied};
@@ -18,7 +18,7 @@ use crate::trail::Trail;
 use std::alloc::{AllocError, Global};
 use std::rc::Rc;
 
-/// Links with their rooms, and the places of the pairs of which they were made.
+/// Links with their rooms, and the places of the pairs from which they were made.
 #[derive(Drop)]
 struct Linked {
     table: Rc<LinkTable>,
@@ -27,8 +27,8 @@ struct Linked {
 }
 
 impl Search {
-    /// A search over these pairs, between so many nodes. What is pushed along one link of a pair can be pushed back along
-    /// the other where `takes_back` says so. Takes memory for two links a pair, and for some numbers a node.
+    /// A search over these pairs, between so many nodes. `takes_back` says whether a push along one link of a pair can be pushed back
+    /// along the other. Takes memory for two links a pair, and for some numbers a node.
     pub fn new<P: Pairs>(
         alloc: Global,
         nodes: u32,
@@ -54,8 +54,8 @@ impl Search {
         linked.search(alloc, start, goal, takes_back)
     }
 
-    /// Another search over the same links, with the rooms of these pairs, which have the same ends. Takes memory for a room
-    /// and a flag a link, and for some numbers a node.
+    /// Another search over the same links, with the rooms of these pairs, which have the same ends. Takes memory for a room and a flag
+    /// a link, and for some numbers a node.
     pub fn twin<P: Pairs>(
         &self,
         alloc: Global,
@@ -152,7 +152,7 @@ impl Linked {
     }
 }
 
-/// Makes links of pairs, where several searches can share them. Takes memory for two links a pair.
+/// Makes links from pairs, so that several searches can share them. Takes memory for two links a pair.
 fn link<P: Pairs>(alloc: Global, nodes: u32, pairs: &P) -> Result<Linked, AllocError>
     requires nodes { nodes ≤ 2 ^ 24 }
     requires pairs { ArePairs nodes (P.pairs pairs.now) }

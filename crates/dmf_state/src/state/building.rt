@@ -19,9 +19,9 @@ impl State {
     /// Makes a state of the same network with these flows, one for each arc in the order of their numbers. The new state keeps the
     /// vector. If there is a fault, the vector is dropped.
     ///
-    /// Answers the first of these faults that the flows have: [`FlowFault::OverCapacity`], [`FlowFault::NotConserved`],
+    /// Fails with the first of these faults that the flows have: [`FlowFault::OverCapacity`], [`FlowFault::NotConserved`],
     /// [`FlowFault::Negative`]. Takes memory for a copy of the arcs and, during the call, for two numbers a node. If that is refused,
-    /// answers [`FlowFault::NoMemory`].
+    /// fails with [`FlowFault::NoMemory`].
     pub fn with_flows(&self, alloc: Global, flows: Vec<u64>) -> Result<State, FlowFault>
         requires { length flows.items ≡ length self.now.network.arcs }
         ensures refused { IsErrOf result FlowFault.NoMemory ⊎ (result_err result ≡ flow_fault self.now.network flows.items) }
@@ -61,7 +61,7 @@ impl State {
 
     /// Appends an open arc without flow.
     ///
-    /// Answers the first of these faults that holds, and then leaves the state as it was: [`NetFault::NoSuchNode`],
+    /// Fails with the first of these faults that holds, and then leaves the state unchanged: [`NetFault::NoSuchNode`],
     /// [`NetFault::TooManyArcs`], [`NetFault::SumTooLarge`], [`NetFault::NoMemory`].
     pub fn push_arc(&mut self, tail: u64, head: u64, cap: u64) -> Result<(), NetFault>
         ensures refused { MatchOption (arc_fault self.old.network tail head cap)
@@ -115,7 +115,7 @@ impl State {
     }
 }
 
-/// Reserves room for one element more in both vectors. A refused request changes neither.
+/// Reserves room for one more element in both vectors. A refused request changes neither.
 fn reserve_one(arcs: &mut Vec<Arc>, flows: &mut Vec<u64>) -> Result<(), NoMemory>
     ensures arcs { arcs.new.items ≡ arcs.old.items }
     ensures flows { flows.new.items ≡ flows.old.items }

@@ -16,7 +16,7 @@ use crate::state::State;
 impl State {
     /// Applies an edit that fits the state.
     ///
-    /// Only an edit that adds an arc takes memory. If that is refused, the state is as it was.
+    /// Only an edit that adds an arc takes memory. If that is refused, the state is unchanged.
     pub fn apply(&mut self, edit: &Edit) -> Result<(), NoMemory>
         requires { Fits edit.now self.old }
         ensures ok { OnOk result (self.new ≡ applied edit.now self.old) }
@@ -59,7 +59,7 @@ impl State {
         }
     }
 
-    /// The largest capacity that an arc of capacity `old` can get: the sum of the capacities has to stay below 2^64.
+    /// The largest capacity that an arc of capacity `old` can get, since the sum of the capacities has to stay below 2^64.
     pub fn largest_cap(&self, old: u64) -> u64
         requires { old ≤ capacity_sum self.now.network.arcs }
         ensures { result + (capacity_sum self.now.network.arcs - old) + 1 ≡ 2 ^ 64 }

@@ -1,4 +1,4 @@
-//! How much can be sent once an arc is closed, and where the limit is then.
+//! How much can be sent once an arc is closed, and where the bottleneck is then.
 use dmf_net::{State, plan_close, plan_solve, smallest_side};
 use std::test::Fail;
 
@@ -10,13 +10,13 @@ fn an_arc_is_closed(rt: HostRuntime) -> Result<(), Fail> {
     for (tail, head, cap) in [(1, 2, 3), (1, 3, 2), (2, 3, 5), (2, 4, 2), (3, 4, 3)] {
         state.push_arc(tail, head, cap)?;
     }
-    // A change is planned on a state, which stays as it is, and then applied.
+    // A change is planned on a state, which does not change, and then applied.
     let solve = plan_solve(alloc, &state)?;
     state.apply(&solve)?;
     assert!(rt; state.value() == 5);
     let close = plan_close(alloc, &state, 1)?;
     state.apply(&close)?;
-    // What arc 1 carried is taken off, and just that: the flow is greatest here too.
+    // The plan takes off just the flow that arc 1 carried: the flow is a maximum flow here too.
     assert!(rt; state.value() == 2);
     let side = smallest_side(alloc, &state)?;
     assert!(rt; side.capacity() == 2);

@@ -1,4 +1,4 @@
-//! A change is tried out, and taken back.
+//! A change is tried out, and undone.
 use dmf_net::State;
 use dmf_session::{Command, DeltaHistory, Reply, Session};
 use std::test::Fail;
@@ -14,7 +14,7 @@ fn a_change_is_taken_back(rt: HostRuntime) -> Result<(), Fail> {
     }
     assert!(rt; session.present().value() == 3);
     assert!(rt; (session.past(), session.future()) == (2, 0));
-    // Undo gives back exactly the state that was there, its flow included.
+    // Undo restores exactly the state before, its flow included.
     let undone = session.step(alloc, Command::Undo(1), false);
     assert!(rt; undone == Ok(Reply::Value(7)));
     assert!(rt; session.present().flow(1) == 7);

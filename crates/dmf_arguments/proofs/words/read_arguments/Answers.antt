@@ -6,7 +6,7 @@ use Rattle.dmf_arguments.specs.Words.{Asks}
 use Rattle.dmf_arguments.proofs.Reading.{line_is_simple, line_is_free, no_kinds, short, told}
 use Rattle.dmf_arguments.proofs.words.read_arguments.Goals as goal
 
--- the words were taken
+-- reading succeeded
 pub returns-in-Ok-clause-words : goal.returns-in-Ok-clause-words
 returns-in-Ok-clause-words c =
     let all : List Text = map (λ word. word.bytes.items) c.args.words.items in
@@ -24,7 +24,7 @@ returns-in-Ok-clause-words c =
       refused = λ kind kinds faulty. absurd (no_kinds (sym none ∙ faulty));
     }
 
--- they were not
+-- reading failed
 pub returns-clause-words : goal.returns-clause-words
 returns-clause-words c =
     let all : List Text = map (λ word. word.bytes.items) c.args.words.items in

@@ -1,4 +1,4 @@
--- The links of the node that is next are its own, and lead to nodes; a turn of the search.
+-- The links of the next node are its own, and lead to nodes; a turn of the search.
 use Rattle.std.proofs.Common.{◌≡◌, ◌+◌, ◌<◌, sym, ◌∙◌, arith, slice_index}
 use Rattle.std.proofs.lemmas.List.{get_or_default}
 use Rattle.dmf_node.specs.Node.{IsNode}
@@ -9,7 +9,7 @@ use Rattle.dmf_path.proofs.LabellingTurn.{node-read, spread-turn}
 use Rattle.dmf_path.proofs.frontier.expand.Goals as goal
 use Rattle.dmf_path.proofs.frontier.expand.Goals.{After-index-node, After-index, After-spread}
 
--- the node that is next
+-- the next node
 next : (g : _) (c : After-index-node g) → (slice_index c.args.frontier.now.queue.items c.args.frontier.now.done ≡ c.index-node.result.now)
     × IsNode c.args.table.now.nodes c.index-node.result.now
     × (slice_index c.args.frontier.now.labels.items c.index-node.result.now + 1 < no_label)

@@ -1,4 +1,4 @@
--- A level: its first node, a turn, and where it ends.
+-- A level: its first node, a turn, and its end.
 use Rattle.std.proofs.Common.{rules, ◌≡◌, ◌+◌, refl, ap, sym, ◌∙◌, arith, length, get_or}
 use Rattle.dmf_path.specs.LinkTable.{links_of}
 use Rattle.dmf_path.proofs.Expanding.{IsLevel, level-first, level-next, level-labels, level-read, beyond-next, apart-next, behind-at, behind-long, behind-node}
@@ -32,7 +32,7 @@ turn g c = rw (c.expand.ensures.root, c.expand.ensures.done)
     c.expand.new.frontier.queue.items c.args.table.now.are c.loop-frontier.invariant.level (omega (arith, c.loop-frontier-test.true)) (next-is g c)
     (rw (← c.expand.ensures.root, ← c.expand.ensures.done) c.expand.ensures.so_far) c.expand.ensures.expands)
 
--- no label comes or goes
+-- no label changes
 long : (g : _) (c : After-expand g) → length c.expand.new.frontier.labels.items ≡ length c.loop-frontier.frontier.labels.items
 long g c = c.expand.ensures.so_far.one_each ∙ sym c.loop-frontier.invariant.level.so_far.one_each
 

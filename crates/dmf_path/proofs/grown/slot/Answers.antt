@@ -1,4 +1,4 @@
--- The last pair has a link at the node, or none, and then the slot is where the links of the node end.
+-- The last pair has a link at the node, or the slot is where the links of the node end.
 use Rattle.std.proofs.Common.{ℕ, ◌≡◌, ◌+◌, ◌-◌, ◌<◌, length, get_or, ap, sym, ◌∙◌, subst, arith, inl, inr}
 use Rattle.std.proofs.lemmas.List.{get_or_default}
 use Rattle.dmf_path.specs.LinkTable.{links_of}

@@ -10,7 +10,7 @@ use Rattle.dmf_path.proofs.LabellingTurn.{node-read, looked-next}
 use Rattle.dmf_path.proofs.label.label_most.Goals as goal
 use Rattle.dmf_path.proofs.label.label_most.Goals.{After-places_at-places}
 
--- The labels from the root at which the search has begun.
+-- The labels from the root of the search.
 labels-from : (l : Links) (opens : List ℕ) (root same stop : ℕ) (labels queue : List ℕ) (done : ℕ) → AreLinks l → same ≡ root
     → AreSpread l opens same labels queue done → stop ≤ l.nodes → (done ≡ length queue) ⊎ (get_or labels stop 0 ≢ no_label)
     → AreLabels l opens root stop labels
@@ -20,7 +20,7 @@ labels-from l opens root same stop labels queue done are is spread within ended 
 pub loop-frontier-init : goal.loop-frontier-init
 loop-frontier-init g c = record { so_far = c.requires.so_far; counted = omega arith; root = refl; capacity = refl }
 
--- How many links are looked at by the end of a turn.
+-- The number of links that a turn looks at.
 counted : (g : _) (c : After-places_at-places g) → c.loop-frontier.frontier.done < length c.loop-frontier.frontier.queue.items
     → (c.loop-frontier.looked + (c.places_at-places.result.end - c.places_at-places.result.start) ≤ (c.loop-frontier.frontier.done + 1) * 2 ^ 31)
     × ((c.loop-frontier.frontier.done + 1) * 2 ^ 31 < 2 ^ 62)

@@ -1,4 +1,4 @@
--- Where the side that goes on meets the other one.
+-- The side that goes on meets the other one.
 use Rattle.std.proofs.Common.{map, refl}
 use Rattle.dmf_path.specs.Links.{open_flag}
 use Rattle.dmf_path.specs.LinkTable.{links_of}

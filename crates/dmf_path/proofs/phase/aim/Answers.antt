@@ -23,7 +23,7 @@ settled : (c : After-settle) → IsSearching (residual_of c.settle.new.links) (l
 settled c = searching-settled (residual_of c.args.links.now) (labelling_of c.args.levels.now) (way_of c.args.trail.now)
     (residual_of c.settle.new.links) (way_of c.settle.new.self) c.requires.searching c.settle.ensures.links c.settle.ensures.way
 
--- The links are those of before.
+-- The links are the same as before.
 node : (c : After-settle) (v : ℕ) → IsNode c.args.links.now.table.value.nodes v → IsNode c.settle.new.links.table.value.nodes v
 node c v = subst (λ (x : Residual). IsNode x.links.nodes v) (sym c.settle.ensures.links)
 

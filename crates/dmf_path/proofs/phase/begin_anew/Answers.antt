@@ -1,4 +1,4 @@
--- All links leave, and nothing falls to the label of the start.
+-- All links leave, and no link falls from the start.
 use Rattle.std.proofs.Common.{[], ap, ◌∙◌}
 use Rattle.dmf_path.specs.Held.{way_of}
 use Rattle.dmf_path.specs.Residual.{residual_of}

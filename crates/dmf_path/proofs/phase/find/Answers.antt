@@ -1,4 +1,4 @@
--- The walk, and what follows where it finds nothing: nothing is held, the nodes are labelled anew, and it walks again.
+-- The walk. If it finds nothing, no push is held, the nodes get new labels, and it walks again.
 use Rattle.std.proofs.Common.{◌≡◌, sym, ◌∙◌, subst}
 use Rattle.std.proofs.lemmas.List.{with_items_is}
 use Rattle.dmf_path.specs.Walk.{IsWalk}
@@ -36,13 +36,13 @@ relabel-requires-clause-searching c =
     (way_of c.walk.new.trail) (residual_of c.settle.new.links) (way_of c.settle.new.self)
     (rw c.deref.ensures.value at c.walk.ensures.searching) c.settle.ensures.links c.settle.ensures.way)
 
--- After all links have left, it looks for the same,
+-- After all links have left, the network and the ends are the same,
 plain : (c : After-relabel) → plainly (residual_of c.settle.new.links) (way_of c.settle.new.self) ≡ sought (residual_of c.args.links.now)
     (way_of c.args.trail.now)
 plain c = plainly-settled (residual_of c.walk.new.links) (way_of c.walk.new.trail) (residual_of c.settle.new.links)
     (way_of c.settle.new.self) c.settle.ensures.links c.settle.ensures.way ∙ c.walk.ensures.same
 
--- and once the nodes are labelled anew.
+-- and so they are after the nodes get new labels.
 free : (c : After-relabel) → sought (residual_of c.settle.new.links) (way_of c.relabel.new.trail) ≡ plainly (residual_of c.settle.new.links)
     (way_of c.settle.new.self)
 free c = sought-free (residual_of c.settle.new.links) (way_of c.settle.new.self)

@@ -12,7 +12,7 @@ use Rattle.dmf_path.proofs.SearchTurns.{plainly, searching-free, searching-anew}
 use Rattle.dmf_path.proofs.phase.relabel.Goals as goal
 use Rattle.dmf_path.proofs.phase.relabel.Goals.{Start, After-index-start_label}
 
--- As many nodes have labels as there are.
+-- At most all nodes have labels.
 ready : (c : Start) → IsReady c.args.links.now.table.value.nodes c.args.levels.now.near c.args.levels.now.far
 ready c = ready-at c.args.links.now.table.value.nodes c.args.levels.now c.requires.ready c.requires.searching.aimed.one_label_each
 

@@ -30,7 +30,7 @@ label_most-looked-requires-clause-so_far c =
     c.begin.new.frontier.labels.items c.begin.new.frontier.queue.items c.begin.new.frontier.done c.requires.start c.requires.near.labels_are
     c.begin.ensures.labels c.begin.ensures.queue c.begin.ensures.done)
 
--- There are as many labels as before.
+-- The number of labels is as before.
 long : (c : After-unlabel) → length c.label_most-looked.new.frontier.labels.items ≡ c.args.links.now.table.value.nodes + 1
 long c = rw c.deref.ensures at c.label_most-looked.ensures.long
 

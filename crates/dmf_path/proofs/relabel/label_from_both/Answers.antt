@@ -1,4 +1,4 @@
--- Two searches begin, meet, and their labels are joined.
+-- Two searches begin and meet, and their labels are joined.
 use Rattle.std.proofs.Common.{◌+◌, get_or, map, refl, ◌∙◌, arith, inl, inr}
 use Rattle.std.proofs.lemmas.List.{get_or_default, with_items_is}
 use Rattle.dmf_path.specs.Links.{open_flag}

@@ -1,4 +1,4 @@
--- All links have left, or the link is in no slot, and its room is as it is told.
+-- All links have left, or the link is in no slot, and its room is settled.
 use Rattle.std.proofs.Common.{◌≡◌, get_or, ap, sym}
 use Rattle.std.proofs.lemmas.Bool.{eqb-false}
 use Rattle.dmf_path.specs.Held.{way_of}

@@ -9,7 +9,7 @@ use Rattle.dmf_runs.proofs.reply.write_brief.Given.{Over}
 use Rattle.dmf_runs.proofs.reply.write_brief.Goals as goal
 use Rattle.dmf_runs.proofs.reply.write_brief.Goals.{After-write_line}
 
--- the value that the state tells is that of its flow
+-- the state's value is the value of its flow
 first : (g : Over) (c : After-write_line g) → solve_text true c.args.state.now c.args.side.now ≡ value_text Solve c.value.result ++ side_text c.args.side.now
 first g c = ap (λ value. value_text Solve value ++ side_text c.args.side.now) (sym (ap nat_abs c.value.ensures.value))
 

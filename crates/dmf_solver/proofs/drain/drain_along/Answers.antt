@@ -55,7 +55,7 @@ returns-then-left-eq0-clause-drains g c = λ unpaired carries.
     let within : flow_on flows c.args.turn.arc ≤ c.args.turn.limit = omega (arith, left, c.if-left-eq0.true) in
     (carries, drained-all (with_flows s flows) c.args.turn.arc c.args.turn.limit flows within (drained-none (with_flows s flows) c.args.turn.arc c.args.turn.limit carries.state))
 
--- what one path more does
+-- what one more path does
 once : (g : _) (c : goal.After-lowered g) (unpaired : List ℕ) → IsCarryingSearch c.args.state.now unpaired c.args.search.now
     → DrainsOnce c.args.state.now unpaired (flows_read Along unpaired c.args.search.now.pairs) c.args.turn.arc c.args.turn.limit c.loop-left.left c.in-Some.found.amount
     c.augment.new.self
@@ -96,7 +96,7 @@ loop-left-preserved g c = record {
       c.loop-left.invariant.own c.loop-left.invariant.touches c.in-Some.ensures.touched);
 }
 
--- what flows on the arc comes back
+-- the flow on the arc comes back
 pub unreachable-requires : goal.unreachable-requires
 unreachable-requires g c = draining-has_path c.args.state.now c.requires.carrying.0 _ c.args.turn.arc c.args.turn.limit _ _ c.requires.is_there c.loop-left-test.true
     (c.loop-left.invariant.draining c.requires.carrying.0 c.requires.carrying.1) c.in-None.ensures.found.0

@@ -6,8 +6,8 @@ use Rattle.dmf_solver.specs.Told.{AreTold}
 use Rattle.dmf_solver.proofs.DrainingSearch.{IsDraining}
 use Rattle.dmf_solver.proofs.drain.drain_along.Given as goal
 
--- Draining has come so far, and the pairs that it has changed count as touched, with that of the drained arc. The watch was told what is
--- off the arc, at most.
+-- Draining has come so far, and the pairs that it has changed count as touched, with the pair of the drained arc. The watch got a
+-- report of at most the flow that is off the arc.
 abbrev pub invariant-loop-left : goal.invariant-loop-left
 invariant-loop-left g l = record {
   draining : (unpaired : List ℕ) → IsCarryingSearch l.state unpaired l.fn.search

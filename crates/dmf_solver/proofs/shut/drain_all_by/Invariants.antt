@@ -7,7 +7,7 @@ use Rattle.dmf_solver.proofs.Draining.{IsNoMore}
 use Rattle.dmf_solver.proofs.DrainedInTurn.{AreDrainedUpTo}
 use Rattle.dmf_solver.proofs.shut.drain_all_by.Given as goal
 
--- The arcs before this one are drained, and the watch was told what was on them, at most.
+-- The arcs before this one are drained, and the watch got a report of at most the flow that was on them.
 abbrev pub invariant-loop-shutting : goal.invariant-loop-shutting
 invariant-loop-shutting g l = record {
   up_to : AreDrainedUpTo l.state (numbers l.arcs) (numbers (drop l.shutting-index l.arcs)) l.unpaired.items l.search;

@@ -16,7 +16,7 @@ loop-i-preserved c =
     let nothing = append-nil (listed_from v 1 (take c.loop-i.i arcs)) in
     grind (arith, common_steps, more, nothing, here)
 
--- all open arcs at the node are listed
+-- the list has all open arcs at the node
 listed : (c : After-loop-i) → c.loop-i.open.items ≡ listed_from c.args.v 1 c.args.state.now.network.arcs
 listed c =
     let long = rw c.arcs-arc-items.ensures.value at c.loop-i-test.false in

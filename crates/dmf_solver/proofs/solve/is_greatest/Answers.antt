@@ -11,7 +11,7 @@ aim-requires c =
     rw (c.source.ensures.value, c.sink.ensures.value, c.in_ok-search.ensures.search)
     (record { start = network.source; goal = network.sink; apart = network.two_terminals })
 
--- Aimed at its own ends, the search is the same.
+-- Aiming the search at its own ends does not change it.
 aimed-again : (s : NetworkState) (search new : Searched) (start goal : ℕ) → search ≡ residual_search s.network s.flows
     → start ≡ s.network.source → goal ≡ s.network.sink → new ≡ aimed search start goal → new ≡ residual_search s.network s.flows
 aimed-again s search new start goal is from to aims = aims ∙ (λ i. aimed (is i) (from i) (to i))

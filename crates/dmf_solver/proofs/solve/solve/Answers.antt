@@ -31,7 +31,7 @@ loop-found-init g c = record {
   below = c.requires.below;
 }
 
--- one path more: its pairs are touched
+-- one more path: its pairs count as touched
 pub loop-found-preserved : goal.loop-found-preserved
 loop-found-preserved g c =
     let s = c.args.state.now in

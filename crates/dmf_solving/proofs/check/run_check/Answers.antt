@@ -26,7 +26,7 @@ no-solution run s (fault.Problem f) problem read unwritten = absurd read
 no-solution run s fault.NoMemory problem read unwritten = record { problem_mark = problem.0.mark; solution_mark = read; unwritten = unwritten }
 no-solution run s told problem read unwritten = inr (record { state = s; problem = problem; solution = read; unwritten = unwritten })
 
--- a run that told its verdict, or whose writer failed
+-- a run that wrote its verdict, or whose writer failed
 verdict-told : (run : Checked) (result : Result Status EngineFault) → IsOkUnless result fault.Write → WritesVerdict run result → CheckAnswered run result
 verdict-told run (Ok status) write told = told
 verdict-told run (Err e) write told = subst (λ e. CheckAnswered run (Err e)) (sym write) (subst (λ e. WritesVerdict run (Err e)) write told)

@@ -6,7 +6,7 @@ use Rattle.dmf_solving.proofs.check.tell_verdict.Given.{Over}
 use Rattle.dmf_solving.proofs.check.tell_verdict.Goals as goal
 use Rattle.dmf_solving.proofs.check.tell_verdict.Goals.{After-put_line}
 
--- the value that the state tells is that of its flow
+-- the state's value is the value of its flow
 line-is : (g : Over) (c : After-put_line g) → c.verdict_line.result ≡ verdict_text c.args.state.now c.args.greatest
 line-is g c = c.verdict_line.ensures ∙ ap (verdict_line c.args.greatest) (ap nat_abs c.value.ensures.value)
 

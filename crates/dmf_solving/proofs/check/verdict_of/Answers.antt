@@ -5,7 +5,7 @@ use Rattle.dmf_solver.specs.Greatest.{IsGreatest, IsSurpassed}
 use Rattle.dmf_solving.specs.CheckRun.{IsVerdict}
 use Rattle.dmf_solving.proofs.check.verdict_of.Goals as goal
 
--- what the answer says
+-- the meaning of the answer
 verdict-is : {E : Type 0} (s : NetworkState) (answer : Result Bool E) → IfOk answer (λ b. IsTrue b ↔ IsGreatest s.network s.flows)
     → IfOk answer (λ b. (b ≡ false) ↔ IsSurpassed s.network s.flows) → IfOk answer (IsVerdict s)
 verdict-is s (Ok true) greatest surpassed = greatest.0 refl

@@ -9,7 +9,7 @@ use Rattle.dmf_solving.proofs.solve.run_solve_watched.Given.{Over}
 use Rattle.dmf_solving.proofs.solve.run_solve_watched.Goals as goal
 use Rattle.dmf_solving.proofs.solve.run_solve_watched.Goals.{After-put_solved}
 
--- the solution was written, or a front of it
+-- the solution was written, or a prefix of it
 writes-solved : (g : Over) (c : After-put_solved g) (result : Result Status EngineFault) → Writes (g.W.Sink.written c.args.out.now)
     (g.W.Sink.written c.put_solved.new.out) result (solved_text c.in_ok-solved.solved.state c.in_ok-solved.solved.side)
     → WritesSolved c.args.want_cut (g.P.Source.left c.args.problem.now) (g.P.Source.left c.read_state.new.source) (g.W.Sink.written c.args.out.now)

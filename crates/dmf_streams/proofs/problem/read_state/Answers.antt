@@ -13,14 +13,14 @@ use Rattle.dmf_streams.specs.WholeText.{ReadsText}
 use Rattle.dmf_streams.proofs.Giving.{given}
 use Rattle.dmf_streams.proofs.problem.read_state.Goals as goal
 
--- what is read, and not judged
+-- the text is read, but not judged
 unread : (from to : Reader) (text : List ℕ) (told : EngineFault) → ReadsText from to text (Err told) → ReadsProblem from to text (Err told)
 unread from to text fault.Read r = r
 unread from to text fault.NoMemory r = r
 unread from to text fault.TooMuchInput r = r
 unread from to text told r = absurd r
 
--- what a text is judged to be where memory was not refused
+-- the judgement of the text, if no memory is refused
 judged-state : (s : NetworkState) (text : List ℕ) → IsErrOf (Ok s) out_of_memory ⊎ (Ok s ≡ problem_of text) → problem_of text ≡ Ok s
 judged-state s text (inl refused) = cc
 judged-state s text (inr told) = sym told

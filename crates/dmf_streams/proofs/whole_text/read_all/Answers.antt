@@ -18,7 +18,7 @@ returns-then-len-given g c =
       };
     }
 
--- memory was refused for what was read
+-- memory was refused for the bytes that were read
 pub returns-in_err-extend_from_slice : goal.returns-in_err-extend_from_slice
 returns-in_err-extend_from_slice g c =
     let failed = err_from_is_err_and c.from_residual-in_err-extend_from_slice.result c.from_residual-in_err-extend_from_slice.ensures.1 in
@@ -53,7 +53,7 @@ returns-then-given-eq0 g c =
       is_so = (record { at_end = end; within = c.loop.invariant.within; mark = told.mark ∙ c.loop.invariant.mark }, refl);
     }
 
--- each turn gave some, so that there are more turns than bytes may be given
+-- each turn read some bytes, so there are more turns than the limit has bytes
 pub returns : goal.returns
 returns g c = absurd (omega (arith, c.loop-test.false, c.loop.invariant.some, c.loop.invariant.within))
 

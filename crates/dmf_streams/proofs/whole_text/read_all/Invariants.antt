@@ -2,7 +2,7 @@ use Rattle.std.proofs.Common.{◌^◌, ◌≡◌, ◌≤◌, length}
 use Rattle.std.specs.Io.KnownBytes.{Consumes}
 use Rattle.dmf_streams.proofs.whole_text.read_all.Given as goal
 
--- what was given is in the vector, and each turn gave some
+-- the vector has the bytes that the reader gave, and each turn gave some
 abbrev pub invariant-loop : goal.invariant-loop
 invariant-loop g l =
     let reader = g.P.Source.left in

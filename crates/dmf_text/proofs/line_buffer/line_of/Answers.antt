@@ -8,7 +8,7 @@ use Rattle.dmf_text.proofs.WrittenLemmas.{line-none, line-last, line-from}
 use Rattle.dmf_text.proofs.line_buffer.line_of.Goals as goal
 use Rattle.dmf_text.proofs.line_buffer.line_of.Goals.{then-i-fields, else-i-fields}
 
--- one field more: `line` stood, `next` is that with a space in front or without one, and `new` has the field in front
+-- one more field: `line` stood before, `next` is `line` with or without a space in front, and `new` also has the field in front
 module _ (fields : List LineField) (i n : ℕ) (d : LineField) (is : n ≡ i + 1) (below : i < length fields) (line next new : List ℕ)
     (stands : line ≡ written_line (map field_bytes (drop n fields))) (added : new ≡ field_bytes (get_or fields i d) ++ next) where
   after-space : i + 1 < length fields → next ≡ 32 ∷ line → new ≡ written_line (map field_bytes (drop i fields))

@@ -19,7 +19,7 @@ digit-no_blank b digit =
     let low : 48 ≤ b = leb-true _ _ (and_parts _ _ digit).0 in
     rw (ne_eqb b 32 (λ is. absurd (omega (arith, is, low))), ne_eqb b 9 (λ is. absurd (omega (arith, is, low)))) refl
 
--- Digits that a blank or the end of the bytes ends spell a number.
+-- Digits up to a blank or the end of the bytes spell a number.
 in-front : (bytes : List ℕ) (value i : ℕ) → value < 2 ^ 64 → 0 < i → i ≤ length bytes → list_all is_ascii_digit (take i bytes) ≡ true
     → value ≡ digits_value 10 (take i bytes) → ((k : ℕ) → k < i → is_blank (get_or bytes k 0) ≡ false)
     → (i < length bytes → is_blank (get_or bytes i 0) ≡ true) → IsNumberInFront bytes value i
@@ -35,7 +35,7 @@ in-front bytes value i small some within digits is blanks stops =
           (ap (λ ds. list_all is_ascii_digit ds) whole ∙ digits) (is ∙ ap (λ ds. digits_value 10 ds) (sym whole)) small);
     }
 
--- A number that has ended is one in front.
+-- A number that has ended is the number in front.
 ended-in_front : (bytes : List ℕ) (value i b : ℕ) (outcome : Option (ℕ × ℕ))
     → IfSome outcome (λ front. (front ≡ (value, i)) × (0 < i) × (is_blank b ≡ true))
     → (0 < i → is_blank b ≡ true → IsNumberInFront bytes value i) → IfSome outcome (λ front. IsNumberInFront bytes front.0 front.1)
@@ -43,7 +43,7 @@ ended-in_front bytes value i b None none is = tt
 ended-in_front bytes value i b (Some front) some is =
     subst (λ (f : ℕ × ℕ). IsNumberInFront bytes f.0 f.1) (sym some.0) (is some.1 some.2)
 
--- Few digits fit 64 bits.
+-- A few digits fit 64 bits.
 short-more : (value i digit : ℕ) → value < 10 ^ i → digit ≤ 9 → value * 10 + digit < 10 ^ (i + 1)
 short-more value i digit small most = omega (arith, small, most, pow_more 10 i)
 

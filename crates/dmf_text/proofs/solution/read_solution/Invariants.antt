@@ -3,7 +3,7 @@ use Rattle.dmf_text.specs.SolutionReading.{Keeps}
 use Rattle.dmf_text.proofs.JudgingLemmas.{Walk}
 use Rattle.dmf_text.proofs.solution.read_solution.Given as goal
 
--- the reader has what the lines say that were taken
+-- the reader has the facts of the lines that it took
 abbrev pub invariant-loop-number : goal.invariant-loop-number
 invariant-loop-number l =
     (facts : Facts) × Keeps l.state.network.arcs facts l.reading

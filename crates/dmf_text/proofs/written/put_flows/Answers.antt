@@ -19,7 +19,7 @@ one_each g c =
     let s = c.args.state.now in
     AllZip-long _ s.network.arcs s.flows c.arcs-arcs.ensures.state.flow.within ∙ ap length (sym c.arcs-arcs.ensures.value)
 
--- the arc that is next, with its flow, and its line
+-- the next arc, with its flow and its line
 next : (g : Over) (c : After-put_arc g) → (c.loop-i.i < length (zip c.arcs-arcs.result.now c.args.state.now.flows))
     × (flows_text (get_or (zip c.arcs-arcs.result.now c.args.state.now.flows) c.loop-i.i (open_arc 0 0 0, 0) ∷ [])
     ≡ (if is_open (get_or c.arcs-arcs.result.now c.loop-i.i (open_arc 0 0 0))

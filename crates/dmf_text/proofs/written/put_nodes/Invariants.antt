@@ -3,7 +3,7 @@ use Rattle.std.specs.Io.KnownBytes.{Appends}
 use Rattle.dmf_text.specs.Written.{nodes_text}
 use Rattle.dmf_text.proofs.written.put_nodes.Given as goal
 
--- the lines of the nodes that were given are written
+-- the lines of the nodes so far are written
 abbrev pub invariant-loop-id : goal.invariant-loop-id
 invariant-loop-id g l = record {
   given : l.yielded ++ l.id-iterator ≡ l.fn.ids;

@@ -9,7 +9,7 @@ use Rattle.dmf_history.proofs.Edits.{future-is, fits, redone, redone-forward, ad
 use Rattle.dmf_history.proofs.delta.DeltaHistoryHistory.redo.Goals as goal
 use Rattle.dmf_history.proofs.delta.DeltaHistoryHistory.redo.Goals.{After-index}
 
--- Want of memory is not the end of the undone changes.
+-- A refused request for memory is another fault than having no undone change.
 differs : (result : Result (Unit {0}) RedoFault) → IsErrAnd result (λ fault. fault ≡ redo.NoMemory) → result ≢ Err redo.NothingToRedo
 differs (Ok done) told e = absurd told
 differs (Err fault) told e = cc

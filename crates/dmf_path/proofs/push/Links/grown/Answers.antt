@@ -1,4 +1,4 @@
--- The rooms and the flags are those that were there, and those of the new links.
+-- The rooms and the flags are the old ones, and those of the new links.
 use Rattle.std.proofs.Common.{arith}
 use Rattle.dmf_path.specs.LinkTable.{links_of}
 use Rattle.dmf_path.proofs.GrownLinks.{in-order, gap-within}

@@ -8,7 +8,7 @@ use Rattle.dmf_path.proofs.Flags.{flag-of_room}
 use Rattle.dmf_path.proofs.SettledRoom.{rooms_with-empty}
 use Rattle.dmf_path.proofs.push.Links.opposite_room.Goals as goal
 
--- Where the flag is 0, there is no room.
+-- If the flag is 0, there is no room.
 no-room : (room flag : ℕ) → flag ≡ open_flag room → flag ≡ 0 → room ≡ 0
 no-room room flag told is =
     ⊎_elim

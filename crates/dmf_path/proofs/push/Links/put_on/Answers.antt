@@ -6,7 +6,7 @@ use Rattle.dmf_path.specs.Held.{room_left}
 use Rattle.dmf_path.specs.Residual.{residual_of, roomed}
 use Rattle.dmf_path.proofs.push.Links.put_on.Goals as goal
 
--- A push of nothing leaves the rooms.
+-- A push of 0 leaves the rooms.
 taken-nothing : (p : ℕ) (rooms : List ℕ) → set rooms p (get_or rooms p 0 - 0) ≡ rooms
 taken-nothing p rooms = ap (set rooms p) (let same : get_or rooms p 0 - 0 ≡ get_or rooms p 0 = omega arith in same) ∙ set-get_or rooms p 0
 

@@ -4,7 +4,7 @@ use Rattle.dmf_path.specs.Residual.{Residual, residual_of, roomed, put_at}
 use Rattle.dmf_path.proofs.LinkPlaces.{partner-other}
 use Rattle.dmf_path.proofs.push.Links.set_pair.Goals as goal
 
--- What was put first at one place does not matter.
+-- The last write at a place counts.
 set-again : (xs : List ℕ) (p q a b c : ℕ) → p ≢ q → set (set (set xs p a) q b) p c ≡ set (set xs p c) q b
 set-again xs p q a b c apart = ap (λ l. set l p c) (set_comm xs p q a b apart) ∙ set-set (set xs q b) p a c ∙ sym (set_comm xs p q c b apart)
 

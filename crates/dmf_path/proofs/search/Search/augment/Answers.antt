@@ -1,4 +1,4 @@
--- A path is found, or none is left; what is sent along it, and the split.
+-- The search finds a path, or none is left; the amount that is sent along it, and the split.
 use Rattle.std.proofs.Common.{◌≡◌, false, length, ap, sym, refl, ◌∙◌, subst, arith}
 use Rattle.std.proofs.lemmas.List.{length-map}
 use Rattle.std.proofs.lemmas.Option.{IfSome_then}
@@ -70,7 +70,7 @@ within : (c : After-bottleneck-amount) → AreWithin (residual_of c.find.new.lin
 within c = λ i inside. slot-within (residual_of c.find.new.links).links c.find.new.levels.near.labels.items _ _ (way_of c.find.new.trail).slots i
     (can c).descends inside
 
--- The numbers of the links are those of the table as it is after the walk.
+-- The numbers of the links are those of the table after the walk.
 numbered : (c : After-bottleneck-amount) → MayBeNumbered (residual_of c.find.new.links).links c.self.inside.places.value c.self.inside.numbers
 numbered c =
     let of = c.self.inside in
@@ -98,7 +98,7 @@ split-requires-clause-places c =
     λ i inside. slot-within (residual_of c.find.new.links).links c.find.new.levels.near.labels.items _ _ (way_of c.find.new.trail).slots i
     (can (goal.at.split-requires-clause-places c).After-bottleneck-amount).descends inside
 
--- The path is split, and what was sent along it is held.
+-- The path is split, and the push along it is held.
 split : (c : After-split) → IsOn (residual_of c.find.new.links) c.self.inside.places.value (labelling_of c.find.new.levels)
     (way_of c.find.new.trail) c.bottleneck-amount.result (residual_of c.split.new.links) (way_of c.split.new.self)
 split c =

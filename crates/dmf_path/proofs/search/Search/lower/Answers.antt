@@ -33,7 +33,7 @@ unwrap-place-requires c =
 place : (c : After-unwrap-place) → c.unwrap-place.result ≡ get_or c.self.inside.places.value c.args.k 0
 place c = (rw (c.unwrap-place.ensures, c.deref.ensures) at c.place_of.ensures).is
 
--- and is one.
+-- and is a place.
 has : (c : After-unwrap-place) → HasPlace (residual_of c.self.inside.links).links c.self.inside.places.value
     (sought (residual_of c.self.inside.links) (way_of c.self.inside.trail)).residual.rooms c.args.k c.args.amount
 has c =
@@ -49,7 +49,7 @@ release-requires-clause-place c =
 pub release-requires-clause-searching : goal.release-requires-clause-searching
 release-requires-clause-searching c = c.self.invariant.1.searching
 
--- So it is once it is released.
+-- So it is after the link is released.
 still : (c : After-release) → HasPlace (residual_of c.release.new.links).links c.self.inside.places.value
     (sought (residual_of c.release.new.links) (way_of c.release.new.trail)).residual.rooms c.args.k c.args.amount
 still c =
@@ -67,7 +67,7 @@ lower-requires-clause-room c =
     let told = (sought (residual_of c.release.new.links) (way_of c.release.new.trail)).residual.rooms in
     omega (arith, (still at).enough, c.release.ensures.room, ap (λ p. get_or told p 0) (place (goal.at.After-release at).After-unwrap-place))
 
--- what the search keeps then, and what callers see of it
+-- what the search keeps then, and how callers see it
 lowered : (c : After-lower) → IsLowered (residual_of c.release.new.links) c.self.inside.places.value (labelling_of c.self.inside.levels)
     (way_of c.release.new.trail) c.args.k c.args.amount (residual_of c.lower.new.self)
 lowered c =

@@ -1,4 +1,4 @@
--- Callers see the pairs of which the search was made.
+-- Callers see the pairs from which the search was made.
 use Rattle.std.proofs.Common.{◌∙◌}
 use Rattle.std.proofs.lemmas.Result.{IfOk-weaker}
 use Rattle.dmf_path.proofs.search.Search.new.Goals as goal

@@ -17,7 +17,7 @@ use Rattle.dmf_path.proofs.search.Search.set_rooms.Goals as goal
 pub begin_anew-requires : goal.begin_anew-requires
 begin_anew-requires c = record { searching = c.self.invariant.1.searching; ready = c.self.invariant.0.0 }
 
--- The search has not begun, and callers see of it what they saw before.
+-- The search has not begun, and callers see it as before.
 record IsAnew (x : Inside) (before : Searched) : Type 0 where
   ready : AreReady x.levels
   numbered : MayBeNumbered (residual_of x.links).links x.places.value x.numbers

@@ -1,4 +1,4 @@
--- All links leave, and the rooms are told as before.
+-- All links leave, and the settled rooms stay.
 use Rattle.std.proofs.Common.{ap, sym, subst}
 use Rattle.dmf_path.specs.Held.{way_of}
 use Rattle.dmf_path.specs.Residual.{Residual, residual_of}

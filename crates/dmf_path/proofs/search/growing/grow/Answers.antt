@@ -1,4 +1,4 @@
--- The links and the places are grown by the links of the pair.
+-- The links and the places, with those of the new pair.
 use Rattle.std.proofs.Common.{◌-◌, length, ap, sym, ◌∙◌, subst, arith}
 use Rattle.dmf_path.specs.LinkTable.{links_of}
 use Rattle.dmf_path.specs.Grown.{IsGrown, IsPlaced}

@@ -1,4 +1,4 @@
--- The links are those that were there, and the two new ones.
+-- The links are the old ones, and the two new ones.
 use Rattle.std.proofs.Common.{refl, subst, sym, ap, arith, length}
 use Rattle.dmf_path.specs.declared.table.LinkTable.{LinkTable}
 use Rattle.dmf_path.specs.LinkTable.{links_of}

@@ -4,7 +4,7 @@ use Rattle.dmf_path.specs.Held.{least_left}
 use Rattle.dmf_path.specs.declared.trail.Slot.{Slot}
 use Rattle.dmf_path.proofs.trail.Trail.bottleneck.Goals as goal
 
--- a limit may be lowered before or after
+-- taking the least with a limit may come before or after
 least_left-min : (sent limit x : ℕ) (slots : List Slot) → least_left sent (min limit x) slots ≡ min x (least_left sent limit slots)
 least_left-min sent limit x [] = omega arith
 least_left-min sent limit x (s ∷ slots) = let later = least_left-min sent limit x slots in omega (arith, later)

@@ -1,4 +1,4 @@
--- What is held for the walk is put on, then that for the rest.
+-- The held pushes of the walk are applied, then those of the rest.
 use Rattle.std.proofs.Common.{◌≡◌, length, drop, ap, sym, ◌∙◌, subst, arith}
 use Rattle.std.proofs.lemmas.List.{take_rest}
 use Rattle.dmf_path.specs.Held.{CanPut, way_of, emptied}

@@ -12,14 +12,14 @@ use Rattle.dmf_runs.specs.declared.reply.SolveReply.{SolveReply}
 use Rattle.dmf_runs.specs.Run.{LineRuns, reply_text, refused_text}
 use Rattle.dmf_runs.proofs.session.SessionRun.answer.Goals as goal
 
--- A line that means this runs where what it means does.
+-- A line with this meaning runs if the meaning does.
 means : (wanted : SolveReply) (number : ℕ) (t u : Timeline) (meaning meant : Result (Option Command) Refusal) (text : List ℕ) (refused : Bool)
     → meaning ≡ meant → LineRuns wanted.brief (Answers wanted.cut) number t meant text refused u
     → LineRuns wanted.brief (Answers wanted.cut) number t meaning text refused u
 means wanted number t u meaning meant text refused is runs =
     subst (λ m. LineRuns wanted.brief (Answers wanted.cut) number t m text refused u) (sym is) runs
 
--- A command that the session accepts is shown by the text of its reply.
+-- The reply to an accepted command has its text.
 accepted : (wanted : SolveReply) (number : ℕ) (t u : Timeline) (meaning : Result (Option Command) Refusal) (command : Command) (reply : Reply)
     (state : NetworkState) → meaning ≡ Ok (Some command) → Answers wanted.cut t command (Ok reply) u → IsPresent u state
     → LineRuns wanted.brief (Answers wanted.cut) number t meaning (reply_text wanted.brief command reply state) false u

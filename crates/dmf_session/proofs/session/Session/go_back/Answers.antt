@@ -4,7 +4,7 @@ use Rattle.std.specs.Prelude.{◌↔◌, OnOk, IsOk}
 use Rattle.dmf_history.specs.Timeline.{Timeline, IsPresent, back}
 use Rattle.dmf_session.proofs.session.Session.go_back.Goals as goal
 
--- the step is not refused where a state is before this one
+-- the step is not refused if there is a state before this one
 one-back : {E : Type 0} (u v : Timeline) (result : Result (Unit {0}) E) → (IsOk result ↔ (0 < u.place)) → OnOk result (v ≡ back u 1) → 0 < u.place
     → v ≡ back u 1
 one-back u v (Ok done) is_ok gives some = gives

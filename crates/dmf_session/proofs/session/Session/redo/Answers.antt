@@ -5,7 +5,7 @@ use Rattle.dmf_history.specs.declared.history.RedoFault.TheVariants as redo
 use Rattle.dmf_history.specs.Timeline.{Timeline, future_of, back, forward, AddsArcs}
 use Rattle.dmf_session.proofs.session.Session.redo.Goals as goal
 
--- a step forward that is refused where some state is past the present one leads to added arcs
+-- a step forward that is refused, although some state is past the present one, leads to added arcs
 adds-there : (t u : Timeline) (taken steps : ℕ) (fault : RedoFault) (result : Result (Unit {0}) RedoFault) → result ≡ Err fault → u ≡ forward t taken
     → taken < steps → steps ≤ future_of t → ((result ≡ Err redo.NothingToRedo) ↔ (future_of u ≡ 0)) → (result ≡ Err redo.NoMemory → AddsArcs u u.place)
     → AddsArcs t (t.place + taken)
@@ -14,7 +14,7 @@ adds-there t u taken steps redo.NoMemory result told is more within last memory 
     let adds = subst (λ w. AddsArcs w w.place) is (memory told) in
     record { before = adds.before; after = adds.after; before_is = adds.before_is; after_is = adds.after_is; more = adds.more }
 
--- so many steps forward and back again
+-- so many steps forward, and back again
 back-forward : (t : Timeline) (steps : ℕ) → back (forward t steps) steps ≡ t
 back-forward t steps =
     let place : t.place + steps - steps ≡ t.place = omega arith in

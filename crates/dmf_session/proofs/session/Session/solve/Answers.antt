@@ -35,13 +35,13 @@ returns-clause-optimal g c =
     (timeline c.append.new.self) c.present.result.now c.in_ok-edit.edit c.present.ensures.state plans.plan.fits plans.plan.becomes plans.greatest
     c.in_ok-append.ensures.ok
 
--- Where memory is refused, nothing was told,
+-- If memory is refused, nothing was reported,
 pub returns-in_err-network-clause-told : goal.returns-in_err-network-clause-told
 returns-in_err-network-clause-told g c =
     let timeline = g.H.History.timeline in
     TellsStep-nothing (timeline c.args.self.now) (timeline c.take_network.new.self) c.from_residual.result _ c.from_residual.ensures.0
 
--- or what the plan told.
+-- or what the plan reported.
 pub returns-in_err-edit-clause-told : goal.returns-in_err-edit-clause-told
 returns-in_err-edit-clause-told g c =
     let timeline = g.H.History.timeline in

@@ -15,7 +15,7 @@ use Rattle.dmf_state.proofs.Balance.{IsState-from_source}
 use Rattle.dmf_state.proofs.state.State.judge.Goals as goal
 use Rattle.dmf_state.proofs.state.State.judge.Goals.{After-first_unbalanced, After-at-at_source}
 
--- what is said of a refusal
+-- what a call says when memory is refused
 abbrev Told : FlowFault → Network → List ℕ → Type 0
 Told fault n flows = IsErrOf {T = NodeFlow} (Err fault) NoMemory ⊎ (Some fault ≡ flow_fault n flows)
 
@@ -28,7 +28,7 @@ returns-in-Some-clause-refused c =
 within : (c : After-first_unbalanced) → AreWithinCapacities (the_view c.self.inside).network.arcs c.args.flows.now
 within c = subst (λ arcs. AreWithinCapacities arcs c.args.flows.now) c.deref.ensures.value c.in_default.ensures
 
--- what flows out of each node, and into it
+-- the outflow and inflow of each node
 sums : (c : After-first_unbalanced)
     → AreBothSums (the_view c.self.inside).network c.args.flows.now c.in_ok-sums.sums.leaving.items c.in_ok-sums.sums.entering.items
 sums c = AreBothSums-of_parts _ _ _ _ _ _ refl c.deref-2.ensures.value c.in_ok-sums.ensures.leaving c.in_ok-sums.ensures.entering
@@ -38,7 +38,7 @@ flow c =
     let before = (goal.at.After-at-at_source c).After-first_unbalanced in
     record { within = within before; conserved = conserved-from_sums _ _ _ _ (sums before) c.in_default-first_unbalanced.ensures }
 
--- what flows out of the source, and into it
+-- the outflow and inflow of the source
 source : (c : After-at-at_source)
     → IsNodeFlow (the_view c.self.inside).network.arcs c.args.flows.now (the_view c.self.inside).network.source c.at-at_source.result
 source c =

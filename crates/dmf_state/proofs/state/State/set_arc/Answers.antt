@@ -12,11 +12,11 @@ use Rattle.dmf_state.proofs.state.State.set_arc.Goals.{After-arc-old}
 has : (c : After-arc-old) → has_arc (the_view c.self.inside).network c.args.j ≡ true
 has c = subst (λ u. has_arc u.network c.args.j ≡ true) (sym c.self.view_is) c.requires.is_there
 
--- this is what it was,
+-- this is the arc before,
 was : (c : After-arc-old) → c.arc-old.result ≡ arc_number (the_view c.self.inside).network c.args.j
 was c = c.arc-old.ensures.value ∙ ap (λ u. arc_number u.network c.args.j) (sym c.self.view_is)
 
--- and these are the totals with the new one in its place.
+-- and these are the totals with the new arc in its place.
 keeps : (c : After-arc-old)
     → KeepsTotals (with_arc_at (the_view c.self.inside) c.args.j c.args.arc) (c.self.inside.capacities - c.arc-old.result.cap + c.args.arc.cap)
     c.self.inside.at_source (c.self.inside.open_arcs - bool_byte (not c.arc-old.result.closed) + bool_byte (not c.args.arc.closed))

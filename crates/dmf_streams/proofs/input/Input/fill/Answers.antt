@@ -3,7 +3,7 @@ use Rattle.std.proofs.KnownBytes.{Consumes-nil, Consumes-kept}
 use Rattle.dmf_streams.proofs.TakingLemmas.{nothing-pending, Takes-read}
 use Rattle.dmf_streams.proofs.input.Input.fill.Goals as goal
 
--- nothing was pending, and nothing was read
+-- no byte was pending, and none was read
 pub returns-in_default : goal.returns-in_default
 returns-in_default g c =
     let a = c.self.inside in

@@ -4,7 +4,7 @@ use Rattle.dmf_streams.specs.KeptLine.{IsKept}
 use Rattle.dmf_streams.specs.Input.{input_over, Takes}
 use Rattle.dmf_streams.proofs.input.Input.next_line.Given as goal
 
--- the bytes taken so far are no line feed, and the line has what is kept of them
+-- no byte taken so far is a line feed, and the buffer keeps its part of them
 abbrev pub invariant-loop-byte : goal.invariant-loop-byte
 invariant-loop-byte g l =
     let reader = g.C.Source.left in

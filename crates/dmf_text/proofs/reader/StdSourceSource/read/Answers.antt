@@ -3,7 +3,7 @@ use Rattle.std.specs.Io.KnownBytes.{ReadConsumes}
 use Rattle.std.specs.Result.{IsErr}
 use Rattle.dmf_text.proofs.reader.StdSourceSource.read.Goals as goal
 
--- an error says as much of the bytes, whatever its reason
+-- every error says the same about the bytes, whatever its reason
 without-reason : {E F : Type 0} (before after : Option (List ℕ)) (buffer : List ℕ) (answer : Result ℕ E) (given : Result ℕ F)
     → MatchResult answer (λ value. given ≡ Ok value) (λ _. IsErr given) → ReadConsumes before after answer buffer → ReadConsumes before after given buffer
 without-reason before after buffer (Ok n) given is consumed = rw is consumed

@@ -26,7 +26,7 @@ use Rattle.dmf_text.proofs.reading.Body.take_arc_line.Goals as goal
 abbrev judgement : Bool → Bool → Bool → Result (Unit {0}) ProblemFaultKind
 judgement from to fits = expect from NodeOutOfRange >> (expect to NodeOutOfRange >> expect fits SumTooLarge)
 
--- the network takes such an arc, or tells the same fault
+-- the network takes such an arc, or fails with the same fault
 same-told : (from to fits : Bool) (outcome : Result (Unit {0}) NetFault)
     → MatchOption (if from && to then (if fits then None else Some arc.SumTooLarge) else Some arc.NoSuchNode) (IsOkUnless outcome net.NoMemory)
     (λ fault. outcome ≡ Err (net_fault fault))

@@ -15,7 +15,7 @@ other-word : (f g h : List ℕ) → bytes_eq f (codes "max") ≡ false → count
 unfolding counts_named
 other-word f g h no-max = rw no-max refl
 
--- the word and the numbers of one that is read
+-- the word and the numbers of a line that is read
 record Reads (f g h : List ℕ) (nodes arcs : ℕ) : Type 0 where
   word : bytes_eq f (codes "max") ≡ true
   first : Ok nodes ≡ number_of g

@@ -12,7 +12,7 @@ use Rattle.dmf_text.proofs.SolutionLemmas.{ended-refused, ended-differs, ended-g
 use Rattle.dmf_text.proofs.solution_reading.SolutionReading.finish.Goals as goal
 use Rattle.dmf_text.proofs.solution_reading.SolutionReading.finish.Goals.{After-put_on}
 
--- the flows are those that are put on the arcs of the network
+-- the flows are those that the arcs of the network get
 put-is : (c : After-put_on) (flows : List ℕ)
     → ((facts : List (Pair × ℕ)) → KeepsPairs c.arcs.result.now (pair_flow facts) c.args.self.pairs → flows ≡ put_on facts c.arcs.result.now)
     → (facts : Facts) → Keeps c.args.state.now.network.arcs facts c.args.self → flows ≡ put_on facts.flows c.args.state.now.network.arcs
