@@ -24,7 +24,7 @@ one-before u v = elim (cases_lt u v) [
   | inr from ↦ cond-false _ _ _ (le-ltb u v from) ∙ omega arith
 ]
 
-before-sum : (g : Gap) (v : ℕ) → new_before g v ≡ min 1 (v - g.low_node) + min 1 (v - g.high_node)
+pub before-sum : (g : Gap) (v : ℕ) → new_before g v ≡ min 1 (v - g.low_node) + min 1 (v - g.high_node)
 before-sum g v = λ i. one-before g.low_node v i + one-before g.high_node v i
 
 -- How a link and its opposite refer to each other.
@@ -73,7 +73,7 @@ some-link g count q order most within = elim (cases_lt q g.low) [
 ]
 
 -- The links of an earlier node end before those of a later one.
-first-before : (l : Links) (v w : ℕ) → AreLinks l → v < w → w ≤ l.nodes + 1 → get_or l.first (v + 1) 0 ≤ get_or l.first w 0
+pub first-before : (l : Links) (v w : ℕ) → AreLinks l → v < w → w ≤ l.nodes + 1 → get_or l.first (v + 1) 0 ≤ get_or l.first w 0
 first-before l v w links before within =
     let n : ℕ = w - (v + 1) in
     let same : v + 1 + n ≡ w = omega arith in

@@ -65,3 +65,6 @@ pub mod GrownLinks
 pub mod GrownPlaces
 pub mod GrownRooms
 pub mod Slots
+pub mod ShrunkLinks
+pub mod ShrunkPlaces
+pub mod ShrunkRooms

@@ -16,3 +16,4 @@ pub mod BothEnds
 pub mod Frontier
 pub mod Touching
 pub mod Grown
+pub mod Shrunk

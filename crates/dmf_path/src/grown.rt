@@ -144,7 +144,7 @@ impl Gap {
     }
 
     /// How many of the new links lie at nodes before this one.
-    fn new_before(&self, node: usize) -> u32
+    pub fn new_before(&self, node: usize) -> u32
         ensures { result ≡ new_before self.now node }
     {
         u32::from((self.low_node as usize) < node) + u32::from((self.high_node as usize) < node)

@@ -24,6 +24,7 @@ mod relabel;
 mod release;
 mod room;
 mod search;
+mod shrunk;
 mod table;
 mod touched;
 mod trail;

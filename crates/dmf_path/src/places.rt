@@ -1,8 +1,10 @@
 //! The places of the links along of pairs, and indices of pairs.
-ghost use Rattle.std.specs.Prelude.{◌≡◌, ◌<◌, true, length, slice_index, MatchOption};
+ghost use Rattle.std.specs.Prelude.{◌≡◌, ◌<◌, ◌≤◌, true, length, slice_index, MatchOption};
 ghost use Rattle.dmf_path.specs.Links.{no_place, IsPlaceOf};
 ghost use Rattle.dmf_path.specs.Search.{indices_of};
+ghost use Rattle.dmf_path.specs.Shrunk.{IsUnplaced};
 
+use crate::grown::Gap;
 use crate::links::NO_PLACE;
 use std::marker::Model;
 
@@ -66,6 +68,16 @@ impl Places {
         ensures { result ≡ places.items }
     {
         Places { places }
+    }
+
+    /// Leaves out the place of the pair at index `k`, whose two links leave this gap. Takes no memory.
+    pub fn leave_out(&mut self, k: usize, gap: &Gap)
+        requires index { k < length self.old }
+        requires order { gap.now.low ≤ gap.now.high }
+        ensures { IsUnplaced gap.now k self.old self.new }
+    {
+        let _ = self.places.remove(k);
+        gap.unshift_places(&mut self.places);
     }
 
     /// Whether these are the same places.

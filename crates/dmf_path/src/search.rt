@@ -22,6 +22,7 @@ use std::rc::Rc;
 
 mod growing;
 mod making;
+mod shrinking;
 
 /// What was pushed along a path.
 #[derive(Clone, Copy)]

@@ -8,7 +8,7 @@ use dmf_solver::ResidualNetwork;
 use dmf_state::{Edit, State};
 use std::alloc::Global;
 
-/// The kept network, one state back. `None` if the history does not tell the edit, or if the edit added an arc.
+/// The kept network, one state back. `None` if the history does not tell the edit, or if the network cannot follow it.
 pub(crate) fn kept_before<H: History>(
     kept: Option<ResidualNetwork>,
     history: &H,
@@ -18,7 +18,7 @@ pub(crate) fn kept_before<H: History>(
 {
     let network = kept?;
     let edit = history.last_edit()?;
-    network.follow_back(history.present(), edit)
+    network.follow_back_any(history.present(), edit)
 }
 
 /// The kept network, one state forward. `None` if the history does not give the edit, or if the network cannot follow it.

@@ -16,7 +16,7 @@ use Rattle.dmf_state.specs.NetworkState.{NetworkState, IsState, with_last_arc, w
 use Rattle.dmf_solver.specs.ResidualNetwork.{residual_pair, residual_pairs, closed_return, network_pairs, residual_search}
 use Rattle.dmf_solver.proofs.NetworkPairs.{length-residual_pairs, length-network_pairs, pair-is}
 
-pairs-added : (arcs : List Arc) (flows : List ℕ) (arc : Arc) → length flows ≡ length arcs
+pub pairs-added : (arcs : List Arc) (flows : List ℕ) (arc : Arc) → length flows ≡ length arcs
     → residual_pairs (arcs ++ arc ∷ []) (flows ++ 0 ∷ []) ≡ residual_pairs arcs flows ++ residual_pair arc 0 ∷ []
 pairs-added [] [] arc same = refl
 pairs-added [] (flow ∷ flows) arc same = absurd (omega (arith, same))

@@ -1,5 +1,5 @@
 ghost use Rattle.std.specs.Prelude.{◌≡◌, ◌≤◌, ◌↔◌, None, pos, IfOk, IfSome, IsOkUnless, MatchResult};
-ghost use Rattle.dmf_state.specs.Direction.{edited_along, FitsAlong};
+ghost use Rattle.dmf_state.specs.Direction.{edited_along, FitsAlong, HasIdleLast};
 ghost use Rattle.dmf_state.specs.Edit.{applied, differences, AddsArc, Fits};
 ghost use Rattle.dmf_state.specs.Flow.{flow_value};
 ghost use Rattle.dmf_state.specs.NetworkState.{IsState, NetworkState, with_idle_arc};
@@ -8,7 +8,7 @@ ghost use Rattle.dmf_solver.specs.Planning.{PlansSolve, IsSideWanted};
 ghost use Rattle.dmf_solver.specs.CarryingNetwork.{IsCarryingOf, MayCarry};
 ghost use Rattle.dmf_solver.specs.KeptNetwork.{IsNetworkOf, Keeps};
 ghost use Rattle.dmf_solver.specs.ResidualNetwork.{IsResidualOf};
-ghost use Rattle.dmf_state.specs.Revert.{reverted, Stands};
+ghost use Rattle.dmf_state.specs.Revert.{reverted, without_last, Stands};
 ghost use Rattle.dmf_solver.specs.SmallestSide.{TellsSide};
 ghost use Rattle.dmf_solver.specs.Told.{TellsSolve, MayTellSolve};
 
@@ -160,6 +160,20 @@ impl ResidualNetwork {
         }
     }
 
+    /// The residual network of the state before an edit that stands in this one, also where it added an arc: then the links of the arc
+    /// are taken out from among the others, which takes time for each link. Takes no memory. There is no network where the arc begins and
+    /// ends at one node.
+    pub fn follow_back_any(self, state: &State, edit: &Edit) -> Option<ResidualNetwork>
+        requires network { IsNetworkOf state.now self }
+        requires stands { Stands edit.now state.now }
+        ensures { IfSome result (IsNetworkOf (reverted edit.now state.now)) }
+    {
+        match *edit {
+            Edit::Add { .. } => self.without_last_arc(state),
+            _ => self.follow_back(state, edit),
+        }
+    }
+
     /// The residual network of the state with one more arc, on which nothing flows. The search for drains has to be made anew for it.
     fn with_arc(self, alloc: Global, state: &State, arc: Arc) -> Option<ResidualNetwork>
         requires network { IsNetworkOf state.now self }
@@ -176,6 +190,27 @@ impl ResidualNetwork {
             }),
             Err(_) => None,
         }
+    }
+
+    /// The residual network of the state without its last arc, on which nothing flows. The search for drains has to be made anew for it.
+    fn without_last_arc(self, state: &State) -> Option<ResidualNetwork>
+        requires network { IsNetworkOf state.now self }
+        requires last { HasIdleLast state.now }
+        ensures { IfSome result (IsNetworkOf (without_last state.now)) }
+    {
+        let ResidualNetwork {
+            search,
+            carrying,
+            ..
+        } = self;
+        // It has the same links, and they are taken out in place.
+        drop(carrying);
+        let search = search.remove()?;
+        Some(ResidualNetwork {
+            search,
+            carrying: None,
+            looks: 0,
+        })
     }
 
     /// The residual network of the state to which the direction leads, or none where the edit adds an arc.

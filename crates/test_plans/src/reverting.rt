@@ -86,6 +86,14 @@ fn solve_by(
     Ok(kept_or_new(alloc, state, back)?)
 }
 
+/// Whether the edit adds an arc that comes back to its tail. Then the links are made anew.
+fn is_loop(edit: &Edit) -> bool {
+    match *edit {
+        Edit::Add { tail, head, .. } => tail == head,
+        _ => false,
+    }
+}
+
 /// Carries out the changes that are not refused, and takes them back in the opposite order: the state before each comes back.
 fn try_out(
     rt: &impl Abort,
@@ -105,12 +113,13 @@ fn try_out(
         return try_out(rt, alloc, state, kept, rest);
     };
     let before = state.copy(alloc)?;
-    let followed = kept.follow(state, &edit);
+    let followed = kept.follow_any(alloc, state, &edit);
     apply(state, &edit)?;
     let followed = kept_or_new(alloc, state, followed)?;
     let followed = solve_by(rt, alloc, state, followed)?;
     let followed = try_out(rt, alloc, state, followed, rest)?;
-    let back = followed.follow_back(state, &edit);
+    let back = followed.follow_back_any(state, &edit);
+    assert!(rt; back.is_some() | is_loop(&edit));
     state.revert(&edit);
     assert!(rt; *state == before);
     let back = kept_or_new(alloc, state, back)?;
