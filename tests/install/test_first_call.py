@@ -148,7 +148,8 @@ def test_one_processor(clone: Clone) -> None:
 def test_interrupt(clone: Clone) -> None:
     """An interrupt, once the second crate has begun, ends all that was begun, and leaves nothing half made. The next call goes on."""
     builder = clone.begin("solve")
-    while "begin left" not in clone.logged():
+    until = time.monotonic() + SECONDS
+    while "begin left" not in clone.logged() and time.monotonic() < until:
         time.sleep(0.02)
     os.killpg(builder.pid, signal.SIGINT)
     out, err = builder.communicate(timeout=SECONDS)
