@@ -45,6 +45,7 @@ impl Search {
             places: grown.places,
             numbers: None,
             levels,
+            asides: Vec::new(alloc),
             trail,
             is_fresh: true,
         })

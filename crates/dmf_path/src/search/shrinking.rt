@@ -32,9 +32,11 @@ impl Search {
             mut links,
             places,
             mut levels,
+            mut asides,
             mut trail,
             ..
         } = self;
+        asides.clear();
         begin_anew(&mut links, &mut levels, &mut trail);
         let shrunk = shrink(links, places)?;
         let levels = levels.over(&shrunk.links.table);
@@ -43,6 +45,7 @@ impl Search {
             places: shrunk.places,
             numbers: None,
             levels,
+            asides,
             trail,
             is_fresh: true,
         })

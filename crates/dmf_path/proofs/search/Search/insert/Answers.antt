@@ -8,6 +8,7 @@ use Rattle.dmf_path.specs.Residual.{Residual, residual_of}
 use Rattle.dmf_path.specs.Search.{Searched, with_pairs}
 use Rattle.dmf_path.specs.Searching.{Sought, searched, labelling_of, IsSearch}
 use Rattle.dmf_path.specs.Walk.{AreCurrent}
+use Rattle.dmf_path.proofs.Asides.{aside-none}
 use Rattle.dmf_path.proofs.SearchTurns.{search-over, told-fresh}
 use Rattle.dmf_path.proofs.search.Search.insert.Goals as goal
 
@@ -28,7 +29,7 @@ invariant_of-result c =
     let at_first : AreCurrent next.links current = rw c.deref-2.ensures at o.current in
     let found = search-over r v w next places current e.searching e.fresh c.in_ok-grown.ensures.nodes links.table.value.are c.in_ok-grown.ensures.places
     links.rooms_are at_first in (
-      (rw (o.near, o.far) e.ready, tt, λ all. let no = o.all ∙ e.all in absurd (cc)),
+      (rw (o.near, o.far) e.ready, tt, λ all. let no = o.all ∙ e.all in absurd (cc), aside-none _ _ c.new.ensures.items),
       subst (λ (labels : List ℕ). IsSearch next places (record { labels = labels; current = current }) w true)
           (ap (λ near. near.labels.items) (sym o.near)) found,
     )
