@@ -1,9 +1,10 @@
 //! Least paths over pairs of opposite links between nodes: the search of the maximum-flow solver `dmf`.
 #![tactic(auto)]
 
+pub use aside::Ends;
 pub use pair::{Pair, Pairs};
 pub use places::Indices;
-pub use search::{AugmentingPath, Ends, Search};
+pub use search::{AugmentingPath, Search};
 pub use touched::Touched;
 
 mod aside;

@@ -25,8 +25,6 @@ mod growing;
 mod making;
 mod shrinking;
 
-pub use making::Ends;
-
 /// What was pushed along a path.
 #[derive(Clone, Copy)]
 pub struct AugmentingPath {

@@ -5,6 +5,7 @@ ghost use Rattle.dmf_path.specs.Pair.{ArePairs, emptied};
 ghost use Rattle.dmf_path.specs.Links.{AreBuilt, ArePlaces, AreRooms, pairs_at};
 ghost use Rattle.dmf_path.specs.LinkTable.{links_of};
 
+use crate::aside::Ends;
 use crate::levels::Levels;
 use crate::links::{build, opposite_flags, put_pair};
 use crate::pair::Pairs;
@@ -23,15 +24,6 @@ struct Linked {
     table: Rc<LinkTable>,
     places: Rc<Places>,
     rooms: Vec<u64>,
-}
-
-/// The nodes between which paths are looked for.
-#[derive(Clone, Copy, Debug)]
-pub struct Ends {
-    /// The node at which a path starts.
-    pub start: u32,
-    /// The node to which it leads.
-    pub goal: u32,
 }
 
 impl Search {
