@@ -66,14 +66,23 @@ class Solve:
 
 
 @dataclass(frozen=True)
-class Close:
+class ArcChange:
+    """A change of one arc, by its number."""
+
     arc: int
 
 
 @dataclass(frozen=True)
-class Cap:
-    arc: int
+class Cap(ArcChange):
     capacity: int
+
+
+class Close(ArcChange):
+    """The arc is closed."""
+
+
+class Reopen(ArcChange):
+    """The arc is added again, as it was before it was closed."""
 
 
 @dataclass(frozen=True)
@@ -82,11 +91,6 @@ class Add:
     head: int
     capacity: int
     name: str | None = None
-
-
-@dataclass(frozen=True)
-class Reopen:
-    arc: int
 
 
 @dataclass(frozen=True)

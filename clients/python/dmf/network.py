@@ -6,7 +6,7 @@ import contextlib
 import tempfile
 import weakref
 from array import array
-from collections.abc import Hashable, Iterable, Iterator
+from collections.abc import Callable, Hashable, Iterable, Iterator
 from typing import Any, Generic, NoReturn, Tuple, Union
 
 from . import arrays
@@ -245,20 +245,20 @@ class Network(Generic[Node]):
     def undo(self, count: int = 1) -> int:
         """Undoes the last changes, all of them or none; a `solve` is one of them. Flows, too, are restored. Returns the value. Raises
         `NothingToUndo`."""
-        with self._child.alone():
-            steps = whole(count, "undo")
-            self._kept.judge_undo(steps)
-            value = self._stepped(f"undo {steps}")
-            self._kept.undo(steps)
-            return value
+        return self._step("undo", count, self._kept.judge_undo, self._kept.undo)
 
     def redo(self, count: int = 1) -> int:
         """Redoes the changes that were undone last, all of them or none. Returns the value. Raises `NothingToRedo`."""
+        return self._step("redo", count, self._kept.judge_redo, self._kept.redo)
+
+    def _step(self, word: str, count: int, judge: Callable[[int], None], follow: Callable[[int], None]) -> int:
+        """Steps so many changes back or on, and returns the value. `judge` raises if there are not so many, and `follow` makes the same
+        steps in what is kept."""
         with self._child.alone():
-            steps = whole(count, "redo")
-            self._kept.judge_redo(steps)
-            value = self._stepped(f"redo {steps}")
-            self._kept.redo(steps)
+            steps = whole(count, word)
+            judge(steps)
+            value = self._stepped(f"{word} {steps}")
+            follow(steps)
             return value
 
     @contextlib.contextmanager

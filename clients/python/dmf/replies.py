@@ -41,33 +41,32 @@ def kind_of(found: list[bytes]) -> Kind:
 
 
 @dataclass(frozen=True)
-class Other:
+class OneLine:
+    """What one line says."""
+
+    line: bytes
+
+
+class Other(OneLine):
     """A line that is no reply and no command."""
 
-    line: bytes
 
-
-@dataclass(frozen=True)
-class Asked:
+class Asked(OneLine):
     """A command line of a transcript."""
 
-    line: bytes
-
 
 @dataclass(frozen=True)
-class Changed:
+class Changed(OneLine):
     """A change that was made, and the value after it. The command is None if it is not known."""
 
-    line: bytes
     command: Command | None
     value: int
 
 
 @dataclass(frozen=True)
-class Refused:
+class Refused(OneLine):
     """A command that was refused, and why."""
 
-    line: bytes
     reason: str
 
 

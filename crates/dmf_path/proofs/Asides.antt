@@ -29,6 +29,7 @@ usable-falls levels r rooms goal links none usable =
           };
     }
 
+-- Labels that are set aside stay usable where no link gets room that had none.
 pub aside-falls : (asides : List Aside) (r : Residual) (rooms : List ℕ) → AreLinks r.links → (r.takes_back ≡ false → NoneOpens r.rooms rooms)
     → AreAside asides r → AreAside asides (roomed r rooms)
 aside-falls asides r rooms links none are k a within =

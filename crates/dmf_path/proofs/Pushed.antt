@@ -47,6 +47,7 @@ OpensUpwards l labels old new =
 abbrev pub NoneOpens : List ℕ → List ℕ → Type 0
 NoneOpens old new = (p : ℕ) → 0 < get_or new p 0 → 0 < get_or old p 0
 
+-- Such rooms open links upwards alone.
 pub opens-none : (l : Links) (labels old new : List ℕ) → NoneOpens old new → OpensUpwards l labels old new
 opens-none l labels old new none v p node lies room = inl (none p room)
 

@@ -65,6 +65,7 @@ searching-fresh_with r v w labelling start goal new is start_is goal_is apart la
       begins.fresh,
     )
 
+-- With fresh labels and no slots a search begins anew, at the current links that it has.
 pub searching-anew : (r : Residual) (v : Labelling) (w : Way) (labelling : Labelling) (start goal : ℕ) (new : Way) → IsSearching r v w
     → IsNode r.links.nodes start → IsNode r.links.nodes goal → start ≢ goal
     → labelling.labels ≡ fresh_labels r.links.nodes start goal → labelling.current ≡ v.current

@@ -14,8 +14,9 @@ labels c = rw (c.deref.ensures, c.deref-2.ensures.value) at c.label_nodes-looked
 
 pub returns-clause-whole : goal.returns-clause-whole
 returns-clause-whole c =
-    whole-labelled (links_of c.args.links.now.table.value) c.args.links.now.rooms.items c.args.links.now.flags.items c.label_nodes-looked.new.frontier.labels.items 0
-    c.args.goal c.args.links.now.table.value.are c.args.links.now.flags_are (labels (goal.at.returns-clause-whole c).After-label_nodes-looked)
+    whole-labelled (links_of c.args.links.now.table.value) c.args.links.now.rooms.items c.args.links.now.flags.items
+    c.label_nodes-looked.new.frontier.labels.items 0 c.args.goal c.args.links.now.table.value.are c.args.links.now.flags_are
+    (labels (goal.at.returns-clause-whole c).After-label_nodes-looked)
     (labels (goal.at.returns-clause-whole c).After-label_nodes-looked).zero
 
 pub returns-clause-labelled : goal.returns-clause-labelled

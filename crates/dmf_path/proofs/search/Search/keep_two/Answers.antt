@@ -29,5 +29,6 @@ invariant_of-self-2 c =
       current_is = new.current;
       kept = λ all. let no = new.all in absurd (cc);
     } in
-    let asides : AreAside c.push.new.self.items r = subst (λ sets. AreAside sets r) (sym c.in_ok-push.ensures.items) (aside-one of.asides.items aside r none c.if-self.false usable) in
+    let asides : AreAside c.push.new.self.items r =
+    subst (λ sets. AreAside sets r) (sym c.in_ok-push.ensures.items) (aside-one of.asides.items aside r none c.if-self.false usable) in
     ((c.self.invariant.0.0, c.self.invariant.0.1, c.self.invariant.0.2, asides), c.self.invariant.1)

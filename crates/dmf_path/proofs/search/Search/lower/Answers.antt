@@ -94,7 +94,8 @@ invariant_of-self c =
           (lasting-opens (labelling_of of.levels) of.levels.stepped_back (told (residual_of c.release.new.links) (way_of c.release.new.trail))
           low.rooms
           (opens-none (residual_of c.release.new.links).links (labelling_of of.levels).labels
-          (told (residual_of c.release.new.links) (way_of c.release.new.trail)).rooms low.rooms low.none) (lasting (labelling_of of.levels) of.levels.stepped_back (sought (residual_of c.release.new.links) (way_of c.release.new.trail))
+          (told (residual_of c.release.new.links) (way_of c.release.new.trail)).rooms low.rooms low.none)
+          (lasting (labelling_of of.levels) of.levels.stepped_back (sought (residual_of c.release.new.links) (way_of c.release.new.trail))
           (sought (residual_of of.links) (way_of of.trail)) c.release.ensures.same was.1)),
     ) in
     let aside : AreAside of.asides.items (told (residual_of c.lower.new.self) (way_of c.release.new.trail)) = subst (AreAside of.asides.items) (sym low.told_is)

@@ -78,7 +78,9 @@ index c =
     omega (arith, c.requires.number, ap (λ (s : Searched). length s.pairs) (anew c).same, length-map x.places.value (pair_at r.links r.rooms))
 
 pub invariant_of-self : goal.invariant_of-self
-invariant_of-self c = let a = anew (goal.at.invariant_of-self c).Joined-not-self in rw a.marked ((a.ready, a.numbered, rw a.marked at a.kept, aside-none _ _ a.none), a.is)
+invariant_of-self c =
+    let a = anew (goal.at.invariant_of-self c).Joined-not-self in
+    rw a.marked ((a.ready, a.numbered, rw a.marked at a.kept, aside-none _ _ a.none), a.is)
 
 pub returns-in_default : goal.returns-in_default
 returns-in_default c =
