@@ -17,3 +17,4 @@ pub mod Frontier
 pub mod Touching
 pub mod Grown
 pub mod Shrunk
+pub mod Apart

@@ -1,0 +1,83 @@
+//! A search comes apart, and is put together over other links.
+ghost use Rattle.std.specs.Prelude.{◌≡◌};
+ghost use Rattle.dmf_path.specs.Apart.{seen, HasBegun};
+ghost use Rattle.dmf_path.specs.Links.{ArePlaces};
+ghost use Rattle.dmf_path.specs.LinkTable.{links_of};
+ghost use Rattle.dmf_path.specs.Touching.{MayBeNumbered};
+
+use crate::levels::Levels;
+use crate::phase::begin_anew;
+use crate::places::Places;
+use crate::push::Links;
+use crate::search::Search;
+use crate::trail::Trail;
+use std::rc::Rc;
+
+/// What a search keeps beside its links.
+#[derive(Drop)]
+pub struct Rest {
+    /// Its labels and current links.
+    pub levels: Levels,
+    /// Its trail.
+    pub trail: Trail,
+}
+
+/// The parts of a search that has begun anew.
+#[derive(Drop)]
+pub struct Parts {
+    /// Its links with their rooms.
+    pub links: Links,
+    /// The places of the pairs.
+    pub places: Rc<Places>,
+    /// The numbers of the links, once they are numbered.
+    pub numbers: Option<Rc<Vec<u32>>>,
+    /// All else.
+    pub rest: Rest,
+}
+
+impl Search {
+    /// The search begins anew, and comes apart. Takes no memory.
+    pub fn begun(self) -> Parts
+        ensures begun { HasBegun result.links.table.value.nodes result.rest }
+        ensures places { ArePlaces (links_of result.links.table.value) result.places.value }
+        ensures numbers { MayBeNumbered (links_of result.links.table.value) result.places.value result.numbers }
+        ensures same { seen result.links result.places.value result.rest ≡ self }
+    {
+        let Search {
+            mut links,
+            places,
+            numbers,
+            mut levels,
+            mut trail,
+            ..
+        } = self;
+        begin_anew(&mut links, &mut levels, &mut trail);
+        Parts {
+            links,
+            places,
+            numbers,
+            rest: Rest { levels, trail },
+        }
+    }
+}
+
+impl Rest {
+    /// The search over these links. Takes no memory.
+    pub fn over(self, links: Links, places: Rc<Places>, numbers: Option<Rc<Vec<u32>>>) -> Search
+        requires begun { HasBegun links.table.value.nodes self }
+        requires places { ArePlaces (links_of links.table.value) places.value }
+        requires numbers { MayBeNumbered (links_of links.table.value) places.value numbers }
+        ensures { result ≡ seen links places.value self }
+    {
+        let Rest { levels, trail } = self;
+        let levels = levels.over(&links.table);
+        Search {
+            links,
+            places,
+            numbers,
+            levels,
+            trail,
+            is_fresh: true,
+        }
+    }
+}
