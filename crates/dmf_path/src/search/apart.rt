@@ -1,5 +1,5 @@
 //! A search comes apart, and is put together over other links.
-ghost use Rattle.std.specs.Prelude.{◌≡◌};
+ghost use Rattle.std.specs.Prelude.{◌≡◌, true};
 ghost use Rattle.dmf_path.specs.Apart.{seen, HasBegun};
 ghost use Rattle.dmf_path.specs.Links.{ArePlaces};
 ghost use Rattle.dmf_path.specs.LinkTable.{links_of};
@@ -79,5 +79,15 @@ impl Rest {
             trail,
             is_fresh: true,
         }
+    }
+}
+
+impl Parts {
+    /// Whether these are the links of other parts, at the places of as many pairs. Takes no memory, and time for a look at each link.
+    pub fn has_links_of(&self, other: &Parts) -> bool
+        ensures links { result ≡ true → links_of self.now.links.table.value ≡ links_of other.now.links.table.value }
+        ensures places { result ≡ true → self.now.places.value ≡ other.now.places.value }
+    {
+        self.links.table.is(&other.links.table) && self.places.are(&other.places)
     }
 }
