@@ -1,12 +1,11 @@
 -- Links with those of a new pair, the places and the numbers that go with them, and the pairs of each search over them.
-use Rattle.std.proofs.Common.{ℕ, ◌≡◌, ◌+◌, ◌-◌, ◌^◌, ◌<◌, ◌≤◌, List, length, get_or, Option, Some, None, Vec, Global, ap, sym, ◌∙◌, subst, arith}
-use Rattle.std.specs.Prelude.{insert, IfSome}
+use Rattle.std.proofs.Common.{ℕ, ◌≡◌, ◌+◌, ◌-◌, ◌^◌, ◌<◌, ◌≤◌, List, length, get_or, Option, Some, Vec, Global, sym, subst, arith}
+use Rattle.std.specs.Prelude.{insert}
 use Rattle.std.specs.declared.rc.Rc.{Rc}
 use Rattle.dmf_path.specs.declared.grown.NewPair.{NewPair}
-use Rattle.dmf_path.specs.declared.grown.Gap.{Gap}
 use Rattle.dmf_path.specs.declared.pair.Pair.{Pair}
 use Rattle.dmf_path.specs.Links.{Links, AreLinks, ArePlaces, IsOf, pairs_at}
-use Rattle.dmf_path.specs.Grown.{shifted, counted, AreGrown, HasEndsOf, IsOfPair, IsSpread, IsGap, IsPlaced, IsGrown, rising, falling}
+use Rattle.dmf_path.specs.Grown.{shifted, counted, AreGrown, IsOfPair, IsSpread, IsGap, IsPlaced, IsGrown}
 use Rattle.dmf_path.specs.Touching.{AreNumbers, AreSpreadNumbers, MayBeNumbered, none, some}
 use Rattle.dmf_path.proofs.GrownLinks.{old, low, high, some-link, in-order, gap-within}
 use Rattle.dmf_path.proofs.GrownPlaces.{ArePlaces-grown, of-shifted, of-low, of-high}

@@ -114,7 +114,7 @@ module _ (l : Links) (places : List ℕ) (k : ℕ) (g : Gap) (links : AreLinks l
       let other = shifted-other l (get_or places k 0) g links filled n grown p in
       elim (some-index k (length after) i (omega (arith, index, left.long)) (omega (arith, of.0, left.long))) [
         | was j below same ↦ record { j = j; was_index = same; of = of-back p j below (subst (IsOf l places q) same of) }
-        | new same ↦ absurd (elim (of-pair q (subst (IsOf l places q) same of)) [ | inl at ↦ other.0 at | inr at ↦ other.1 at ])
+        | new same ↦ absurd (elim (of-pair q (subst (IsOf l places q) same of)) [ inl at ↦ other.0 at | inr at ↦ other.1 at ])
       ]
 
   each-of : (p : ℕ) → p < length n.heads → (j : ℕ) × IsOf n after p j

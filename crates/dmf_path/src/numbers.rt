@@ -74,9 +74,7 @@ pub fn grow_numbers(
 }
 
 /// The same numbers, which searches then share. Takes no memory.
-pub fn share_known(
-    numbers: &Option<Rc<Vec<u32>>>,
-) -> Result<Option<Rc<Vec<u32>>>, AllocError>
+pub fn share_known(numbers: &Option<Rc<Vec<u32>>>) -> Result<Option<Rc<Vec<u32>>>, AllocError>
     ensures { IfOk result (λ shared. (l : Links) (places : List ℕ) → MayBeNumbered l places numbers.now → MayBeNumbered l places shared) }
 {
     match numbers {
@@ -87,11 +85,7 @@ pub fn share_known(
 
 /// The numbers where there are some and none has them too, without those of the pair at index `k`, whose links leave this gap. Takes no
 /// memory.
-pub fn numbers_left(
-    numbers: Option<Rc<Vec<u32>>>,
-    gap: &Gap,
-    k: u32,
-) -> Option<Rc<Vec<u32>>>
+pub fn numbers_left(numbers: Option<Rc<Vec<u32>>>, gap: &Gap, k: u32) -> Option<Rc<Vec<u32>>>
     requires order { gap.now.low ≤ gap.now.high }
     requires within { IfSome numbers (λ known. gap.now.high + 1 < length known.value.items) }
     ensures { AreNumbersLeft gap.now k numbers result }
@@ -102,12 +96,7 @@ pub fn numbers_left(
 }
 
 /// The numbers, once there is a pair more at index `k`, whose links go in at this gap. Takes memory for a number a link.
-fn grown_numbers(
-    alloc: Global,
-    numbers: &[u32],
-    gap: &Gap,
-    k: u32,
-) -> Result<Vec<u32>, AllocError>
+fn grown_numbers(alloc: Global, numbers: &[u32], gap: &Gap, k: u32) -> Result<Vec<u32>, AllocError>
     requires order { gap.now.low ≤ gap.now.high }
     requires within { gap.now.high ≤ length numbers.now }
     requires small { (p : ℕ) → p < length numbers.now → slice_index numbers.now p < 2 ^ 31 }

@@ -38,7 +38,13 @@ impl Search {
         ensures { IfOk result (λ search. search ≡ with_pairs self (insert self.pairs (length self.pairs - 1) (Some pair))) }
     {
         let parts = self.begun();
-        let grown = grow(alloc, &parts.links.table, &parts.places, &parts.numbers, pair)?;
+        let grown = grow(
+            alloc,
+            &parts.links.table,
+            &parts.places,
+            &parts.numbers,
+            pair,
+        )?;
         parts.with_pair(&grown, pair)
     }
 
@@ -62,7 +68,13 @@ impl Search {
     {
         let parts = self.begun();
         let others = other.begun();
-        let grown = grow(alloc, &parts.links.table, &parts.places, &parts.numbers, pair)?;
+        let grown = grow(
+            alloc,
+            &parts.links.table,
+            &parts.places,
+            &parts.numbers,
+            pair,
+        )?;
         let other = others.with_pair_of(&parts, &grown, other_pair)?;
         let search = parts.with_pair(&grown, pair)?;
         Ok((search, other))

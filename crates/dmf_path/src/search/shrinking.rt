@@ -208,11 +208,7 @@ impl Loose {
 
 /// The links of the pairs at these places, without those of the pair before the last one. `None` where there is no pair at that index,
 /// or where another search has the same links. Takes no memory.
-fn shrink(
-    table: Rc<LinkTable>,
-    places: Rc<Places>,
-    numbers: Option<Rc<Vec<u32>>>,
-) -> Option<Shrunk>
+fn shrink(table: Rc<LinkTable>, places: Rc<Places>, numbers: Option<Rc<Vec<u32>>>) -> Option<Shrunk>
     requires places { ArePlaces (links_of table.value) places.value }
     requires numbers { MayBeNumbered (links_of table.value) places.value numbers }
     requires two { 2 ≤ length places.value }

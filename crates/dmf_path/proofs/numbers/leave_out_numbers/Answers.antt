@@ -1,4 +1,4 @@
-use Rattle.std.proofs.Common.{◌≡◌, ◌∙◌, arith}
+use Rattle.std.proofs.Common.{◌∙◌, arith}
 use Rattle.std.proofs.lemmas.List.{with_items_is}
 use Rattle.dmf_path.proofs.ShrunkRooms.{renumbered}
 use Rattle.dmf_path.proofs.numbers.leave_out_numbers.Goals as goal

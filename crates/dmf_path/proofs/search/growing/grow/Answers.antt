@@ -1,5 +1,5 @@
 -- The links, the places and the numbers, with those of the new pair.
-use Rattle.std.proofs.Common.{◌≡◌, ◌-◌, length, ap, sym, ◌∙◌, subst, arith}
+use Rattle.std.proofs.Common.{◌-◌, length, sym, ◌∙◌, subst}
 use Rattle.dmf_path.specs.Grown.{AreGrown, IsGrown, IsPlaced}
 use Rattle.dmf_path.specs.LinkTable.{links_of}
 use Rattle.dmf_path.proofs.GrownLinks.{in-order}

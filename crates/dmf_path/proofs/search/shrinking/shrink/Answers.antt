@@ -1,5 +1,5 @@
 -- The links, the places and the numbers are those that are left without the links of the pair.
-use Rattle.std.proofs.Common.{ℕ, ◌≡◌, ◌-◌, ◌<◌, length, get_or, ap, sym, ◌∙◌, subst, arith}
+use Rattle.std.proofs.Common.{ℕ, ◌-◌, length, subst, arith}
 use Rattle.dmf_path.specs.LinkTable.{links_of}
 use Rattle.dmf_path.specs.Links.{IsPlaceOf}
 use Rattle.dmf_path.specs.Shrunk.{AreShrunk, IsFilled}

@@ -1,5 +1,5 @@
 -- The rooms and the flags of both searches are those that are left, and so are their pairs.
-use Rattle.std.proofs.Common.{ℕ, ◌≡◌, ◌-◌, ◌<◌, ◌≤◌, length, ap, sym, ◌∙◌, subst, arith}
+use Rattle.std.proofs.Common.{◌≡◌, ◌-◌, ◌≤◌, length, ap, sym, ◌∙◌, subst, arith}
 use Rattle.std.specs.Prelude.{IfSome}
 use Rattle.dmf_path.specs.Links.{ArePlaces}
 use Rattle.dmf_path.specs.LinkTable.{links_of}

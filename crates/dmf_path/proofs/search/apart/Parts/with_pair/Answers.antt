@@ -1,5 +1,5 @@
 -- The links are those with the ones of the pair.
-use Rattle.std.proofs.Common.{◌≡◌, ◌-◌, length, ap, sym, ◌∙◌, subst, arith}
+use Rattle.std.proofs.Common.{◌≡◌, ap, sym, ◌∙◌, subst}
 use Rattle.dmf_path.specs.Grown.{AreGrown}
 use Rattle.dmf_path.specs.LinkTable.{links_of}
 use Rattle.dmf_path.specs.Touching.{MayBeNumbered}

@@ -1,5 +1,5 @@
 -- The rooms and the flags are those that are left, and so are the pairs.
-use Rattle.std.proofs.Common.{ℕ, ◌≡◌, ◌-◌, ◌<◌, length, subst, arith}
+use Rattle.std.proofs.Common.{◌≡◌, ◌-◌, length, subst, arith}
 use Rattle.std.specs.Prelude.{IfSome}
 use Rattle.dmf_path.specs.LinkTable.{links_of}
 use Rattle.dmf_path.specs.Search.{Searched}

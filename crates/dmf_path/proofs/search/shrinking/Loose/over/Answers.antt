@@ -1,6 +1,3 @@
-use Rattle.std.proofs.Common.{sym, subst}
-use Rattle.dmf_path.specs.Links.{AreRooms, AreFlags}
-use Rattle.dmf_path.specs.LinkTable.{links_of}
 use Rattle.dmf_path.proofs.search.shrinking.Loose.over.Goals as goal
 
 pub invariant_of-links : goal.invariant_of-links
