@@ -1,7 +1,7 @@
 -- The carrying search of a state with one more arc, on which nothing flows, or without it.
-use Rattle.std.proofs.Common.{ℕ, ◌≡◌, ◌+◌, ◌-◌, ◌==◌, Bool, true, false, List, [], ◌∷◌, ◌++◌, length, Option, Some, None, refl, ap, sym, ◌∙◌, subst, arith}
+use Rattle.std.proofs.Common.{ℕ, ◌≡◌, ◌-◌, ◌==◌, Bool, true, false, List, [], ◌∷◌, ◌++◌, length, Option, Some, None, refl, ap, sym, ◌∙◌, subst, arith}
 use Rattle.std.specs.Option.{option_map}
-use Rattle.std.specs.Prelude.{insert, remove}
+use Rattle.std.specs.Prelude.{insert, remove, IfSome}
 use Rattle.std.proofs.lemmas.List.{length_push}
 use Rattle.std.proofs.lemmas.Slice.Zip.{AllZip-long}
 use Rattle.dmf_path.specs.declared.pair.Pair.{Pair}
@@ -68,8 +68,7 @@ pub carries-added : (s : NetworkState) (arc : Arc) → IsState (with_idle_arc s 
     → MayCarry s old → new ≡ with_pairs old (insert old.pairs (length old.pairs - 1) (Some (idle p))) → MayCarry (with_idle_arc s arc) new
 carries-added s arc state p has old new may made =
     let one_each : length s.flows ≡ length s.network.arcs =
-    omega (arith, AllZip-long _ (s.network.arcs ++ arc ∷ []) (s.flows ++ 0 ∷ []) state.flow.within, length_push s.network.arcs arc, length_push s.flows 0) in
-    (
+    omega (arith, AllZip-long _ (s.network.arcs ++ arc ∷ []) (s.flows ++ 0 ∷ []) state.flow.within, length_push s.network.arcs arc, length_push s.flows 0) in (
       may.0,
       record {
         nodes_are = ap (λ (x : Searched). x.nodes) made ∙ may.1.nodes_are;
@@ -96,3 +95,15 @@ carries-before t has old new may made =
         takes_none_back = ap (λ (x : Searched). x.takes_back) made ∙ with.1.takes_none_back;
       },
     )
+
+-- The same, where there is a search.
+pub some-added : (s : NetworkState) (arc : Arc) → IsState (with_idle_arc s arc) → (p : Pair) → residual_pair arc 0 ≡ Some p → (old : Searched)
+    → MayCarry s old → (found : Option Searched)
+    → IfSome found (λ new. new ≡ with_pairs old (insert old.pairs (length old.pairs - 1) (Some (idle p)))) → IfSome found (MayCarry (with_idle_arc s arc))
+some-added s arc state p has old may None made = tt
+some-added s arc state p has old may (Some new) made = carries-added s arc state p has old new may made
+
+pub some-before : (t : NetworkState) → HasIdleLast t → (old : Searched) → MayCarry t old → (found : Option Searched)
+    → IfSome found (λ new. new ≡ with_pairs old (remove old.pairs (length old.pairs - 2))) → IfSome found (MayCarry (without_last t))
+some-before t has old may None made = tt
+some-before t has old may (Some new) made = carries-before t has old new may made
