@@ -4,6 +4,7 @@
 #include "dimacs.hpp"
 
 #include <climits>
+#include <ctime>
 
 #define MAXFLOW_INCLUDE_TEMPLATE_IMPLEMENTATION
 #include <maxflow.h>
@@ -64,6 +65,7 @@ int main(int count, char **words) {
             steps.push_back(step);
         clock.lap("look");
         dimacs::Output values;
+        const std::clock_t began = std::clock();
         for (int at = 1; at < count; ++at) {
             const auto j = static_cast<size_t>(std::atoi(words[at]) - 1);
             const Graph::arc_id step = steps.empty() ? nullptr : steps[places[j]];
@@ -71,7 +73,8 @@ int main(int count, char **words) {
             values.line("s", straight + graph.maxflow(true));
             put(graph, network, j, step, true);
         }
-        clock.lap("cases");
+        // In processor seconds.
+        clock.tell("cases " + std::to_string(static_cast<double>(std::clock() - began) / CLOCKS_PER_SEC));
         return 0;
     }
     dimacs::Output().line("s", value);

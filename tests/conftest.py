@@ -156,16 +156,22 @@ class Types(NamedTuple):
     cache: Path
 
 
+def said_by_mypy(cache: Path) -> str:
+    mypy = [sys.executable, "-m", "mypy", "--no-error-summary", f"--cache-dir={cache}"]
+    calls = (subprocess.run([*mypy, *words], cwd=ROOT, capture_output=True, text=True) for words in judged_at_once())
+    return "".join(ran.stdout + ran.stderr for ran in calls)
+
+
 @pytest.fixture(scope="session")
 def types(tmp_path_factory: pytest.TempPathFactory) -> Types:
     cache = ROOT / ".mypy_cache"
     with shared(tmp_path_factory, "types") as said:
         if not said.exists():
-            mypy = [sys.executable, "-m", "mypy", "--no-error-summary", f"--cache-dir={cache}"]
-            text = ""
-            for words in judged_at_once():
-                ran = subprocess.run([*mypy, *words], cwd=ROOT, capture_output=True, text=True)
-                text += ran.stdout + ran.stderr
+            text = said_by_mypy(cache)
+            if text:
+                # What was kept may be of packages that are not there any more, of which mypy then tells faults.
+                shutil.rmtree(cache, ignore_errors=True)
+                text = said_by_mypy(cache)
             said.write_text(text)
         return Types(said.read_text(), cache)
 

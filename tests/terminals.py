@@ -2,6 +2,7 @@
 
 from __future__ import annotations
 
+import fcntl
 import os
 import pty
 import subprocess
@@ -12,7 +13,7 @@ from collections.abc import Callable, Sequence
 from types import TracebackType
 from typing import IO
 
-from built import BUILT
+from built import BUILT, heed_interrupts
 
 PAUSE = 0.8
 SECONDS = 60
@@ -61,6 +62,11 @@ class Terminal:
 
     def type(self, text: bytes) -> None:
         os.write(self.own, text)
+
+    def control(self) -> None:
+        """Has a child in a session of its own be interrupted by Ctrl-C here, before it begins."""
+        heed_interrupts()
+        fcntl.ioctl(self.end, termios.TIOCSCTTY, 0)
 
     def close(self) -> str:
         """What it got in all."""

@@ -164,7 +164,9 @@ def test_ends() -> None:
             page.sendall(f"GET {it.root}life HTTP/1.1\r\nHost: {it.host}\r\n\r\n".encode())
             seen = b""
             while b": here" not in seen:
-                seen += page.recv(1 << 12)
+                piece = page.recv(1 << 12)
+                assert piece, f"the page ends: {seen!r}"
+                seen += piece
         pages[0].close()
         assert it.state()["value"] == "165"
         pages[1].close()

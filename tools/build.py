@@ -36,17 +36,17 @@ PROGRAM = "dmf"
 FAILED, INTERRUPTED = 70, 130
 # The most memory that proving one crate takes, in GiB.
 MEMORY = 3.5
-# The seconds that each crate took in a first call on four idle processors of 2.5 GHz, side by side. They decide which crate begins
-# first, and predict how long the rest takes.
+# The processor seconds that each crate takes by one job, on processors of 2.5 GHz: they say which is begun first, and how long the rest
+# takes. Measured by `/usr/bin/time rt lib --jobs 1`, from nothing, with nothing beside it.
 SECONDS = {
-    "dmf_node": 8, "dmf_arguments": 133, "dmf_state": 144, "dmf_history": 68, "dmf_path": 358, "dmf_text": 218, "dmf_solver": 144,
-    "dmf_session": 134, "dmf_explain": 190, "dmf_terminal": 60, "dmf_progress": 41, "dmf_runs": 136, "dmf": 158,
+    "dmf_node": 3, "dmf_arguments": 70, "dmf_state": 75, "dmf_history": 40, "dmf_path": 200, "dmf_text": 100, "dmf_streams": 22, "dmf_solver": 95,
+    "dmf_solving": 28, "dmf_session": 78, "dmf_explain": 85, "dmf_terminal": 42, "dmf_progress": 22, "dmf_runs": 62, "dmf_host": 40, "dmf": 92,
 }  # fmt: skip
 UNKNOWN_SECONDS = 60
-# From this slack on, in seconds, a crate is built by one job, at the lowest priority. With less slack the priority is higher.
-SLACK_FOR_ONE_JOB = 300
-SECONDS_A_NICENESS = 40
-MOST_NICENESS = 15
+# A crate that delays nothing though it takes this many times its seconds more is built by one job, which takes a third less processor time
+# than several, and is as nice as can be. One with less room is less nice. More niceness would leave it too little beside a long chain.
+ROOM_FOR_ONE_JOB = 2
+MOST_NICENESS = 5
 
 
 class Failure(Exception):
@@ -179,11 +179,11 @@ def lay_out(crate: Crate, place: Path, parts: list[str]) -> None:
 
 
 def command_of(crate: Crate, slack: float) -> list[str]:
-    """The command that builds a crate with this slack: it may be so many seconds late without delaying the program. The more slack it
-    has, the more it leaves the processors to others. One job takes a fifth less processor time than several."""
-    if slack < SLACK_FOR_ONE_JOB:
-        return ["nice", "-n", str(int(slack / SECONDS_A_NICENESS)), *crate.command]
-    return ["nice", "-n", str(MOST_NICENESS), *crate.command, "--jobs", "1"]
+    """What builds a crate that can be this many seconds late without delaying the program. The more slack it has for its size, the more
+    it leaves the processors to others."""
+    room = slack / (ROOM_FOR_ONE_JOB * crate.seconds)
+    niceness = ["nice", "-n", str(int(MOST_NICENESS * min(room, 1)))]
+    return [*niceness, *crate.command, *(["--jobs", "1"] if room >= 1 else [])]
 
 
 def begin(crate: Crate, crates: dict[str, Crate], place: Path, slack: float) -> Work:
@@ -334,7 +334,7 @@ def build(told: Told) -> None:
         if before is not None:
             told.line("a source has changed since the program was built. What depends on it is proved and built again.")
         else:
-            told.line("the program is proved and built. This happens once, and takes some 17 minutes on 4 idle processors.")
+            told.line("the program is proved and built. This happens once, and takes some 8 minutes on 4 idle processors.")
         git = ROOT / ".git"
         place = git if git.is_dir() and os.access(git, os.W_OK) else Path(tempfile.gettempdir())
         if place == git:

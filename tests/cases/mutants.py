@@ -15,18 +15,19 @@ class Mutant(NamedTuple):
     test: str
 
 
-MAIN, PROGRESS, HELP = "crates/dmf/src/main.rt", "crates/dmf_progress/src/progress.rt", "crates/dmf_arguments/src/help.rt"
+MAIN, FILES, RUNS = "crates/dmf/src/main.rt", "crates/dmf_host/src/files.rt", "crates/dmf_host/src/runs.rt"
+PROGRESS, HELP = "crates/dmf_progress/src/progress.rt", "crates/dmf_arguments/src/help.rt"
 TESTS = "tests/program/"
 MUTANTS = [
     Mutant("cuts and brief replies are taken for each other", MAIN, "SolveReply { cut, brief },", "SolveReply { cut: brief, brief: cut },",
            TESTS + "test_random_cases.py::test_drawn[a session]"),
     Mutant("a solve tells no cut", MAIN, "Mode::Solve { cut } => solve(rt, cut, progress),", "Mode::Solve { cut } => solve(rt, cut && progress, progress),",
            TESTS + "test_random_cases.py::test_drawn[a solve]"),
-    Mutant("the problem has the descriptor of standard input", MAIN, "File::open(rt, path).and_then(|file| file.try_clone())", "File::open(rt, path)",
+    Mutant("the problem has the descriptor of standard input", FILES, "File::open(rt, path).and_then(|file| file.try_clone())", "File::open(rt, path)",
            TESTS + "test_streams.py::test_closed"),
-    Mutant("nothing says that a problem is typed", MAIN, "    invite(rt);\n", "    if want_cut {\n        invite(rt);\n    }\n",
+    Mutant("nothing says that a problem is typed", RUNS, "    invite(rt);\n", "    if want_cut {\n        invite(rt);\n    }\n",
            TESTS + "test_terminal.py::test_typed_problem"),
-    Mutant("a fault is not explained", MAIN, "        explain::explain(&rt, fault);\n", "        if let Fault::Usage(_) = fault {\n            explain::explain(&rt, fault);\n        }\n",
+    Mutant("a fault is not explained", MAIN, "        explain(&rt, fault);\n", "        if let Fault::Usage(_) = fault {\n            explain(&rt, fault);\n        }\n",
            TESTS + "test_terminal.py::test_problem"),
     Mutant("progress comes late", PROGRESS, "const PATIENCE: u64 = 500;", "const PATIENCE: u64 = 500_000;",
            TESTS + "test_progress.py::test_slow_solve"),

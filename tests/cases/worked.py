@@ -85,8 +85,8 @@ LIMITS = [
 ]
 
 
-def fronts() -> Iterator[tuple[Case, int | None]]:
-    """Cases with each front of a text: a problem, commands and a solution that end anywhere. Each is given with its status, where
+def prefixes() -> Iterator[tuple[Case, int | None]]:
+    """Cases with each prefix of a text: a problem, commands and a solution that end anywhere. Each is given with its status, where
     that is known: a problem is whole where at most the end of its last line is missing."""
     problem = text(CROSSED)
     commands, solution = SESSIONS[-1].case.input, text(CROSSED_FLOW)

@@ -10,6 +10,7 @@ from oracle.network import is_greatest, smallest_side
 from oracle.problem import problem_text
 from oracle.session import Session, SolveReply
 from oracle.texts import LARGEST, Fault
+from random_cases import fitting
 from random_cases import network as random_network
 
 SESSIONS = 150
@@ -24,7 +25,7 @@ def test_sessions(seed: int) -> None:
 def hold(random: Random) -> None:
     state = random_network(random, 20)
     if state.capacity_sum() > LARGEST:
-        return
+        state = fitting(state)
     model = Session(state, SolveReply(False, True))
     rows = [(f"n{arc.tail}", f"n{arc.head}", arc.cap) for arc in state.arcs]
     nodes = [f"n{node}" for node in range(1, state.nodes + 1)]

@@ -38,6 +38,28 @@ def test_keys_and_missing_capacities() -> None:
         dmf.Network.from_arrays(TAIL, HEAD, [1], source="lake", sink="sea")
 
 
+def test_columns_without_an_order() -> None:
+    """Their values would be put beside each other by chance."""
+    columns: list[Any] = [{"lake", "mill"}, frozenset(["lake", "mill"]), {"lake": 1, "mill": 2}]
+    for column in columns:
+        for place in range(4):
+            taken: list[Any] = [["lake", "mill"], ["mill", "sea"], [1, 2], None]
+            taken[place] = column
+            with pytest.raises(dmf.NotAnArc, match=f"^not an arc: a column is a {type(column).__name__}, and not a list$"):
+                dmf.Network.from_arrays(*taken[:3], key=taken[3], source="lake", sink="sea")
+
+
+def test_infinite_is_a_capacity() -> None:
+    """It is judged where no arc needs it, too."""
+    for infinite in -1, "9", float("inf"), 2**64:
+        wrong: Any = infinite
+        with pytest.raises((dmf.NotANumber, dmf.NumberTooLarge), match="in 'infinite'$"):
+            dmf.Network.from_arrays(TAIL, HEAD, CAPACITY, source="lake", sink="sea", infinite=wrong)
+        if networkx:
+            with pytest.raises((dmf.NotANumber, dmf.NumberTooLarge), match="in 'infinite'$"):
+                dmf.from_networkx(networkx.DiGraph([("a", "b")]), "a", "b", infinite=wrong)
+
+
 def test_a_frame_is_anything_with_columns() -> None:
     frame = {"tail": TAIL, "head": HEAD, "litres": CAPACITY, "name": list("vwxyz")}
     with dmf.Network.from_frame(frame, capacity="litres", key="name", source="lake", sink="sea") as network:

@@ -25,7 +25,7 @@ def test_texts_are_those_of_the_formats() -> None:
 
 
 def refuse(kind: type[dmf.Error], call: Callable[..., object], *arguments: object) -> str:
-    """A call is refused, and changes nothing."""
+    """The text with which a call is refused by this kind of error."""
     with pytest.raises(dmf.Error) as caught:
         call(*arguments)
     assert type(caught.value) is kind
@@ -130,7 +130,7 @@ def test_tracebacks_name_the_package() -> None:
     assert set(kinds) >= {dmf.Error, dmf.Refused, *dmf.Refused.kinds.values()}
 
 
-"""What a program answers that stands in for dmf: the problem was read, and then one answer to each command."""
+# What a program answers that stands in for dmf: the problem was read, and then one answer to each command.
 
 
 def test_each_text() -> None:

@@ -4,14 +4,19 @@ them carry together."""
 from __future__ import annotations
 
 import os
+import threading
 from collections.abc import Iterator
-from concurrent.futures import ProcessPoolExecutor, ThreadPoolExecutor
+from concurrent.futures import Executor, Future, ProcessPoolExecutor, ThreadPoolExecutor
 from operator import length_hint
 from pathlib import Path
+from queue import Queue
 from typing import Any
 
 import pytest
 from client_shared import BUILT, dmf, pipes, script, there
+from dmf.copies import Answer
+
+SECONDS = 20
 
 BESIDE = [("a", "b", 3, "x"), ("a", "b", 4, "y"), ("a", "b", 5, "z")]
 
@@ -90,14 +95,57 @@ sent: list[bool] = []
 
 
 def test_how_often_the_network_is_sent() -> None:
-    """With the cases that came before it was there: those of the two pieces that are begun first. Later ones find it."""
+    """With the cases that came before it was there, which are those of the piece that is begun first. Later ones find it."""
     sent.clear()
     # No other test has this network, which this process would know of it.
     with dmf.Network([("a", "b", 3, "sent"), ("a", "b", 9)], "a", "b") as network, Counting(1) as executor:
         network.solve()
         cases = [[("cap", "sent", turn)] for turn in range(16 * 10)]
         assert [result.value for result in dmf.sweep(network, cases, executor)] == [9 + turn for turn in range(160)]
-        assert (sent.count(False), sent.count(True), any(sent[5:])) == (10, 2, False)
+        assert (sent[:2], sent.count(True)) == ([False, True], 1)
+
+
+class ByHand(Executor):
+    """An executor of so many workers, whose tasks a test answers itself."""
+
+    def __init__(self, workers: int) -> None:
+        self._max_workers = workers
+        self.given: Queue[tuple[bool, Future[Any]]] = Queue()
+
+    def submit(self, call: Any, /, *arguments: Any, **named: Any) -> Any:
+        future: Future[Any] = Future()
+        self.given.put((arguments[1] is not None, future))
+        return future
+
+
+def test_all_workers_begin_at_once() -> None:
+    """None of them has the network, and each is sent it before another one has answered. An error of one comes in its turn."""
+    with beside() as network:
+        executor = ByHand(4)
+        cases = [[("cap", "x", turn)] for turn in range(16 * 4)]
+        told: list[Any] = []
+
+        def take() -> None:
+            try:
+                told.extend(result.value for result in dmf.sweep(network, cases, executor))
+            except ZeroDivisionError as error:
+                told.append(error)
+
+        thread = threading.Thread(target=take, daemon=True)
+        thread.start()
+        for has_network in False, True:
+            given = [executor.given.get(timeout=SECONDS) for _ in range(4)]
+            assert [is_sent for is_sent, _ in given] == [has_network] * 4
+            if not has_network:
+                # The last one is the first to say that it has none.
+                for _, future in reversed(given):
+                    future.set_result(None)
+        futures = [future for _, future in given]
+        futures[2].set_exception(ZeroDivisionError("of a worker"))
+        for place in 1, 0, 3:
+            futures[place].set_result(([Answer(16 * place + turn) for turn in range(16)], 0.1))
+        thread.join(SECONDS)
+        assert (told[:-1], type(told[-1])) == (list(range(32)), ZeroDivisionError)
 
 
 READY: list[tuple[Any, int]] = [
@@ -158,7 +206,12 @@ def test_a_malformed_case_is_refused_by_itself(case: Any, said: str) -> None:
 
 
 def test_jobs() -> None:
-    with beside() as network:
-        for jobs in (-1, 2.5, "3"):
-            with pytest.raises(dmf.NotANumber, match="in 'jobs'$"):
-                dmf.sweep(network, [], jobs=jobs)  # type: ignore[arg-type]
+    with beside() as network, ThreadPoolExecutor(1) as threads:
+        wrong: list[Any] = [0, -1, 2.5, "3", False]
+        for jobs in wrong:
+            for executor in None, threads:
+                with pytest.raises(dmf.JobsOutOfRange) as caught:
+                    dmf.sweep(network, [], executor, jobs=jobs)
+                wanted = f"jobs out of range: {jobs!r} is no whole number from 1 on"
+                assert (str(caught.value), isinstance(caught.value, ValueError)) == (wanted, True)
+        assert [result.value for result in dmf.sweep(network, dmf.each_arc_closed(), jobs=1)] == [9, 8, 7]

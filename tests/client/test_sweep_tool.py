@@ -14,6 +14,7 @@ from pathlib import Path
 import pytest
 from built import heed_interrupts
 from client_shared import ROOT, is_running, there
+from tool_runs import Tools
 
 # The pipes of the other tests, whose greatest value is 5.
 PROBLEM = "c node 1 lake\nc node 4 sea\nc arc 5 the \"canal\"\np max 4 5\nn 1 s\nn 4 t\n"
@@ -83,9 +84,14 @@ def test_cases() -> None:
         assert "line 2 of the cases" in ran.stderr
 
 
-def test_it_goes_on_where_its_table_ends() -> None:
+def goes_on(tools: Tools) -> int:
+    """The status of a sweep into a table."""
+    return tools.run("dmf-sweep", Path.cwd(), ["net.max", "--close-each", "--table", "table.csv"]).status
+
+
+def test_it_goes_on_where_its_table_ends(tools: Tools) -> None:
     table = Path("table.csv")
-    assert run_tool("--close-each", "--table", "table.csv").returncode == 0
+    assert goes_on(tools) == 0
     whole = table.read_text()
     assert kept_rows(whole) == CLOSED
     for length in range(len(whole) + 1):
@@ -93,12 +99,12 @@ def test_it_goes_on_where_its_table_ends() -> None:
             # The value of the first case is wrong, and stays: it is not tried again.
             table.write_text(whole.replace(",2,-3,", ",8,3,", 1)[: length - 1] if length > 120 else whole[:length])
             kept = table.read_text().count(",8,3,")
-            assert run_tool("--close-each", "--table", "table.csv").returncode == 0
+            assert goes_on(tools) == 0
             assert table.read_text().replace(",8,3,", ",2,-3,") == whole, length
             assert table.read_text().count(",8,3,") == kept
     for other in "hello\n", whole.replace("close 2", "close 3"), "hello":
         table.write_text(other)
-        assert (run_tool("--close-each", "--table", "table.csv").returncode, table.read_text()) == (3, other)
+        assert (goes_on(tools), table.read_text()) == (3, other)
 
 
 def kept_rows(table: str) -> list[list[str]]:
@@ -125,19 +131,19 @@ def test_the_table_of_another_problem(change: tuple[str, str]) -> None:
     assert (run_tool("--close-each", "--table", "table.csv").returncode, table.read_text()) == (0, "".join(lines))
 
 
-def test_odd_names_in_a_table() -> None:
+def test_odd_names_in_a_table(tools: Tools) -> None:
     """A sweep goes on after names in which other lines could end: the table is whole again, wherever it broke off."""
     names = 'the "canal"', "ca\rnal", "ca\r\rnal", "ca\x0cnal", "ca\u2028nal", 'ca\r"nal', "ca,nal", "\ufffdnal"
     for name in names:
         Path("net.max").write_text(PROBLEM.replace('the "canal"', name).replace("lake", "la\rke"), newline="")
         Path("table.csv").unlink(missing_ok=True)
-        assert run_tool("--close-each", "--table", "table.csv").returncode == 0
+        assert goes_on(tools) == 0
         whole = Path("table.csv").read_bytes()
         wanted = [[it.replace("lake", "la\rke").replace('the "canal"', name) for it in row] for row in CLOSED]
         assert kept_rows(whole.decode()) == wanted
         for length in len(whole) - 1, len(whole) - 30, len(whole) // 2, whole.index(b"\r") + 1:
             Path("table.csv").write_bytes(whole[:length])
-            assert run_tool("--close-each", "--table", "table.csv").returncode == 0
+            assert goes_on(tools) == 0
             assert Path("table.csv").read_bytes() == whole, (name, length)
         ran = subprocess.run([sys.executable, f"{ROOT}/tools/dmf-sweep", "net.max", "--close-each"], capture_output=True, timeout=60)
         assert list(csv.reader(io.StringIO(ran.stdout.decode(), newline="")))[1:] == wanted

@@ -13,6 +13,7 @@ from client_shared import dmf, is_running, needs, pipes, there
 from oracle.network import smallest_side
 from oracle.session import Session, SolveReply
 from oracle.texts import LARGEST, Fault
+from random_cases import fitting
 from random_cases import network as random_network
 
 SECONDS = 20
@@ -72,21 +73,26 @@ def test_random_sweeps(seed: int) -> None:
     random = Random(f"sweep {seed}")
     state = random_network(random, 12)
     if state.capacity_sum() > LARGEST:
-        return
+        state = fitting(state)
     # The keys are the arcs' numbers.
     rows = [(f"n{arc.tail}", f"n{arc.head}", arc.cap, place) for place, arc in enumerate(state.arcs, 1)]
     nodes = [f"n{node}" for node in range(1, state.nodes + 1)]
     asked = [[command(state, random) for _ in range(random.randint(0, 3))] for _ in range(15)]
     with dmf.Network(rows, f"n{state.source}", f"n{state.sink}", nodes=nodes) as network:
         before = network.solve().value if random.random() < 0.5 else 0
-        results = list(dmf.sweep(network, asked, want_cut=True, jobs=random.choice([1, 3])))
+        # Without cuts cases are sent together, and an executor has many of them at once.
+        want_cut, jobs = random.random() < 0.5, random.choice([1, 3])
+        with ThreadPoolExecutor(jobs) as threads:
+            results = list(dmf.sweep(network, asked, random.choice([None, threads]), want_cut, jobs=jobs))
         for result, commands in zip(results, asked):
             wanted = solved_anew(state, commands)
             if isinstance(wanted, str):
                 assert getattr(result.refusal, "text", None) == wanted
                 continue
-            assert result.refusal is None and result.cut is not None
             value, capacity = wanted
+            assert (result.refusal, result.value, result.cut is not None) == (None, value, want_cut)
+            if result.cut is None:
+                continue
             told = (result.value, result.difference, capacity_after(network, commands, {arc.number for arc in result.cut}))
             assert told == (value, value - before, capacity)
         assert (len(results), network.value) == (15, before)

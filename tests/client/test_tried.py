@@ -3,7 +3,7 @@
 import shutil
 
 import pytest
-from client_shared import dmf, ends, needs, pipes
+from client_shared import PIPES, dmf, ends, needs, pipes
 
 
 def test_it_is_taken_back() -> None:
@@ -44,6 +44,25 @@ def test_the_block_takes_back_itself() -> None:
             with pytest.raises(dmf.NothingToUndo):
                 network.undo(2)
         assert (network.value, network.capacity(("lake", "mill")), network.redo()) == (5, 3, 4)
+
+
+@pytest.mark.parametrize("is_killed", [False, True])
+def test_a_session_that_ends_in_the_block(is_killed: bool) -> None:
+    """What is kept of the network is as it was before the block, so that a sweep is still of that network."""
+    network = pipes()
+    network.solve()
+    with pytest.raises(dmf.SessionEnded):
+        with network.try_out(), network.try_out():
+            network.shut("mill")
+            network.add("lake", "sea", 7)
+            if is_killed:
+                network._child.process.kill()
+            else:
+                network.end()
+                network.solve()
+    assert (network.value, ends(network.arcs)) == (5, [row[:2] for row in PIPES])
+    # Each pipe closed in turn, worked by hand.
+    assert [result.value for result in dmf.sweep(network, dmf.each_arc_closed())] == [2, 3, 4, 3, 2]
 
 
 def test_blocks_in_blocks() -> None:

@@ -136,7 +136,11 @@ def offered_at_terminal(shell: str, file: str, line: str, wanted: set[str]) -> s
     terminal.wait(lambda shown: "ready\r\n" in shown)
     is_completed = len(wanted) == 1 and line.rpartition(" ")[2].strip("-")
     terminal.type(f"{line}\t" if is_completed else f"{line}\t\t")
-    terminal.wait(lambda shown: bool(wanted) and wanted <= words_shown(shown, line), SECONDS if wanted else 0.5)
+    if wanted:
+        terminal.wait(lambda shown: wanted <= words_shown(shown, line))
+    else:
+        # Where nothing is offered, each tab rings the bell; zsh rings it after what it offers, too.
+        terminal.wait(lambda shown: shown.count("\a") == 2, 2)
     terminal.end()
     return words_shown(terminal.shown, line)
 

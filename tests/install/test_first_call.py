@@ -15,7 +15,7 @@ import pytest
 from conftest import ROOT
 
 SECONDS = 60
-FIRST_CALL = "dmf: the program is proved and built. This happens once, and takes some 17 minutes on 4 idle processors.\n"
+FIRST_CALL = "dmf: the program is proved and built. This happens once, and takes some 8 minutes on 4 idle processors.\n"
 CHANGED = "dmf: a source has changed since the program was built. What depends on it is proved and built again.\n"
 BUILT = "".join(f"dmf: {place} of 4: {crate} is built\n" for place, crate in enumerate(["low", "left", "right", "dmf"], 1))
 CRATES = "# Crates.\nlow:\nleft: low\nright: low\ndmf: left right\nabove: dmf\n"
@@ -41,6 +41,18 @@ if [ "$crate" = dmf ]; then
 fi
 echo "end $crate" >>"$LOG"
 """
+# A chain of three crates below the program, and one that nothing waits for but the program.
+CHAIN = "low:\nleft: low\nright: left\nspare:\ndmf: right spare\n"
+# A rt that writes down with which flags it builds a crate, and how nice it is.
+NOTING = r"""#!/bin/sh
+crate=${PWD##*/}
+echo "$crate $(nice) $*" >>"$LOG"
+mkdir -p out/rlib
+if [ "$crate" = dmf ]; then
+    printf '#!/bin/sh\necho ran "$@"\n' >out/dmf
+    chmod +x out/dmf
+fi
+"""
 # One that fails at one crate, while another is at work.
 FAILING = r"""#!/bin/sh
 case $PWD in
@@ -56,7 +68,7 @@ class Clone:
 
     def __init__(self, root: Path, stand_in: str) -> None:
         self.root, self.log = root, root / "log"
-        for crate in "low", "left", "right", "dmf", "above":
+        for crate in "low", "left", "right", "spare", "dmf", "above":
             (root / "crates" / crate / "src").mkdir(parents=True)
         for folder in "bin", "tools", "examples":
             (root / folder).mkdir()
@@ -111,6 +123,20 @@ def test_calls(clone: Clone) -> None:
     assert clone.call("solve", "--cut") == (0, "ran solve --cut\n", CHANGED + BUILT)
 
 
+@pytest.mark.seconds(2)
+def test_off_the_chain(clone_of: Callable[[str], Clone]) -> None:
+    """A crate that can take three times as long without delaying the program leaves the processors to the longest chain: it is built by
+    one job, and nicer."""
+    clone = clone_of(NOTING)
+    (clone.root / "crates.txt").write_text(CHAIN)
+    assert clone.call("solve")[:2] == (0, "ran solve\n")
+    own = os.nice(0)
+    noted = {crate: (int(niceness) - own, flags) for crate, niceness, flags in (line.split(" ", 2) for line in clone.logged())}
+    program = noted.pop("dmf")
+    assert program[0] == 0 and program[1].startswith("run --jobs ")
+    assert noted == {"low": (0, "lib"), "left": (0, "lib"), "right": (0, "lib"), "spare": (min(5, 19 - own), "lib --jobs 1")}
+
+
 @pytest.mark.seconds(4)
 def test_one_processor(clone: Clone) -> None:
     """One crate after the other on one processor."""
@@ -122,7 +148,8 @@ def test_one_processor(clone: Clone) -> None:
 def test_interrupt(clone: Clone) -> None:
     """An interrupt, once the second crate has begun, ends all that was begun, and leaves nothing half made. The next call goes on."""
     builder = clone.begin("solve")
-    while "begin left" not in clone.logged():
+    until = time.monotonic() + SECONDS
+    while "begin left" not in clone.logged() and time.monotonic() < until:
         time.sleep(0.02)
     os.killpg(builder.pid, signal.SIGINT)
     out, err = builder.communicate(timeout=SECONDS)

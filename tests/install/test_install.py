@@ -10,7 +10,7 @@ from pathlib import Path
 import pytest
 
 
-@pytest.mark.seconds(30)
+@pytest.mark.seconds(10)
 def test_install(record_property: Callable[[str, object], None]) -> None:
     script = Path(__file__).parent / "install.sh"
     ran = subprocess.run(["bash", script], stdin=subprocess.DEVNULL, capture_output=True, text=True, errors="replace")

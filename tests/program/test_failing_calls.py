@@ -81,12 +81,12 @@ class Texts:
             return self.written
         if command != (b"session",):
             return b""
-        front = ended_lines(self.case.input[:given])
-        if front not in self.replies:
-            written = built.wanted(self.case._replace(input=front)).written
+        prefix = ended_lines(self.case.input[:given])
+        if prefix not in self.replies:
+            written = built.wanted(self.case._replace(input=prefix)).written
             assert isinstance(written, bytes)
-            self.replies[front] = written
-        return self.replies[front]
+            self.replies[prefix] = written
+        return self.replies[prefix]
 
 
 def wrong_in(texts: Texts, fault: Fault, run: Run, calls: list[Call]) -> str | None:

@@ -7,6 +7,7 @@ from __future__ import annotations
 
 import contextlib
 import re
+import shutil
 from collections.abc import Callable
 from pathlib import Path
 from random import Random
@@ -14,13 +15,15 @@ from random import Random
 import built
 import pytest
 import strategies
-from built import Case, Run
+from built import PROBLEM, Case, Run
 from commands import COMMANDS
-from conftest import BATCH, batches
+from conftest import BATCH, GATE_CASES, batches
 from found import FOUND
 from hypothesis import given
 from hypothesis import strategies as st
 from kept import Found, shown_cases, with_cases
+from oracle import changes, network, session
+from oracle.network import State, Step
 from random_cases import random_case
 from reduced import reduced
 from refused import REFUSED, wanted_without, ways_of
@@ -131,3 +134,97 @@ def test_kept() -> None:
     kept: dict[str, object] = {}
     exec(with_cases(with_cases(text, shown_cases(told)), shown_cases([*told, "E   nothing is shown"])), kept)
     assert kept["FOUND"] == found
+
+
+def shown_case(fault: str) -> Case:
+    """What the first seeded case that fails is shown as."""
+    for number in range(GATE_CASES):
+        # Cases of a name of their own, since the outcomes of the second implementation are kept.
+        case = random_case(f"{fault}, case {number}", Random(f"{fault}/{number}"))
+        try:
+            judge_seeded(Found(case), "", compared(case)[1])
+        except AssertionError as failure:
+            (shown,) = shown_cases([str(failure)])
+            found: Found = eval(shown, {"Found": Found, "Case": Case})
+            return found.case
+    pytest.fail("no case fails")
+
+
+def size(case: Case) -> int:
+    """How many lines a case has."""
+    return sum(len(text.splitlines()) for text in {case.problem, case.input})
+
+
+def with_later_path(monkeypatch: pytest.MonkeyPatch) -> None:
+    """Of the shortest paths the second implementation takes one that need not be the first."""
+    least_path = network.least_path
+
+    def least_path_backwards(steps: list[Step], start: int, goal: int) -> list[Step] | None:
+        path = least_path([step._replace(rank=-step.rank) for step in steps], start, goal)
+        return path and [step._replace(rank=-step.rank) for step in path]
+
+    monkeypatch.setattr(network, "least_path", least_path_backwards)
+
+
+def with_arcs_left(monkeypatch: pytest.MonkeyPatch) -> None:
+    """A shut of the second implementation leaves the arcs open that enter the node."""
+
+    def shut(state: State, node: int) -> State:
+        for number, arc in enumerate(state.arcs, 1):
+            if arc.tail == node and not arc.is_closed:
+                state = changes.close(state, number)
+        return state
+
+    monkeypatch.setattr(session, "CHANGES", {**session.CHANGES, "shut": shut})
+
+
+@pytest.mark.seconds(2)
+@pytest.mark.usefixtures("case_folder")
+@pytest.mark.parametrize("put", [with_later_path, with_arcs_left])
+def test_fault_in_oracle(monkeypatch: pytest.MonkeyPatch, put: Callable[[pytest.MonkeyPatch], None]) -> None:
+    """A fault in the second implementation is found, and shown as a case of fewer than ten lines."""
+    put(monkeypatch)
+    assert size(shown_case(put.__name__)) < 10
+
+
+# What stands in place of the program: it is given other commands, or what it writes is changed.
+FAULTY_COPIES = {
+    "two steps back are one": """[ "$1" = session ] || exec ./dmf "$@"\nsed 's/^undo 2$/undo 1/' | ./dmf "$@"\n""",
+    "a cut lacks its last node": """./dmf "$@" >written\nstatus=$?\nsed '${/^c side/d;}' written\nexit $status\n""",
+}
+
+
+@pytest.mark.seconds(2)
+@pytest.mark.usefixtures("case_folder")
+@pytest.mark.parametrize("fault", FAULTY_COPIES)
+def test_fault_in_program(monkeypatch: pytest.MonkeyPatch, fault: str) -> None:
+    """A fault in a copy of the program is found, and shown as a case of fewer than ten lines."""
+    shutil.copy(built.BUILT, "dmf")
+    Path("faulty").write_text(f"#!/bin/sh\n{FAULTY_COPIES[fault]}")
+    Path("faulty").chmod(0o755)
+    monkeypatch.setattr(built, "BUILT", "./faulty")
+    assert size(shown_case(fault)) < 10
+
+
+def closes_wide_arc(case: Case) -> bool:
+    """Whether a case closes an arc of capacity 77."""
+    capacities = [line.split()[3] for line in case.problem.splitlines() if line.startswith(b"a ")]
+    closed = [int(line.split()[1]) for line in case.input.splitlines() if line.startswith(b"close ")]
+    return any(b"77" in capacities[number - 1 : number] for number in closed)
+
+
+def test_reduced() -> None:
+    """A case is reduced in few tries, none of which is made twice, or in as many as are allowed; its commands go on to name their arcs."""
+    arcs = b"".join(b"a %d %d %d\n" % (node, node + 1, 77 if node == 40 else 5) for node in range(1, 101))
+    commands = b"".join(b"cap %d 3\nclose  %03d\n" % (101 - arc, arc) for arc in range(1, 101))
+    case = Case("a long case", (b"session", b"--cut", PROBLEM), b"p max 101 100\nn 1 s\nn 101 t\n" + arcs, commands)
+    tried: list[Case] = []
+
+    def fails(tried_case: Case) -> bool:
+        tried.append(tried_case)
+        return closes_wide_arc(tried_case)
+
+    assert reduced(case, fails) == Case("a long case", (), b"a 40 41 77\n", b"close 1\n")
+    assert len(tried) == len({*tried}) < 100
+    tried.clear()
+    assert closes_wide_arc(reduced(case, fails, most=5)) and len(tried) == 5

@@ -7,7 +7,7 @@ import built
 import pytest
 from built import Case
 from oracle.program import Outcome
-from worked import LIMITS, WORKED, fronts
+from worked import LIMITS, WORKED, prefixes
 from worked_forms import Worked
 from worked_once import ONCE
 from words import INPUTS, ROWS, judge, orders, wanted_of
@@ -22,9 +22,9 @@ def test_worked(worked: Worked) -> None:
     expect(worked.case, worked.wanted)
 
 
-@pytest.mark.parametrize(("case", "status"), [pytest.param(*it, id=it[0].name) for it in fronts()])
-def test_front(case: Case, status: int | None) -> None:
-    """Each front of a text, whose status is known or not."""
+@pytest.mark.parametrize(("case", "status"), [pytest.param(*it, id=it[0].name) for it in prefixes()])
+def test_prefix(case: Case, status: int | None) -> None:
+    """Each prefix of a text, whose status is known or not."""
     built.put_problem(case)
     wanted = built.wanted(case)
     assert status in (None, wanted.status)

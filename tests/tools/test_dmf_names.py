@@ -19,11 +19,15 @@ from typing import IO
 import pytest
 from built import heed_interrupts
 from conftest import BUILT, ROOT
+from dmf.desk import Desk
+from dmf.desk_file import Subject
+from dmf.desk_text import table
 from names_rows import FAULTS, LATER, NO_TABLES, ROADS, TABLES, TITLES, TOLD_OF, TOWN_CHANGES, TOWN_DRAWN, TOWN_PLAN, TOWN_TOLD, UNKNOWN, WARNED
 from tool_runs import Ran, Text, Tools, put, text, wait_until_asleep
 
 TOOL = str(ROOT / "tools" / "dmf-names")
 TOWN = str(ROOT / "examples" / "town.max")
+CARRIAGE_RETURNS = b'c node 1 la\rke\nc arc 1 ca\r"nal\np max 2 1\nn 1 s\nn 2 t\na 1 2 3\n'
 PIPE = subprocess.PIPE
 SECONDS = 20
 ASCII = {"LC_ALL": "C", "PYTHONIOENCODING": "ascii", "PYTHONUTF8": "0", "PYTHONCOERCECLOCALE": "0"}
@@ -88,6 +92,13 @@ def test_tables(
     rows = list(csv.reader(io.StringIO(ran.out.decode(), newline="")))
     assert (ran.status, rows) == (0, [TITLES, *([str(field) for field in row] for row in wanted)])
     assert ran.err.endswith(UNKNOWN.encode() + b"\n") if "not known" in name else ran.err == b""
+
+
+def test_a_carriage_return_in_a_table(tools: Tools, tmp_path: Path) -> None:
+    """It is shown as `\\x0d`, since a reader of the table may take it for the end of a line, which `csv` leaves without quotes."""
+    ran = names_of(tools, tmp_path, CARRIAGE_RETURNS, None, "s 3 / f 1 2 3", "--csv")
+    assert ran.out.splitlines()[1:] == [rb'1,"ca\x0d""nal",la\x0dke,2,3,3,yes,']
+    assert table(Desk(Subject("a test", CARRIAGE_RETURNS))).splitlines()[1:] == [r'1,"ca\x0d""nal",la\x0dke,2,0,3,no,']
 
 
 @pytest.mark.parametrize(("problem", "commands", "answer", "told"), NO_TABLES)

@@ -220,15 +220,17 @@ def test_worked_sessions(worked: Worked) -> None:
 @batches
 def test_odd_replies(batch: int) -> None:
     """Replies of random sessions with a fault put into them, and any commands for them: what does not fit is a fault of the
-    transcript, and nothing else is raised."""
+    transcript, and nothing else is raised. Most do not fit."""
     random = Random(f"odd replies/{batch}")
+    faults = 0
     for _ in range(ODD_REPLIES):
         state, lines_of_script = scripted(random, 6)
         script = random_cases.plain_text(lines_of_script[:30])
         replies, _ = session.run_lines(state, script, session.SolveReply(cut=random.random() < 0.5), session.Refusals())
         odd = random_cases.text_of([fields(line) for line in lines(replies)], random, b"cx", 1)
         commands = random.choice([None, lines_with_ends(script)])
-        fault_of(oracle_problem.problem_text(state), commands, lines_with_ends(odd))
+        faults += fault_of(oracle_problem.problem_text(state), commands, lines_with_ends(odd)) is not None
+    assert faults > ODD_REPLIES / 2
 
 
 def lines_with_ends(text: bytes) -> list[bytes]:

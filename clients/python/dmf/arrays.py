@@ -167,13 +167,14 @@ def columns_of_arrays(
     """The columns of three sequences of one length, and their capacities. Numbers in arrays of numpy are taken as they are, all
     together, and everything else row by row. Raises `NotAnArc` for sequences of several lengths or with a node that is missing, and
     what `columns_of` raises."""
+    filled = None if infinite is None else whole(infinite, "infinite")
     tail, head, capacity, key = (_plain(column) for column in (tail, head, capacity, key))
     lengths = {len(column) for column in (tail, head, capacity, key) if column is not None}
     if len(lengths) > 1:
         raise NotAnArc(f"not an arc: the columns have several lengths: {', '.join(map(str, sorted(lengths)))}")
     if all(_kind(column) in ("i", "u") for column in (tail, head)) and _kind(capacity) in ("i", "u", "f"):
         np = package("numpy", "arrays")
-        columns, capacities = _of_numbers(np, tail, head, capacity, nodes, infinite)
+        columns, capacities = _of_numbers(np, tail, head, capacity, nodes, filled)
         if key is not None:
             columns.keys.update((at, value) for at, value in enumerate(_listed(key), 1) if not is_missing(value))
             for at, given in columns.keys.items():
@@ -184,7 +185,7 @@ def columns_of_arrays(
         return columns, capacities
     rows = zip(*map(_listed, (tail, head, capacity)), *([] if key is None else [map(_known, _listed(key))]))
     nodes = list(nodes)
-    columns, capacities = columns_of(rows if infinite is None else (with_infinite(row, infinite) for row in rows), nodes)
+    columns, capacities = columns_of(rows if filled is None else (with_infinite(row, filled) for row in rows), nodes)
     if None in columns.numbers and None not in nodes:
         refuse_node(columns, capacities, None)
     return columns, capacities
@@ -192,7 +193,10 @@ def columns_of_arrays(
 
 def _plain(column: Any) -> Any:
     """A series of pandas as an array of numpy, and an array that hides some of its values as a list, in which these are None; any other
-    column as it is, or as a list where its length is not known. Raises `NotAnArc` for a table, and for times that Python has not."""
+    column as it is, or as a list where its length is not known. Raises `NotAnArc` for a table, a set and a dictionary, and for times
+    that Python has not."""
+    if isinstance(column, (set, frozenset, dict)):
+        raise NotAnArc(f"not an arc: a column is a {type(column).__name__}, and not a list")
     if getattr(column, "ndim", 1) != 1:
         raise NotAnArc(f"not an arc: a column has {column.ndim} dimensions, and not one")
     if hasattr(column, "to_numpy"):
@@ -223,13 +227,13 @@ def is_unbounded(capacity: object) -> bool:
     return is_missing(capacity) or not hasattr(capacity, "__len__") and capacity == float("inf")
 
 
-def with_infinite(row: tuple[Any, ...], infinite: object) -> tuple[Any, ...]:
+def with_infinite(row: tuple[Any, ...], infinite: int) -> tuple[Any, ...]:
     """A row of arcs, with a capacity where it has none."""
     return (*row[:2], infinite, *row[3:]) if is_unbounded(row[2]) else row
 
 
 def _of_numbers(
-    np: Any, tail: Any, head: Any, capacity: Any, nodes: Iterable[Node], infinite: object
+    np: Any, tail: Any, head: Any, capacity: Any, nodes: Iterable[Node], infinite: int | None
 ) -> tuple[Columns[Node], array[int]]:
     """The columns of arrays of whole numbers."""
     ends = np.empty(2 * len(tail), np.int64)
@@ -278,7 +282,7 @@ def _numbered(np: Any, ends: Any) -> tuple[list[int], Any]:
     return names[order].tolist(), place[inverse.reshape(-1)]
 
 
-def _amounts(np: Any, tail: Any, head: Any, capacity: Any, infinite: object) -> Any:
+def _amounts(np: Any, tail: Any, head: Any, capacity: Any, infinite: int | None) -> Any:
     """An array of capacities in 64 bits without a sign. The first that is none is told with its arc."""
     if capacity.dtype.kind == "f":
         missing = np.isnan(capacity) | (capacity == np.inf)
@@ -286,7 +290,7 @@ def _amounts(np: Any, tail: Any, head: Any, capacity: Any, infinite: object) -> 
             capacity = np.where(missing, 0.0, capacity)
             with np.errstate(invalid="ignore"):
                 amounts = _amounts(np, tail, head, capacity, None)
-            amounts[missing] = whole(infinite, "infinite")
+            amounts[missing] = infinite
             return amounts
         wrong = ~np.isfinite(capacity) | (capacity != np.floor(capacity)) | (capacity < 0) | (capacity >= 2.0**64)
     else:

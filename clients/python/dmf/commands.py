@@ -22,7 +22,7 @@ FIELD_COUNTS = {
     b"print": (1,),
 }
 PRINTED = (b"problem", b"flow", b"cut")
-# The commands whose replies have the value.
+# The commands whose replies tell the value.
 CHANGES = (b"cap", b"add", b"close", b"shut", b"undo", b"redo")
 # Here these lists end.
 

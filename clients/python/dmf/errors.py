@@ -42,6 +42,10 @@ class HistoryOutOfRange(Error, ValueError):
     """The number of changes that can be undone must be a whole number from 0 to 1,000,000."""
 
 
+class JobsOutOfRange(Error, ValueError):
+    """How many programs a sweep may have at once is no whole number from 1 on."""
+
+
 class NameNotWritable(Error, ValueError):
     """A name cannot stand in a comment of a problem: `dmf.read` would read it as another one."""
 

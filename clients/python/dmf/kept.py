@@ -12,7 +12,7 @@ from itertools import count, islice
 from typing import Any, Generic, NoReturn, SupportsIndex, Union
 
 from .arcs import Added, Arc, Columns, Handles, Node, OpenArcs, one_of
-from .errors import ArcIsClosed, HistoryOutOfRange, NoSuchArc, NotAnArc, NotANumber, NothingToUndo, NumberTooLarge, shown
+from .errors import ArcIsClosed, HistoryOutOfRange, NoSuchArc, NotAnArc, NotANumber, NothingToRedo, NothingToUndo, NumberTooLarge, shown
 from .numbering import AMOUNTS, NODES, WholeNodes
 from .text import LARGEST
 
@@ -310,6 +310,15 @@ class Kept(Generic[Node]):
         """Raises `NothingToUndo` if that would undo a change from before the trial."""
         if self.floor is not None and self.place - count < self.floor:
             raise NothingToUndo(f"undo {count}, of {self.place - self.floor} changes that are tried out")
+
+    def judge_redo(self, count: int) -> None:
+        """Raises `NothingToRedo` if fewer changes can be made again."""
+        if count > len(self._undone):
+            raise NothingToRedo(f"redo {count}")
+
+    def forget_undone(self) -> None:
+        """Forgets what was undone, so that nothing of it can be made again."""
+        self._undone = []
 
     def copy(self) -> Kept[Node]:
         """The same arcs as they are now, without changes. The handles of these arcs name the arcs of the copy too."""

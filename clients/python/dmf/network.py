@@ -256,6 +256,7 @@ class Network(Generic[Node]):
         """Redoes the changes that were undone last, all of them or none. Returns the value. Raises `NothingToRedo`."""
         with self._child.alone():
             steps = whole(count, "redo")
+            self._kept.judge_redo(steps)
             value = self._stepped(f"redo {steps}")
             self._kept.redo(steps)
             return value
@@ -272,16 +273,22 @@ class Network(Generic[Node]):
         Inside the block `undo` takes back no more than what was done in it, and raises `NothingToUndo`. Where `history` bounds the
         changes that can be undone, a change past so many in one block is refused by `HistoryOutOfRange`. Blocks may stand in
         blocks."""
-        kept = self._kept
+        kept, value = self._kept, self._value
         with self._child.alone():
             outer, kept.floor = kept.floor, kept.place
         try:
             yield self
         finally:
             inner, kept.floor = kept.floor, outer
-            # A session that has ended has nothing to take back.
-            if self._child.end.alive and inner is not None and kept.place > inner:
-                self.undo(kept.place - inner)
+            if inner is not None and kept.place > inner:
+                try:
+                    if self._child.end.alive:
+                        self.undo(kept.place - inner)
+                finally:
+                    if not self._child.end.alive and kept.place > inner:
+                        # A session that has ended takes nothing back, but what is kept of the network can still be swept.
+                        kept.undo(kept.place - inner)
+                        self._value = value
 
     def cut(self) -> Cut[Node]:
         """The smallest minimum cut. Raises `FlowIsNotGreatest` if some flow has a larger value than the present one, as before

@@ -10,7 +10,7 @@ from typing import Any
 
 from .arcs import Columns, Node
 from .arrays import PIECE, is_unbounded, no_capacity, numpy_for, read_lines
-from .kept import Kept, Whole
+from .kept import Kept, Whole, whole
 from .network import Network
 from .numbering import AMOUNTS, NODES
 from .process import Child, FilePath, Program, bound, session_words, start
@@ -84,6 +84,7 @@ def from_networkx(
 
     Raises `NoCapacity` if an edge lacks the attribute and there is no `infinite`, and what `Network` raises.
     """
+    infinite = None if infinite is None else whole(infinite, "infinite")
     rows: list[tuple[Any, Any, Any, Any]] = []
     edges = graph.edges(keys=True, data=True) if graph.is_multigraph() else graph.edges(data=True)
     for tail, head, *key, attributes in edges:

@@ -13,11 +13,12 @@ from collections import deque
 from collections.abc import Callable, Generator, Hashable, Iterable, Iterator
 from dataclasses import dataclass
 from itertools import islice
-from typing import TYPE_CHECKING, Any, Generic, Tuple, Union
+from typing import TYPE_CHECKING, Any, Generic, Union
 
 from .arcs import Arc, Node
 from .arrays import package
-from .errors import Error, SessionEnded, UnknownCommand, shown
+from .copies import Answer, Command, Copy, Plain
+from .errors import Error, JobsOutOfRange, UnknownCommand, shown
 from .kept import Kept, Whole, whole
 from .network import Network
 from .process import MOST_KEPT, Program
@@ -25,18 +26,14 @@ from .process import MOST_KEPT, Program
 if TYPE_CHECKING:
     from concurrent.futures import Executor, Future
 
-# A command of a case: ("cap", arc, capacity), ("close", arc), ("open", arc), ("shut", node) or ("add", tail, head, capacity).
-Command = Tuple[Any, ...]
 # What is tried: a list of commands, or a function that is given a network to change.
 Case = Union[Iterable[Command], Callable[[Network[Any]], object]]
 # The cases of a sweep, or a function that makes them of its network.
 Cases = Union[Iterable[Case], Callable[[Network[Any]], Iterable[Case]]]
-# A case as a copy takes it: commands with the numbers of arcs, or a function.
-_Plain = Union["list[Command]", Callable[[Network[Any]], object]]
-# How many cases an executor is given at once, and how many such pieces wait for each of its workers.
+# How many cases an executor is given at first, and how many such pieces wait for each of its workers.
 PIECE, WAITING = 16, 2
-# A session takes 1,000,000 lines, so a copy is replaced before.
-MOST_LINES = 900_000
+# Later as many cases are given at once as are tried in so many seconds, but no more than this.
+SOON, MOST_AT_ONCE = 0.1, 256
 # How long a copy waits in the process of an executor for the next cases before it is ended, in seconds.
 PATIENCE = 30.0
 COMMANDS = {"cap": 2, "close": 1, "open": 1, "shut": 1, "add": 3}
@@ -52,15 +49,6 @@ class SweepResult(Generic[Node]):
     value: int | None = None
     difference: int | None = None
     cut: tuple[Arc[Node], ...] | None = None
-    refusal: Error | None = None
-
-
-@dataclass(frozen=True)
-class _Answer:
-    """What a copy tells of a case: its value and the arcs of its cut, by their numbers or, where they were added, as they are."""
-
-    value: int = 0
-    cut: tuple[int | Arc[Any], ...] | None = None
     refusal: Error | None = None
 
 
@@ -131,10 +119,11 @@ def sweep(
     Any other error ends the sweep. An error in making the cases comes after the results of the cases before it. If a program is
     killed, another takes its place, and tries its case once more.
 
-    Without an `executor` there are so many `jobs` (by default as many as processors), each with a program here. An `executor` is
-    anything of the form of `concurrent.futures`, such as `Client.get_executor()` of dask.distributed. Each of its processes gets the
-    network, and starts programs of its own: the one that `program` named for the network, or else the one that it finds itself.
-    Functions are pickled for it, and name arcs by their keys or ends. `progress` shows a bar of tqdm, if that is installed.
+    Without an `executor` each of so many `jobs` (as many as there are processors) has a program here. Raises `JobsOutOfRange` if that is
+    no whole number from 1 on. An `executor` is anything of the form of `concurrent.futures`, as `Client.get_executor()` of
+    dask.distributed: each of its processes is sent the network, and begins programs of its own: the one that the network was made with
+    by `program`, or else the one that it finds itself. There functions are pickled, and name arcs by their keys or ends. `progress`
+    shows a bar of tqdm, where that is there.
 
     >>> with Network([("a", "b", 3, "x"), ("a", "b", 4, "y")], source="a", sink="b") as network:
     ...     value = network.solve().value
@@ -142,7 +131,7 @@ def sweep(
     [(4, -3), (3, -4)]
     """
     made = cases(network) if callable(cases) else cases
-    programs = len(os.sched_getaffinity(0)) if jobs is None else max(1, whole(jobs, "jobs"))
+    programs = _programs(jobs)
     swept = _Swept(network._kept, network.value)
     program: Any = network._child.process.args
     begin: Callable[[], _Tries] = functools.partial(_Here, swept.kept, program[0], want_cut, programs)
@@ -150,6 +139,19 @@ def sweep(
         begin = functools.partial(_There, _Sent.of(swept.kept, network._child.program), executor, want_cut)
     results = _results(swept, iter(made), begin)
     return _shown(results, operator.length_hint(made) or None) if progress else results
+
+
+def _programs(jobs: int | None) -> int:
+    """How many programs try cases. Raises `JobsOutOfRange`."""
+    if jobs is None:
+        return len(os.sched_getaffinity(0))
+    try:
+        programs = operator.index(jobs)
+    except TypeError:
+        programs = 0
+    if programs < 1:
+        raise JobsOutOfRange(f"jobs out of range: {shown(jobs)} is no whole number from 1 on")
+    return programs
 
 
 class _Swept(Generic[Node]):
@@ -162,7 +164,7 @@ class _Swept(Generic[Node]):
         self.kept = kept.copy()
         self.kept.most = MOST_KEPT
 
-    def plain(self, case: Case) -> _Plain | Error:
+    def plain(self, case: Case) -> Plain | Error:
         """A case as a copy takes it, or why it is refused."""
         if callable(case):
             return case
@@ -182,7 +184,7 @@ class _Swept(Generic[Node]):
             rest[0] = self.kept.arc(rest[0]).number
         return (word, *rest)
 
-    def told(self, case: Case, answer: _Answer) -> SweepResult[Node]:
+    def told(self, case: Case, answer: Answer) -> SweepResult[Node]:
         """The result of a case."""
         if answer.refusal is not None:
             return SweepResult(case, refusal=answer.refusal)
@@ -222,84 +224,24 @@ def _piece(cases: Iterator[Case], size: int) -> tuple[list[Case], Exception | No
     return piece, None
 
 
-def _try(network: Network[Any], case: _Plain, want_cut: bool) -> _Answer:
-    """What comes of a case on a solved network, which is then as it was."""
-    known = network._kept.arc_count
-    with network.try_out():
-        if callable(case):
-            case(network)
-        else:
-            for word, *rest in case:
-                if word in ("cap", "close", "open"):
-                    rest[0] = network._kept.handle(rest[0])
-                getattr(network, word)(*rest)
-        value = network.solve().value
-        if not want_cut:
-            return _Answer(value)
-        return _Answer(value, tuple(arc.number if arc.number <= known else arc for arc in network.cut().arcs))
-
-
-class _Copy:
-    """A solved copy of a network, which is begun when a case comes, and anew where its program ends."""
-
-    def __init__(self, kept: Kept[Any], program: Program) -> None:
-        self._kept = kept
-        self._program = program
-        self._is_over = False
-        self._lock = threading.Lock()
-        self.network: Network[Any] | None = None
-        self.used = time.monotonic()
-
-    def answer(self, case: _Plain | Error, want_cut: bool) -> _Answer:
-        """What comes of a case. One whose program ends is tried once more."""
-        if isinstance(case, Error):
-            return _Answer(refusal=case)
-        for is_last in False, True:
-            try:
-                return _try(self._solved(), case, want_cut)
-            except SessionEnded as error:
-                self.end()
-                if is_last or self._is_over:
-                    return _Answer(refusal=error)
-            except Error as error:
-                return _Answer(refusal=error)
-        raise AssertionError
-
-    def _solved(self) -> Network[Any]:
-        if self._is_over:
-            raise SessionEnded("the sweep was ended")
-        if self.network and self.network._child.line_count > MOST_LINES:
-            self.end()
-        if self.network is None:
-            network = Network._of_copy(self._kept.copy(), self._program)
-            with self._lock:
-                self.network = network
-                if self._is_over:
-                    network._child.break_off("the sweep was ended")
-            network.solve()
-        return self.network
-
-    def end(self) -> None:
-        """Ends the program."""
-        network, self.network = self.network, None
-        if network:
-            network._child.end()
-
-    def break_off(self) -> None:
-        """Kills the program for another thread that waits for it, and lets it begin no more."""
-        with self._lock:
-            self._is_over = True
-            if self.network:
-                self.network._child.break_off("the sweep was ended")
-
-
 class _Tries:
-    """How cases are tried: `size` of them at once, and `most` such pieces before the first is waited for."""
+    """How cases are tried: `size` of them at once, and `most` such pieces before the first is waited for. The size begins with `first`,
+    and follows the time that cases take. After these, the pieces that wait never have more cases than were answered before."""
 
-    size = 1
-    most = 1
+    first = 1
 
-    def begin(self, cases: list[_Plain | Error]) -> _Pending:
+    def __init__(self, most: int) -> None:
+        self.most = most
+        self.size = self.first
+        self._answered = 0
+
+    def learn(self, count: int, seconds: float) -> None:
+        """Notes how long so many cases took."""
+        self._answered += count
+        soon = int(SOON * count / max(seconds, 1e-9))
+        self.size = max(1, min(soon, max(self.first, self._answered // self.most), MOST_AT_ONCE))
+
+    def begin(self, cases: list[Plain | Error]) -> _Pending:
         """Begins cases; what is returned waits for their answers."""
         raise NotImplementedError
 
@@ -308,7 +250,7 @@ class _Tries:
         raise NotImplementedError
 
 
-_Pending = Callable[[], "list[_Answer]"]
+_Pending = Callable[[], "list[Answer]"]
 
 
 class _Here(_Tries):
@@ -318,22 +260,24 @@ class _Here(_Tries):
         # It takes 1 MB, and nothing else needs it.
         from concurrent.futures import ThreadPoolExecutor
 
-        self.most = 4 * jobs
+        super().__init__(4 * jobs)
         self._want_cut = want_cut
-        self._copies = [_Copy(kept, program) for _ in range(jobs)]
+        self._copies = [Copy(kept, program) for _ in range(jobs)]
         self._free = list(self._copies)
         self._threads = ThreadPoolExecutor(jobs, "dmf-sweep")
 
-    def begin(self, cases: list[_Plain | Error]) -> _Pending:
+    def begin(self, cases: list[Plain | Error]) -> _Pending:
         return self._threads.submit(self._answers, cases).result
 
-    def _answers(self, cases: list[_Plain | Error]) -> list[_Answer]:
+    def _answers(self, cases: list[Plain | Error]) -> list[Answer]:
         # No more threads than copies; taking from a list and putting back is done at once.
         copy = self._free.pop()
+        began = time.monotonic()
         try:
-            return [copy.answer(case, self._want_cut) for case in cases]
+            return copy.answers(cases, self._want_cut)
         finally:
             self._free.append(copy)
+            self.learn(len(cases), time.monotonic() - began)
 
     def close(self) -> None:
         for copy in self._copies:
@@ -343,10 +287,28 @@ class _Here(_Tries):
             copy.end()
 
 
+def _workers(executor: Any) -> int:
+    """How many processes or threads an executor has, as far as it says; the client of dask.distributed says it."""
+    workers = getattr(executor, "_max_workers", None)
+    if isinstance(workers, int):
+        return workers
+    threads = getattr(getattr(executor, "_client", None), "nthreads", None)
+    return (sum(threads().values()) if callable(threads) else 0) or os.cpu_count() or 1
+
+
+@dataclass(eq=False)
+class _Piece:
+    """Cases that an executor was given, what it promises of them, and the error for which it takes them no more."""
+
+    asked: Any
+    future: Future[Any]
+    error: Exception | None = None
+
+
 class _There(_Tries):
     """Processes of an executor, which may be on other machines."""
 
-    size = PIECE
+    first = PIECE
 
     def __init__(self, sent: _Sent, executor: Executor, want_cut: bool) -> None:
         # It takes 4 MB, and nothing else needs it.
@@ -356,33 +318,48 @@ class _There(_Tries):
         self._want_cut = want_cut
         self._sent = pickle.dumps(sent)
         self._name = hashlib.sha256(self._sent).hexdigest()
-        workers = getattr(executor, "_max_workers", None)
-        self.most = WAITING * (workers if isinstance(workers, int) else os.cpu_count() or 1)
+        # At first one piece for each of the workers, with which the network is sent.
+        self._workers = _workers(executor)
+        super().__init__(self._workers)
         self._futures: list[Future[Any]] = []
+        # The pieces that go out again, with the network, if their process has it not yet.
+        self._first: list[_Piece] = []
 
-    def begin(self, cases: list[_Plain | Error]) -> _Pending:
+    def begin(self, cases: list[Plain | Error]) -> _Pending:
         asked = pickle.dumps((cases, self._want_cut)) if not any(map(callable, cases)) else (cases, self._want_cut)
-        future = self._submit(None, asked)
-        return lambda: self._answers(future, asked)
+        piece = _Piece(asked, self._submit(None, asked))
+        self._first.append(piece)
+        return lambda: self._answers(piece)
 
-    def _answers(self, future: Future[Any], asked: Any) -> list[_Answer]:
-        """The answers of a piece. A process that has not the network yet is sent it; what a process that died had is tried once more."""
-        for sent in None, self._sent:
-            try:
-                answers: list[_Answer] | None = future.result()
-            except Error:
-                raise
-            except Exception as error:
-                if sent is not None or not _is_lost(error):
-                    raise
-                answers = None
-            self._futures.remove(future)
-            if answers is not None:
-                return answers
-            future = self._submit(self._sent, asked)
-        answers = future.result()
-        assert answers is not None
+    def _answers(self, piece: _Piece) -> list[Answer]:
+        """The answers of a piece. While it waits for them, it sends the network with every piece whose process lacks it, so that all
+        processes begin at once."""
+        from concurrent.futures import FIRST_COMPLETED, wait
+
+        while piece in self._first:
+            wait([first.future for first in self._first], return_when=FIRST_COMPLETED)
+            for first in [first for first in self._first if first.future.done()]:
+                self._first.remove(first)
+                self._send_again(first)
+        if piece.error:
+            raise piece.error
+        answers: list[Answer]
+        answers, seconds = piece.future.result()
+        self._futures.remove(piece.future)
+        self.most = WAITING * self._workers
+        self.learn(len(answers), seconds)
         return answers
+
+    def _send_again(self, piece: _Piece) -> None:
+        """Sends a piece once more, with the network, if its process had that not yet, or died."""
+        try:
+            error = piece.future.exception()
+            if _is_lost(error) if error else piece.future.result() is None:
+                self._futures.remove(piece.future)
+                piece.future = self._submit(self._sent, piece.asked)
+        except Exception as error:
+            # It is told in its turn.
+            piece.error = error
 
     def _submit(self, sent: bytes | None, asked: Any) -> Future[Any]:
         future = self._executor.submit(_answers_there, self._name, sent, asked)
@@ -425,8 +402,8 @@ class _Sent:
 
 
 # The copies in this process that no case uses now, and how another one is made, by the name of what was sent.
-_free: dict[str, list[_Copy]] = {}
-_known: dict[str, Callable[[], _Copy]] = {}
+_free: dict[str, list[Copy]] = {}
+_known: dict[str, Callable[[], Copy]] = {}
 _free_lock = threading.Lock()
 
 
@@ -440,8 +417,8 @@ def _forget_copies() -> None:
 os.register_at_fork(after_in_child=_forget_copies)
 
 
-def _answers_there(name: str, sent: bytes | None, asked: Any) -> list[_Answer] | None:
-    """What comes of cases in the process of an executor; None where the network has to be sent first."""
+def _answers_there(name: str, sent: bytes | None, asked: Any) -> tuple[list[Answer], float] | None:
+    """What comes of cases in the process of an executor, and how many seconds that takes; None if it needs the network first."""
     with _free_lock:
         copies = _free.get(name, [])
         copy = copies.pop() if copies else None
@@ -451,14 +428,15 @@ def _answers_there(name: str, sent: bytes | None, asked: Any) -> list[_Answer] |
         if sent is None:
             return None
         network: _Sent = pickle.loads(sent)
-        another = functools.partial(_Copy, network.kept(), network.program)
+        another = functools.partial(Copy, network.kept(), network.program)
         with _free_lock:
             _known.clear()
             _known[name] = another
         copy = another()
     cases, want_cut = pickle.loads(asked) if isinstance(asked, bytes) else asked
     try:
-        return [copy.answer(case, want_cut) for case in cases]
+        began = time.monotonic()
+        return copy.answers(cases, want_cut), time.monotonic() - began
     finally:
         copy.used = time.monotonic()
         with _free_lock:

@@ -8,7 +8,7 @@ use Rattle.dmf_node.specs.Node.{IsNode}
 use Rattle.dmf_path.specs.Links.{Links, LiesAt, AreLinks, AreFlags, open_flag, tail_of}
 use Rattle.dmf_path.specs.Labels.{no_label, AreLabels}
 use Rattle.dmf_path.specs.Walk.{IsWalk, AreValid}
-use Rattle.dmf_path.specs.BothEnds.{AreSound, IsLabelled, filled, filled_label}
+use Rattle.dmf_path.specs.BothEnds.{AreSmall, AreSound, AreWhole, IsLabelled, filled, filled_label}
 use Rattle.dmf_path.proofs.LinkPlaces.{lies-within, lies-partner}
 use Rattle.dmf_path.proofs.Flags.{room-of_flag, flag-of_room}
 
@@ -68,18 +68,41 @@ filled-none labels =
     (λ v within. get_or-map (filled_label no_label) labels v 0 0 (omega (arith, within, length-map labels (filled_label no_label))) ∙ filled_label-none
     (slice_index labels v))
 
--- So labels found backwards from the goal are sound below that of the node `stop`.
+-- Labels that are whole are sound.
+pub sound-whole : (l : Links) (labels rooms : List ℕ) → AreLinks l → AreWhole l labels rooms → AreSound l labels rooms no_label
+sound-whole l labels rooms links whole = record {
+  beyond = no_label;
+  small = whole.small;
+  valid = subst (λ ls. AreValid l ls rooms no_label) (sym (filled-none labels)) whole.valid;
+  gated = λ v p is lies room label none. elim (whole.small.1 v is) [
+    | inl same ↦ omega (arith, label, same)
+    | inr least ↦ omega (arith, label, least, links.at_most_nodes)
+  ];
+}
+
+small-labelled : (l : Links) (flags labels : List ℕ) (stop goal : ℕ) → AreLabels l flags goal stop labels → AreSmall l.nodes labels
+small-labelled l flags labels stop goal labelled = (
+  labelled.one_each,
+  λ v is. elim (labelled.small v is) [
+    | inl none ↦ inl none
+    | inr below ↦ inr (omega (arith, below))
+  ],
+)
+
+-- Labels found backwards from the goal are whole, if they stop at no node.
+pub whole-labelled : (l : Links) (rooms flags labels : List ℕ) (stop goal : ℕ) → AreLinks l → AreFlags l rooms flags → AreLabels l flags goal stop labels
+    → slice_index labels stop ≡ no_label → AreWhole l labels rooms
+whole-labelled l rooms flags labels stop goal are flagged labelled none = record {
+  small = small-labelled l flags labels stop goal labelled;
+  valid = subst (AreValid l labels rooms) none (valid-labelled l rooms flags labels stop goal are flagged labelled);
+}
+
+-- Labels found backwards from the goal are sound below that of the node `stop`.
 pub sound-labelled : (l : Links) (rooms flags labels : List ℕ) (stop goal : ℕ) → AreLinks l → AreFlags l rooms flags → AreLabels l flags goal stop labels
     → AreSound l labels rooms (slice_index labels stop)
 sound-labelled l rooms flags labels stop goal are flagged labelled = record {
   beyond = no_label;
-  small = (
-    labelled.one_each,
-    λ v is. elim (labelled.small v is) [
-      | inl none ↦ inl none
-      | inr below ↦ inr (omega (arith, below))
-    ],
-  );
+  small = small-labelled l flags labels stop goal labelled;
   valid = subst (λ ls. AreValid l ls rooms (slice_index labels stop)) (sym (filled-none labels))
       (valid-labelled l rooms flags labels stop goal are flagged labelled);
   gated = λ v p is lies room label none. elim (labelled.small v is) [

@@ -1,12 +1,11 @@
 -- Labels that another search may keep.
 use Rattle.std.proofs.Common.{ℕ, ◌≡◌, Bool, List, sym, subst}
-use Rattle.dmf_path.specs.Links.{Links, AreLinks}
+use Rattle.dmf_path.specs.Links.{Links}
 use Rattle.dmf_path.specs.Labels.{no_label}
 use Rattle.dmf_path.specs.Walk.{AreSkipped}
 use Rattle.dmf_path.specs.Residual.{Residual, roomed}
 use Rattle.dmf_path.specs.Searching.{Labelling, Sought, AreLasting}
-use Rattle.dmf_path.proofs.Gated.{sound-opens}
-use Rattle.dmf_path.proofs.Pushed.{OpensUpwards, admissible-before}
+use Rattle.dmf_path.proofs.Pushed.{OpensUpwards, AreValid-opens, admissible-before}
 
 -- They are kept for the search, however the pushes are held.
 pub lasting : (v : Labelling) (stepped_back : Bool) (s t : Sought) → s ≡ t → AreLasting v stepped_back t.residual → AreLasting v stepped_back s.residual
@@ -19,9 +18,9 @@ skipped-opens l labels old new current opens skipped v p node lies before admiss
     skipped v p node lies before (admissible-before l labels old new v p node opens admissible)
 
 -- So a push leaves them.
-pub lasting-opens : (v : Labelling) (stepped_back : Bool) (r : Residual) (rooms : List ℕ) → AreLinks r.links → OpensUpwards r.links v.labels r.rooms rooms
+pub lasting-opens : (v : Labelling) (stepped_back : Bool) (r : Residual) (rooms : List ℕ) → OpensUpwards r.links v.labels r.rooms rooms
     → AreLasting v stepped_back r → AreLasting v stepped_back (roomed r rooms)
-lasting-opens v stepped_back r rooms links opens is = record {
-  sound = sound-opens r.links v.labels r.rooms rooms no_label links opens is.sound;
+lasting-opens v stepped_back r rooms opens is = record {
+  whole = record { small = is.whole.small; valid = AreValid-opens r.links v.labels r.rooms rooms no_label opens is.whole.valid };
   skipped = λ none. skipped-opens r.links v.labels r.rooms rooms v.current opens (is.skipped none);
 }

@@ -14,6 +14,7 @@ pub mod Settled
 pub mod SettledSent
 pub mod Lasting
 pub mod Redirected
+pub mod Asides
 mod Leaving
 pub mod PairRead
 pub mod Pushing

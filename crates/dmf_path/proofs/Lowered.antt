@@ -1,5 +1,5 @@
 -- Taking an amount off the room of one link.
-use Rattle.std.proofs.Common.{ℕ, ◌≡◌, ◌≢◌, ◌-◌, ◌<◌, ◌≤◌, false, List, [], ◌∷◌, length, map, get_or, set, zero, suc, refl, ap, sym, ◌∙◌, arith, ⊎_elim, eq-eqb}
+use Rattle.std.proofs.Common.{ℕ, ◌≡◌, ◌≢◌, ◌<◌, ◌≤◌, false, List, [], ◌∷◌, length, map, get_or, set, zero, suc, refl, ap, sym, ◌∙◌, arith, ⊎_elim, eq-eqb}
 use Rattle.std.proofs.Common.{get_or-set_other, get_or-set_same, inl, inr, Some, None}
 use Rattle.std.specs.Option.{option_map}
 use Rattle.std.proofs.lemmas.Option.{slice_get_within, get_or_from_slice_get, same_Some}
@@ -9,7 +9,6 @@ use Rattle.dmf_path.specs.Links.{Links, AreLinks, ArePlaces, IsOf, no_place, tai
 use Rattle.dmf_path.specs.Walk.{pushed_once}
 use Rattle.dmf_path.specs.Search.{HasAlong, lowered_pair, lowered_along}
 use Rattle.dmf_path.proofs.LinkPlaces.{partner-other}
-use Rattle.dmf_path.proofs.Pushed.{OpensUpwards}
 use Rattle.dmf_path.proofs.PushedPairs.{pair-rooms}
 
 -- what HasAlong says of the place
@@ -81,14 +80,3 @@ pairs-lowered l places rooms k amount links are long has =
     (get_or-set_other rooms p (get_or places j 0) _ 0 own)
     (get_or-set_other rooms p (get_or l.partners (get_or places j 0) 0) _ 0 its)))
     (cases_eq (get_or places j 0) no_place))
-
--- Lowering opens no link.
-pub opens-lowered : (l : Links) (labels rooms : List ℕ) (p amount : ℕ) → length rooms ≡ length l.heads → p < length l.heads
-    → OpensUpwards l labels rooms (pushed_once l false amount p rooms)
-opens-lowered l labels rooms p amount long within v q node lies room =
-    ⊎_elim
-    (λ (same : q ≡ p).
-    let now = get_or-set_same rooms p (get_or rooms p 0 - amount) 0 (omega (arith, long, within)) in
-    inl (omega (arith, room, now, ap (λ r. get_or (pushed_once l false amount p rooms) r 0) same, ap (λ r. get_or rooms r 0) same)))
-    (λ (apart : q ≢ p). inl (omega (arith, room, get_or-set_other rooms p q (get_or rooms p 0 - amount) 0 apart)))
-    (cases_eq q p)

@@ -1,6 +1,8 @@
 -- What a push along a trail keeps: labels stay valid, what was passed stays passed, and the links of the trail that still
 -- have room are one.
-use Rattle.std.proofs.Common.{ℕ, ◌≡◌, ◌+◌, ◌<◌, ◌⊎◌, inl, inr, Bool, List, [], ◌∷◌, length, get_or, take, zero, suc, ap, sym, ◌∙◌, arith, ⊎_elim}
+use Rattle.std.proofs.Common.{ℕ, ◌≡◌, ◌+◌, ◌-◌, ◌<◌, ◌⊎◌, inl, inr, Bool, false, List, [], ◌∷◌, length, get_or, take, zero, suc, ap, sym, ◌∙◌, arith, ⊎_elim}
+use Rattle.std.proofs.lemmas.Bool.{cases_eq}
+use Rattle.std.proofs.lemmas.List.{get_or-set_other, get_or-set_same}
 use Rattle.std.specs.List.{All}
 use Rattle.dmf_node.specs.Node.{IsNode}
 use Rattle.dmf_path.specs.Links.{Links, LiesAt, AreLinks, tail_of}
@@ -40,6 +42,32 @@ abbrev pub OpensUpwards : Links → List ℕ → List ℕ → List ℕ → Type 
 OpensUpwards l labels old new =
     (v p : ℕ) → IsNode l.nodes v → LiesAt l v p → 0 < get_or new p 0
     → (0 < get_or old p 0) ⊎ (get_or labels (get_or l.heads p 0) 0 ≡ get_or labels v 0 + 1)
+
+-- No link has room in `new` that had none in `old`.
+abbrev pub NoneOpens : List ℕ → List ℕ → Type 0
+NoneOpens old new = (p : ℕ) → 0 < get_or new p 0 → 0 < get_or old p 0
+
+pub opens-none : (l : Links) (labels old new : List ℕ) → NoneOpens old new → OpensUpwards l labels old new
+opens-none l labels old new none v p node lies room = inl (none p room)
+
+-- Taking room away opens none.
+pub none-lowered : (l : Links) (rooms : List ℕ) (q amount : ℕ) → length rooms ≡ length l.heads → q < length l.heads
+    → NoneOpens rooms (pushed_once l false amount q rooms)
+none-lowered l rooms q amount long within p room = elim (cases_eq p q) [
+  | inl same ↦
+      let now = get_or-set_same rooms q (get_or rooms q 0 - amount) 0 (omega (arith, long, within)) in
+      omega (arith, room, now, ap (λ r. get_or (pushed_once l false amount q rooms) r 0) same, ap (λ r. get_or rooms r 0) same)
+  | inr apart ↦ omega (arith, room, get_or-set_other rooms q p (get_or rooms q 0 - amount) 0 apart)
+]
+
+-- So a push opens none that is not taken back.
+pub none-pushed : (l : Links) (amount : ℕ) (labels rooms : List ℕ) (u : ℕ) (qs : List ℕ) → length rooms ≡ length l.heads → FallsOn l labels u qs
+    → NoneOpens rooms (pushed l false amount qs rooms)
+none-pushed l amount labels rooms u [] long falls p room = room
+none-pushed l amount labels rooms u (q ∷ qs) long falls p room =
+    none-lowered l rooms q amount long falls.0.within p
+    (none-pushed l amount labels (pushed_once l false amount q rooms) (get_or l.heads q 0) qs
+    (length-pushed_once l false amount q rooms ∙ long) falls.1 p room)
 
 -- A push along a link that falls opens at most its opposite.
 opens-once : (l : Links) (takes_back : Bool) (amount : ℕ) (labels rooms : List ℕ) (u q : ℕ) → AreLinks l → length rooms ≡ length l.heads → Falls l labels u q

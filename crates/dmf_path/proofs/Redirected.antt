@@ -1,15 +1,16 @@
--- Labels that lead to one goal, made to lead to another: that gets the label 0, where only nodes with the labels 0 and 1 lead there.
+-- Labels that lead to one goal, made to lead to another: that gets the label 0, where only nodes with the labels 0 and 1 lead there, and
+-- the one before the label 1.
 use Rattle.std.proofs.Common.{ℕ, ◌≡◌, ◌≢◌, ◌+◌, ◌<◌, ◌≤◌, ◌⊎◌, inl, inr, List, length, get_or, set, ap, subst, sym, ◌∙◌, arith}
-use Rattle.std.proofs.lemmas.List.{get_or-map, get_or-set_other, get_or-set_same, length-set}
+use Rattle.std.proofs.lemmas.List.{get_or-set_other, get_or-set_same, length-set}
 use Rattle.std.proofs.lemmas.Bool.{cases_eq}
 use Rattle.dmf_node.specs.Node.{IsNode}
 use Rattle.dmf_path.specs.Links.{Links, LiesAt, AreLinks, AreFlags, open_flag}
 use Rattle.dmf_path.specs.Labels.{no_label}
 use Rattle.dmf_path.specs.Walk.{AreCurrent, AreSkipped}
-use Rattle.dmf_path.specs.BothEnds.{AreSmall, AreSound, filled, filled_label}
+use Rattle.dmf_path.specs.BothEnds.{AreSmall, AreWhole}
 use Rattle.dmf_path.proofs.Flags.{flag-of_room}
-use Rattle.dmf_path.proofs.Gated.{counts-set}
 use Rattle.dmf_path.proofs.LinkPlaces.{lies-within, lies-partner}
+use Rattle.dmf_path.proofs.Spreading.{cases-set}
 use Rattle.dmf_path.proofs.Walking.{AreCurrent-set}
 
 -- The links with room to the node, in terms of their opposites, which lie at the node.
@@ -44,79 +45,95 @@ opposite l rooms flags node v p links flagged leads =
 abbrev pub IsNear : Links → List ℕ → List ℕ → ℕ → Type 0
 IsNear l rooms labels node = (v p : ℕ) → LeadsTo l rooms node v p → get_or labels v 0 ≤ 1
 
-small-set : (nodes : ℕ) (labels : List ℕ) (goal : ℕ) → IsNode nodes goal → AreSmall nodes labels → AreSmall nodes (set labels goal 0)
-small-set nodes labels goal goal_is small = (
-  length-set labels goal 0 ∙ small.0,
-  λ v node. elim (cases_eq v goal) [
-    | inl same ↦
-        inr (omega (arith, ap (λ u. get_or (set labels goal 0) u 0) same, get_or-set_same labels goal 0 0 (omega (arith, goal_is.to_last, small.0))))
-    | inr other ↦ subst (λ x. (x ≡ no_label) ⊎ (x ≤ nodes)) (sym (get_or-set_other labels goal v 0 0 other)) (small.1 v node)
+-- what another label of one node makes of the labels
+abbrev IsGiven : List ℕ → ℕ → ℕ → ℕ → Type 0
+IsGiven labels node label v = ((v ≡ node) × (get_or (set labels node label) v 0 ≡ label))
+    ⊎ ((v ≢ node) × (get_or (set labels node label) v 0 ≡ get_or labels v 0))
+
+given : (nodes : ℕ) (labels : List ℕ) (node label : ℕ) → IsNode nodes node → AreSmall nodes labels → (v : ℕ) → IsGiven labels node label v
+given nodes labels node label is_node small v = cases-set labels node v label (omega (arith, is_node.to_last, small.0))
+
+small-set : (nodes : ℕ) (labels : List ℕ) (node label : ℕ) → IsNode nodes node → label ≤ nodes → AreSmall nodes labels
+    → AreSmall nodes (set labels node label)
+small-set nodes labels node label is_node low small = (
+  length-set labels node label ∙ small.0,
+  λ v is. elim (given nodes labels node label is_node small v) [
+    | inl here ↦ inr (omega (arith, here.1, low))
+    | inr other ↦ subst (λ x. (x ≡ no_label) ⊎ (x ≤ nodes)) (sym other.1) (small.1 v is)
   ],
 )
 
--- what the goal counts as then
-goal-filled : (nodes beyond : ℕ) (labels : List ℕ) (goal : ℕ) → IsNode nodes goal → AreSmall nodes labels
-    → get_or (filled beyond (set labels goal 0)) goal 0 ≡ 0
-goal-filled nodes beyond labels goal goal_is small =
-    let inside : goal < length labels = omega (arith, goal_is.to_last, small.0) in
-    get_or-map (filled_label beyond) (set labels goal 0) goal 0 0 (omega (arith, inside, length-set labels goal 0))
-    ∙ ap (filled_label beyond) (get_or-set_same labels goal 0 0 inside)
-
--- and another node
-other-filled : (nodes beyond : ℕ) (labels : List ℕ) (goal v : ℕ) → IsNode nodes v → v ≢ goal → AreSmall nodes labels
-    → get_or (filled beyond (set labels goal 0)) v 0 ≡ get_or (filled beyond labels) v 0
-other-filled nodes beyond labels goal v node other small =
-    let inside : v < length labels = omega (arith, node.to_last, small.0) in
-    get_or-map (filled_label beyond) (set labels goal 0) v 0 0 (omega (arith, inside, length-set labels goal 0))
-    ∙ ap (filled_label beyond) (get_or-set_other labels goal v 0 0 other) ∙ sym (get_or-map (filled_label beyond) labels v 0 0 inside)
-
--- The labels stay sound.
-pub sound-redirected : (l : Links) (labels rooms : List ℕ) (goal : ℕ) → AreLinks l → IsNode l.nodes goal → IsNear l rooms labels goal
-    → AreSound l labels rooms no_label → AreSound l (set labels goal 0) rooms no_label
-sound-redirected l labels rooms goal links goal_is near sound =
-    let small = sound.small in
-    let beyond : ℕ = sound.beyond in
-    let next : List ℕ = set labels goal 0 in
-    let at : get_or next goal 0 ≡ 0 = get_or-set_same labels goal 0 0 (omega (arith, goal_is.to_last, small.0)) in
+-- The labels stay whole, where the new goal gets the label 0,
+pub whole-redirected : (l : Links) (labels rooms : List ℕ) (goal : ℕ) → AreLinks l → IsNode l.nodes goal → IsNear l rooms labels goal
+    → AreWhole l labels rooms → AreWhole l (set labels goal 0) rooms
+whole-redirected l labels rooms goal links goal_is near whole =
+    let small = whole.small in
+    let at : (v : ℕ) → IsGiven labels goal 0 v = given l.nodes labels goal 0 goal_is small in
     record {
-      beyond = beyond;
-      small = small-set l.nodes labels goal goal_is small;
-      valid = λ v p node lies room below.
-          let head : ℕ = get_or l.heads p 0 in
-          let head_is : IsNode l.nodes head = (links.each p (lies-within l v p links node lies)).head in
-          elim (cases_eq v goal) [
-            | inl same ↦ omega (arith, ap (λ u. get_or (filled beyond next) u 0) same, goal-filled l.nodes beyond labels goal goal_is small)
-            | inr other ↦ elim (cases_eq head goal) [
-              | inl leads ↦
-                  let one = near v p (record { is_node = node; lies = lies; leads = leads; room = room }) in
-                  omega (
-                    arith,
-                    one,
-                    other-filled l.nodes beyond labels goal v node other small,
-                    counts-set l.nodes beyond labels v small node (λ none. omega (arith, none, one)),
-                  )
-              | inr apart ↦
-                  let same = other-filled l.nodes beyond labels goal head head_is apart small in
-                  omega (
-                    arith,
-                    same,
-                    other-filled l.nodes beyond labels goal v node other small,
-                    sound.valid v p node lies room (omega (arith, below, same)),
-                  )
-            ]
-          ];
-      gated = λ v p node lies room is none.
-          let head : ℕ = get_or l.heads p 0 in
-          elim (cases_eq v goal) [
-            | inl same ↦ omega (arith, is, at, ap (λ u. get_or next u 0) same)
-            | inr other ↦ elim (cases_eq head goal) [
-              | inl leads ↦ omega (arith, none, at, ap (λ u. get_or next u 0) leads)
-              | inr apart ↦
-                  sound.gated v p node lies room (omega (arith, is, get_or-set_other labels goal v 0 0 other))
-                  (sym (get_or-set_other labels goal head 0 0 apart) ∙ none)
-            ]
-          ];
+      small = small-set l.nodes labels goal 0 goal_is (omega arith) small;
+      valid = λ v p node lies room below. elim (at v) [
+        | inl here ↦ omega (arith, here.1)
+        | inr other ↦ elim (at (get_or l.heads p 0)) [
+          | inl leads ↦ omega (arith, other.1, near v p (record { is_node = node; lies = lies; leads = leads.0; room = room }))
+          | inr apart ↦ omega (arith, other.1, apart.1, whole.valid v p node lies room (omega (arith, below, apart.1)))
+        ]
+      ];
     }
+
+-- Only nodes with the labels 0 and 1 lead to the goal before.
+low-before : (l : Links) (labels rooms : List ℕ) (before : ℕ) → get_or labels before 0 ≡ 0 → AreWhole l labels rooms → IsNear l rooms labels before
+low-before l labels rooms before zero whole v p leads =
+    let label = ap (λ u. get_or labels u 0) leads.leads in
+    omega (arith, zero, label, whole.valid v p leads.is_node leads.lies leads.room (omega (arith, zero, label)))
+
+-- and where the goal before gets the label 1.
+pub whole-left : (l : Links) (labels rooms : List ℕ) (before : ℕ) → IsNode l.nodes before → get_or labels before 0 ≡ 0 → AreWhole l labels rooms
+    → AreWhole l (set labels before 1) rooms
+whole-left l labels rooms before before_is zero whole =
+    let small = whole.small in
+    let at : (v : ℕ) → IsGiven labels before 1 v = given l.nodes labels before 1 before_is small in
+    record {
+      small = small-set l.nodes labels before 1 before_is (omega (arith, before_is.from_one, before_is.to_last)) small;
+      valid = λ v p node lies room below. elim (at v) [
+        | inl here ↦ omega (arith, here.1)
+        | inr other ↦ elim (at (get_or l.heads p 0)) [
+          | inl leads ↦
+              let low = low-before l labels rooms before zero whole v p (record { is_node = node; lies = lies; leads = leads.0; room = room }) in
+              omega (arith, other.1, low)
+          | inr apart ↦ omega (arith, other.1, apart.1, whole.valid v p node lies room (omega (arith, below, apart.1)))
+        ]
+      ];
+    }
+
+-- Those that lead to the new goal are as near.
+pub near-left : (l : Links) (labels rooms : List ℕ) (before goal : ℕ) → IsNode l.nodes before → AreSmall l.nodes labels → IsNear l rooms labels goal
+    → IsNear l rooms (set labels before 1) goal
+near-left l labels rooms before goal before_is small near v p leads = elim (given l.nodes labels before 1 before_is small v) [
+  | inl here ↦ omega (arith, here.1)
+  | inr other ↦ omega (arith, other.1, near v p leads)
+]
+
+-- No admissible link is passed, where the goal before looks at all its links again: none leads there now.
+pub skipped-left : (l : Links) (labels rooms current : List ℕ) (before : ℕ) → IsNode l.nodes before → get_or labels before 0 ≡ 0 → AreWhole l labels rooms
+    → AreCurrent l current → AreSkipped l labels rooms current
+    → AreSkipped l (set labels before 1) rooms (set current before (get_or l.first before 0))
+skipped-left l labels rooms current before before_is zero whole current_is skipped v p node lies early admissible =
+    let first : ℕ = get_or l.first before 0 in
+    let at : (u : ℕ) → IsGiven labels before 1 u = given l.nodes labels before 1 before_is whole.small in
+    elim (cases-set current before v first (omega (arith, before_is.to_last, current_is.one_each))) [
+      | inl here ↦ omega (arith, early, here.1, lies.from, ap (λ u. get_or l.first u 0) here.0)
+      | inr other ↦ elim (at v) [
+        | inl same ↦ absurd (other.0 same.0)
+        | inr still ↦ elim (at (get_or l.heads p 0)) [
+          | inl leads ↦
+              let low = low-before l labels rooms before zero whole v p (record { is_node = node; lies = lies; leads = leads.0; room = admissible.room }) in
+              omega (arith, admissible.falls, leads.1, still.1, low)
+          | inr apart ↦
+              skipped v p node lies (omega (arith, early, other.1))
+              (record { lies = lies; room = admissible.room; falls = omega (arith, admissible.falls, apart.1, still.1) })
+        ]
+      ]
+    ]
 
 -- No admissible link is passed, where the links to the new goal are not.
 pub skipped-redirected : (l : Links) (labels rooms current new : List ℕ) (goal : ℕ) → AreSmall l.nodes labels → IsNode l.nodes goal

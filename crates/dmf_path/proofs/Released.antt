@@ -11,13 +11,13 @@ use Rattle.dmf_path.specs.Held.{Way, places_of, walked_slots, rest_slots, filled
 use Rattle.dmf_path.specs.Residual.{Residual, roomed, lowered, told}
 use Rattle.dmf_path.specs.Search.{with_pairs, lowered_along}
 use Rattle.dmf_path.specs.Searching.{IsUnderWay, Labelling, sought, searched, IsAimed, IsSearching}
-use Rattle.dmf_path.proofs.Pushed.{OpensUpwards, ArePassed-opens}
+use Rattle.dmf_path.proofs.Pushed.{OpensUpwards, ArePassed-opens, NoneOpens, none-lowered, opens-none}
 use Rattle.dmf_path.proofs.Gated.{sound-opens}
 use Rattle.dmf_path.proofs.Descending.{off-rising}
 use Rattle.dmf_path.proofs.Settled.{length-settled, room-settled, held-off, held-rooms, places-append}
 use Rattle.dmf_path.proofs.SettledRoom.{room-along}
 use Rattle.dmf_path.proofs.Leaving.{HaveLeft-set}
-use Rattle.dmf_path.proofs.Lowered.{HasPlace, pairs-lowered, opens-lowered}
+use Rattle.dmf_path.proofs.Lowered.{HasPlace, pairs-lowered}
 use Rattle.dmf_path.proofs.UnderWay.{descends-way}
 
 -- A link that does not fall is in no slot.
@@ -106,7 +106,7 @@ searching-lowered r v w p amount next is within off enough made sums =
     let long : length before ≡ length l.heads = length-settled l r.takes_back w.sent (filled_slots w) r.rooms ∙ is.holding.rooms_are.0 in
     let now : told (lowered r p amount) w ≡ lowered (told r w) p amount =
     ap (roomed r) (settled-lowered l r.takes_back w.sent p amount (filled_slots w) r.rooms (omega (arith, within, is.holding.rooms_are.0)) off enough) in
-    let opens : OpensUpwards l labels before after = opens-lowered l labels before p amount long within in
+    let opens : OpensUpwards l labels before after = opens-none l labels before after (none-lowered l before p amount long within) in
     let apart = off-front p (places_of (walked_slots w)) (places_of (rest_slots w)) (subst (IsOff p) (places-append (walked_slots w) (rest_slots w)) off) in
     let a = is.aimed in
     let way = is.under_way in
@@ -154,7 +154,7 @@ pub record IsLowered (r : Residual) (places : List ℕ) (v : Labelling) (w : Way
       ≡ with_pairs (searched (sought r w) places) (lowered_along (pairs_at r.links places (told r w).rooms) k amount)
   pub rooms : List ℕ
   pub told_is : told next w ≡ roomed (told r w) rooms
-  pub opens : OpensUpwards r.links v.labels (told r w).rooms rooms
+  pub none : NoneOpens (told r w).rooms rooms
 
 pub is-lowered : (r : Residual) (places : List ℕ) (v : Labelling) (w : Way) (k p amount : ℕ) (next : Residual) → IsSearching r v w → ArePlaces r.links places
     → HasPlace r.links places (told r w).rooms k amount → p ≡ get_or places k 0 → IsOff p (places_of (filled_slots w))
@@ -173,5 +173,5 @@ is-lowered r places v w k p amount next is are has at off room made sums =
           ∙ pairs-lowered r.links places before k amount is.aimed.links are long has);
       rooms = pushed_once r.links false amount p before;
       told_is = low.1;
-      opens = opens-lowered r.links v.labels before p amount long within;
+      none = none-lowered r.links before p amount long within;
     }

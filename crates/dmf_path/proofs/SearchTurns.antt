@@ -52,18 +52,26 @@ searching-fresh r v w links sums small start goal apart capacity begins current 
     searching-free r v w [] (aimed-fresh r v.labels w.start w.goal w.capacity links begins start goal apart capacity) sums small current
     (passed-fresh r.links v.labels r.rooms w.start w.goal v.current links begins.fresh) (sym begins.fresh.label) begins.goal_label
 
-pub searching-anew : (r : Residual) (v : Labelling) (w : Way) (labelling : Labelling) (start goal : ℕ) (new : Way) → IsSearching r v w
+-- It does so with the current links of any labels.
+pub searching-fresh_with : (r : Residual) (v : Labelling) (w : Way) (labelling : Labelling) (start goal : ℕ) (new : Way) → IsSearching r v w
     → IsNode r.links.nodes start → IsNode r.links.nodes goal → start ≢ goal
-    → labelling.labels ≡ fresh_labels r.links.nodes start goal → labelling.current ≡ v.current
+    → labelling.labels ≡ fresh_labels r.links.nodes start goal → AreCurrent r.links labelling.current
     → new ≡ with_slots (record w { start = start; goal = goal }) [] → IsSearching r labelling new × IsFresh r.links labelling.labels new.start
-searching-anew r v w labelling start goal new is start_is goal_is apart labelled same way =
+searching-fresh_with r v w labelling start goal new is start_is goal_is apart labelled current way =
     let begins = subst (λ ls. BeginsFresh r.links ls start goal) (sym labelled) (begins-fresh r.links start goal start_is goal_is apart) in
-    let current : AreCurrent r.links labelling.current = subst (AreCurrent r.links) (sym same) is.under_way.walking.current_is in
     rw way (
       searching-fresh r labelling (record w { start = start; goal = goal }) is.aimed.links is.holding.rooms_are is.holding.small start_is goal_is apart
           is.aimed.capacity_is begins current,
       begins.fresh,
     )
+
+pub searching-anew : (r : Residual) (v : Labelling) (w : Way) (labelling : Labelling) (start goal : ℕ) (new : Way) → IsSearching r v w
+    → IsNode r.links.nodes start → IsNode r.links.nodes goal → start ≢ goal
+    → labelling.labels ≡ fresh_labels r.links.nodes start goal → labelling.current ≡ v.current
+    → new ≡ with_slots (record w { start = start; goal = goal }) [] → IsSearching r labelling new × IsFresh r.links labelling.labels new.start
+searching-anew r v w labelling start goal new is start_is goal_is apart labelled same =
+    searching-fresh_with r v w labelling start goal new is start_is goal_is apart labelled
+    (subst (AreCurrent r.links) (sym same) is.under_way.walking.current_is)
 
 -- After all links have left, the search goes on,
 pub searching-settled : (r : Residual) (v : Labelling) (w : Way) (next : Residual) (new : Way) → IsSearching r v w → next ≡ told r w → new ≡ emptied w

@@ -1,5 +1,5 @@
 -- What a search keeps, as it finds paths and pushes along them.
-use Rattle.std.proofs.Common.{ℕ, ◌≡◌, ◌+◌, ◌%◌, ◌^◌, Bool, List, length, get_or, ap, sym, ◌∙◌, subst, arith}
+use Rattle.std.proofs.Common.{ℕ, ◌≡◌, ◌+◌, ◌%◌, ◌^◌, Bool, false, List, length, get_or, ap, sym, ◌∙◌, subst, arith}
 use Rattle.std.proofs.lemmas.List.{length-map}
 use Rattle.dmf_path.specs.declared.trail.Slot.{Slot}
 use Rattle.dmf_path.specs.Links.{Links, ArePlaces, AreRooms, pairs_at}
@@ -11,7 +11,7 @@ use Rattle.dmf_path.specs.Searching.{Labelling, Sought, sought, searched, IsUnde
 use Rattle.dmf_path.proofs.Steps.{path_on, step_on, bottleneck_up_to-path_on}
 use Rattle.dmf_path.proofs.LeastTrail.{least-trail}
 use Rattle.dmf_path.proofs.Gated.{sound-opens}
-use Rattle.dmf_path.proofs.Pushed.{FallsOn-trail, OpensUpwards, opens-pushed, ArePassed-opens}
+use Rattle.dmf_path.proofs.Pushed.{FallsOn-trail, NoneOpens, OpensUpwards, none-pushed, opens-pushed, ArePassed-opens}
 use Rattle.dmf_path.proofs.PushedPairs.{pushed_pairs-pushed}
 use Rattle.dmf_path.proofs.Descending.{Descends, descends-trail}
 use Rattle.dmf_path.proofs.Settled.{length-settled}
@@ -30,6 +30,7 @@ pub record CanAugment (r : Residual) (places : List ℕ) (v : Labelling) (w : Wa
   pub have : HaveLeft w.sent r.rooms w.slots
   pub can : CanSend w.sent amount w.slots
   pub opens : OpensUpwards r.links v.labels (told r w).rooms (sent_along r (sent_on w amount)).rooms
+  pub none : r.takes_back ≡ false → NoneOpens (told r w).rooms (sent_along r (sent_on w amount)).rooms
   pub augments : Augments limit (record { amount = amount; links = length w.slots }) (searched (sought r w) places)
       (searched (record { residual = sent_along r (sent_on w amount); start = w.start; goal = w.goal }) places)
 
@@ -67,6 +68,8 @@ can-augment r places v w limit amount places_are is joins least =
       can = can;
       opens = subst (OpensUpwards l labels after) (sym made) (opens-pushed l takes_back amount labels after w.start
           (places_of w.slots) a.links after_long falls);
+      none = λ kept. subst (NoneOpens after) (sym made) (subst (λ b. NoneOpens after (pushed l b amount (places_of w.slots) after)) (sym kept)
+          (none-pushed l amount labels after w.start (places_of w.slots) after_long falls));
       augments = record {
         path = path_on l places after (places_of w.slots);
         least = least-trail l places after labels v.current (places_of w.slots) w.start w.goal a.links places_are a.start_is a.goal_is a.sound a.start_label

@@ -72,6 +72,12 @@ pub record AreSound (l : Links) (labels rooms : List ℕ) (top : ℕ) : Type 0 w
   pub valid : AreValid l (filled beyond labels) rooms top
   pub gated : IsGated l labels rooms beyond
 
+-- Labels of all nodes from which paths lead to the goal: no link with room falls by more than one, and none leads from a node without a
+-- label to one with a label.
+pub record AreWhole (l : Links) (labels rooms : List ℕ) : Type 0 where
+  pub small : AreSmall l.nodes labels
+  pub valid : AreValid l labels rooms no_label
+
 -- The start has a label, and a walk leads from it to the goal, as least paths do.
 pub record IsLabelled (l : Links) (rooms labels : List ℕ) (start goal : ℕ) : Type 0 where
   pub sound : AreSound l labels rooms (slice_index labels start)

@@ -1,11 +1,13 @@
 -- What a search keeps.
 -- Private: only contracts inside the crate and proofs use this.
 use Rattle.std.specs.Prelude.{ℕ, ◌≡◌, ◌≢◌, ◌+◌, ◌^◌, ◌<◌, ◌≤◌, ◌⊎◌, Bool, true, false, List, length, replicate, slice_index, slice_set, vec_capacity}
+use Rattle.std.specs.List.{All}
+use Rattle.dmf_path.specs.declared.aside.Aside.{Aside}
 use Rattle.dmf_path.specs.declared.levels.Levels.{Levels}
 use Rattle.dmf_path.specs.declared.frontier.Frontier.{Frontier}
 use Rattle.dmf_path.specs.Labels.{no_label, AreQueued}
 use Rattle.dmf_path.specs.Frontier.{IsClean}
-use Rattle.dmf_path.specs.BothEnds.{AreSound}
+use Rattle.dmf_path.specs.BothEnds.{AreSound, AreWhole}
 use Rattle.dmf_node.specs.Node.{IsNode}
 use Rattle.dmf_path.specs.Links.{Links, LiesAt, AreLinks, ArePlaces, AreRooms, pairs_at}
 use Rattle.dmf_path.specs.Walk.{AreCurrent, ArePassed, AreSkipped, IsTrail, IsWalking, end_of}
@@ -71,9 +73,9 @@ pub record IsSearching (r : Residual) (v : Labelling) (w : Way) : Type 0 where
 abbrev pub MaySkip : Bool → Residual → List ℕ → List ℕ → Type 0
 MaySkip stepped_back r labels current = stepped_back ≡ false → AreSkipped r.links labels r.rooms current
 
--- Labels that another search may keep: they are sound whatever its start is, and it knows which links are passed.
+-- Labels that another search may keep: they are valid whatever its start is, and it knows which links are passed.
 pub record AreLasting (v : Labelling) (stepped_back : Bool) (r : Residual) : Type 0 where
-  pub sound : AreSound r.links v.labels r.rooms no_label
+  pub whole : AreWhole r.links v.labels r.rooms
   pub skipped : MaySkip stepped_back r v.labels v.current
 
 -- They lead to this goal, so a search from any node with a label may keep them.
@@ -119,6 +121,18 @@ pub record IsReady (nodes : ℕ) (near far : Frontier) : Type 0 where
 -- The same for some number of nodes.
 abbrev pub AreReady : Levels → Type 0
 AreReady v = (nodes : ℕ) × IsReady nodes v.near v.far
+
+-- Labels that a search may take up in this residual network: they can be taken off, and if all nodes from which paths lead to the goal
+-- have one, they lead there.
+pub record AreUsable (levels : Levels) (r : Residual) (goal : ℕ) : Type 0 where
+  pub ready : IsReady r.links.nodes levels.near levels.far
+  pub goal_is : IsNode r.links.nodes goal
+  pub current_is : AreCurrent r.links levels.current.items
+  pub kept : levels.all ≡ true → AreKeptFor (labelling_of levels) levels.stepped_back r goal
+
+-- Those that are set aside are so for the goal that they had, and no room rises.
+abbrev pub AreAside : List Aside → Residual → Type 0
+AreAside asides r = All (λ a. (r.takes_back ≡ false) × AreUsable a.levels r a.ends.goal) asides
 
 -- What a search keeps: the places of the pairs, what it has between two paths, and whether it has not begun.
 pub record IsSearch (r : Residual) (places : List ℕ) (v : Labelling) (w : Way) (is_fresh : Bool) : Type 0 where

@@ -1,10 +1,12 @@
 //! What a search keeps of each node: its label and its current link.
-ghost use Rattle.std.specs.Prelude.{◌≡◌, ℕ, ◌+◌, ◌≤◌, ◌<◌, length, slice_index};
+ghost use Rattle.std.specs.Prelude.{◌≡◌, ℕ, ◌+◌, ◌≤◌, ◌<◌, false, length, slice_index, IfOk};
 ghost use Rattle.dmf_path.specs.LinkTable.{links_of};
+ghost use Rattle.dmf_path.specs.Searching.{IsReady};
 ghost use Rattle.dmf_path.specs.Walk.{AreCurrent};
 
 use crate::frontier::Frontier;
 use crate::table::LinkTable;
+use std::alloc::{AllocError, Global};
 
 /// The labels and the current links of the nodes.
 #[derive(Drop)]
@@ -23,13 +25,32 @@ pub struct Levels {
     pub all: bool,
     /// Whether the walk has stepped back since the current links were set: only then is an admissible link before one of them.
     pub stepped_back: bool,
-    /// Whether the search was aimed at its goal twice in turn.
+    /// Whether the search was aimed twice in turn, with these labels, at the same goal or from the same start.
     pub again: bool,
     /// How many links labelling from both ends has looked at since all nodes got a label, or since both ends of the search changed.
     pub spent: u64,
 }
 
 impl Levels {
+    /// No node has a label, and the current link of each is its first one. Takes memory for five numbers a node.
+    pub fn new(alloc: Global, table: &LinkTable) -> Result<Levels, AllocError>
+        ensures ready { IfOk result (λ levels. IsReady table.now.nodes levels.near levels.far) }
+        ensures all { IfOk result (λ levels. levels.all ≡ false) }
+        ensures current { IfOk result (λ levels. AreCurrent (links_of table.now) levels.current.items) }
+    {
+        Ok(Levels {
+            near: Frontier::new(alloc, table.nodes)?,
+            far: Frontier::new(alloc, table.nodes)?,
+            current: Vec::from_slice(alloc, &table.first[..table.nodes as usize + 1])?,
+            both: false,
+            looked: 0,
+            all: false,
+            stepped_back: false,
+            again: false,
+            spent: 0,
+        })
+    }
+
     /// The same labels, with the first link of each node in this table as its current one.
     pub fn over(mut self, table: &LinkTable) -> Levels
         requires { length self.current.items ≡ table.now.nodes + 1 }

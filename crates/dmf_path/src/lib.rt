@@ -6,6 +6,7 @@ pub use places::Indices;
 pub use search::{AugmentingPath, Search};
 pub use touched::Touched;
 
+mod aside;
 mod frontier;
 mod grown;
 mod label;

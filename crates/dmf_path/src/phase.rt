@@ -6,8 +6,9 @@ ghost use Rattle.dmf_path.specs.Walk.{IsWalk};
 ghost use Rattle.dmf_path.specs.Held.{way_of, with_slots};
 ghost use Rattle.dmf_path.specs.Residual.{residual_of, told};
 ghost use Rattle.dmf_path.specs.Searching.{labelling_of, sought, AreReady, IsSearching, IsFound, IsFresh, IsReady, IsSeparated, fresh_labels};
-ghost use Rattle.dmf_path.specs.Searching.{AreKept, IsMarked, MayLast};
+ghost use Rattle.dmf_path.specs.Searching.{AreAside, AreKept, IsMarked, MayLast};
 
+use crate::aside::{Aside, Ends, take_up};
 use crate::frontier::unlabel;
 use crate::levels::{Levels, set_current};
 use crate::push::Links;
@@ -90,28 +91,41 @@ pub fn begin_anew(links: &mut Links, levels: &mut Levels, trail: &mut Trail)
     levels.both = true;
 }
 
-/// Restarts the search between other nodes: applies the held pushes, and keeps the labels if they can be made to lead to the goal. Else
-/// it takes off all labels, and is fresh. Whether it is.
-pub fn aim(links: &mut Links, levels: &mut Levels, trail: &mut Trail, start: u32, goal: u32) -> bool
+/// Restarts the search between other nodes: applies the held pushes, takes up the labels that fit these nodes, and keeps them if they can
+/// be made to lead to the goal. Else it takes them off, and is fresh. Whether it is.
+pub fn aim(
+    links: &mut Links,
+    levels: &mut Levels,
+    asides: &mut [Aside],
+    trail: &mut Trail,
+    ends: Ends,
+) -> bool
     requires searching { IsSearching (residual_of links.old) (labelling_of levels.old) (way_of trail.old) }
     requires ready { AreReady levels.old }
     requires lasting { MayLast levels.old (told (residual_of links.old) (way_of trail.old)) }
-    requires start { IsNode links.old.table.value.nodes start }
-    requires goal { IsNode links.old.table.value.nodes goal }
-    requires apart { start ≢ goal }
+    requires asides { AreAside asides.old (told (residual_of links.old) (way_of trail.old)) }
+    requires start { IsNode links.old.table.value.nodes ends.start }
+    requires goal { IsNode links.old.table.value.nodes ends.goal }
+    requires apart { ends.start ≢ ends.goal }
     ensures searching { IsSearching (residual_of links.new) (labelling_of levels.new) (way_of trail.new) }
     ensures ready { AreReady levels.new }
     ensures kept { AreKept levels.new result (told (residual_of links.new) (way_of trail.new)) }
+    ensures asides { AreAside asides.new (told (residual_of links.new) (way_of trail.new)) }
     ensures marked { IsMarked (links_of links.new.table.value) levels.new.near.labels.items trail.new.start result }
     ensures same { sought (residual_of links.new) (way_of trail.new)
-        ≡ record { residual = told (residual_of links.old) (way_of trail.old); start = start; goal = goal } }
+        ≡ record { residual = told (residual_of links.old) (way_of trail.old); start = ends.start; goal = ends.goal } }
 {
     trail.settle(links);
-    let from = trail.goal;
-    trail.start = start;
-    trail.goal = goal;
-    if redirect(links, levels, from, start, goal) {
-        trail.free(levels.near.labels[start as usize]);
+    let before = Ends {
+        start: trail.start,
+        goal: trail.goal,
+    };
+    let used = take_up(asides, levels, before, ends);
+    levels.again = used.share_one(ends);
+    trail.start = ends.start;
+    trail.goal = ends.goal;
+    if redirect(links, levels, used.goal, ends.start, ends.goal) {
+        trail.free(levels.near.labels[ends.start as usize]);
         return false;
     }
     make_fresh(&links.table, levels, trail);

@@ -11,14 +11,14 @@ use std::marker::Model;
 /// Indices in ascending order.
 #[derive(Clone, Copy, Debug)]
 pub enum Indices<'a> {
-    /// All indices below this number.
+    /// All below this number.
     Below(usize),
-    /// The indices of this list.
+    /// Those that are listed.
     Listed(&'a [u32]),
 }
 
 impl Indices<'_> {
-    /// How many indices there are. Takes no memory.
+    /// How many there are. Takes no memory.
     pub fn len(&self) -> usize
         ensures { result ≡ length (indices_of self.now) }
     {
@@ -28,7 +28,7 @@ impl Indices<'_> {
         }
     }
 
-    /// Index number `i`, counted from 0. Takes no memory.
+    /// That which is number `i`, counted from 0. Takes no memory.
     pub fn at(&self, i: usize) -> usize
         requires { i < length (indices_of self.now) }
         ensures { result ≡ slice_index (indices_of self.now) i }

@@ -14,10 +14,11 @@ use crate::push::Links;
 use crate::table::LinkTable;
 
 /// Makes the labels, which lead to one goal, lead to another, and to that from this start: if all nodes from which paths lead to the one
-/// goal have labels, and it takes no more than the label 0 for the other. Whether they lead there then.
+/// goal have labels, and it takes no more than the label 0 for the other and 1 for the one. Whether they lead there then.
 pub fn redirect(links: &Links, levels: &mut Levels, from: u32, start: u32, goal: u32) -> bool
     requires ready { IsReady links.now.table.value.nodes levels.old.near levels.old.far }
     requires kept { levels.old.all ≡ true → AreKeptFor (labelling_of levels.old) levels.old.stepped_back (residual_of links.now) from }
+    requires from { IsNode links.now.table.value.nodes from }
     requires start { IsNode links.now.table.value.nodes start }
     requires goal { IsNode links.now.table.value.nodes goal }
     requires apart { start ≢ goal }
@@ -36,6 +37,8 @@ pub fn redirect(links: &Links, levels: &mut Levels, from: u32, start: u32, goal:
     if levels.stepped_back || labels[goal as usize] == NO_LABEL || !is_near(links, labels, goal) {
         return false;
     }
+    levels.near.labels[from as usize] = 1;
+    levels.current[from as usize] = links.table.first[from as usize];
     bring_back(&links.table, &links.flags, goal, &mut levels.current);
     levels.near.labels[goal as usize] = 0;
     true

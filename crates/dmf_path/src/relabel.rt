@@ -3,7 +3,7 @@ ghost use Rattle.std.specs.Prelude.{◌≡◌, ◌≢◌, ℕ, ◌+◌, ◌≤�
 ghost use Rattle.dmf_node.specs.Node.{IsNode};
 ghost use Rattle.dmf_path.specs.LinkTable.{links_of};
 ghost use Rattle.dmf_path.specs.Labels.{AreQueued, no_label, unlabelled_count};
-ghost use Rattle.dmf_path.specs.BothEnds.{AreJoined, AreSound, IsLabelled};
+ghost use Rattle.dmf_path.specs.BothEnds.{AreJoined, AreWhole, IsLabelled};
 ghost use Rattle.dmf_path.specs.Frontier.{IsClean};
 ghost use Rattle.dmf_path.specs.Searching.{IsReady, IsSeparated};
 
@@ -27,7 +27,7 @@ pub fn label_anew(links: &Links, levels: &mut Levels, start: u32, goal: u32) -> 
     ensures ready { IsReady links.now.table.value.nodes levels.new.near levels.new.far }
     ensures labelled { result ≡ true → IsLabelled (links_of links.now.table.value) links.now.rooms.items levels.new.near.labels.items start goal }
     ensures none { result ≡ false → IsSeparated (links_of links.now.table.value) links.now.rooms.items start goal }
-    ensures lasting { levels.new.all ≡ true → AreSound (links_of links.now.table.value) levels.new.near.labels.items links.now.rooms.items no_label }
+    ensures lasting { levels.new.all ≡ true → AreWhole (links_of links.now.table.value) levels.new.near.labels.items links.now.rooms.items }
     ensures current { levels.new.current ≡ levels.old.current }
     ensures capacity { vec_capacity levels.new.near.queue ≡ vec_capacity levels.old.near.queue }
 {
@@ -70,7 +70,7 @@ fn label_all(links: &Links, near: &mut Frontier, start: u32, goal: u32)
     requires goal { IsNode links.now.table.value.nodes goal }
     ensures long { length near.new.labels.items ≡ links.now.table.value.nodes + 1 }
     ensures queued { AreQueued near.new.labels.items near.new.queue.items }
-    ensures sound { AreSound (links_of links.now.table.value) near.new.labels.items links.now.rooms.items no_label }
+    ensures whole { AreWhole (links_of links.now.table.value) near.new.labels.items links.now.rooms.items }
     ensures labelled { slice_index near.new.labels.items start ≢ no_label →
         IsLabelled (links_of links.now.table.value) links.now.rooms.items near.new.labels.items start goal }
     ensures none { slice_index near.new.labels.items start ≡ no_label → IsSeparated (links_of links.now.table.value) links.now.rooms.items start goal }

@@ -7,6 +7,7 @@ ghost use Rattle.dmf_path.specs.Search.{Augments, HasAlong, along_at, against_at
 ghost use Rattle.dmf_path.specs.Search.{aimed, lowered_along, with_rooms, with_pairs};
 ghost use Rattle.dmf_path.specs.Touched.{AreBelow, Touches};
 
+use crate::aside::{Aside, Ends};
 use crate::levels::Levels;
 use crate::numbers::{have_same_numbers, number_links};
 use crate::phase::{aim, begin_anew, find};
@@ -46,6 +47,8 @@ pub struct Search {
     /// For each link the index of its pair, once the links are numbered. Searches over the same links share the numbers.
     numbers: Option<Rc<Vec<u32>>>,
     levels: Levels,
+    /// Other labels, if the search keeps two sets. It takes nothing back then, so that they stay valid while others are in use.
+    asides: Vec<Aside>,
     trail: Trail,
     /// Whether the search has looked for no path since it began, or began anew: then no push is held, and no link is passed.
     is_fresh: bool,
@@ -56,7 +59,7 @@ impl Model for Search {
     ghost use Rattle.dmf_path.specs.LinkTable.{links_of};
     ghost use Rattle.dmf_path.specs.Residual.{residual_of, told};
     ghost use Rattle.dmf_path.specs.Search.{Searched};
-    ghost use Rattle.dmf_path.specs.Searching.{labelling_of, sought, searched, AreKept, AreReady, IsSearch};
+    ghost use Rattle.dmf_path.specs.Searching.{labelling_of, sought, searched, AreAside, AreKept, AreReady, IsSearch};
     ghost use Rattle.dmf_path.specs.Touching.{MayBeNumbered};
 
     ghost Value = { Searched };
@@ -64,7 +67,8 @@ impl Model for Search {
     ghost view = { λ a. searched (sought (residual_of a.links) (way_of a.trail)) a.places.value };
 
     ghost invariant = { λ a. (AreReady a.levels × MayBeNumbered (links_of a.links.table.value) a.places.value a.numbers
-        × AreKept a.levels a.is_fresh (told (residual_of a.links) (way_of a.trail)))
+        × AreKept a.levels a.is_fresh (told (residual_of a.links) (way_of a.trail))
+        × AreAside a.asides.items (told (residual_of a.links) (way_of a.trail)))
         × IsSearch (residual_of a.links) a.places.value (labelling_of a.levels) (way_of a.trail) a.is_fresh };
 }
 
@@ -161,6 +165,25 @@ impl Search {
         self.links.lower(place, amount);
     }
 
+    /// Keeps two sets of labels until rooms are set from outside, if nothing is taken back: a search that is aimed from one node at many,
+    /// and at it from many, then has labels for both. Takes memory for some numbers a node; where two sets are kept already, the call
+    /// does nothing.
+    pub fn keep_two(&mut self, alloc: Global) -> Result<(), AllocError>
+        ensures { self.new ≡ self.old }
+    {
+        if self.links.takes_back || !self.asides.is_empty() {
+            return Ok(());
+        }
+        let links = &self.links;
+        let levels = Levels::new(alloc, &links.table)?;
+        let ends = Ends {
+            start: self.trail.start,
+            goal: self.trail.goal,
+        };
+        self.asides.push(Aside { levels, ends })?;
+        Ok(())
+    }
+
     /// Applies the held pushes to the rooms. Each room is then read in constant time; before, in time for each link of the path. Takes
     /// no memory.
     pub fn settle(&mut self)
@@ -177,13 +200,12 @@ impl Search {
         requires apart { start ≢ goal }
         ensures { self.new ≡ aimed self.old start goal }
     {
-        self.levels.again = (goal == self.trail.goal) | (start == self.trail.start);
         self.is_fresh = aim(
             &mut self.links,
             &mut self.levels,
+            &mut self.asides,
             &mut self.trail,
-            start,
-            goal,
+            Ends { start, goal },
         );
     }
 
@@ -195,6 +217,7 @@ impl Search {
         requires fits { along + against < 2 ^ 64 }
         ensures { self.new ≡ with_pairs self.old (with_rooms self.old.pairs k along against) }
     {
+        self.asides.clear();
         if !self.is_fresh {
             begin_anew(&mut self.links, &mut self.levels, &mut self.trail);
             self.is_fresh = true;

@@ -10,21 +10,21 @@ use Rattle.dmf_session.specs.declared.command.Command.{Command}
 use Rattle.dmf_session.specs.declared.command.Refusal.{Refusal}
 use Rattle.dmf_session.specs.Step.{Answers}
 use Rattle.dmf_history.specs.Timeline.{Timeline}
-use Rattle.dmf_runs.specs.declared.fault.Status.{Status}
-use Rattle.dmf_runs.specs.declared.fault.EngineFault.{EngineFault}
-use Rattle.dmf_runs.specs.declared.fault.EngineFault.TheVariants as fault
+use Rattle.dmf_streams.specs.declared.fault.Status.{Status}
+use Rattle.dmf_streams.specs.declared.fault.EngineFault.{EngineFault}
+use Rattle.dmf_streams.specs.declared.fault.EngineFault.TheVariants as fault
 use Rattle.dmf_runs.specs.declared.reply.Answer.{Answer}
 use Rattle.dmf_runs.specs.declared.reply.SolveReply.{SolveReply}
 use Rattle.dmf_text.specs.declared.writer.WriteFault.{WriteFault}
 use Rattle.dmf_text.specs.Streams.{Writer}
-use Rattle.dmf_runs.specs.Pending.{Pending}
-use Rattle.dmf_runs.specs.KeptLine.{Kept, Means}
-use Rattle.dmf_runs.specs.Line.{HasNoLineFeed, with_line_feeds, line_meaning}
+use Rattle.dmf_streams.specs.Pending.{Pending}
+use Rattle.dmf_streams.specs.KeptLine.{Kept}
+use Rattle.dmf_runs.specs.Line.{Means, with_line_feeds, line_meaning}
+use Rattle.dmf_streams.specs.Input.{HasNoLineFeed, InputState, Takes, TakesLine, HasEnded, HasFailed, IsPastLimit, GivesLine, GivesEnd, left}
 use Rattle.dmf_runs.specs.Run.{HasReply, LineRuns, Runs}
-use Rattle.dmf_runs.specs.Input.{InputState, Takes, TakesLine, HasEnded, HasFailed, IsPastLimit, GivesLine, GivesEnd, left}
 use Rattle.dmf_runs.specs.Outcome.{LastHasReply, RestRuns, RunsAll, RunsCommandsWith, status_if, line_count}
 use Rattle.dmf_runs.specs.WrittenLine.{is_refusal, WritesLine}
-use Rattle.dmf_runs.proofs.TakingLemmas.{Takes-trans}
+use Rattle.dmf_streams.proofs.TakingLemmas.{Takes-trans}
 use Rattle.dmf_runs.proofs.LineLemmas.{or-false}
 use Rattle.dmf_runs.proofs.Progress.{streams, IsFresh, Progress, Carried, Progress-more}
 

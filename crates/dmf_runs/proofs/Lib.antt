@@ -1,7 +1,3 @@
-pub mod Giving
-pub mod KeptLineLemmas
-pub mod TakingLemmas
-pub mod ReplyLemmas
 pub mod LineLemmas
 pub mod Progress
 pub mod Endings

@@ -1,6 +1,7 @@
 -- What one line leaves, and one line more of a run.
-use Rattle.std.proofs.Common.{ℕ, ◌≡◌, ◌+◌, List, [], ◌∷◌, ◌++◌, length, Bool, true, false, ◌||◌, Result, Err, ◌⊎◌, inl, inr, refl, sym, ap, ◌∙◌, subst, arith}
+use Rattle.std.proofs.Common.{ℕ, ◌≡◌, ◌+◌, List, [], ◌∷◌, ◌++◌, length, ltb, cond, Bool, true, false, ◌||◌, Result, Err, ◌⊎◌, inl, inr, refl, sym, ap, ◌∙◌, subst, arith}
 use Rattle.std.proofs.Common.{append_assoc, append-nil}
+use Rattle.std.specs.Str.Lines.{strip_carriage_return}
 use Rattle.dmf_session.specs.declared.command.Command.{Command}
 use Rattle.dmf_session.specs.declared.command.Reply.{Reply}
 use Rattle.dmf_session.specs.declared.command.Refusal.{Refusal}
@@ -8,6 +9,9 @@ use Rattle.dmf_session.specs.declared.command.Refusal.TheVariants.{NoMemory}
 use Rattle.dmf_history.specs.Timeline.{Timeline}
 use Rattle.dmf_session.specs.Step.{Steps, Answers}
 use Rattle.dmf_runs.specs.declared.reply.SolveReply.{SolveReply}
+use Rattle.dmf_streams.specs.KeptLine.{Kept, IsKept}
+use Rattle.dmf_streams.proofs.KeptLineLemmas.{whole-line}
+use Rattle.dmf_runs.specs.CommandText.{command_of}
 use Rattle.dmf_runs.specs.Line.{line_meaning}
 use Rattle.dmf_runs.specs.Run.{LineRuns, Runs}
 
@@ -59,3 +63,11 @@ Runs-push wanted number t (x ∷ lines) text refused u line more later v runs th
       text_is = ap (λ y. y ++ more) runs.text_is ∙ append_assoc runs.first runs.more more;
       refused_is = ap (λ b. b || later) runs.refused_is ∙ or-assoc runs.here runs.later later;
     }
+
+-- what a line means that is not too long
+pub meaning-of : (kept : Kept) (ended : Bool) (line content : List ℕ) → kept.is_long ≡ false → IsKept kept line
+    → content ≡ cond ended (strip_carriage_return kept.bytes) kept.bytes → command_of content ≡ line_meaning ended line
+meaning-of kept ended line content short is content_is =
+    let whole : kept.bytes ≡ line = whole-line kept line short is in
+    let test : ltb 4096 (length line) ≡ false = sym is.long_is ∙ short in
+    rw test (ap command_of (content_is ∙ ap (λ l. cond ended (strip_carriage_return l) l) whole))

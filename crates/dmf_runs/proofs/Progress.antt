@@ -13,11 +13,11 @@ use Rattle.dmf_history.specs.Timeline.{Timeline}
 use Rattle.dmf_runs.specs.declared.reply.SolveReply.{SolveReply}
 use Rattle.dmf_text.specs.Streams.{Writer}
 use Rattle.dmf_runs.specs.Streams.{Streams}
-use Rattle.dmf_runs.specs.KeptLine.{Kept, Means}
-use Rattle.dmf_runs.specs.Line.{HasNoLineFeed, with_line_feeds, line_meaning}
+use Rattle.dmf_streams.specs.KeptLine.{Kept}
+use Rattle.dmf_runs.specs.Line.{Means, with_line_feeds, line_meaning}
+use Rattle.dmf_streams.specs.Input.{HasNoLineFeed, InputState, Takes, TakesLine, left}
 use Rattle.dmf_runs.specs.Run.{LineRuns, Runs}
-use Rattle.dmf_runs.specs.Input.{InputState, Takes, TakesLine, left}
-use Rattle.dmf_runs.proofs.TakingLemmas.{Takes-trans}
+use Rattle.dmf_streams.proofs.TakingLemmas.{Takes-trans}
 use Rattle.dmf_runs.proofs.LineLemmas.{Runs-push}
 
 -- the reader of an input, and a writer

@@ -1,12 +1,13 @@
 -- The answer of a session whose problem was read, and of one that stops while it reads the problem.
 use Rattle.std.proofs.Common.{◌≡◌, ℕ, List, Ok, Err, Result, inl, inr}
-use Rattle.dmf_runs.specs.declared.fault.Status.{Status}
-use Rattle.dmf_runs.specs.declared.fault.EngineFault.{EngineFault}
-use Rattle.dmf_runs.specs.declared.fault.EngineFault.TheVariants as fault
+use Rattle.dmf_streams.specs.declared.fault.Status.{Status}
+use Rattle.dmf_streams.specs.declared.fault.EngineFault.{EngineFault}
+use Rattle.dmf_streams.specs.declared.fault.EngineFault.TheVariants as fault
 use Rattle.dmf_runs.specs.declared.reply.SolveReply.{SolveReply}
 use Rattle.dmf_text.specs.Streams.{Reader}
 use Rattle.dmf_runs.specs.Streams.{Streams}
-use Rattle.dmf_runs.specs.Session.{ReadsProblem, RunsOn, SessionAnswered}
+use Rattle.dmf_streams.specs.Reading.{ReadsProblem}
+use Rattle.dmf_runs.specs.Session.{RunsOn, SessionAnswered}
 
 pub answered-by_run : (wanted : SolveReply) (bound : ℕ) (from to : Reader) (old new : Streams) (text : List ℕ) (result : Result Status EngineFault)
     → RunsOn wanted bound from to old new text result → SessionAnswered wanted bound from to old new text result

@@ -3,7 +3,8 @@ use Rattle.std.proofs.Common.{ℕ, ◌≡◌, ◌≢◌, List, [], ◌∷◌, �
 use Rattle.std.specs.List.{All}
 use Rattle.std.proofs.lemmas.Bool.Decides.{eqb_tells}
 use Rattle.std.proofs.lemmas.List.Elements.{All-nil, All-cons, All-head, All-tail}
-use Rattle.dmf_runs.specs.Line.{HasNoLineFeed, with_line_feeds, IsSplit}
+use Rattle.dmf_streams.specs.Input.{HasNoLineFeed}
+use Rattle.dmf_runs.specs.Line.{with_line_feeds, IsSplit}
 
 -- ---- a way to split
 

@@ -9,13 +9,9 @@ use Rattle.dmf_session.specs.declared.command.Reply.{Reply}
 use Rattle.dmf_session.specs.declared.command.Refusal.{Refusal}
 use Rattle.dmf_history.specs.Timeline.{Timeline, start, extended, appended}
 use Rattle.dmf_session.specs.Step.{Steps, Answers}
-use Rattle.dmf_session.specs.Optimal.{IsOptimal, HasOptimalPresent}
-use Rattle.dmf_runs.specs.declared.fault.Status.{Status}
-use Rattle.dmf_runs.specs.declared.fault.EngineFault.{EngineFault}
-use Rattle.dmf_text.specs.Streams.{Reader, Writer}
+use Rattle.dmf_session.specs.Optimal.{HasOptimalPresent}
 use Rattle.dmf_runs.specs.Run.{Answering, Runs}
 use Rattle.dmf_runs.specs.Outcome.{RunsAll, line_count}
-use Rattle.dmf_runs.specs.SolveRun.{WritesSolved}
 
 -- A run of this command text from the timeline `t`: what it writes, and whether a line is refused.
 pub record SomeRun (brief : Bool) (Gives : Answering) (t : Timeline) (given : List ℕ) : Type 0 where
@@ -75,9 +71,3 @@ MillionIsNeverForgotten =
     (want_cut brief : Bool) (s : NetworkState) (given text : List ℕ) (refused : Bool)
     → (all : RunsAll brief (Answers want_cut) (start 1000000 s) given text refused) → line_count all.lines all.rest ≤ 1000000
     → RunsAll brief (AnswersForgettingNothing want_cut) (start 1000000 s) given text refused
-
--- Where a run that solves a problem writes a solution, it is that of an optimal state.
-abbrev pub WrittenIsOptimal : Type 0
-WrittenIsOptimal =
-    (want_cut : Bool) (from to : Reader) (old new : Writer) (text : List ℕ) (result : Result Status EngineFault)
-    → (run : WritesSolved want_cut from to old new text result) → IsOptimal run.solved

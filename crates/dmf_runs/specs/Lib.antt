@@ -1,15 +1,8 @@
 pub mod CommandText
 pub mod Streams
-pub mod Pending
 pub mod Line
-pub mod KeptLine
 pub mod Run
 pub mod Laws
-pub mod Input
 pub mod Outcome
 pub mod WrittenLine
 pub mod Session
-pub mod WholeText
-pub mod SolveRun
-pub mod CheckRun
-pub mod Status

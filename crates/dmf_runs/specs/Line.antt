@@ -1,16 +1,14 @@
 -- How a command text is split into lines, and what a line means.
 -- Public: a public contract says no more than this.
-use Rattle.std.specs.Prelude.{ℕ, ◌≡◌, ◌≢◌, List, [], ◌∷◌, ◌++◌, length, nat_lt, if◌then◌else◌, All, Bool, Option, Result, Err}
+use Rattle.std.specs.Prelude.{ℕ, ◌≡◌, List, [], ◌∷◌, ◌++◌, length, nat_lt, if◌then◌else◌, All, Bool, Option, Result, Err}
 use Rattle.std.specs.List.{flat_map}
 use Rattle.std.specs.Str.Lines.{strip_carriage_return}
 use Rattle.dmf_session.specs.declared.command.Command.{Command}
 use Rattle.dmf_session.specs.declared.command.Refusal.{Refusal}
 use Rattle.dmf_session.specs.declared.command.Refusal.TheVariants.{LineTooLong}
+use Rattle.dmf_streams.specs.Input.{HasNoLineFeed}
+use Rattle.dmf_streams.specs.KeptLine.{Kept, IsKept}
 use Rattle.dmf_runs.specs.CommandText.{command_of}
-
--- No byte is a line feed.
-abbrev pub HasNoLineFeed : List ℕ → Type 0
-HasNoLineFeed bytes = All (λ b. b ≢ 10) bytes
 
 -- the bytes of lines of which each is ended by a line feed
 abbrev pub with_line_feeds : List (List ℕ) → List ℕ
@@ -28,3 +26,7 @@ abbrev pub line_meaning : Bool → List ℕ → Result (Option Command) Refusal
 line_meaning ended line =
     if nat_lt 4096 (length line) then Err LineTooLong
     else command_of (if ended then strip_carriage_return line else line)
+
+-- A line of which this is kept, and which a line feed ended or not, means this.
+abbrev pub Means : Kept → Bool → Result (Option Command) Refusal → Type 0
+Means kept ended meaning = (line : List ℕ) → IsKept kept line → meaning ≡ line_meaning ended line

@@ -4,13 +4,14 @@ use Rattle.std.specs.Prelude.{◌^◌, ℕ, ◌≡◌, ◌⊎◌, ◌+◌, ◌-�
 use Rattle.std.specs.Prelude.{Result, Ok, Err}
 use Rattle.std.specs.Io.KnownBytes.{Consumes, Appends, IsAtEnd}
 use Rattle.dmf_history.specs.Timeline.{Timeline}
-use Rattle.dmf_runs.specs.declared.fault.Status.{Status}
-use Rattle.dmf_runs.specs.declared.fault.Status.TheVariants.{Well, SomeRefused}
-use Rattle.dmf_runs.specs.declared.fault.EngineFault.{EngineFault}
-use Rattle.dmf_runs.specs.declared.fault.EngineFault.TheVariants as fault
+use Rattle.dmf_streams.specs.declared.fault.Status.{Status}
+use Rattle.dmf_streams.specs.declared.fault.Status.TheVariants.{Well, SomeRefused}
+use Rattle.dmf_streams.specs.declared.fault.EngineFault.{EngineFault}
+use Rattle.dmf_streams.specs.declared.fault.EngineFault.TheVariants as fault
 use Rattle.dmf_runs.specs.declared.reply.SolveReply.{SolveReply}
 use Rattle.dmf_runs.specs.Streams.{Streams}
-use Rattle.dmf_runs.specs.Line.{HasNoLineFeed, with_line_feeds, IsSplit, line_meaning}
+use Rattle.dmf_streams.specs.Input.{HasNoLineFeed}
+use Rattle.dmf_runs.specs.Line.{with_line_feeds, IsSplit, line_meaning}
 use Rattle.dmf_session.specs.Step.{Answers}
 use Rattle.dmf_runs.specs.Run.{Answering, HasReply, LineRuns, Runs}
 

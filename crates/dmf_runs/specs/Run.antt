@@ -4,6 +4,7 @@ use Rattle.std.specs.Prelude.{ℕ, ◌≡◌, ◌≢◌, ◌+◌, List, [], ◌�
 use Rattle.dmf_state.specs.NetworkState.{NetworkState}
 use Rattle.dmf_state.specs.Side.{CutSide}
 use Rattle.dmf_text.specs.Written.{written_line, problem_text, solution_text, cut_text}
+use Rattle.dmf_solving.specs.Solved.{side_text, solved_text}
 use Rattle.dmf_session.specs.declared.command.Command.{Command}
 use Rattle.dmf_session.specs.declared.command.Command.TheVariants.{Solve}
 use Rattle.dmf_session.specs.declared.command.Reply.{Reply}
@@ -23,15 +24,6 @@ value_text command value = written_line (codes "c" ∷ word_of command ∷ codes
 abbrev pub added_text : Command → ℕ → ℕ → List ℕ
 added_text command arc value =
     written_line (codes "c" ∷ word_of command ∷ decimal arc ∷ codes "value" ∷ decimal value ∷ [])
-
--- this cut, if there is one
-abbrev pub side_text : Option CutSide → List ℕ
-side_text None = []
-side_text (Some side) = cut_text side
-
--- the solution of a state, and this cut after it, if there is one
-abbrev pub solved_text : NetworkState → Option CutSide → List ℕ
-solved_text s side = solution_text s ++ side_text side
 
 -- what a solve is answered by that left the state `s`: its solution or, where brief replies are wanted, `c solve value V`; and
 -- this cut after it, if there is one

@@ -6,10 +6,10 @@ ghost use Rattle.dmf_text.specs.Number.{number_of};
 ghost use Rattle.dmf_runs.specs.CommandText as text;
 ghost use Rattle.dmf_runs.specs.CommandText.{command_of, command_by, meaning_of, meaning_of_other};
 ghost use Rattle.dmf_runs.specs.CommandText.{capping, addition, one_number, solving, steps, printing, with_number};
-ghost use Rattle.dmf_runs.specs.KeptLine.{Means};
+ghost use Rattle.dmf_runs.specs.Line.{Means};
 
-use crate::kept_line::KeptLine;
 use dmf_session::{Command, Refusal};
+use dmf_streams::KeptLine;
 use dmf_text::{Fields, NumberFault, number};
 
 /// What a command line means: nothing, a command, or why it is refused.

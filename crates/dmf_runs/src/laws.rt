@@ -1,10 +1,6 @@
-ghost use Rattle.dmf_runs.specs.Laws.{HasRun, HasOneRun, StepsAreAnswers, SolvesAreOptimal, RunsAreOptimal, WrittenIsOptimal, MillionIsNeverForgotten};
+ghost use Rattle.dmf_runs.specs.Laws.{HasRun, HasOneRun, StepsAreAnswers, SolvesAreOptimal, RunsAreOptimal, MillionIsNeverForgotten};
 
-use dmf_session::{
-    command_has_answer, command_has_one_answer, greatest_is_optimal, solved_is_optimal,
-};
-use dmf_solver::solved_is_greatest;
-use dmf_text::accepted_is_state;
+use dmf_session::{command_has_answer, command_has_one_answer, solved_is_optimal};
 
 /// The law that each command text, of any bytes, has a run from the start of each state in which no command is refused memory.
 pub fn command_text_has_run()
@@ -45,13 +41,3 @@ pub fn solves_are_optimal()
 pub fn million_is_never_forgotten()
     ensures { MillionIsNeverForgotten }
 {}
-
-/// The law that the solution that a solving run writes has the greatest value of all flows, and that this value is the capacity of the
-/// smallest minimum cut.
-pub fn written_is_optimal()
-    ensures { WrittenIsOptimal }
-{
-    accepted_is_state();
-    solved_is_greatest();
-    greatest_is_optimal();
-}

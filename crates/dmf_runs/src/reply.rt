@@ -1,5 +1,5 @@
 //! Replies to command lines. Each is written and flushed.
-ghost use Rattle.std.specs.Prelude.{◌≡◌, [], true, IfOk};
+ghost use Rattle.std.specs.Prelude.{◌≡◌, true, IfOk};
 ghost use Rattle.dmf_text.specs.Writing.{Writes};
 ghost use Rattle.dmf_session.specs.Step.{IsReplyTo};
 ghost use Rattle.dmf_runs.specs.Run as run;
@@ -8,11 +8,11 @@ ghost use Rattle.dmf_runs.specs.WrittenLine.{is_refusal};
 use crate::command_text::word_of;
 use crate::refusal::refusal_text;
 use dmf_session::{Command, Refusal, Reply};
+use dmf_solving::{write_side, write_solved};
 use dmf_state::{Side, State};
+use dmf_streams::{flush, put_line, write_line};
 use dmf_text::LineField::{Number, Text};
-use dmf_text::{
-    LineBuffer, Sink, WriteFault, line_of, put_all, write_cut, write_problem, write_solution,
-};
+use dmf_text::{LineBuffer, Sink, WriteFault, line_of, write_cut, write_problem, write_solution};
 
 /// What is wanted of the reply to a solve.
 #[derive(Clone, Copy)]
@@ -53,26 +53,6 @@ pub fn refuse<W: Sink>(number: u32, refusal: &Refusal, out: &mut W) -> Result<An
     Ok(Answer::Refused)
 }
 
-/// Writes a line, and flushes.
-pub fn put_line<W: Sink>(line: &LineBuffer, out: &mut W) -> Result<(), WriteFault>
-    ensures { Writes (W.written out.old) (W.written out.new) result line.now }
-{
-    write_line(line, out)?;
-    flush(out)
-}
-
-/// Writes the solution of a state, and after it this cut, if there is one, and flushes.
-pub fn put_solved<W: Sink>(
-    state: &State,
-    side: &Option<Side>,
-    out: &mut W,
-) -> Result<(), WriteFault>
-    ensures { Writes (W.written out.old) (W.written out.new) result (run.solved_text state.now side.now) }
-{
-    write_solved(state, side, out)?;
-    flush(out)
-}
-
 /// Writes the reply to a command, and flushes. With `brief` the reply to a solve has its value alone.
 pub fn put_reply<W: Sink>(
     command: Command,
@@ -87,22 +67,6 @@ pub fn put_reply<W: Sink>(
 {
     write_reply(command, reply, present, brief, out)?;
     flush(out)
-}
-
-/// Flushes what was written.
-fn flush<W: Sink>(out: &mut W) -> Result<(), WriteFault>
-    ensures { Writes (W.written out.old) (W.written out.new) result [] }
-{
-    let Ok(()) = out.flush() else {
-        return Err(WriteFault);
-    };
-    Ok(())
-}
-
-fn write_line<W: Sink>(line: &LineBuffer, out: &mut W) -> Result<(), WriteFault>
-    ensures { Writes (W.written out.old) (W.written out.new) result line.now }
-{
-    put_all(out, line.as_bytes())
 }
 
 fn write_reply<W: Sink>(
@@ -147,23 +111,6 @@ fn write_brief<W: Sink>(state: &State, side: &Option<Side>, out: &mut W) -> Resu
 {
     write_line(&value_line(Command::Solve, state.value()), out)?;
     write_side(side, out)
-}
-
-/// Writes the solution of a state, and after it this cut, if there is one.
-fn write_solved<W: Sink>(state: &State, side: &Option<Side>, out: &mut W) -> Result<(), WriteFault>
-    ensures { Writes (W.written out.old) (W.written out.new) result (run.solved_text state.now side.now) }
-{
-    write_solution(state, out)?;
-    write_side(side, out)
-}
-
-fn write_side<W: Sink>(side: &Option<Side>, out: &mut W) -> Result<(), WriteFault>
-    ensures { Writes (W.written out.old) (W.written out.new) result (run.side_text side.now) }
-{
-    match side {
-        None => Ok(()),
-        Some(side) => write_cut(side, out),
-    }
 }
 
 fn refused_line(number: u32, refusal: &Refusal) -> LineBuffer

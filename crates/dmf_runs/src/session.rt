@@ -6,14 +6,11 @@ ghost use Rattle.dmf_runs.specs.Session.{RunsSession, RunsSessionWith};
 ghost use Rattle.dmf_runs.specs.WrittenLine.{WritesLine};
 
 use crate::command_text::{Meaning, meaning_of};
-use crate::fault::{EngineFault, Status};
-use crate::input::{Input, Next};
-use crate::kept_line::KeptLine;
-use crate::problem::read_state;
 use crate::reply::{Answer, SolveReply, put_reply, refuse};
 use dmf_history::{DeltaHistory, History, MAX_BOUND};
 use dmf_session::{Command, Session};
 use dmf_solver::{Unwatched, Watch};
+use dmf_streams::{EngineFault, Input, KeptLine, Next, Status, read_state};
 use dmf_text::{Sink, Source, WriteFault};
 use std::alloc::Global;
 

@@ -1,5 +1,5 @@
--- A greatest flow is optimal, and so is the present state after a solve.
-use Rattle.std.proofs.Common.{ℕ, List, ◌≡◌, Bool, pos, arith, sym, ap, ◌∙◌, subst}
+-- After a solve the present state is optimal.
+use Rattle.std.proofs.Common.{ℕ, List, ◌≡◌, arith, sym, subst}
 use Rattle.std.proofs.lemmas.Int.{ints}
 use Rattle.std.proofs.lemmas.Option.{slice_get_within}
 use Rattle.dmf_state.specs.Network.{Network, IsNetwork}
@@ -9,27 +9,13 @@ use Rattle.dmf_solver.specs.Change.{Becomes}
 use Rattle.dmf_solver.specs.Change as change
 use Rattle.dmf_state.specs.Edit.{applied, Fits}
 use Rattle.dmf_solver.specs.Greatest.{IsGreatest, IsSurpassed}
-use Rattle.dmf_state.specs.Cut.{IsMinimumCut, cut_capacity}
-use Rattle.dmf_solver.specs.Laws.{SolvedIsGreatest, MaxFlowMinCut}
+use Rattle.dmf_solver.specs.Laws.{SolvedIsGreatest, GreatestIsOptimal}
 use Rattle.dmf_history.specs.Timeline.{Timeline, IsPresent, appended, Appends}
-use Rattle.dmf_session.specs.Optimal.{IsOptimal, HasOptimalPresent}
-use Rattle.dmf_session.specs.Laws.{SolvedIsOptimal, GreatestIsOptimal}
+use Rattle.dmf_solver.specs.Optimal.{IsOptimal}
+use Rattle.dmf_session.specs.Optimal.{HasOptimalPresent}
+use Rattle.dmf_session.specs.Laws.{SolvedIsOptimal}
 use Rattle.dmf_history.proofs.Appending.{appended-present, appends-applied}
 use Rattle.dmf_session.proofs.Changed.{is-state}
-
--- All minimum cuts have one capacity.
-one-capacity : (n : Network) (has other : ℕ → Bool) → IsMinimumCut n has → IsMinimumCut n other → cut_capacity n.arcs has ≡ cut_capacity n.arcs other
-one-capacity n has other least also = omega (arith, least.least other also.cut, also.least has least.cut)
-
--- A state whose flow is greatest is optimal.
-pub greatest-optimal : MaxFlowMinCut → GreatestIsOptimal
-greatest-optimal law s network greatest =
-    let some = law s.network s.flows network greatest in
-    record {
-      greatest = greatest;
-      minimum_cut = some;
-      smallest_side = λ side is. ap pos (is.capacity_is ∙ one-capacity s.network _ some.has is.least some.least) ∙ some.capacity;
-    }
 
 -- No flow has a larger value than a greatest one.
 pub not-surpassed : (n : Network) (flows : List ℕ) → IsGreatest n flows → IsSurpassed n flows → ⊥

@@ -2,9 +2,7 @@
 -- a change.
 -- Public: a public contract says no more than this.
 use Rattle.std.specs.Prelude.{ℕ, ◌≡◌, ◌≢◌, ◌<◌, length, All, Bool, Result, Ok, Err}
-use Rattle.dmf_state.specs.Network.{IsNetwork}
 use Rattle.dmf_state.specs.NetworkState.{NetworkState, IsState}
-use Rattle.dmf_solver.specs.Greatest.{IsGreatest}
 use Rattle.dmf_session.specs.declared.command.Command.{Command}
 use Rattle.dmf_session.specs.declared.command.Command.TheVariants.{Solve, Undo}
 use Rattle.dmf_session.specs.declared.command.Reply.{Reply}
@@ -13,7 +11,7 @@ use Rattle.dmf_session.specs.declared.command.Refusal.{Refusal}
 use Rattle.dmf_session.specs.declared.command.Refusal.TheVariants.{NothingToUndo, NoMemory}
 use Rattle.dmf_history.specs.Timeline.{Timeline, IsTimeline, IsPresent}
 use Rattle.dmf_session.specs.Step.{Steps, Answers, IsChange, value_of}
-use Rattle.dmf_session.specs.Optimal.{IsOptimal, HasOptimalPresent}
+use Rattle.dmf_session.specs.Optimal.{HasOptimalPresent}
 
 -- The place is in the list, and the list has states.
 pub record HasStates (t : Timeline) : Type 0 where
@@ -37,10 +35,6 @@ abbrev pub HasOneAnswer : Type 0
 HasOneAnswer =
     (want_cut : Bool) (t u v : Timeline) (command : Command) (result other : Result Reply Refusal) → HasStates t
     → Steps want_cut t command result u → Steps want_cut t command other v → (result ≡ other) × (u ≡ v)
-
--- A state of a network whose flow is greatest is optimal.
-abbrev pub GreatestIsOptimal : Type 0
-GreatestIsOptimal = (s : NetworkState) → IsNetwork s.network → IsGreatest s.network s.flows → IsOptimal s
 
 -- After a solve that was not refused the present state is optimal.
 abbrev pub SolvedIsOptimal : Type 0

@@ -1,16 +1,9 @@
-ghost use Rattle.dmf_session.specs.Laws.{HasAnswer, HasOneAnswer, SolvedIsOptimal, GreatestIsOptimal, ChangeIsUndone};
+ghost use Rattle.dmf_session.specs.Laws.{HasAnswer, HasOneAnswer, SolvedIsOptimal, ChangeIsUndone};
 
 use dmf_solver::{
-    change_has_one_outcome, change_has_outcome, flow_is_greatest_or_surpassed, max_flow_min_cut,
+    change_has_one_outcome, change_has_outcome, flow_is_greatest_or_surpassed, greatest_is_optimal,
     network_has_one_smallest_side, network_has_smallest_side, solved_is_greatest,
 };
-
-/// The law that a greatest flow has as its value the capacity of a minimum cut, and so that of the smallest side.
-pub fn greatest_is_optimal()
-    ensures { GreatestIsOptimal }
-{
-    max_flow_min_cut();
-}
 
 /// The law that after a solve that was not refused the value of the present flow is the greatest of all flows, and the
 /// capacity of the smallest minimum cut.

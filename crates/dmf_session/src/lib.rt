@@ -3,10 +3,8 @@
 
 pub use command::{Command, Refusal, Reply};
 pub use dmf_history::{DeltaHistory, History, MAX_BOUND, NothingToUndo, RedoFault, WholeHistory};
-pub use laws::{
-    change_is_undone, command_has_answer, command_has_one_answer, greatest_is_optimal,
-    solved_is_optimal,
-};
+pub use dmf_solver::greatest_is_optimal;
+pub use laws::{change_is_undone, command_has_answer, command_has_one_answer, solved_is_optimal};
 pub use session::Session;
 
 mod command;

@@ -11,11 +11,10 @@ ghost use Rattle.dmf_solver.specs.Told.{AreTold};
 
 use crate::command::{Command, Refusal, Reply};
 use crate::kept::{kept_after, kept_before, kept_with};
-use crate::laws::greatest_is_optimal;
 use dmf_history::{History, RedoFault};
 use dmf_solver::{
-    NewCap, ResidualNetwork, Unwatched, Watch, plan_add, plan_cap_watched, plan_close_watched,
-    plan_shut_watched, smallest_side,
+    NewCap, ResidualNetwork, Unwatched, Watch, greatest_is_optimal, plan_add, plan_cap_watched,
+    plan_close_watched, plan_shut_watched, smallest_side,
 };
 use dmf_state::{Edit, NoMemory, State};
 use std::alloc::Global;

@@ -15,6 +15,7 @@ pub mod SomeOutcome
 pub mod DrainedLoop
 pub mod DrainingWalk
 pub mod MaxFlowMinCut
+pub mod Optimal
 pub mod LargerFlow
 pub mod GreatestFlow
 pub mod GreatestSearch

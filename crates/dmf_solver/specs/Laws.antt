@@ -4,6 +4,7 @@ use Rattle.std.specs.Prelude.{ℕ, ◌≡◌, ◌⊎◌, List, None}
 use Rattle.dmf_state.specs.Network.{Network, IsNetwork}
 use Rattle.dmf_state.specs.Flow.{IsFlow, flow_value}
 use Rattle.dmf_solver.specs.Greatest.{IsGreatest, IsSurpassed}
+use Rattle.dmf_solver.specs.Optimal.{IsOptimal}
 use Rattle.dmf_state.specs.Cut.{HasMinimumCutOf}
 use Rattle.dmf_state.specs.Side.{CutSide, IsSmallestSide}
 use Rattle.dmf_state.specs.NetworkState.{NetworkState, IsState}
@@ -18,6 +19,10 @@ HasGreatestFlow = (n : Network) → IsNetwork n → (flows : List ℕ) × IsGrea
 -- Max-flow min-cut: the value of a maximum flow is the capacity of a minimum cut.
 abbrev pub MaxFlowMinCut : Type 0
 MaxFlowMinCut = (n : Network) (flows : List ℕ) → IsNetwork n → IsGreatest n flows → HasMinimumCutOf n (flow_value n flows)
+
+-- A state of a network whose flow is greatest is optimal.
+abbrev pub GreatestIsOptimal : Type 0
+GreatestIsOptimal = (s : NetworkState) → IsNetwork s.network → IsGreatest s.network s.flows → IsOptimal s
 
 -- A flow is greatest, or some flow has a larger value.
 abbrev pub IsGreatestOrSurpassed : Type 0

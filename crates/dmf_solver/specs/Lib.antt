@@ -1,4 +1,5 @@
 pub mod Greatest
+pub mod Optimal
 pub mod Residual
 pub mod Solve
 pub mod Told

@@ -1,5 +1,5 @@
 ghost use Rattle.dmf_solver.specs.Laws.{HasSmallestSide, HasOneSmallestSide, HasGreatestFlow, IsGreatestOrSurpassed, SolvedIsGreatest};
-ghost use Rattle.dmf_solver.specs.Laws.{HasOneOutcome, HasOutcome, MaxFlowMinCut};
+ghost use Rattle.dmf_solver.specs.Laws.{HasOneOutcome, HasOutcome, MaxFlowMinCut, GreatestIsOptimal};
 
 /// The law that a change has one outcome: any two states that it makes of one state are the same.
 pub fn change_has_one_outcome()
@@ -16,6 +16,13 @@ pub fn max_flow_min_cut()
     ensures flow { HasGreatestFlow }
     ensures cut { MaxFlowMinCut }
 {}
+
+/// The law that a greatest flow has as its value the capacity of a minimum cut, and so that of the smallest side.
+pub fn greatest_is_optimal()
+    ensures { GreatestIsOptimal }
+{
+    max_flow_min_cut();
+}
 
 /// The law that a network has one smallest side: any two lists of nodes with a capacity that are one are the same.
 pub fn network_has_one_smallest_side()

@@ -3,8 +3,8 @@
 
 pub use fault::{CutFault, PlanFault};
 pub use laws::{
-    change_has_one_outcome, change_has_outcome, flow_is_greatest_or_surpassed, max_flow_min_cut,
-    network_has_one_smallest_side, network_has_smallest_side, solved_is_greatest,
+    change_has_one_outcome, change_has_outcome, flow_is_greatest_or_surpassed, greatest_is_optimal,
+    max_flow_min_cut, network_has_one_smallest_side, network_has_smallest_side, solved_is_greatest,
 };
 pub use plan::{
     NewCap, plan_add, plan_cap, plan_cap_watched, plan_cap_with, plan_close, plan_close_watched,

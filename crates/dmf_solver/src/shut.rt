@@ -21,6 +21,9 @@ use dmf_path::{Search, Touched};
 use dmf_state::{Shutting, State};
 use std::alloc::{AllocError, Global};
 
+/// If no more arcs than these are drained, making a second set of labels takes longer than it saves.
+const FEW: usize = 16;
+
 /// The open arcs at node `v`, in the order of their numbers.
 pub fn open_arcs_at(alloc: Global, state: &State, v: u32) -> Result<Vec<Shutting>, AllocError>
     ensures are_open { IfOk result (λ arcs. AreOpenWith 0 arcs.items state.now.network) }
@@ -63,7 +66,19 @@ pub fn drain_all<W: Watch>(
         });
     }
     let carrying = take_carrying(alloc, state, kept)?;
+    let carrying = with_labels(alloc, carrying, arcs.len())?;
     drain_all_by(alloc, state, arcs, carrying, watch)
+}
+
+/// The search, which keeps two sets of labels if it drains many arcs: those that leave a node share the goal, and those that enter it
+/// share the start.
+fn with_labels(alloc: Global, mut search: Search, arcs: usize) -> Result<Search, AllocError>
+    ensures { IfOk result (λ same. same ≡ search) }
+{
+    if arcs > FEW {
+        search.keep_two(alloc)?;
+    }
+    Ok(search)
 }
 
 /// Drains these arcs in turn, by this carrying search.

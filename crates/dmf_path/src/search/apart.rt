@@ -5,6 +5,7 @@ ghost use Rattle.dmf_path.specs.Links.{ArePlaces};
 ghost use Rattle.dmf_path.specs.LinkTable.{links_of};
 ghost use Rattle.dmf_path.specs.Touching.{MayBeNumbered};
 
+use crate::aside::Aside;
 use crate::levels::Levels;
 use crate::phase::begin_anew;
 use crate::places::Places;
@@ -18,6 +19,8 @@ use std::rc::Rc;
 pub struct Rest {
     /// Its labels and current links.
     pub levels: Levels,
+    /// Other labels, which do not stay.
+    pub asides: Vec<Aside>,
     /// Its trail.
     pub trail: Trail,
 }
@@ -48,6 +51,7 @@ impl Search {
             places,
             numbers,
             mut levels,
+            asides,
             mut trail,
             ..
         } = self;
@@ -56,7 +60,11 @@ impl Search {
             links,
             places,
             numbers,
-            rest: Rest { levels, trail },
+            rest: Rest {
+                levels,
+                asides,
+                trail,
+            },
         }
     }
 }
@@ -69,13 +77,19 @@ impl Rest {
         requires numbers { MayBeNumbered (links_of links.table.value) places.value numbers }
         ensures { result ≡ seen links places.value self }
     {
-        let Rest { levels, trail } = self;
+        let Rest {
+            levels,
+            mut asides,
+            trail,
+        } = self;
+        asides.clear();
         let levels = levels.over(&links.table);
         Search {
             links,
             places,
             numbers,
             levels,
+            asides,
             trail,
             is_fresh: true,
         }

@@ -5,7 +5,6 @@ ghost use Rattle.dmf_path.specs.Pair.{ArePairs, emptied};
 ghost use Rattle.dmf_path.specs.Links.{AreBuilt, ArePlaces, AreRooms, pairs_at};
 ghost use Rattle.dmf_path.specs.LinkTable.{links_of};
 
-use crate::frontier::Frontier;
 use crate::levels::Levels;
 use crate::links::{build, opposite_flags, put_pair};
 use crate::pair::Pairs;
@@ -110,21 +109,8 @@ impl Linked {
             rooms,
         } = self;
         let flags = opposite_flags(alloc, &table, &rooms)?;
-        let near = Frontier::new(alloc, table.nodes)?;
-        let far = Frontier::new(alloc, table.nodes)?;
-        let current = Vec::from_slice(alloc, &table.first[..table.nodes as usize + 1])?;
+        let mut levels = Levels::new(alloc, &table)?;
         let slots = Vec::with_capacity(alloc, table.nodes as usize)?;
-        let mut levels = Levels {
-            near,
-            far,
-            current,
-            both: false,
-            looked: 0,
-            all: false,
-            stepped_back: false,
-            again: false,
-            spent: 0,
-        };
         let mut trail = Trail {
             slots,
             walked: 0,
@@ -146,6 +132,7 @@ impl Linked {
             places,
             numbers: None,
             levels,
+            asides: Vec::new(alloc),
             trail,
             is_fresh: true,
         })

@@ -1,19 +1,19 @@
--- All links leave. Then the labels are made to lead to the goal, or taken off.
+-- All links leave. The labels that fit are taken up, and made to lead to the goal, or taken off.
 use Rattle.std.proofs.Common.{ℕ, ◌≡◌, ◌≤◌, true, get_or, [], refl, ap, sym, ◌∙◌, subst, arith, inl, inr}
 use Rattle.std.proofs.lemmas.List.{get_or_default}
 use Rattle.dmf_node.specs.Node.{IsNode}
 use Rattle.dmf_path.specs.declared.levels.Levels.{Levels}
 use Rattle.dmf_path.specs.Labels.{no_label}
-use Rattle.dmf_path.specs.Walk.{ArePassed}
+use Rattle.dmf_path.specs.Walk.{AreCurrent, ArePassed}
 use Rattle.dmf_path.specs.Held.{way_of}
 use Rattle.dmf_path.specs.Residual.{Residual, residual_of}
-use Rattle.dmf_path.specs.Searching.{Sought, labelling_of, begun, fresh, AreLasting, AreKeptFor, IsAimed, IsReady, IsSearching}
+use Rattle.dmf_path.specs.Searching.{Sought, labelling_of, begun, fresh, AreAside, AreLasting, AreKeptFor, AreUsable, IsAimed, IsReady, IsSearching}
 use Rattle.dmf_path.proofs.Beginning.{ready-at}
-use Rattle.dmf_path.proofs.Labelled.{sound-below}
+use Rattle.dmf_path.proofs.Labelled.{sound-below, sound-whole}
 use Rattle.dmf_path.proofs.Settling.{can-settle}
-use Rattle.dmf_path.proofs.SearchTurns.{plainly, searching-settled, searching-free, searching-anew, sought-free, told-settled}
+use Rattle.dmf_path.proofs.SearchTurns.{plainly, searching-settled, searching-free, searching-fresh_with, sought-free, told-settled}
 use Rattle.dmf_path.proofs.phase.aim.Goals as goal
-use Rattle.dmf_path.proofs.phase.aim.Goals.{After-settle, After-redirect, After-index}
+use Rattle.dmf_path.proofs.phase.aim.Goals.{After-settle, After-take_up-used, After-redirect, After-index}
 
 pub settle-requires : goal.settle-requires
 settle-requires c = record { can = can-settle c.requires.searching }
@@ -27,49 +27,68 @@ settled c = searching-settled (residual_of c.args.links.now) (labelling_of c.arg
 node : (c : After-settle) (v : ℕ) → IsNode c.args.links.now.table.value.nodes v → IsNode c.settle.new.links.table.value.nodes v
 node c v = subst (λ (x : Residual). IsNode x.links.nodes v) (sym c.settle.ensures.links)
 
-pub redirect-requires : goal.redirect-requires
-redirect-requires c =
-    let at = (goal.at.redirect-requires c).After-settle in
+-- The labels that were in use can be taken up,
+in_use : (c : After-settle) → AreUsable c.args.levels.now (residual_of c.settle.new.links) c.settle.new.self.goal
+in_use c =
     let e = c.settle.ensures in
-    let is = settled at in
+    let is = settled c in
     let next = residual_of c.settle.new.links in
     let mid = way_of c.settle.new.self in
-    let v = labelling_of c.args.levels.now in
+    let levels = c.args.levels.now in
+    let v = labelling_of levels in
     record {
-      ready = subst (λ (x : Residual). IsReady x.links.nodes c.args.levels.now.near c.args.levels.now.far) (sym e.links)
-          (ready-at c.args.links.now.table.value.nodes c.args.levels.now c.requires.ready c.requires.searching.aimed.one_label_each);
+      ready = subst (λ (x : Residual). IsReady x.links.nodes levels.near levels.far) (sym e.links)
+          (ready-at c.args.links.now.table.value.nodes levels c.requires.ready c.requires.searching.aimed.one_label_each);
+      goal_is = is.aimed.goal_is;
+      current_is = is.under_way.walking.current_is;
       kept = λ all. record {
-        lasting = subst (AreLasting v c.args.levels.now.stepped_back) (sym e.links) (c.requires.lasting all);
+        lasting = subst (AreLasting v levels.stepped_back) (sym e.links) (c.requires.lasting all);
         goal_label = is.under_way.goal_label;
         current_is = is.under_way.walking.current_is;
         passed = subst (λ (x : Residual). ArePassed next.links v.labels x.rooms mid.goal v.current)
             (told-settled (way_of c.args.trail.now) next mid e.way) is.under_way.walking.passed;
       };
-      start = node at c.args.start c.requires.start;
-      goal = node at c.args.goal c.requires.goal;
+    }
+
+-- as those can that are in use then, and those set aside.
+taken : (c : After-take_up-used) → AreUsable c.take_up-used.new.levels (residual_of c.settle.new.links) c.take_up-used.result.goal
+    × AreAside c.take_up-used.new.asides (residual_of c.settle.new.links)
+taken c = c.take_up-used.ensures (residual_of c.settle.new.links) (in_use (goal.at.After-take_up-used c).After-settle)
+    (subst (AreAside c.args.asides.now) (sym c.settle.ensures.links) c.requires.asides)
+
+pub redirect-requires : goal.redirect-requires
+redirect-requires c =
+    let at = (goal.at.redirect-requires c).After-settle in
+    let usable = (taken (goal.at.redirect-requires c).After-take_up-used).0 in
+    record {
+      ready = usable.ready;
+      kept = usable.kept;
+      from = usable.goal_is;
+      start = node at c.args.ends.start c.requires.start;
+      goal = node at c.args.ends.goal c.requires.goal;
       apart = c.requires.apart;
     }
 
 -- The labels lead to the goal, and the start has a small one.
 kept : (c : After-redirect) → c.redirect.result ≡ true
-    → AreKeptFor (labelling_of c.redirect.new.levels) c.redirect.new.levels.stepped_back (residual_of c.settle.new.links) c.args.goal
-    × (get_or c.redirect.new.levels.near.labels.items c.args.start 0 ≤ c.settle.new.links.table.value.nodes)
+    → AreKeptFor (labelling_of c.redirect.new.levels) c.redirect.new.levels.stepped_back (residual_of c.settle.new.links) c.args.ends.goal
+    × (get_or c.redirect.new.levels.near.labels.items c.args.ends.start 0 ≤ c.settle.new.links.table.value.nodes)
 kept c can =
     let k = c.redirect.ensures.kept can in (
       k,
-      elim (k.lasting.sound.small.1 c.args.start (node (goal.at.After-redirect c).After-settle c.args.start c.requires.start)) [
+      elim (k.lasting.whole.small.1 c.args.ends.start (node (goal.at.After-redirect c).After-settle c.args.ends.start c.requires.start)) [
         | inl none ↦ absurd (c.redirect.ensures.labelled can none)
         | inr small ↦ small
       ],
     )
 
 -- the label of the start is read
-read : (c : After-index) → c.redirect.result ≡ true → c.index.result.now ≡ get_or c.redirect.new.levels.near.labels.items c.args.start 0
+read : (c : After-index) → c.redirect.result ≡ true → c.index.result.now ≡ get_or c.redirect.new.levels.near.labels.items c.args.ends.start 0
 read c can =
     let k = c.redirect.ensures.kept can in
-    let start = node (goal.at.After-index c).After-settle c.args.start c.requires.start in
-    c.index.ensures ∙ sym (get_or_default c.redirect.new.levels.near.labels.items c.args.start 0 _
-    (omega (arith, k.lasting.sound.small.0, start.to_last)))
+    let start = node (goal.at.After-index c).After-settle c.args.ends.start c.requires.start in
+    c.index.ensures ∙ sym (get_or_default c.redirect.new.levels.near.labels.items c.args.ends.start 0 _
+    (omega (arith, k.lasting.whole.small.0, start.to_last)))
 
 pub free-requires : goal.free-requires
 free-requires c =
@@ -85,18 +104,18 @@ returns-then-redirect c =
     let next = residual_of c.settle.new.links in
     let levels = c.redirect.new.levels in
     let v = labelling_of levels in
-    let w = record (way_of c.settle.new.self) { start = c.args.start; goal = c.args.goal } in
+    let w = record (way_of c.settle.new.self) { start = c.args.ends.start; goal = c.args.ends.goal } in
     let slots = c.free.new.self.slots.items in
     let both = kept (goal.at.returns-then-redirect c).After-redirect c.if-redirect.true in
     let k = both.0 in
     let aimed : IsAimed (plainly next w) v.labels w.capacity = record {
       links = is.aimed.links;
-      one_label_each = k.lasting.sound.small.0;
+      one_label_each = k.lasting.whole.small.0;
       start_label = both.1;
-      sound = sound-below next.links v.labels next.rooms (get_or v.labels c.args.start 0) no_label (omega (arith, both.1, is.aimed.links.at_most_nodes))
-          k.lasting.sound;
-      start_is = node at c.args.start c.requires.start;
-      goal_is = node at c.args.goal c.requires.goal;
+      sound = sound-below next.links v.labels next.rooms (get_or v.labels c.args.ends.start 0) no_label (omega (arith, both.1, is.aimed.links.at_most_nodes))
+          (sound-whole next.links v.labels next.rooms is.aimed.links k.lasting.whole);
+      start_is = node at c.args.ends.start c.requires.start;
+      goal_is = node at c.args.ends.goal c.requires.goal;
       apart = c.requires.apart;
       capacity_is = is.aimed.capacity_is;
     } in
@@ -107,8 +126,10 @@ returns-then-redirect c =
       searching = rw c.free.ensures.way searching;
       ready = (c.settle.new.links.table.value.nodes, c.redirect.ensures.ready);
       kept = λ all. (refl, subst (AreLasting v levels.stepped_back) (sym (ap (λ (s : Sought). s.residual) same)) k.lasting);
+      asides = subst (AreAside c.take_up-used.new.asides) (sym (ap (λ (x : Sought). x.residual) same))
+          (taken (goal.at.returns-then-redirect c).After-take_up-used).1;
       marked = begun refl;
-      same = same ∙ ap (λ (x : Residual). record { residual = x; start = c.args.start; goal = c.args.goal }) e.links;
+      same = same ∙ ap (λ (x : Residual). record { residual = x; start = c.args.ends.start; goal = c.args.ends.goal }) e.links;
     }
 
 pub make_fresh-requires : goal.make_fresh-requires
@@ -116,25 +137,28 @@ make_fresh-requires c =
     let at = (goal.at.make_fresh-requires c).After-settle in
     record {
       ready = rw c.deref.ensures c.redirect.ensures.ready;
-      start = rw c.deref.ensures (node at c.args.start c.requires.start);
-      goal = rw c.deref.ensures (node at c.args.goal c.requires.goal);
+      start = rw c.deref.ensures (node at c.args.ends.start c.requires.start);
+      goal = rw c.deref.ensures (node at c.args.ends.goal c.requires.goal);
     }
 
 pub returns : goal.returns
 returns c =
     let at = (goal.at.returns c).After-settle in
+    let up = taken (goal.at.returns c).After-take_up-used in
     let m = rw c.deref.ensures at c.make_fresh.ensures in
     let next = residual_of c.settle.new.links in
     let mid = way_of c.settle.new.self in
     let current = ap (λ v. v.items) m.current ∙ ap (λ (x : Levels). x.current.items) (c.redirect.ensures.same c.if-redirect.false) in
-    let anew = searching-anew next (labelling_of c.args.levels.now) mid (labelling_of c.make_fresh.new.levels) c.args.start c.args.goal
-    (way_of c.make_fresh.new.trail) (settled at) (node at c.args.start c.requires.start) (node at c.args.goal c.requires.goal) c.requires.apart m.labels
-    current m.way in
+    let anew = searching-fresh_with next (labelling_of c.args.levels.now) mid (labelling_of c.make_fresh.new.levels) c.args.ends.start c.args.ends.goal
+    (way_of c.make_fresh.new.trail) (settled at) (node at c.args.ends.start c.requires.start) (node at c.args.ends.goal c.requires.goal) c.requires.apart
+    m.labels (subst (AreCurrent next.links) (sym current) up.0.current_is) m.way in
+    let same = sought-free next (record mid { start = c.args.ends.start; goal = c.args.ends.goal }) (way_of c.make_fresh.new.trail) [] m.way in
     record {
       searching = anew.0;
       ready = (c.settle.new.links.table.value.nodes, m.ready);
       kept = λ all. let no = m.all in absurd (cc);
+      asides = subst (AreAside c.take_up-used.new.asides) (sym (ap (λ (x : Sought). x.residual) same)) up.1;
       marked = fresh anew.1;
-      same = sought-free next (record mid { start = c.args.start; goal = c.args.goal }) (way_of c.make_fresh.new.trail) [] m.way
-          ∙ ap (λ (x : Residual). record { residual = x; start = c.args.start; goal = c.args.goal }) c.settle.ensures.links;
+      same = same
+          ∙ ap (λ (x : Residual). record { residual = x; start = c.args.ends.start; goal = c.args.ends.goal }) c.settle.ensures.links;
     }

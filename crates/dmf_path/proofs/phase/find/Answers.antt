@@ -24,7 +24,7 @@ returns-then-walk-clause-lasting c all =
     let was = c.requires.lasting all in
     let current = with_items_is c.args.levels.now.current c.walk.new.current (c.walk.auto.current ∙ c.deref_mut.ensures.len) in
     let skipped = rw (c.deref.ensures.value, c.deref_mut.ensures.value) at c.walk.ensures.skipped in
-    lasting _ _ _ _ c.walk.ensures.same (record { sound = was.sound; skipped = rw current (skipped was.skipped) })
+    lasting _ _ _ _ c.walk.ensures.same (record { whole = was.whole; skipped = rw current (skipped was.skipped) })
 
 pub settle-requires : goal.settle-requires
 settle-requires c = record { can = can-settle c.walk.ensures.searching }
@@ -64,7 +64,7 @@ returns-then-relabel-clause-lasting c all =
     let current = with_items_is c.relabel.new.levels.current c.walk-then-relabel.new.current
     (c.walk-then-relabel.auto.current ∙ c.deref_mut-then-relabel.ensures.len) in
     let skipped = rw (c.deref-then-relabel.ensures.value, c.deref_mut-then-relabel.ensures.value) at c.walk-then-relabel.ensures.skipped in
-    lasting _ _ _ _ c.walk-then-relabel.ensures.same (record { sound = was.sound; skipped = rw current (skipped was.skipped) })
+    lasting _ _ _ _ c.walk-then-relabel.ensures.same (record { whole = was.whole; skipped = rw current (skipped was.skipped) })
 
 pub returns-then-relabel-clause-same : goal.returns-then-relabel-clause-same
 returns-then-relabel-clause-same c =

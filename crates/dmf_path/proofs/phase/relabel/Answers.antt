@@ -112,7 +112,7 @@ returns c =
     record {
       searching = rw (current, c.free.ensures.way) searching;
       ready = (links.table.value.nodes, is);
-      lasting = λ all. record { sound = c.label_anew.ensures.lasting all; skipped = λ none. rw current skipped };
+      lasting = λ all. record { whole = c.label_anew.ensures.lasting all; skipped = λ none. rw current skipped };
       way = c.free.ensures.way;
       labelled = λ yes. labelled.walk;
       none = λ e. absurd (cc);

@@ -1,6 +1,6 @@
 use Rattle.std.proofs.Common.{◌≡◌, cond, false, sym, ap, ◌∙◌}
 use Rattle.std.specs.Str.Lines.{strip_carriage_return}
-use Rattle.dmf_runs.proofs.KeptLineLemmas.{meaning-of}
+use Rattle.dmf_runs.proofs.LineLemmas.{meaning-of}
 use Rattle.dmf_runs.proofs.command_text.meaning_of.Goals as goal
 use Rattle.dmf_runs.proofs.command_text.meaning_of.Goals.{then-ended, else-ended}
 

@@ -1,4 +1,4 @@
-use Rattle.dmf_runs.proofs.ReplyLemmas.{Writes-flushed}
+use Rattle.dmf_streams.proofs.ReplyLemmas.{Writes-flushed}
 use Rattle.dmf_runs.proofs.reply.put_reply.Goals as goal
 
 pub returns : goal.returns

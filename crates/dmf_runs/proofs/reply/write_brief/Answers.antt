@@ -3,7 +3,8 @@ use Rattle.std.specs.Prelude.{nat_abs}
 use Rattle.std.proofs.lemmas.Result.{err_from_is_err_and}
 use Rattle.dmf_session.specs.declared.command.Command.TheVariants.{Solve}
 use Rattle.dmf_text.proofs.WritingLemmas.{first-failed, first-put}
-use Rattle.dmf_runs.specs.Run.{side_text, solve_text, value_text}
+use Rattle.dmf_solving.specs.Solved.{side_text}
+use Rattle.dmf_runs.specs.Run.{solve_text, value_text}
 use Rattle.dmf_runs.proofs.reply.write_brief.Given.{Over}
 use Rattle.dmf_runs.proofs.reply.write_brief.Goals as goal
 use Rattle.dmf_runs.proofs.reply.write_brief.Goals.{After-write_line}

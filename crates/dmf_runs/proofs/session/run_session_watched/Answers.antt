@@ -2,7 +2,7 @@ use Rattle.std.proofs.Common.{◌∙◌, refl, subst}
 use Rattle.std.proofs.lemmas.Result.{err_from_is_err_and}
 use Rattle.dmf_runs.specs.Streams.{streams_of}
 use Rattle.dmf_runs.specs.Outcome.{RunsCommandsWith}
-use Rattle.dmf_runs.proofs.Giving.{given}
+use Rattle.dmf_streams.proofs.Giving.{given}
 use Rattle.dmf_runs.proofs.SessionLemmas.{answered-by_run, answered-unread}
 use Rattle.dmf_runs.proofs.session.run_session_watched.Goals as goal
 

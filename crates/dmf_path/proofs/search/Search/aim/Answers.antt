@@ -1,5 +1,6 @@
 -- The search keeps its labels between other ends, or begins anew between them.
-use Rattle.std.proofs.Common.{ap, sym, subst}
+use Rattle.std.proofs.Common.{ap, sym, ◌∙◌, subst}
+use Rattle.std.proofs.lemmas.List.{with_items_is}
 use Rattle.dmf_path.specs.Held.{way_of}
 use Rattle.dmf_path.specs.Residual.{residual_of}
 use Rattle.dmf_path.specs.Searching.{Sought, searched, labelling_of}
@@ -12,6 +13,7 @@ aim-self-inside-requires c = record {
   searching = c.self.invariant.1.searching;
   ready = c.self.invariant.0.0;
   lasting = λ all. (c.self.invariant.0.2 all).1;
+  asides = rw c.deref_mut.ensures.value c.self.invariant.0.3;
   start = rw (← c.self.view_is) at c.requires.start;
   goal = rw (← c.self.view_is) at c.requires.goal;
   apart = c.requires.apart;
@@ -20,9 +22,10 @@ aim-self-inside-requires c = record {
 pub invariant_of-self : goal.invariant_of-self
 invariant_of-self c =
     let of = c.self.inside in
+    let asides = with_items_is of.asides c.aim-self-inside.new.asides (c.aim-self-inside.auto.asides ∙ c.deref_mut.ensures.len) in
     let e = c.aim-self-inside.ensures in
     let links = ap (λ (s : Sought). s.residual.links) e.same in (
-      (e.ready, subst (λ l. MayBeNumbered l of.places.value of.numbers) (sym links) c.self.invariant.0.1, e.kept),
+      (e.ready, subst (λ l. MayBeNumbered l of.places.value of.numbers) (sym links) c.self.invariant.0.1, e.kept, rw asides e.asides),
       search-next (residual_of of.links) of.places.value (labelling_of of.levels) (way_of of.trail) (residual_of c.aim-self-inside.new.links)
           (labelling_of c.aim-self-inside.new.levels) (way_of c.aim-self-inside.new.trail) of.is_fresh c.aim-self-inside.result
           c.self.invariant.1 links e.searching e.marked,

@@ -9,10 +9,11 @@ use Rattle.dmf_path.specs.Residual.{residual_of, told}
 use Rattle.dmf_path.specs.Search.{Searched, Augments, pair_number}
 use Rattle.dmf_path.specs.Touched.{AreBelow, KeepsUntouched}
 use Rattle.dmf_path.specs.Touching.{MayBeNumbered, Lists}
-use Rattle.dmf_path.specs.Searching.{Sought, sought, searched, labelling_of, AreKept, AreLasting, begun}
+use Rattle.dmf_path.specs.Searching.{Sought, sought, searched, labelling_of, AreAside, AreKept, AreLasting, begun}
 use Rattle.dmf_path.proofs.UnderWayWhole.{slot-within}
 use Rattle.dmf_path.proofs.Splitting.{sent_along, middle-leaves}
 use Rattle.dmf_path.proofs.SettledSent.{HaveLeft-sent}
+use Rattle.dmf_path.proofs.Asides.{aside-falls, aside-same}
 use Rattle.dmf_path.proofs.Lasting.{lasting-opens}
 use Rattle.dmf_path.proofs.Searching.{sent_on, CanAugment, can-augment, IsOn, split-on}
 use Rattle.dmf_path.proofs.Reaching.{no_path-separated}
@@ -32,6 +33,8 @@ invariant_of-self c =
         e.ready,
         subst (λ l. MayBeNumbered l of.places.value of.numbers) (sym (ap (λ (s : Sought). s.residual.links) e.same)) c.self.invariant.0.1,
         λ all. (refl, e.lasting all),
+        aside-same of.asides.items (sought (residual_of c.find.new.links) (way_of c.find.new.trail)) (sought (residual_of of.links) (way_of of.trail))
+            e.same c.self.invariant.0.3,
       ),
       search-next (residual_of of.links) of.places.value (labelling_of of.levels) (way_of of.trail) (residual_of c.find.new.links)
           (labelling_of c.find.new.levels) (way_of c.find.new.trail) of.is_fresh false c.self.invariant.1
@@ -119,10 +122,16 @@ invariant_of-self-2 c =
       refl,
       subst (λ (s : Sought). AreLasting v levels.stepped_back s.residual) (sym on.same)
           (lasting-opens v levels.stepped_back (told (residual_of c.find.new.links) (way_of c.find.new.trail)) sent.rooms
-          c.find.ensures.searching.aimed.links opens (c.find.ensures.lasting all)),
+          opens (c.find.ensures.lasting all)),
     ) in
-    let of = c.self.inside in (
-      (c.find.ensures.ready, subst (λ l. MayBeNumbered l of.places.value of.numbers) (sym links) c.self.invariant.0.1, kept),
+    let of = c.self.inside in
+    let never = (can (goal.at.After-split (goal.at.invariant_of-self-2 c).After-split).After-bottleneck-amount).none in
+    let aside : AreAside of.asides.items (told (residual_of c.split.new.links) (way_of c.split.new.self)) =
+    subst (λ (s : Sought). AreAside of.asides.items s.residual) (sym on.same)
+    (aside-falls of.asides.items (told (residual_of c.find.new.links) (way_of c.find.new.trail)) sent.rooms c.find.ensures.searching.aimed.links never
+    (aside-same of.asides.items (sought (residual_of c.find.new.links) (way_of c.find.new.trail)) (sought (residual_of of.links) (way_of of.trail))
+    c.find.ensures.same c.self.invariant.0.3)) in (
+      (c.find.ensures.ready, subst (λ l. MayBeNumbered l of.places.value of.numbers) (sym links) c.self.invariant.0.1, kept, aside),
       search-next (residual_of of.links) of.places.value (labelling_of of.levels) (way_of of.trail) (residual_of c.split.new.links)
           (labelling_of c.find.new.levels) (way_of c.split.new.self) of.is_fresh false c.self.invariant.1 links on.searching (begun refl),
     )

@@ -4,7 +4,9 @@ use Rattle.dmf_path.specs.Held.{way_of}
 use Rattle.dmf_path.specs.Residual.{Residual, residual_of, told}
 use Rattle.dmf_path.specs.Links.{Links, pairs_at, ArePlaces}
 use Rattle.dmf_path.specs.Search.{with_pairs, lowered_along}
-use Rattle.dmf_path.specs.Searching.{Sought, sought, searched, labelling_of, AreKept, AreLasting, IsMarked}
+use Rattle.dmf_path.specs.Searching.{Sought, sought, searched, labelling_of, AreAside, AreKept, AreLasting, IsMarked}
+use Rattle.dmf_path.proofs.Asides.{aside-falls, aside-same}
+use Rattle.dmf_path.proofs.Pushed.{opens-none}
 use Rattle.dmf_path.proofs.Lasting.{lasting, lasting-opens}
 use Rattle.dmf_path.proofs.Lowered.{HasPlace, HasPlace-along}
 use Rattle.dmf_path.proofs.PairRead.{has-place}
@@ -90,13 +92,19 @@ invariant_of-self c =
       was.0,
       subst (AreLasting (labelling_of of.levels) of.levels.stepped_back) (sym low.told_is)
           (lasting-opens (labelling_of of.levels) of.levels.stepped_back (told (residual_of c.release.new.links) (way_of c.release.new.trail))
-          low.rooms c.release.ensures.searching.aimed.links
-          low.opens (lasting (labelling_of of.levels) of.levels.stepped_back (sought (residual_of c.release.new.links) (way_of c.release.new.trail))
+          low.rooms
+          (opens-none (residual_of c.release.new.links).links (labelling_of of.levels).labels
+          (told (residual_of c.release.new.links) (way_of c.release.new.trail)).rooms low.rooms low.none) (lasting (labelling_of of.levels) of.levels.stepped_back (sought (residual_of c.release.new.links) (way_of c.release.new.trail))
           (sought (residual_of of.links) (way_of of.trail)) c.release.ensures.same was.1)),
     ) in
+    let aside : AreAside of.asides.items (told (residual_of c.lower.new.self) (way_of c.release.new.trail)) = subst (AreAside of.asides.items) (sym low.told_is)
+    (aside-falls of.asides.items (told (residual_of c.release.new.links) (way_of c.release.new.trail)) low.rooms
+    c.release.ensures.searching.aimed.links (λ never. low.none)
+    (aside-same of.asides.items (sought (residual_of c.release.new.links) (way_of c.release.new.trail)) (sought (residual_of of.links) (way_of of.trail))
+    c.release.ensures.same c.self.invariant.0.3)) in
     let marked = same-mark (residual_of of.links) (labelling_of of.levels) (way_of of.trail) (residual_of c.release.new.links)
     (way_of c.release.new.trail) of.is_fresh i.marked c.release.ensures.same in (
-      (c.self.invariant.0.0, subst (λ l. MayBeNumbered l c.self.inside.places.value c.self.inside.numbers) (sym links) c.self.invariant.0.1, kept),
+      (c.self.invariant.0.0, subst (λ l. MayBeNumbered l c.self.inside.places.value c.self.inside.numbers) (sym links) c.self.invariant.0.1, kept, aside),
       search-next (residual_of of.links) of.places.value (labelling_of of.levels) (way_of of.trail) (residual_of c.lower.new.self)
           (labelling_of of.levels) (way_of c.release.new.trail) of.is_fresh of.is_fresh i links low.searching
           (subst (λ (l : Links). IsMarked l (labelling_of c.self.inside.levels).labels c.release.new.trail.start c.self.inside.is_fresh) (sym same) marked),

@@ -1,5 +1,5 @@
 -- The search begins anew, where it had begun, and then the rooms of one pair's links are set.
-use Rattle.std.proofs.Common.{◌≡◌, ◌<◌, true, length, refl, ap, sym, ◌∙◌, subst, arith}
+use Rattle.std.proofs.Common.{◌≡◌, ◌<◌, true, [], length, refl, ap, sym, ◌∙◌, subst, arith}
 use Rattle.std.proofs.lemmas.List.{length-map}
 use Rattle.dmf_path.specs.declared.search.Search.TheInside.{Inside}
 use Rattle.dmf_path.specs.Links.{Links, IsPlaceOf, pair_at}
@@ -8,6 +8,7 @@ use Rattle.dmf_path.specs.Residual.{Residual, residual_of, told}
 use Rattle.dmf_path.specs.Search.{Searched, with_pairs, with_rooms}
 use Rattle.dmf_path.specs.Searching.{AreReady, AreKept, IsSearch, IsMarked, Sought, searched, labelling_of, fresh}
 use Rattle.dmf_path.specs.Touching.{MayBeNumbered}
+use Rattle.dmf_path.proofs.Asides.{aside-none}
 use Rattle.dmf_path.proofs.SearchTurns.{search-next, fresh-mark, told-fresh, searching-set}
 use Rattle.dmf_path.proofs.PairRead.{place-within}
 use Rattle.dmf_path.proofs.RoomsSet.{pairs-set, pairs-unset}
@@ -23,6 +24,7 @@ record IsAnew (x : Inside) (before : Searched) : Type 0 where
   numbered : MayBeNumbered (residual_of x.links).links x.places.value x.numbers
   is : IsSearch (residual_of x.links) x.places.value (labelling_of x.levels) (way_of x.trail) true
   kept : AreKept x.levels x.is_fresh (told (residual_of x.links) (way_of x.trail))
+  none : x.asides.items ≡ []
   marked : x.is_fresh ≡ true
   same : searched (record { residual = residual_of x.links; start = x.trail.start; goal = x.trail.goal }) x.places.value ≡ before
 
@@ -43,6 +45,7 @@ anew c =
             numbered = subst (λ l. MayBeNumbered l of.places.value of.numbers) (sym (ap (λ (s : Sought). s.residual.links) e.same)) c.self.invariant.0.1;
             is = is;
             kept = λ all. let no = e.all in absurd (cc);
+            none = c.clear.ensures.items;
             marked = refl;
             same = rw (← c.self.view_is)
                 (ap (λ (x : Residual). searched (record { residual = x; start = v.begin_anew.new.trail.start; goal = v.begin_anew.new.trail.goal })
@@ -60,6 +63,7 @@ anew c =
             numbered = c.self.invariant.0.1;
             is = is;
             kept = c.self.invariant.0.2;
+            none = c.clear.ensures.items;
             marked = is_fresh;
             same = rw (← c.self.view_is)
                 (ap (λ (x : Residual). searched (record { residual = x; start = of.trail.start; goal = of.trail.goal }) of.places.value) (sym none));
@@ -74,7 +78,7 @@ index c =
     omega (arith, c.requires.number, ap (λ (s : Searched). length s.pairs) (anew c).same, length-map x.places.value (pair_at r.links r.rooms))
 
 pub invariant_of-self : goal.invariant_of-self
-invariant_of-self c = let a = anew (goal.at.invariant_of-self c).Joined-not-self in rw a.marked ((a.ready, a.numbered, rw a.marked at a.kept), a.is)
+invariant_of-self c = let a = anew (goal.at.invariant_of-self c).Joined-not-self in rw a.marked ((a.ready, a.numbered, rw a.marked at a.kept, aside-none _ _ a.none), a.is)
 
 pub returns-in_default : goal.returns-in_default
 returns-in_default c =
@@ -111,6 +115,7 @@ invariant_of-self-2 c =
         a.ready,
         subst (λ l. MayBeNumbered l x.places.value x.numbers) (sym links) a.numbered,
         λ all. let was = (a.kept all).0 in let is = a.marked in absurd (cc),
+        aside-none x.asides.items (told next w) a.none,
       ),
       search-next r x.places.value v w next v w true true a.is links (searching-set r v w next a.is.searching mark links c.set_pair.new.self.rooms_are)
           (subst (λ (l : Links). IsMarked l (labelling_of c.if-not-self.self-inside.levels).labels c.if-not-self.self-inside.trail.start true)

@@ -3,6 +3,7 @@ use Rattle.std.proofs.Common.{ap, sym, subst}
 use Rattle.dmf_path.specs.Held.{way_of}
 use Rattle.dmf_path.specs.Residual.{Residual, residual_of}
 use Rattle.dmf_path.specs.Searching.{Sought, sought, searched, labelling_of}
+use Rattle.dmf_path.proofs.Asides.{aside-same}
 use Rattle.dmf_path.proofs.Lasting.{lasting}
 use Rattle.dmf_path.proofs.Settling.{can-settle}
 use Rattle.dmf_path.specs.Touching.{MayBeNumbered}
@@ -26,6 +27,9 @@ invariant_of-self c =
                   (sought-settled (residual_of of.links) (way_of of.trail) (residual_of c.settle.new.links)
                   (way_of c.settle.new.self) c.settle.ensures.links c.settle.ensures.way) was.1,
             ),
+        aside-same of.asides.items (sought (residual_of c.settle.new.links) (way_of c.settle.new.self)) (sought (residual_of of.links) (way_of of.trail))
+            (sought-settled (residual_of of.links) (way_of of.trail) (residual_of c.settle.new.links)
+            (way_of c.settle.new.self) c.settle.ensures.links c.settle.ensures.way) c.self.invariant.0.3,
       ),
       search-settled (residual_of of.links) of.places.value (labelling_of of.levels) (way_of of.trail) (residual_of c.settle.new.links)
           (way_of c.settle.new.self) of.is_fresh

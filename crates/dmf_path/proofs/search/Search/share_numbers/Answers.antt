@@ -10,4 +10,4 @@ invariant_of-self-in_ok-clone-2 c =
     let same = c.have_same_numbers.ensures c.if-have_same_numbers.true numbers in
     let shared : AreNumbers (links_of of.links.table.value) of.places.value numbers =
     (rw (c.deref.ensures, c.deref-2.ensures, c.deref-3.ensures, c.deref-4.ensures) at same) known in
-    ((c.self.invariant.0.0, rw c.in_ok-clone.ensures.cases shared, c.self.invariant.0.2), c.self.invariant.1)
+    ((c.self.invariant.0.0, rw c.in_ok-clone.ensures.cases shared, c.self.invariant.0.2, c.self.invariant.0.3), c.self.invariant.1)

@@ -1,7 +1,7 @@
 use Rattle.std.proofs.Common.{[], false, refl, sym, subst, arith}
 use Rattle.std.proofs.lemmas.Bool.{false≢true}
 use Rattle.std.proofs.lemmas.Result.{err_from_is_err_and}
-use Rattle.dmf_runs.specs.Input.{input_over}
+use Rattle.dmf_streams.specs.Input.{input_over}
 use Rattle.dmf_runs.proofs.Progress.{Carried, Progress, Progress-none, Progress-more}
 use Rattle.dmf_runs.proofs.Endings.{Carried-told, Broken-told, RunsCommands-end, RunsCommands-refused, RunsCommands-past, RunsCommands-last, RunsCommands-write}
 use Rattle.dmf_runs.proofs.session.SessionRun.run_lines.Given.{Over}

@@ -1,5 +1,5 @@
 use Rattle.std.proofs.Common.{[]}
-use Rattle.dmf_runs.specs.Input.{input_over}
+use Rattle.dmf_streams.specs.Input.{input_over}
 use Rattle.dmf_runs.proofs.Progress.{Progress}
 use Rattle.dmf_runs.proofs.session.SessionRun.run_lines.Given as goal
 

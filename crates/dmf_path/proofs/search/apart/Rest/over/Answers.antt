@@ -4,6 +4,7 @@ use Rattle.dmf_path.specs.Held.{way_of}
 use Rattle.dmf_path.specs.Residual.{Residual, residual_of}
 use Rattle.dmf_path.specs.Searching.{searched, labelling_of, IsSearch}
 use Rattle.dmf_path.specs.Walk.{AreCurrent}
+use Rattle.dmf_path.proofs.Asides.{aside-none}
 use Rattle.dmf_path.proofs.SearchTurns.{search-over, told-fresh}
 use Rattle.dmf_path.proofs.search.apart.Rest.over.Goals as goal
 
@@ -18,7 +19,12 @@ invariant_of-result c =
     let at_first : AreCurrent next.links current = rw c.deref.ensures at o.current in
     let found = search-over b.residual (labelling_of c.args.self.levels) (way_of c.args.self.trail) next places current b.searching b.fresh
     (sym b.nodes_are) links.table.value.are c.requires.places links.rooms_are at_first in (
-      (rw (o.near, o.far) b.ready, c.requires.numbers, λ all. let no = o.all ∙ b.none_last in absurd (cc)),
+      (
+        rw (o.near, o.far) b.ready,
+        c.requires.numbers,
+        λ all. let no = o.all ∙ b.none_last in absurd (cc),
+        aside-none _ _ c.clear.ensures.items,
+      ),
       subst (λ (labels : List ℕ). IsSearch next places (record { labels = labels; current = current }) (way_of c.args.self.trail) true)
           (ap (λ near. near.labels.items) (sym o.near)) found,
     )

@@ -6,7 +6,7 @@ use Rattle.dmf_path.specs.Walk.{AreCurrent}
 use Rattle.dmf_path.specs.Held.{Way, way_of}
 use Rattle.dmf_path.specs.Residual.{Residual}
 use Rattle.dmf_path.specs.Searching.{labelling_of, Sought, searched}
-use Rattle.dmf_path.proofs.Currents.{current-first}
+use Rattle.dmf_path.proofs.Asides.{aside-none}
 use Rattle.dmf_path.proofs.SearchTurns.{search-new, sought-free}
 use Rattle.dmf_path.proofs.search.making.Linked.search.Goals as goal
 
@@ -18,7 +18,7 @@ invariant_of-result c =
     let table = c.args.self.table.value in
     let l = links_of table in
     let slots = c.in_ok-slots.slots in
-    let m = rw c.deref-9.ensures at c.make_fresh.ensures in
+    let m = rw c.deref-5.ensures at c.make_fresh.ensures in
     let r : Residual = record { links = l; takes_back = c.args.takes_back; rooms = c.args.self.rooms.items } in
     let w : Way = record {
       slots = slots.items;
@@ -31,13 +31,11 @@ invariant_of-result c =
       goal =
           c.args.goal;
     } in
-    let first = current-first l c.in_ok-current.current.items table.are
-    (rw (c.deref-7.ensures, c.deref-6.ensures.value, c.deref-5.ensures) at c.in_ok-current.ensures.items) in
-    let current : AreCurrent l c.make_fresh.new.levels.current.items = subst (AreCurrent l) (sym (ap (λ v. v.items) m.current)) first in (
-      ((table.nodes, m.ready), tt, λ e. let no = m.all in absurd (cc)),
+    let current : AreCurrent l c.make_fresh.new.levels.current.items = subst (AreCurrent l) (sym (ap (λ v. v.items) m.current)) (rw c.deref-3.ensures at c.in_ok-levels.ensures.current) in (
+      ((table.nodes, m.ready), tt, λ e. let no = m.all in absurd (cc), aside-none _ _ c.new-2.ensures.items),
       search-new r c.args.self.places.value (labelling_of c.make_fresh.new.levels) w (way_of c.make_fresh.new.trail) table.are c.requires.places
           c.requires.rooms m.labels current c.requires.start c.requires.goal c.requires.apart
-          (omega (arith, rw c.deref-8.ensures at c.in_ok-slots.ensures.capacity)) (omega arith) m.way,
+          (omega (arith, rw c.deref-4.ensures at c.in_ok-slots.ensures.capacity)) (omega arith) m.way,
     )
 
 pub returns : goal.returns

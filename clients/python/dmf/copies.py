@@ -1,0 +1,189 @@
+"""Solved copies of a network, on which the cases of a sweep are tried and taken back."""
+
+from __future__ import annotations
+
+import threading
+import time
+from collections.abc import Callable
+from dataclasses import dataclass
+from itertools import takewhile
+from typing import Any, NamedTuple, Tuple, Union
+
+from .arcs import Arc
+from .errors import Error, SessionEnded
+from .kept import Kept, whole
+from .network import Network
+from .process import Program
+from .text import LARGEST, MOST_ARCS
+
+# A command of a case: ("cap", arc, capacity), ("close", arc), ("open", arc), ("shut", node) or ("add", tail, head, capacity).
+Command = Tuple[Any, ...]
+# A case as a copy takes it: commands with the numbers of arcs, or a function.
+Plain = Union["list[Command]", Callable[[Network[Any]], object]]
+# A session takes 1,000,000 lines, so a copy is replaced before.
+MOST_LINES = 900_000
+# How much text is sent at once, in bytes: every pipe has room for it, so that the program never waits for a reader of its replies
+# while it has lines to take.
+MOST_TEXT = 4_096
+# How often a case is tried.
+TRIES = 2
+
+
+@dataclass(frozen=True)
+class Answer:
+    """What a copy tells of a case: its value and the arcs of its cut, by their numbers or, where they were added, as they are."""
+
+    value: int = 0
+    cut: tuple[int | Arc[Any], ...] | None = None
+    refusal: Error | None = None
+
+
+class _Lines(NamedTuple):
+    """The text that tries a case: its commands, a solve, and the steps back; and how many lines these are."""
+
+    text: str
+    line_count: int
+
+
+def _try(network: Network[Any], case: Plain, want_cut: bool) -> Answer:
+    """What comes of a case on a solved network, which is then as it was."""
+    known = network._kept.arc_count
+    with network.try_out():
+        if callable(case):
+            # A case makes nothing again that another one has undone.
+            network._kept.forget_undone()
+            case(network)
+        else:
+            for word, *rest in case:
+                if word in ("cap", "close", "open"):
+                    rest[0] = network._kept.handle(rest[0])
+                getattr(network, word)(*rest)
+        value = network.solve().value
+        if not want_cut:
+            return Answer(value)
+        return Answer(value, tuple(arc.number if arc.number <= known else arc for arc in network.cut().arcs))
+
+
+def _try_together(network: Network[Any], cases: list[_Lines], answers: list[Answer]) -> None:
+    """Sends cases at once, and adds what comes of each. Raises `SessionEnded` if one is refused, since the replies after it are of
+    another network."""
+    child = network._child
+    with child.alone(), child.exchange("\n".join(case.text for case in cases)):
+        for case in cases:
+            *changed, solved, undone = (line.split() for line in child.lines(case.line_count).splitlines())
+            if any(fields[1] == b"refused" for fields in changed) or solved[:3] != [b"c", b"solve", b"value"]:
+                raise ValueError
+            if undone != [b"c", b"undo", b"value", b"%d" % network.value]:
+                raise ValueError
+            answers.append(Answer(int(solved[3])))
+
+
+class Copy:
+    """A solved copy of a network, which is begun when a case comes, and anew where its program ends."""
+
+    def __init__(self, kept: Kept[Any], program: Program) -> None:
+        self._kept = kept
+        self._program = program
+        self._is_over = False
+        self._lock = threading.Lock()
+        # What may be added to the capacities, at the least.
+        self._room = LARGEST - sum(kept.capacities)
+        self.network: Network[Any] | None = None
+        self.used = time.monotonic()
+
+    def answers(self, cases: list[Plain | Error], want_cut: bool) -> list[Answer]:
+        """What comes of cases. Sends those together that no session refuses, so that the program need not wait for the next one. If
+        it ends at one of these, tries that once more."""
+        answers: list[Answer] = []
+        while len(answers) < len(cases):
+            together = [] if want_cut else self._together(cases[len(answers) :])
+            tries = TRIES
+            if len(together) > 1:
+                try:
+                    _try_together(self._solved(), together, answers)
+                    continue
+                except Error:
+                    self.end()
+                    tries = 1
+            answers.append(self._answer(cases[len(answers)], want_cut, tries))
+        return answers
+
+    def _answer(self, case: Plain | Error, want_cut: bool, tries: int) -> Answer:
+        """What comes of a case. If the program ends, tries it once more, if a try is left."""
+        if isinstance(case, Error):
+            return Answer(refusal=case)
+        for left in reversed(range(tries)):
+            try:
+                return _try(self._solved(), case, want_cut)
+            except SessionEnded as error:
+                self.end()
+                if not left or self._is_over:
+                    return Answer(refusal=error)
+            except Error as error:
+                return Answer(refusal=error)
+        raise AssertionError
+
+    def _together(self, cases: list[Plain | Error]) -> list[_Lines]:
+        """The lines of the first cases, as many as may go together."""
+        found, size = [], 0
+        for lines in takewhile(bool, map(self._lines, cases)):
+            assert lines
+            size += len(lines.text) + 1
+            if size > MOST_TEXT:
+                break
+            found.append(lines)
+        return found
+
+    def _lines(self, case: Plain | Error) -> _Lines | None:
+        """The lines of a case that a session can refuse for want of memory alone, and nothing for another case."""
+        if isinstance(case, Error) or callable(case):
+            return None
+        try:
+            commands = [self._in_numbers(*command) for command in case]
+        except Error:
+            return None
+        words = [word for word, *_ in commands]
+        amount = sum(command[-1] for command in commands if command[0] in ("cap", "add"))
+        changed = [command[1] for command in commands if command[0] in ("cap", "close")]
+        is_known = "open" not in words and ("shut" not in words or len(words) == 1)
+        is_open = len(set(changed)) == len(changed) and self._kept.closed.isdisjoint(changed)
+        if not (is_known and is_open and amount <= self._room and self._kept.arc_count + words.count("add") <= MOST_ARCS):
+            return None
+        lines = [" ".join(map(str, command)) for command in commands]
+        return _Lines("\n".join([*lines, "solve", f"undo {len(lines) + 1}"]), len(lines) + 2)
+
+    def _in_numbers(self, word: str, *rest: Any) -> tuple[Any, ...]:
+        """A command with its nodes by number, too. Raises a `Refused` if something in it is no node or no capacity."""
+        if word == "add":
+            tail, head, capacity = rest
+            return word, self._kept.number(tail), self._kept.number(head), whole(capacity, rest)
+        if word == "cap":
+            return word, rest[0], whole(rest[1], rest)
+        return word, self._kept.number(rest[0]) if word == "shut" else rest[0]
+
+    def _solved(self) -> Network[Any]:
+        if self._is_over:
+            raise SessionEnded("the sweep was ended")
+        if self.network and self.network._child.line_count > MOST_LINES:
+            self.end()
+        if self.network is None:
+            network = Network._of_copy(self._kept.copy(), self._program)
+            with self._lock:
+                self.network = network
+                if self._is_over:
+                    network._child.break_off("the sweep was ended")
+            network.solve()
+        return self.network
+
+    def end(self) -> None:
+        """Ends the program."""
+        network, self.network = self.network, None
+        if network:
+            network._child.end()
+
+    def break_off(self) -> None:
+        """Kills the program for another thread that waits for it, and lets it begin no more."""
+        with self._lock:
+            self._is_over = True
+            if self.network:
+                self.network._child.break_off("the sweep was ended")

@@ -1,4 +1,0 @@
-use Rattle.dmf_runs.proofs.reply.write_line.Goals as goal
-
-pub returns : goal.returns
-returns g c = rw c.as_bytes.ensures at c.put_all.ensures

@@ -1,5 +1,0 @@
-use Rattle.dmf_session.proofs.Optimal.{greatest-optimal}
-use Rattle.dmf_session.proofs.laws.greatest_is_optimal.Goals as goal
-
-pub returns : goal.returns
-returns c = greatest-optimal c.max_flow_min_cut.ensures.cut

@@ -1,0 +1,5 @@
+use Rattle.dmf_solver.proofs.Optimal.{greatest-optimal}
+use Rattle.dmf_solver.proofs.laws.greatest_is_optimal.Goals as goal
+
+pub returns : goal.returns
+returns c = greatest-optimal c.max_flow_min_cut.ensures.cut

@@ -1,0 +1,46 @@
+use Rattle.std.proofs.Common.{Result}
+use Rattle.std.proofs.lemmas.Result.{err_from_is_err_and}
+use Rattle.dmf_text.specs.Writing.{Writes}
+use Rattle.dmf_streams.specs.declared.fault.Status.{Status}
+use Rattle.dmf_streams.specs.declared.fault.EngineFault.{EngineFault}
+use Rattle.dmf_solving.specs.Solved.{solved_text}
+use Rattle.dmf_solving.specs.SolveRun.{WritesSolved}
+use Rattle.dmf_solving.proofs.solve.run_solve_watched.Given.{Over}
+use Rattle.dmf_solving.proofs.solve.run_solve_watched.Goals as goal
+use Rattle.dmf_solving.proofs.solve.run_solve_watched.Goals.{After-put_solved}
+
+-- the solution was written, or a prefix of it
+writes-solved : (g : Over) (c : After-put_solved g) (result : Result Status EngineFault) → Writes (g.W.Sink.written c.args.out.now)
+    (g.W.Sink.written c.put_solved.new.out) result (solved_text c.in_ok-solved.solved.state c.in_ok-solved.solved.side)
+    → WritesSolved c.args.want_cut (g.P.Source.left c.args.problem.now) (g.P.Source.left c.read_state.new.source) (g.W.Sink.written c.args.out.now)
+    (g.W.Sink.written c.put_solved.new.out) c.in_ok-state.ensures.text result
+writes-solved g c result writes = record {
+  state = c.in_ok-state.state;
+  problem = c.in_ok-state.ensures.is_so;
+  solved = c.in_ok-solved.solved.state;
+  becomes = c.in_ok-solved.ensures.becomes;
+  side = c.in_ok-solved.solved.side;
+  side_is = c.in_ok-solved.ensures.side;
+  writes = writes;
+}
+
+-- the writer failed
+pub returns-in_err-put_solved-clause-run : goal.returns-in_err-put_solved-clause-run
+returns-in_err-put_solved-clause-run g c =
+    let failed = err_from_is_err_and c.from_residual-in_err-put_solved.result c.from_residual-in_err-put_solved.ensures.1 in
+    let read = c.in_ok-state.ensures in
+    rw (failed.1, failed.2) (record {
+      text = read.text;
+      consumes = read.consumes;
+      is_so = writes-solved g (goal.at.returns-in_err-put_solved-clause-run g c).After-put_solved _ c.in_err-put_solved.ensures;
+    })
+
+pub returns-clause-run : goal.returns-clause-run
+returns-clause-run g c =
+    let read = c.in_ok-state.ensures in
+    record {
+      text = read.text;
+      consumes = read.consumes;
+      is_so = writes-solved g
+          (goal.at.returns-clause-run g c).After-put_solved _ c.in_ok-put_solved.ensures;
+    }

@@ -1,0 +1,4 @@
+pub mod Solved
+pub mod SolveRun
+pub mod CheckRun
+pub mod Laws

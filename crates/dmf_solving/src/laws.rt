@@ -1,0 +1,14 @@
+ghost use Rattle.dmf_solving.specs.Laws.{WrittenIsOptimal};
+
+use dmf_solver::{greatest_is_optimal, solved_is_greatest};
+use dmf_text::accepted_is_state;
+
+/// The law that the solution that a solving run writes has the greatest value of all flows, and that this value is the capacity of the
+/// smallest minimum cut.
+pub fn written_is_optimal()
+    ensures { WrittenIsOptimal }
+{
+    accepted_is_state();
+    solved_is_greatest();
+    greatest_is_optimal();
+}

@@ -1,0 +1,4 @@
+pub mod Giving
+pub mod KeptLineLemmas
+pub mod TakingLemmas
+pub mod ReplyLemmas

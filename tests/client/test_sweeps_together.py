@@ -1,0 +1,96 @@
+"""Cases that a sweep sends together, where one of them goes wrong. Worked by hand: over the arcs side by side flows what all of them
+carry together, and 300 where none is closed."""
+
+from __future__ import annotations
+
+from collections.abc import Iterator
+from concurrent.futures import ThreadPoolExecutor
+from contextlib import contextmanager
+from pathlib import Path
+from typing import Any
+
+import pytest
+from client_shared import BUILT, dmf, script
+from dmf.copies import Copy
+
+ARCS = 24
+CLOSED: list[Any] = [[("close", number)] for number in range(1, ARCS + 1)]
+VALUES = [300 - number for number in range(1, ARCS + 1)]
+
+
+@contextmanager
+def beside(program: str) -> Iterator[dmf.Network[str]]:
+    """Arcs that carry 1, 2 and so on to 24, each with this as its key."""
+    with dmf.Network([("a", "b", number, number) for number in range(1, ARCS + 1)], "a", "b", program=program) as network:
+        assert network.solve().value == 300
+        yield network
+
+
+def swept(network: dmf.Network[str], cases: Any) -> list[Any]:
+    """The values of cases, or the kind of their refusal. An executor takes 16 of them at once."""
+    with ThreadPoolExecutor(1) as threads:
+        return [type(it.refusal) if it.refusal else it.value for it in dmf.sweep(network, cases, threads)]
+
+
+def test_how_much_is_sent_at_once() -> None:
+    """The program gets the cases of a piece before it has answered the first: what it has been sent by then holds all of them."""
+    late = f'{BUILT} "$@" | while read line; do case "$line" in "c close"*) sleep 0.05; cp "$0.sent" "$0.$((count += 1))";; esac; echo "$line"; done'
+    with script(f'tee -a "$0.sent" | {late}') as program, beside(program) as network:
+        assert swept(network, CLOSED[:16]) == VALUES[:16]
+        assert Path(f"{program}.1").read_text().count("close ") == 16
+
+
+@pytest.mark.parametrize("dies_always", [False, True])
+def test_a_program_that_dies_at_one_of_them(dies_always: bool) -> None:
+    """That one is tried once more; what came before it stays, and what comes after it is tried on another program."""
+    dies = "true" if dies_always else '[ ! -e "$0.died" ]'
+    note = 'case "$line" in "close 7") echo >>"$0.tries"; if ' + dies + '; then touch "$0.died"; exit; fi;; esac'
+    with script(f'while read line; do {note}; echo "$line"; done | {BUILT} "$@"') as program, beside(program) as network:
+        wanted: list[Any] = VALUES[:]
+        if dies_always:
+            wanted[6] = dmf.SessionEnded
+        assert swept(network, CLOSED) == wanted
+        assert Path(f"{program}.tries").read_text() == "\n\n"
+
+
+def test_a_refusal_that_nobody_foresaw() -> None:
+    """As for want of memory: the replies to the cases after it would be of another network, so all are tried anew."""
+    with script(f"sed -u 's/^close 7$/close 99/' | {BUILT} \"$@\"") as program, beside(program) as network:
+        assert swept(network, CLOSED) == [*VALUES[:6], dmf.NoSuchArc, *VALUES[7:]]
+
+
+# Each stands for a solve after `close 7`, or for the step back.
+@pytest.mark.parametrize("odd", ["s/^c solve value 293$/c close value 293/", "s/^c solve value 293$/c/", "/^c solve value 293$/{n;s/300/299/}"])
+def test_answers_that_are_not_understood(odd: str) -> None:
+    with script(f'{BUILT} "$@" | sed -u {odd!r}') as program, beside(program) as network:
+        told = swept(network, CLOSED)
+        assert (told[:6], told[7:]) == (VALUES[:6], VALUES[7:])
+        # A single case does not look at the value of its step back.
+        assert told[6] in (dmf.SessionEnded, 293)
+
+
+def test_what_is_sent_together_is_short() -> None:
+    """However many commands the cases have: a pipe may have room for a page alone, which is as much as all of these."""
+    cases: list[Any] = [[("close", number) for number in range(1, ARCS + 1) if number != left] for left in range(1, ARCS + 1)]
+    with beside(BUILT) as network:
+        assert swept(network, cases * 20) == list(range(1, ARCS + 1)) * 20
+        lines = Copy(network._kept.copy(), BUILT)._together(cases * 20)
+        # Each has 23 commands of 7 or 8 letters, a solve and `undo 24`, with their ends.
+        letters = 9 * 8 + 14 * 9 + len("solve\nundo 24\n")
+        assert [len(it.text) + 1 for it in lines[9:]] == [letters] * (len(lines) - 9)
+        assert 4_096 - letters < sum(len(it.text) + 1 for it in lines) <= 4_096
+
+
+def test_a_function_makes_nothing_again_that_another_case_did() -> None:
+    def again(copy: dmf.Network[Any]) -> None:
+        copy.redo()
+
+    def twice(copy: dmf.Network[Any]) -> None:
+        copy.close(3)
+        copy.close(4)
+        copy.undo(2)
+        copy.redo(1)
+
+    for case in CLOSED[0], lambda copy: copy.close(1):
+        with beside(BUILT) as network:
+            assert swept(network, [case, again, case, twice, CLOSED[1], again]) == [299, dmf.NothingToRedo, 299, 297, 298, dmf.NothingToRedo]
