@@ -60,6 +60,7 @@ second_path [] (y ∷ ys) plain also name = rw (also, also) refl
 second_path (x ∷ xs) [] plain also name = rw (plain, plain) refl
 second_path (x ∷ xs) (y ∷ ys) plain also name = rw (plain, plain, also, also) refl
 
+-- Clap's definition of plain words holds of the words that the program takes.
 pub plain_words : PlainWords
 unfolding clap_on_literals
 plain_words = record {

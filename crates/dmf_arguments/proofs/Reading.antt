@@ -17,6 +17,7 @@ pub line_is_simple : is_simple arguments ≡ true
 unfolding clap_on_literals
 line_is_simple = refl
 
+-- The program's own command line is simple, and free of what clap defines no parse of.
 pub line_is_free : is_simple_and_free arguments ≡ true
 unfolding clap_on_literals
 line_is_free = refl
@@ -38,6 +39,7 @@ module _ (kinds : Kinds) (kind : ErrorKind) (fault : WordsFault) (among : (kind 
         λ cut brief progress text path is. memory,
       )
 
+  -- Where a parse gives some kinds of fault, the answer tells of one of these.
   pub told : (first : ErrorKind) (others : Kinds) → kinds ≡ first ∷ others → IsToldOf (first ∷ others) fault
   told first others are = elim among [ inl e ↦ inl (tells.memory e) | inr one ↦ inr (kind, subst (IsAmong kind) are one, tells) ]
 
@@ -53,6 +55,7 @@ pub record AskedRows (rows : List Row) (flag brief progress bound path : Option 
 abbrev Parts : Type 0
 Parts = Text × Option Text × Option Text × Option Text × Option Text × Option Text
 
+-- Where a command was found, what is asked for is what its rows say.
 pub asked_rows : (found : Option (Text × List Row)) (rows : List Row) (name : Text) (flag brief progress bound path : Option Text)
     → Some rows ≡ option_map (λ p. p.1) found → asked_of found ≡ Some (name, flag, brief, progress, bound, path)
     → AskedRows rows flag brief progress bound path
@@ -67,6 +70,7 @@ asked_rows (Some p) rows name flag brief progress bound path has asked =
       path_is = ap (option_and_then (λ (q : Parts). q.5)) asked;
     })
 
+-- Sessions that are asked for with equal parts are equal.
 pub same-holding : {cut wanted brief short progress told : Bool} {n bound : ℕ} {problem path : Text} → cut ≡ wanted → brief ≡ short → progress ≡ told
     → n ≡ bound → problem ≡ path → holding cut brief progress n problem ≡ holding wanted short told bound path
 same-holding c b t n p = cc

@@ -161,14 +161,17 @@ module _ (present : NetworkState) (edits : List Edit) (place bound : ℕ) (are :
   from-first : timeline_of present edits place bound ≡ record { states = states_from are.first edits; place = place; bound = bound }
   from-first = ap (λ s. record { states = states_from s edits; place = place; bound = bound }) are.first_is
 
+  -- The states that the edits lead through are a timeline.
   pub is-timeline : length edits ≤ bound → bound ≤ 1000000 → IsTimeline (timeline_of present edits place bound)
   is-timeline at_most limit =
       let long = length-states_from edits (before (take place edits) present) in
       record { place = omega (arith, long, are.within); at_most = omega (arith, long, at_most); bound = limit }
 
+  -- As many states are past the present one as edits are behind its place.
   pub future-is : future_of (timeline_of present edits place bound) ≡ length edits - place
   future-is = omega (arith, length-states_from edits (before (take place edits) present))
 
+  -- The present state is that at the timeline's place.
   pub is-present : IsPresent (timeline_of present edits place bound) present
   is-present =
       subst (λ t. IsPresent t present) (sym from-first)
@@ -192,6 +195,7 @@ module _ (present : NetworkState) (edits : List Edit) (place bound : ℕ) (are :
     made : applied edit (after (take k edits) are.first) ≡ present
     made = sym (after-next edits are.first k edit is) ∙ ap (λ n. after (take n edits) are.first) (sym last) ∙ are.present_is
 
+    -- The edit before the place stands in the present state.
     pub stands : Stands edit present
     stands = record {
       before = after (take k edits) are.first;
@@ -207,6 +211,7 @@ module _ (present : NetworkState) (edits : List Edit) (place bound : ℕ) (are :
     unmade : GivesBack → after (take k edits) are.first ≡ reverted edit present
     unmade law = sym (law edit (after (take k edits) are.first) (are.fit k edit is)) ∙ ap (reverted edit) made
 
+    -- After a step back the edits still lead from state to state.
     pub undone : GivesBack → AreEdits (reverted edit present) edits k
     undone law = record {
       within = omega (arith, last, are.within);
@@ -217,11 +222,13 @@ module _ (present : NetworkState) (edits : List Edit) (place bound : ℕ) (are :
       present_is = unmade law;
     }
 
+    -- A step back is that of the timeline.
     pub undone-back : timeline_of (reverted edit present) edits k bound ≡ back (timeline_of present edits place bound) 1
     undone-back =
         let fewer : k ≡ place - 1 = omega (arith, last) in
         λ i. record { states = states_from (sym same-first i) edits; place = fewer i; bound = bound }
 
+    -- The edit before the place leads back to the state before.
     pub leads-back : GivesBack → LeadsBack edit (timeline_of present edits place bound)
     leads-back law = record {
       state = present;
@@ -238,6 +245,7 @@ module _ (present : NetworkState) (edits : List Edit) (place bound : ℕ) (are :
   -- ---- one step forward
 
   module _ (edit : Edit) (is : slice_get edits place ≡ Some edit) where
+    -- The edit at the place fits the present state.
     pub fits : Fits edit present
     fits = subst (Fits edit) are.present_is (are.fit place edit is)
 
@@ -245,6 +253,7 @@ module _ (present : NetworkState) (edits : List Edit) (place bound : ℕ) (are :
     same-first-forward law =
         before-next edits (applied edit present) place edit is ∙ ap (before (take place edits)) (law edit present fits)
 
+    -- After a step forward the edits still lead from state to state.
     pub redone : GivesBack → AreEdits (applied edit present) edits (place + 1)
     redone law = record {
       within = omega (arith, slice_get_within edits place edit is);
@@ -255,6 +264,7 @@ module _ (present : NetworkState) (edits : List Edit) (place bound : ℕ) (are :
       present_is = after-next edits are.first place edit is ∙ ap (applied edit) are.present_is;
     }
 
+    -- A step forward is that of the timeline.
     pub redone-forward : GivesBack → timeline_of (applied edit present) edits (place + 1) bound ≡ forward (timeline_of present edits place bound) 1
     redone-forward law = λ i. record { states = states_from (same-first-forward law i) edits; place = place + 1; bound = bound }
 
@@ -264,9 +274,11 @@ module _ (present : NetworkState) (edits : List Edit) (place bound : ℕ) (are :
         (states_from-at edits are.first (place + 1) (omega (arith, slice_get_within edits place edit is))
         ∙ ap (λ s. Some s) (after-next edits are.first place edit is ∙ ap (applied edit) are.present_is))
 
+    -- The edit at the place leads on to the next state.
     pub leads-on : LeadsOn edit (timeline_of present edits place bound)
     leads-on = record { state = present; present = is-present; fits = fits; after = next-is }
 
+    -- Where the edit at the place adds an arc, so does the timeline's next step.
     pub adds-arcs : AddsArc edit → AddsArcs (timeline_of present edits place bound) place
     adds-arcs adds =
         record {
@@ -280,6 +292,7 @@ module _ (present : NetworkState) (edits : List Edit) (place bound : ℕ) (are :
   -- ---- an edit replaces those past the present state
 
   module _ (edit : Edit) (accepted : FitsPresent edit (timeline_of present edits place bound)) where
+    -- An edit that fits the timeline's present state fits the present state.
     pub fits-present : Fits edit present
     fits-present = subst (Fits edit) (one-present (timeline_of present edits place bound) accepted.state present accepted.present is-present) accepted.fits
 
@@ -304,6 +317,7 @@ module _ (present : NetworkState) (edits : List Edit) (place bound : ℕ) (are :
           ∙ after-push (take place edits) edit are.first ∙ ap (applied edit) are.present_is;
     }
 
+    -- Where the place is below the bound, it moves on with the edit that was put.
     pub put-within_bound : GivesBack → place < bound → bound ≤ 1000000 → AreWithinBound (applied edit present) put (place + 1) bound
     put-within_bound law fewer limit = record {
       are = put-edits law;
@@ -311,6 +325,7 @@ module _ (present : NetworkState) (edits : List Edit) (place bound : ℕ) (are :
       limit = limit;
     }
 
+    -- Else the oldest edit is forgotten, and the place stays.
     pub put-forgets-within_bound : GivesBack → length edits ≤ bound → bound ≤ 1000000 → AreWithinBound (applied edit present) (drop 1 put) place bound
     put-forgets-within_bound law at_most limit = record {
       are = forgotten-edits law (applied edit present) place put (place + 1) (omega arith) (put-edits law);

@@ -60,6 +60,7 @@ pub record BeginsFresh (l : Links) (labels : List ℕ) (start goal : ℕ) : Type
   pub goal_label : get_or labels goal 0 ≡ 0
   pub fresh : IsFresh l labels start
 
+-- A search over links begins with fresh labels.
 pub begins-fresh : (l : Links) (start goal : ℕ) → IsNode l.nodes start → IsNode l.nodes goal → start ≢ goal
     → BeginsFresh l (fresh_labels l.nodes start goal) start goal
 begins-fresh l start goal start_is goal_is apart =

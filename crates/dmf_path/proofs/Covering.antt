@@ -1,15 +1,16 @@
 -- Indices that cover all but those that may be left out.
-use Rattle.std.proofs.Common.{ℕ, ◌≡◌, ◌≢◌, ◌+◌, ◌<◌, ◌≤◌, zero, suc, inl, inr, List, length, get_or, ap, ⊎_elim, arith}
+use Rattle.std.proofs.Common.{ℕ, ◌≡◌, ◌≢◌, ◌+◌, ◌-◌, ◌<◌, ◌≤◌, zero, suc, inl, inr, List, length, get_or, ap, ⊎_elim, arith}
 use Rattle.std.proofs.lemmas.Bool.{cases_eq, cases_lt}
 use Rattle.std.specs.List.{range_with_len}
 use Rattle.std.proofs.lemmas.List.FromFn.{get_or-range_with_len, length-range_with_len}
 use Rattle.dmf_path.specs.Search.{Covers}
 
 -- All indices leave nothing out.
-pub covers-below : (n : ℕ) (P : ℕ → Type 0) → Covers n P (range_with_len 0 n)
+pub covers-below : (n : ℕ) (P : ℕ → Type 0) → Covers n P (range_with_len 0 (n - 0))
 covers-below n P =
-    let long = length-range_with_len 0 n in
-    let at : (i : ℕ) → i < n → get_or (range_with_len 0 n) i 0 ≡ i = λ i h. let read = get_or-range_with_len 0 n i 0 h in omega (arith, read) in
+    let indices : List ℕ = range_with_len 0 (n - 0) in
+    let long = length-range_with_len 0 (n - 0) in
+    let at : (i : ℕ) → i < n → get_or indices i 0 ≡ i = λ i h. let read = get_or-range_with_len 0 (n - 0) i 0 (omega (arith, h)) in omega (arith, read) in
     record {
       below = λ i h. omega (arith, at i (omega (arith, h, long)), h, long);
       ascending = λ i j before h. omega (arith, at i (omega (arith, before, h, long)), at j (omega (arith, h, long)), before);

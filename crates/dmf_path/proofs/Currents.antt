@@ -8,6 +8,7 @@ use Rattle.dmf_path.specs.Walk.{AreCurrent}
 pub first-at : (l : Links) (current : List ℕ) (v : ℕ) → current ≡ take (l.nodes + 1) l.first → v ≤ l.nodes → get_or current v 0 ≡ get_or l.first v 0
 first-at l current v first within = ap (λ cs. get_or cs v 0) first ∙ get_or-take (l.nodes + 1) l.first v 0 (omega (arith, within))
 
+-- Each node's first link can be its current one.
 pub current-first : (l : Links) (current : List ℕ) → AreLinks l → current ≡ take (l.nodes + 1) l.first → AreCurrent l current
 current-first l current links first =
     let at_first : (v : ℕ) → v ≤ l.nodes → get_or current v 0 ≡ get_or l.first v 0 = λ v h. first-at l current v first h in

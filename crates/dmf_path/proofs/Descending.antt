@@ -17,12 +17,14 @@ abbrev pub Descends : Links → List ℕ → ℕ → ℕ → List ℕ → Type 0
 Descends l labels top bottom [] = bottom ≤ top
 Descends l labels top bottom (p ∷ ps) = FallsBelow l labels top p × Descends l labels (get_or labels (get_or l.heads p 0) 0) bottom ps
 
+-- The top may be raised.
 pub descends-raised : (l : Links) (labels : List ℕ) (top higher bottom : ℕ) (ps : List ℕ) → top ≤ higher → Descends l labels top bottom ps
     → Descends l labels higher bottom ps
 descends-raised l labels top higher bottom [] more descends = omega arith
 descends-raised l labels top higher bottom (p ∷ ps) more descends =
     (record { within = descends.0.within; label = descends.0.label; below = omega (arith, descends.0.below, more) }, descends.1)
 
+-- Links that fall to a label, and links that fall from it, fall together.
 pub descends-append : (l : Links) (labels : List ℕ) (top middle bottom : ℕ) (ps qs : List ℕ) → Descends l labels top middle ps
     → Descends l labels middle bottom qs → Descends l labels top bottom (ps ++ qs)
 descends-append l labels top middle bottom [] qs first later = descends-raised l labels middle top bottom qs first later
@@ -97,11 +99,13 @@ pub partner-rises : (l : Links) (labels : List ℕ) (p : ℕ) → AreLinks l →
 partner-rises l labels p links within falls rises =
     omega (arith, falls, rises, ap (λ q. get_or labels (get_or l.heads q 0) 0) (links.each p within).partner_back)
 
+-- The opposite of a link that falls is none of some links that fall.
 pub off-partner : (l : Links) (labels : List ℕ) (top bottom p : ℕ) (ps : List ℕ) → AreLinks l → p < length l.heads
     → get_or labels (get_or l.heads p 0) 0 + 1 ≡ get_or labels (tail_of l p) 0 → Descends l labels top bottom ps → IsOff (get_or l.partners p 0) ps
 off-partner l labels top bottom p ps links within falls descends =
     off-rising l labels top bottom (get_or l.partners p 0) ps descends (partner-rises l labels p links within falls)
 
+-- A link that is in neither of two lists is not in both together.
 pub off-append : (p : ℕ) (ps qs : List ℕ) → IsOff p ps → IsOff p qs → IsOff p (ps ++ qs)
 off-append p [] qs first later = later
 off-append p (q ∷ ps) qs first later = (first.0, off-append p ps qs first.1 later)
@@ -113,6 +117,7 @@ pub record IsBetween (l : Links) (labels : List ℕ) (top bottom p : ℕ) (ps qs
   pub behind : IsOff p qs
   pub without : Descends l labels top bottom (ps ++ qs)
 
+-- A link among some that fall lies between those before and those after it.
 pub between : (l : Links) (labels : List ℕ) (top bottom p : ℕ) (ps qs : List ℕ) → Descends l labels top bottom (ps ++ p ∷ qs)
     → IsBetween l labels top bottom p ps qs
 between l labels top bottom p [] qs descends = record {

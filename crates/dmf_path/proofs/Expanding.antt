@@ -18,6 +18,7 @@ pub record IsLevel (l : Links) (opens : List ℕ) (root level : ℕ) (labels que
   pub most : (j : ℕ) → j < length queue → get_or labels (get_or queue j 0) 0 ≤ level + 1
   pub small : level < l.nodes
 
+-- A search at rest is at the beginning of a level.
 pub level-first : (l : Links) (opens : List ℕ) (root level : ℕ) (labels queue : List ℕ) (done : ℕ) → AreSpread l opens root labels queue done
     → done < length queue → IsAtRest labels queue done → get_or labels (get_or queue done 0) 0 ≡ level → IsLevel l opens root level labels queue done
 level-first l opens root level labels queue done so_far ahead rest is = record {
@@ -38,6 +39,7 @@ kept-label l opens root labels queue done new after are so_far ahead expands =
     (arith, none, small, ahead, queue-short l opens root labels queue done so_far, are.at_most_nodes) in
     ap (λ v. get_or new v 0) same ∙ expands.spreads.kept (get_or queue done 0) has
 
+-- A level stays one where its next node is expanded.
 pub level-next : (l : Links) (opens : List ℕ) (root level : ℕ) (labels queue : List ℕ) (done : ℕ) (new after : List ℕ) → AreLinks l
     → IsLevel l opens root level labels queue done → done < length queue → get_or labels (get_or queue done 0) 0 ≡ level
     → AreSpread l opens root new after (done + 1) → Expands l opens labels queue done new after → IsLevel l opens root level new after (done + 1)
@@ -90,6 +92,7 @@ met-given l opens labels queue done new after others level v expands apart is wi
   | inr none ↦ absurd (other none)
 ]
 
+-- Where that meets another search, it does so one beyond the level.
 pub beyond-next : (l : Links) (opens labels queue : List ℕ) (done : ℕ) (new after others : List ℕ) (level : ℕ) → Expands l opens labels queue done new after
     → AreApart labels others → get_or labels (get_or queue done 0) 0 ≡ level → length new ≡ length labels → MeetBeyond level new others
 beyond-next l opens labels queue done new after others level expands apart is long v within has other =
@@ -127,6 +130,7 @@ pub behind-at : (queue : List ℕ) (before i : ℕ) → get_or (take (length que
 behind-at queue before i =
     ap (λ q. get_or q i 0) (take_all (length queue - before) (drop before queue) (omega (arith, length-drop before queue))) ∙ get_or-drop before queue i 0
 
+-- They are as many as the queue has more.
 pub behind-long : (queue : List ℕ) (before : ℕ) → length (take (length queue - before) (drop before queue)) ≡ length queue - before
 behind-long queue before =
     ap length (take_all (length queue - before) (drop before queue) (omega (arith, length-drop before queue))) ∙ length-drop before queue

@@ -24,6 +24,7 @@ one-before u v = elim (cases_lt u v) [
   | inr from ↦ cond-false _ _ _ (le-ltb u v from) ∙ omega arith
 ]
 
+-- Before a node's links there is one new link for each of the two nodes that come earlier.
 pub before-sum : (g : Gap) (v : ℕ) → new_before g v ≡ min 1 (v - g.low_node) + min 1 (v - g.high_node)
 before-sum g v = λ i. one-before g.low_node v i + one-before g.high_node v i
 
@@ -57,6 +58,7 @@ pub data IsSomeLink (g : Gap) (count q : ℕ) : Type 0 where
   low : q ≡ g.low → IsSomeLink g count q
   high : q ≡ g.high + 1 → IsSomeLink g count q
 
+-- Each place is that of one of the three.
 pub some-link : (g : Gap) (count q : ℕ) → g.low ≤ g.high → g.high ≤ count → q < count + 2 → IsSomeLink g count q
 some-link g count q order most within = elim (cases_lt q g.low) [
   | inl before ↦ old q (omega arith) (omega (arith, shifted-sum g q order))
@@ -84,9 +86,11 @@ module _ (l : Links) (places : List ℕ) (k : ℕ) (g : Gap) (links : AreLinks l
   pub in-order : g.low ≤ g.high
   in-order = omega (arith, gap.low.to, first-before l g.low_node g.high_node links gap.order (omega (arith, gap.high_node.to_last)), gap.high.from)
 
+  -- The gap is among the links.
   pub gap-within : g.high ≤ length l.heads
   gap-within = omega (arith, gap.high.to, last-within l g.high_node links gap.high_node.to_last)
 
+  -- A place moves up by one for each new link at it or before it.
   pub shift-is : (p : ℕ) → shifted g p ≡ p + min 1 (p + 1 - g.low) + min 1 (p + 1 - g.high)
   shift-is p = shifted-sum g p in-order
 
@@ -178,6 +182,7 @@ module _ (l : Links) (places : List ℕ) (k : ℕ) (g : Gap) (links : AreLinks l
       lies = lies-low;
     }
 
+    -- The later new link is opposite to the earlier one.
     pub high-opposite : AreOpposite n (g.high + 1) g.low g.high_node g.low_node
     high-opposite = record {
       within = omega (arith, in-order, gap-within, grown.heads.long);
@@ -212,6 +217,7 @@ module _ (l : Links) (places : List ℕ) (k : ℕ) (g : Gap) (links : AreLinks l
       ]
     ]
 
+    -- A link that lies at a node has it as its tail.
     pub at-tail : (v q : ℕ) → IsNode n.nodes v → LiesAt n v q → q < length n.heads → tail_of n q ≡ v
     at-tail v q node lies within =
         let link = each-link q within in

@@ -8,6 +8,7 @@ use Rattle.dmf_path.specs.Links.{Links, LiesAt, AreLinks, ArePlaces, IsOf, no_pl
 use Rattle.dmf_path.specs.Grown.{shifted, counted, IsGap, IsGrown, IsPlaced}
 use Rattle.dmf_path.proofs.GrownLinks.{old, low, high, some-link, in-order, gap-within, shift-is, at-tail, old-opposite, low-opposite, high-opposite}
 
+-- An index moves up by one from the new pair on.
 pub counted-sum : (k j : ℕ) → counted k j ≡ j + min 1 (j + 1 - k)
 counted-sum k j = elim (cases_lt j k) [
   | inl before ↦ cond-true _ _ _ (lt-ltb j k before) ∙ omega arith
@@ -19,6 +20,7 @@ pub data IsSomeIndex (k count j : ℕ) : Type 0 where
   was : (i : ℕ) → i < count → j ≡ counted k i → IsSomeIndex k count j
   new : j ≡ k → IsSomeIndex k count j
 
+-- Each index is that of one of the two.
 pub some-index : (k count j : ℕ) → k ≤ count → j < count + 1 → IsSomeIndex k count j
 some-index k count j most within = elim (cases_lt j k) [
   | inl before ↦ was j (omega arith) (omega (arith, counted-sum k j))

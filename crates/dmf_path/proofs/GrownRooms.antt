@@ -50,6 +50,7 @@ module _ {A : Type 0} (g : Gap) (first second : A) (xs : List A) (d : A) (order 
   two-high : get_or (with_two g first second xs) (g.high + 1) d ≡ second
   two-high = get_or-insert_above (insert xs g.high second) g.low first d g.high order low-in ∙ get_or-insert_at xs g.high second d within
 
+-- What is put in two new places leaves the rest spread round them.
 pub spread-two : (g : Gap) (f : ℕ → ℕ) (first second : ℕ) (before mid after : List ℕ) → g.low ≤ g.high → g.high ≤ length before → length mid ≡ length before
     → ((p : ℕ) → p < length before → get_or mid p 0 ≡ f (get_or before p 0)) → after ≡ with_two g first second mid
     → IsSpread g f first second before after
@@ -69,6 +70,7 @@ get-counted xs k y d i most = elim (cases_lt i k) [
   | inr from ↦ ap (λ j. get_or (insert xs k y) j d) (cond-false _ _ _ (le-ltb i k from)) ∙ get_or-insert_above xs k y d i from most
 ]
 
+-- Places into which a new one goes are shifted, but for it.
 pub placed-one : (g : Gap) (k place : ℕ) (before mid after : List ℕ) → k ≤ length before → length mid ≡ length before
     → ((j : ℕ) → j < length before → get_or mid j 0 ≡ shifted_place g (get_or before j 0)) → after ≡ insert mid k place → IsPlaced g k place before after
 placed-one g k place before mid after index same each is =
@@ -83,6 +85,7 @@ module _ (l : Links) (places : List ℕ) (k : ℕ) (g : Gap) (links : AreLinks l
   partner-was : (p : ℕ) → p < length l.heads → get_or n.partners (shifted g p) 0 ≡ shifted g (get_or l.partners p 0)
   partner-was p within = grown.partners.kept p (omega (arith, within, links.partners_long))
 
+  -- Rooms that are spread round those of a new pair are rooms of the grown links,
   pub AreRooms-grown : (rooms after : List ℕ) (first second : ℕ) → AreRooms l rooms → IsSpread g (λ room. room) first second rooms after
       → first + second < 2 ^ 64 → AreRooms n after
   AreRooms-grown rooms after first second are spread fits = (
@@ -105,6 +108,7 @@ module _ (l : Links) (places : List ℕ) (k : ℕ) (g : Gap) (links : AreLinks l
     ],
   )
 
+  -- and so are the flags that tell of them.
   pub AreFlags-grown : (rooms flags after told : List ℕ) (first second : ℕ) → length rooms ≡ length l.heads → AreFlags l rooms flags
       → IsSpread g (λ room. room) first second rooms after → IsSpread g (λ flag. flag) (open_flag second) (open_flag first) flags told
       → AreFlags n after told

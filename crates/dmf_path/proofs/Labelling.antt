@@ -108,6 +108,7 @@ abbrev pub AreLeft : List ℕ → List ℕ → ℕ → Type 0
 AreLeft labels queue k =
     (v : ℕ) → v < length labels → slice_index labels v ≢ no_label → (i : ℕ) × (k ≤ i) × (i < length queue) × (slice_index queue i ≡ v)
 
+-- At first all nodes with labels are left in the queue.
 pub left-first : (labels queue : List ℕ) → AreQueued labels queue → AreLeft labels queue 0
 left-first labels queue queued v within has =
     let here = queued.listed v within has in
@@ -125,6 +126,7 @@ left-next labels queue k inside left v within has =
     (at.0, omega (arith, at.1, other), at.2, at.3))
     (cases-set labels (slice_index queue k) v no_label inside)
 
+-- Once none is left in the queue, no node has a label.
 pub left-last : (labels queue : List ℕ) (k : ℕ) → length queue ≤ k → AreLeft labels queue k → labels ≡ replicate (length labels) no_label
 left-last labels queue k all left =
     ext_get_or 0 labels (replicate (length labels) no_label) (sym (length-replicate (length labels) no_label))

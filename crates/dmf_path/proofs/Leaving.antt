@@ -16,11 +16,13 @@ pub record IsPutting (r : Residual) (sent : ℕ) (slots : List Slot) (whole : Re
   pub goes_on : put_each_on r sent slots ≡ whole
   pub can : CanPut r.links r.takes_back sent slots r.rooms
 
+-- Two paths of which all slots have something left have it together,
 pub HaveLeft-append : (sent : ℕ) (rooms : List ℕ) (slots others : List Slot) → HaveLeft sent rooms slots → HaveLeft sent rooms others
     → HaveLeft sent rooms (slots ++ others)
 HaveLeft-append sent rooms [] others first later = later
 HaveLeft-append sent rooms (s ∷ slots) others first later = (first.0, first.1, HaveLeft-append sent rooms slots others first.2 later)
 
+-- and so has each part of such a path.
 pub HaveLeft-split : (sent : ℕ) (rooms : List ℕ) (slots others : List Slot) → HaveLeft sent rooms (slots ++ others)
     → HaveLeft sent rooms slots × HaveLeft sent rooms others
 HaveLeft-split sent rooms [] others have = (tt, have)
@@ -51,6 +53,7 @@ pub record HasLeft (l : Links) (takes_back : Bool) (labels : List ℕ) (sent top
   pub descends : Descends l labels top bottom (places_of before ++ places_of behind)
   pub long : length (put_once l takes_back sent s rooms) ≡ length l.heads
 
+-- A link can leave a path, wherever it stands there.
 pub has-left : (l : Links) (takes_back : Bool) (labels : List ℕ) (sent top bottom : ℕ) (before behind : List Slot) (s : Slot) (rooms : List ℕ) → AreLinks l
     → length rooms ≡ length l.heads
     → Descends l labels top bottom (places_of before ++ s.place ∷ places_of behind) → HaveLeft sent rooms (before ++ s ∷ behind)
@@ -79,6 +82,7 @@ pub record HaveAllLeft (l : Links) (takes_back : Bool) (sent : ℕ) (before slot
   pub have : HaveLeft sent (put_each l takes_back sent slots rooms) (before ++ behind)
   pub long : length (put_each l takes_back sent slots rooms) ≡ length l.heads
 
+-- Links that stand side by side can leave a path together.
 pub have-all-left : (l : Links) (takes_back : Bool) (labels : List ℕ) (sent top bottom : ℕ) (before slots behind : List Slot) (rooms : List ℕ) → AreLinks l
     → length rooms ≡ length l.heads
     → Descends l labels top bottom (places_of before ++ places_of (slots ++ behind)) → HaveLeft sent rooms (before ++ (slots ++ behind))
@@ -97,6 +101,7 @@ putting-here r sent slots i whole within is =
     let split : drop i slots ≡ slot_at slots i ∷ drop (i + 1) slots = drop_more slots i _ within in
     (subst (λ (ss : List Slot). CanPut r.links r.takes_back sent ss r.rooms) split is.can).0
 
+-- While slots are put on in turn, the next one comes to what all come to.
 pub putting-next : (r next : Residual) (sent : ℕ) (slots : List Slot) (i : ℕ) (whole : Residual) → i < length slots → IsPutting r sent (drop i slots) whole
     → next ≡ put_on r sent (slot_at slots i) → IsPutting next sent (drop (i + 1) slots) whole
 putting-next r next sent slots i whole within is put =

@@ -70,5 +70,6 @@ reachable-without_loops steps fewer a b are reached =
     let rest = without_loops steps fewer a b reached.0 are reached.1 in
     (rest.rest, rest.leads)
 
+-- What the steps that are no loops reach, all steps reach.
 pub reachable-within : (steps fewer : List Step) (a b : ℕ) → AreWithoutLoops steps fewer → IsReachable fewer a b → IsReachable steps a b
 reachable-within steps fewer a b are reached = (reached.0, path-within steps fewer a b reached.0 are reached.1)

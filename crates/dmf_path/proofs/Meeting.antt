@@ -54,56 +54,42 @@ rest-most l opens root level labels queue done v so_far ahead rest is node has =
     let at = queued-at l opens root labels queue done v so_far node has in
     omega (arith, rest at.0 ahead at.1, is, ap (λ u. get_or labels u 0) at.2)
 
--- Where the goal's side goes on and meets the start's, which is at rest on level `far`, the node has that label of the latter.
-pub sum-goal : (l : Links) (rooms flags opens : List ℕ) (start goal near far v : ℕ) (g s queue : List ℕ) (done : ℕ) → AreLinks l → AreFlags l rooms flags
-    → AreOpen l rooms opens → AreLevels l flags goal near g → AreSpread l opens start s queue done → done < length queue → IsAtRest s queue done
-    → get_or s (get_or queue done 0) 0 ≡ far → MeetBeyond near g s → IsNode l.nodes v → get_or g v 0 ≢ no_label → get_or s v 0 ≢ no_label
-    → near + far + 2 < no_label → get_or g v 0 + get_or s v 0 ≡ near + far + 1
-sum-goal l rooms flags opens start goal near far v g s queue done are flagged opened levels so_far ahead rest is beyond node has_g has_s small =
-    let other = rest-levels l opens start far s queue done are so_far ahead rest is in
-    let most = rest-most l opens start far s queue done v so_far ahead rest is node has_s in
-    let label : get_or g v 0 ≡ near + 1 = beyond v (omega (arith, node.to_last, levels.one_each)) has_g has_s in
-    let root : v ≢ goal = λ same. omega (arith, label, levels.root_is, ap (λ u. get_or g u 0) same) in
-    let back = levels.backed v node root has_g in
+-- Where a search goes on and meets another one, which is at rest on level `far` and comes over the same links from their other ends, the
+-- node has that label of the latter.
+sum-met : (l : Links) (a b : List ℕ) (root other near far v : ℕ) (xs ys queue : List ℕ) (done : ℕ) → AreLinks l
+    → ((p : ℕ) → p < length l.heads → get_or a p 0 ≡ 1 → get_or b (get_or l.partners p 0) 0 ≡ 1)
+    → AreLevels l a root near xs → AreSpread l b other ys queue done → done < length queue → IsAtRest ys queue done
+    → get_or ys (get_or queue done 0) 0 ≡ far → MeetBeyond near xs ys → IsNode l.nodes v → near + far + 2 < no_label
+    → get_or xs v 0 ≢ no_label → get_or ys v 0 ≢ no_label → get_or xs v 0 + get_or ys v 0 ≡ near + far + 1
+sum-met l a b root other near far v xs ys queue done are mirrored levels so_far ahead rest is beyond node small has_x has_y =
+    let behind = rest-levels l b other far ys queue done are so_far ahead rest is in
+    let most = rest-most l b other far ys queue done v so_far ahead rest is node has_y in
+    let label : get_or xs v 0 ≡ near + 1 = beyond v (omega (arith, node.to_last, levels.one_each)) has_x has_y in
+    let apart : v ≢ root = λ same. omega (arith, label, levels.root_is, ap (λ u. get_or xs u 0) same) in
+    let back = levels.backed v node apart has_x in
     let link = are.each back.place back.within in
     let p : ℕ = get_or l.partners back.place 0 in
     let x : ℕ = tail_of l back.place in
     let lies : LiesAt l v p = let P : ℕ → Type 0 = λ u. LiesAt l u p in subst P back.leads (lies-partner l back.place are back.within) in
-    let room : 0 < get_or rooms p 0 = room-of_flag (get_or rooms p 0) (sym (flagged.1 back.place back.within) ∙ back.opened) in
-    elim (cases_lt (get_or s v 0) far) [
+    elim (cases_lt (get_or ys v 0) far) [
       | inl before ↦
-          let near_x : get_or s x 0 ≤ get_or s v 0 + 1 = other.near v p node lies (opened p link.partner ∙ flag-of_room (get_or rooms p 0) room) before in
+          let near_x : get_or ys x 0 ≤ get_or ys v 0 + 1 = behind.near v p node lies (mirrored back.place back.within back.opened) before in
           let both = beyond x (omega (arith, link.tail.to_last, levels.one_each)) (λ none. omega (arith, none, back.label, label, small))
           (λ none. omega (arith, none, near_x, before, small)) in
           absurd (omega (arith, both, back.label, label))
-      | inr behind ↦ omega (arith, behind, most, label)
+      | inr last ↦ omega (arith, last, most, label)
     ]
 
--- And where the start's side goes on and meets the goal's.
-pub sum-start : (l : Links) (rooms flags opens : List ℕ) (start goal near far v : ℕ) (g s queue : List ℕ) (done : ℕ) → AreLinks l → AreFlags l rooms flags
-    → AreOpen l rooms opens → AreLevels l opens start far s → AreSpread l flags goal g queue done → done < length queue → IsAtRest g queue done
-    → get_or g (get_or queue done 0) 0 ≡ near → MeetBeyond far s g → IsNode l.nodes v → get_or g v 0 ≢ no_label → get_or s v 0 ≢ no_label
-    → near + far + 2 < no_label → get_or g v 0 + get_or s v 0 ≡ near + far + 1
-sum-start l rooms flags opens start goal near far v g s queue done are flagged opened levels so_far ahead rest is beyond node has_g has_s small =
-    let other = rest-levels l flags goal near g queue done are so_far ahead rest is in
-    let most = rest-most l flags goal near g queue done v so_far ahead rest is node has_g in
-    let label : get_or s v 0 ≡ far + 1 = beyond v (omega (arith, node.to_last, levels.one_each)) has_s has_g in
-    let root : v ≢ start = λ same. omega (arith, label, levels.root_is, ap (λ u. get_or s u 0) same) in
-    let back = levels.backed v node root has_s in
-    let link = are.each back.place back.within in
-    let p : ℕ = get_or l.partners back.place 0 in
-    let x : ℕ = tail_of l back.place in
-    let lies : LiesAt l v p = let P : ℕ → Type 0 = λ u. LiesAt l u p in subst P back.leads (lies-partner l back.place are back.within) in
-    let told : get_or flags p 0 ≡ 1 =
-    flagged.1 p link.partner ∙ ap (λ q. open_flag (get_or rooms q 0)) link.partner_back ∙ sym (opened back.place back.within) ∙ back.opened in
-    elim (cases_lt (get_or g v 0) near) [
-      | inl before ↦
-          let near_x : get_or g x 0 ≤ get_or g v 0 + 1 = other.near v p node lies told before in
-          let both = beyond x (omega (arith, link.tail.to_last, levels.one_each)) (λ none. omega (arith, none, back.label, label, small))
-          (λ none. omega (arith, none, near_x, before, small)) in
-          absurd (omega (arith, both, back.label, label))
-      | inr behind ↦ omega (arith, behind, most, label)
-    ]
+-- A node has no label of one of two searches, or its labels have a sum.
+either-met : (xs ys : List ℕ) (v sum : ℕ) → (get_or xs v 0 ≢ no_label → get_or ys v 0 ≢ no_label → get_or xs v 0 + get_or ys v 0 ≡ sum)
+    → (get_or xs v 0 ≡ no_label) ⊎ ((get_or ys v 0 ≡ no_label) ⊎ (get_or xs v 0 + get_or ys v 0 ≡ sum))
+either-met xs ys v sum met = elim (eqb_tells (get_or xs v 0) no_label) [
+  | inl none ↦ inl none.1
+  | inr one ↦ elim (eqb_tells (get_or ys v 0) no_label) [
+    | inl none ↦ inr (inl none.1)
+    | inr other ↦ inr (inr (met one.1 other.1))
+  ]
+]
 
 -- ---- how long a path can be
 
@@ -161,14 +147,10 @@ has-met_goal l rooms flags opens start goal at g queue_g done_g s queue_s done_s
         node = node;
         goal_label = has_g;
         start_label = has_s;
-        both = λ v is. elim (eqb_tells (get_or new v 0) no_label) [
-          | inl none ↦ inl none.1
-          | inr one ↦ elim (eqb_tells (get_or s v 0) no_label) [
-            | inl none ↦ inr (inl none.1)
-            | inr other ↦ inr (inr (sum-goal l rooms flags opens start goal near far v new s queue_s done_s are flagged opened levels spread_s ahead_s rest
-                refl beyond is one.1 other.1 (omega (arith, few, are.at_most_nodes))))
-          ]
-        ];
+        both = λ v is. either-met new s v (near + far + 1) (sum-met l flags opens goal start near far v new s queue_s done_s are
+            (λ p within one. opened (get_or l.partners p 0) (are.each p within).partner ∙ flag-of_room (get_or rooms (get_or l.partners p 0) 0)
+            (room-of_flag (get_or rooms (get_or l.partners p 0) 0) (sym (flagged.1 p within) ∙ one)))
+            levels spread_s ahead_s rest refl beyond is (omega (arith, few, are.at_most_nodes)));
       };
       long = few;
     }
@@ -194,14 +176,13 @@ has-met_start l rooms flags opens start goal at g queue_g done_g s queue_s done_
         node = node;
         goal_label = has_g;
         start_label = has_s;
-        both = λ v is. elim (eqb_tells (get_or g v 0) no_label) [
-          | inl none ↦ inl none.1
-          | inr one ↦ elim (eqb_tells (get_or new v 0) no_label) [
-            | inl none ↦ inr (inl none.1)
-            | inr other ↦ inr (inr (sum-start l rooms flags opens start goal near far v g new queue_g done_g are flagged opened levels spread_g ahead_g rest
-                refl beyond is one.1 other.1 (omega (arith, few, are.at_most_nodes))))
-          ]
-        ];
+        both = λ v is. either-met g new v (near + far + 1) (λ has_x has_y. omega (
+          arith,
+          sum-met l opens flags start goal far near v new g queue_g done_g are
+              (λ p within one. let link = are.each p within in flagged.1 (get_or l.partners p 0) link.partner
+              ∙ ap (λ q. open_flag (get_or rooms q 0)) link.partner_back ∙ sym (opened p within) ∙ one)
+              levels spread_g ahead_g rest refl beyond is (omega (arith, few, are.at_most_nodes)) has_y has_x,
+        ));
       };
       long = few;
     }

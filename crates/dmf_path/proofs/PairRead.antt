@@ -1,22 +1,16 @@
 -- What is read of a pair, by its place.
-use Rattle.std.proofs.Common.{ℕ, ◌≡◌, ◌≢◌, ◌<◌, List, length, get_or, refl, ◌∙◌, arith, Option, Some, None}
+use Rattle.std.proofs.Common.{ℕ, ◌≡◌, ◌≢◌, ◌<◌, List, length, get_or, refl, ◌∙◌, Option, Some, None}
 use Rattle.std.specs.Prelude.{MatchOption, IsSome}
-use Rattle.std.proofs.lemmas.Bool.{eq-eqb, ne_eqb}
-use Rattle.std.proofs.lemmas.List.{get_or-map, length-map}
+use Rattle.std.proofs.lemmas.Bool.{ne_eqb}
+use Rattle.std.proofs.lemmas.List.{get_or-map}
 use Rattle.dmf_path.specs.Links.{Links, ArePlaces, IsPlaceOf, no_place, tail_of, pair_at, pairs_at}
 use Rattle.dmf_path.specs.Search.{pair_number}
 
-pub index-within : (l : Links) (places rooms : List ℕ) (k : ℕ) → k < length (pairs_at l places rooms) → k < length places
-index-within l places rooms k within = omega (arith, within, length-map places (pair_at l rooms))
-
+-- The place of a pair is that of a link.
 pub place-within : (l : Links) (places : List ℕ) (k place : ℕ) → ArePlaces l places → k < length places → IsPlaceOf places k place → place < length l.heads
 place-within l places k place are index of = rw of.is (are.within k index (λ none. of.there (of.is ∙ none)))
 
--- There is no pair,
-pub no-pair : (l : Links) (places rooms : List ℕ) (k : ℕ) → k < length places → get_or places k 0 ≡ no_place → pair_number (pairs_at l places rooms) k ≡ None
-no-pair l places rooms k index none = get_or-map (pair_at l rooms) places k 0 None index ∙ rw (eq-eqb (get_or places k 0) no_place none) refl
-
--- or the pair has the rooms of two links.
+-- A pair has the rooms of two links.
 pub its-pair : (l : Links) (places rooms : List ℕ) (k place : ℕ) → k < length places → IsPlaceOf places k place
     → pair_number (pairs_at l places rooms) k ≡ Some (record {
       tail = tail_of l place;

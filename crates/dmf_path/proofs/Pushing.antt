@@ -11,6 +11,7 @@ pub length-pushed_once : (l : Links) (takes_back : Bool) (amount p : ℕ) (rooms
 length-pushed_once l true amount p rooms = simp length-set
 length-pushed_once l false amount p rooms = simp length-set
 
+-- A push leaves as many rooms as there were.
 pub length-pushed : (l : Links) (takes_back : Bool) (amount : ℕ) (ps rooms : List ℕ) → length (pushed l takes_back amount ps rooms) ≡ length rooms
 length-pushed l takes_back amount [] rooms = refl
 length-pushed l takes_back amount (p ∷ ps) rooms = length-pushed l takes_back amount ps
@@ -52,6 +53,7 @@ pub data IsBeside (l : Links) (p q : ℕ) : Type 0 where
   partner : q ≡ get_or l.partners p 0 → get_or l.partners q 0 ≡ p → IsBeside l p q
   other : q ≢ p → q ≢ get_or l.partners p 0 → get_or l.partners q 0 ≢ p → get_or l.partners q 0 ≢ get_or l.partners p 0 → IsBeside l p q
 
+-- Each link is one of the three.
 pub is_beside : (l : Links) (p q : ℕ) → AreLinks l → p < length l.heads → q < length l.heads → IsBeside l p q
 is_beside l p q links within in_range =
     ⊎_elim

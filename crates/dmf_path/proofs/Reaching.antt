@@ -68,6 +68,7 @@ separated-unlabelled l rooms flags labels start goal stop links told are unlabel
 abbrev pub AreOpen : Links → List ℕ → List ℕ → Type 0
 AreOpen l rooms opens = (p : ℕ) → p < length l.heads → get_or opens p 0 ≡ open_flag (get_or rooms p 0)
 
+-- Flags that are made of the rooms tell of them.
 pub AreOpen-map : (l : Links) (rooms opens : List ℕ) → AreRooms l rooms → opens ≡ map open_flag rooms → AreOpen l rooms opens
 AreOpen-map l rooms opens are told p within = ap (λ os. get_or os p 0) told ∙ get_or-map open_flag rooms p 0 0 (omega (arith, within, are.0))
 
@@ -75,6 +76,7 @@ AreOpen-map l rooms opens are told p within = ap (λ os. get_or os p 0) told ∙
 pub label-from : (label : ℕ) → is_label label ≡ true → label ≢ no_label
 label-from label is same = let no : is_label label ≡ false = rw (eq-eqb label no_label same) refl in cc
 
+-- A label is told to be one.
 pub label-to : (label : ℕ) → label ≢ no_label → is_label label ≡ true
 label-to label other = rw (ne_eqb label no_label other) refl
 
@@ -89,6 +91,7 @@ closed-labelled l rooms opens labels root stop links told are unlabelled v p nod
     are.near v p node lies flag (omega (arith, small, unlabelled, links.at_most_nodes)) in
     label-to (get_or labels (get_or l.heads p 0) 0) (omega (arith, near, small, links.at_most_nodes))
 
+-- Where a search from the start has not labelled the goal, the two are separated.
 pub separated-labelled : (l : Links) (rooms opens labels : List ℕ) (start goal : ℕ) → AreLinks l → AreOpen l rooms opens → AreLabels l opens start goal labels
     → get_or labels goal 0 ≡ no_label → IsSeparated l rooms start goal
 separated-labelled l rooms opens labels start goal links told are unlabelled = record {

@@ -27,6 +27,7 @@ pub record IsOpposite (l : Links) (flags : List ℕ) (node v p q : ℕ) : Type 0
   pub head : get_or l.heads q 0 ≡ v
   pub back : get_or l.partners q 0 ≡ p
 
+-- The opposite of a link that leads to a node lies there.
 pub opposite : (l : Links) (rooms flags : List ℕ) (node v p : ℕ) → AreLinks l → AreFlags l rooms flags → LeadsTo l rooms node v p
     → IsOpposite l flags node v p (get_or l.partners p 0)
 opposite l rooms flags node v p links flagged leads =

@@ -156,6 +156,7 @@ pub record IsLowered (r : Residual) (places : List ℕ) (v : Labelling) (w : Way
   pub told_is : told next w ≡ roomed (told r w) rooms
   pub none : NoneOpens (told r w).rooms rooms
 
+-- A search whose link along a pair is in no slot stays one when the link's room is lowered.
 pub is-lowered : (r : Residual) (places : List ℕ) (v : Labelling) (w : Way) (k p amount : ℕ) (next : Residual) → IsSearching r v w → ArePlaces r.links places
     → HasPlace r.links places (told r w).rooms k amount → p ≡ get_or places k 0 → IsOff p (places_of (filled_slots w))
     → get_or (told r w).rooms p 0 ≡ get_or r.rooms p 0 → next ≡ lowered r p amount → AreRooms next.links next.rooms

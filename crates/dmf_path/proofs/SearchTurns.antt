@@ -90,9 +90,11 @@ searching-settled r v w next new is links way =
 pub plainly-settled : (r : Residual) (w : Way) (next : Residual) (new : Way) → next ≡ told r w → new ≡ emptied w → plainly next new ≡ sought r w
 plainly-settled r w next new links way = λ i. plainly (links i) (way i)
 
+-- With free slots it looks for paths in the rooms as they are.
 pub sought-free : (r : Residual) (w new : Way) (slots : List Slot) → new ≡ with_slots w slots → sought r new ≡ plainly r w
 sought-free r w new slots way = ap (sought r) way ∙ ap (λ (x : Residual). plainly x w) (told-free r w slots)
 
+-- Once all is put on, the rooms are as they are told.
 pub told-settled : (w : Way) (next : Residual) (new : Way) → new ≡ emptied w → told next new ≡ next
 told-settled w next new way = ap (told next) way ∙ told-free next w w.slots
 
@@ -100,6 +102,7 @@ told-settled w next new way = ap (told next) way ∙ told-free next w w.slots
 pub off-settled : (w new : Way) (p : ℕ) → new ≡ emptied w → IsOff p (places_of (filled_slots new))
 off-settled w new p way = rw way (subst (λ (ss : List Slot). IsOff p (places_of ss)) (sym (drop_all (length w.slots) w.slots (omega arith))) tt)
 
+-- What is sought stays the same when all is put on.
 pub sought-settled : (r : Residual) (w : Way) (next : Residual) (new : Way) → next ≡ told r w → new ≡ emptied w → sought next new ≡ sought r w
 sought-settled r w next new links way = (λ i. sought (links i) (way i)) ∙ sought-free (told r w) w (emptied w) w.slots refl
 
@@ -158,6 +161,7 @@ pub same-mark : (r : Residual) (v : Labelling) (w : Way) (next : Residual) (new 
     → sought next new ≡ sought r w → IsMarked next.links v.labels new.start is_fresh
 same-mark r v w next new is_fresh marked same = subst (λ (s : Sought). IsMarked s.residual.links v.labels s.start is_fresh) (sym same) marked
 
+-- A search stays one when all is put on.
 pub search-settled : (r : Residual) (places : List ℕ) (v : Labelling) (w : Way) (next : Residual) (new : Way) (is_fresh : Bool)
     → IsSearch r places v w is_fresh → next ≡ told r w → new ≡ emptied w → IsSearch next places v new is_fresh
 search-settled r places v w next new is_fresh is links way =

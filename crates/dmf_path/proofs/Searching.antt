@@ -17,7 +17,7 @@ use Rattle.dmf_path.proofs.Descending.{Descends, descends-trail}
 use Rattle.dmf_path.proofs.Settled.{length-settled}
 use Rattle.dmf_path.proofs.SettledSent.{CanSend, CanSend-least, HaveLeft-sent, settled-sent, bottleneck-settled}
 use Rattle.dmf_path.proofs.UnderWayWhole.{IsWhole, is-whole}
-use Rattle.dmf_path.proofs.Splitting.{IsSent, has-split, sent_along, split-start, split-goal, split-capacity}
+use Rattle.dmf_path.proofs.Splitting.{IsSent, has-split, sent_along, split-aim}
 
 -- what a trail keeps after so much more is sent
 abbrev pub sent_on : Way → ℕ → Way
@@ -34,6 +34,7 @@ pub record CanAugment (r : Residual) (places : List ℕ) (v : Labelling) (w : Wa
   pub augments : Augments limit (record { amount = amount; links = length w.slots }) (searched (sought r w) places)
       (searched (record { residual = sent_along r (sent_on w amount); start = w.start; goal = w.goal }) places)
 
+-- So much as is left in the slots can be sent along a path that was found.
 pub can-augment : (r : Residual) (places : List ℕ) (v : Labelling) (w : Way) (limit amount : ℕ) → ArePlaces r.links places → IsSearching r v w
     → IsFound r w → amount ≡ least_left w.sent limit w.slots → CanAugment r places v w limit amount
 can-augment r places v w limit amount places_are is joins least =
@@ -111,14 +112,16 @@ pub record IsOn (r : Residual) (places : List ℕ) (v : Labelling) (w : Way) (am
   pub searching : IsSearching next v new
   pub same : sought next new ≡ record { residual = sent_along r (sent_on w amount); start = w.start; goal = w.goal }
 
+-- Once the path is split, the search goes on with what is left.
 pub split-on : (r : Residual) (places : List ℕ) (v : Labelling) (w : Way) (limit amount : ℕ) (next : Residual) (new : Way) → IsSearching r v w
     → IsFound r w → CanAugment r places v w limit amount → IsSplit r (sent_on w amount) next new → AreRooms next.links next.rooms
     → IsOn r places v w amount next new
 split-on r places v w limit amount next new is joins can split sums =
     let has = has-split r v.labels (told r w).rooms v.current (sent_on w amount) next new
     (is-sent r places v w limit amount is joins can) is.under_way.joint_is split sums in
+    let kept = split-aim r (sent_on w amount) next new split in
     let same : sought next new ≡ record { residual = sent_along r (sent_on w amount); start = w.start; goal = w.goal } =
-    λ i. record { residual = has.same i; start = split-start r (sent_on w amount) next new split i; goal = split-goal r (sent_on w amount) next new split i } in
+    λ i. record { residual = has.same i; start = kept.start i; goal = kept.goal i } in
     let sound = sound-opens r.links v.labels (told r w).rooms (sent_along r (sent_on w amount)).rooms
     (get_or v.labels w.start 0) is.aimed.links can.opens is.aimed.sound in
     let aimed : IsAimed (record { residual = sent_along r (sent_on w amount); start = w.start; goal = w.goal }) v.labels w.capacity = record {
@@ -133,7 +136,7 @@ split-on r places v w limit amount next new is joins can split sums =
     } in
     record {
       searching = record {
-        aimed = subst (IsAimed (sought next new) v.labels) (sym (split-capacity r (sent_on w amount) next new split))
+        aimed = subst (IsAimed (sought next new) v.labels) (sym kept.capacity)
             (subst (λ (s : Sought). IsAimed s v.labels w.capacity) (sym same) aimed);
         holding = has.holding;
         under_way = subst (λ (x : Residual). IsUnderWay next.links v.labels x.rooms v.current new) (sym has.same) has.way;

@@ -11,6 +11,7 @@ use Rattle.dmf_path.proofs.LinkPlaces.{partner-other}
 use Rattle.dmf_path.proofs.Pushing.{own, partner, other, is_beside, once-own, once-partner, once-other, length-pushed_once}
 use Rattle.dmf_path.proofs.Descending.{Descends, between, off-append, off-partner}
 
+-- Putting on what is held leaves as many rooms as there were.
 pub length-settled : (l : Links) (takes_back : Bool) (sent : ℕ) (slots : List Slot) (rooms : List ℕ)
     → length (settled l takes_back sent slots rooms) ≡ length rooms
 length-settled l takes_back sent slots rooms = length-map-range_with_len (settled_room l takes_back sent slots rooms) 0 (length rooms)
@@ -59,6 +60,7 @@ held-rooms sent rooms after (s ∷ slots) p same =
     let later = held-rooms sent rooms after slots p same in
     λ i. cond (s.place == p) (same i - room_left sent s.full_at) (later i)
 
+-- Putting on nothing changes no room.
 pub nothing : (takes_back : Bool) (room : ℕ) → room - 0 + cond takes_back 0 0 ≡ room
 nothing true room = omega arith
 nothing false room = omega arith
@@ -67,6 +69,7 @@ gained : (takes_back : Bool) (room held : ℕ) → room - 0 + cond takes_back he
 gained true room held = omega arith
 gained false room held = omega arith
 
+-- The places of two lists of slots are those of each.
 pub places-append : (slots others : List Slot) → places_of (slots ++ others) ≡ places_of slots ++ places_of others
 places-append [] others = refl
 places-append (s ∷ slots) others = ap (λ ps. s.place ∷ ps) (places-append slots others)

@@ -26,6 +26,7 @@ held-behind sent rooms (s ∷ slots) others p none = ⊎_elim
     (λ (apart : s.place ≢ p). let later = rw (ne_eqb s.place p apart) at none in rw (ne_eqb s.place p apart) (held-behind sent rooms slots others p later))
     (cases_eq s.place p)
 
+-- What a link's slot holds, or 0 without one, is what is held for it.
 pub held-unwrapped : (sent : ℕ) (rooms : List ℕ) (slots : List Slot) (p : ℕ) → unwrap_or (held_in sent rooms slots p) 0 ≡ held_for sent rooms slots p
 held-unwrapped sent rooms [] p = refl
 held-unwrapped sent rooms (s ∷ slots) p = ⊎_elim
@@ -47,6 +48,7 @@ pub room-back : (l : Links) (takes_back : Bool) (sent : ℕ) (slots : List Slot)
     → get_or (settled l takes_back sent slots rooms) p 0 ≡ get_or rooms p 0 - held_for sent rooms slots p + held_for sent rooms slots (get_or l.partners p 0)
 room-back l takes_back sent slots rooms p within is = room-settled l takes_back sent slots rooms p within ∙ rw is refl
 
+-- The room of a link fits 64 bits once all is put on.
 pub room-fits : (l : Links) (takes_back : Bool) (sent : ℕ) (slots : List Slot) (rooms : List ℕ) (p : ℕ) → AreLinks l → AreRooms l rooms → p < length l.heads
     → get_or (settled l takes_back sent slots rooms) p 0 < 2 ^ 64
 room-fits l takes_back sent slots rooms p links are within = omega (arith, (AreRooms-settled l takes_back sent slots rooms links are).1 p within)

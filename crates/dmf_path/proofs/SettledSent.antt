@@ -19,6 +19,7 @@ abbrev pub CanSend : ℕ → ℕ → List Slot → Type 0
 CanSend sent amount [] = Unit {0}
 CanSend sent amount (s ∷ slots) = (amount ≤ room_left sent s.full_at) × CanSend sent amount slots
 
+-- No more than the least that is left can be sent.
 pub CanSend-least : (sent amount limit : ℕ) (slots : List Slot) → amount ≤ least_left sent limit slots → CanSend sent amount slots
 CanSend-least sent amount limit [] within = tt
 CanSend-least sent amount limit (s ∷ slots) within = (omega (arith, within), CanSend-least sent amount limit slots (omega (arith, within)))
@@ -97,6 +98,7 @@ hold-own l labels sent rooms all (s ∷ slots) top bottom descends same = (
       same p (omega (arith, low, descends.0.label, descends.0.below)) ∙ rw (ne_eqb s.place p apart) refl),
 )
 
+-- Where all but what is left is taken off a room, that is left.
 pub left-alone : (takes_back : Bool) (room left : ℕ) → left ≤ room → room - (room - left) + cond takes_back 0 0 ≡ left
 left-alone true room left within = omega arith
 left-alone false room left within = omega arith
@@ -117,6 +119,7 @@ bottleneck-left l takes_back labels sent limit rooms all (s ∷ slots) top low h
     (left-alone takes_back (get_or rooms s.place 0) (room_left sent s.full_at) have.1) in
     rw (room, later) refl
 
+-- The bottleneck of a path is the least that is left in its slots.
 pub bottleneck-settled : (l : Links) (takes_back : Bool) (labels : List ℕ) (sent limit : ℕ) (rooms : List ℕ) (slots : List Slot) (top bottom : ℕ) → AreLinks l
     → length rooms ≡ length l.heads
     → Descends l labels top bottom (places_of slots) → HaveLeft sent rooms slots

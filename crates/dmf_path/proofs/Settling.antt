@@ -51,9 +51,11 @@ pub rooms_with-free : (l : Links) (takes_back : Bool) (w : Way) (slots : List Sl
 rooms_with-free l takes_back w slots rooms =
     ap (λ (ss : List Slot). settled l takes_back w.sent ss rooms) (drop_all (length slots) slots (omega arith)) ∙ settled-none l takes_back w.sent rooms
 
+-- so the rooms are told as they are,
 pub told-free : (r : Residual) (w : Way) (slots : List Slot) → told r (with_slots w slots) ≡ r
 told-free r w slots = ap (roomed r) (rooms_with-free r.links r.takes_back w slots r.rooms)
 
+-- and this fits any rooms of the links.
 pub holding-free : (l : Links) (w : Way) (slots : List Slot) (rooms : List ℕ) → AreRooms l rooms → w.sent < 2 ^ 64 → IsHolding l (with_slots w slots) rooms
 holding-free l w slots rooms sums small = record {
   rooms_are = sums;

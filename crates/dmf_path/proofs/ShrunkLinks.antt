@@ -30,6 +30,7 @@ module _ (l : Links) (place : ℕ) (g : Gap) (links : AreLinks l) (filled : IsFi
   pub low-in : g.low < length l.heads
   low-in = omega (arith, filled.order, filled.within)
 
+  -- The later of the two links is opposite to the earlier one.
   pub opposite-back : get_or l.partners (g.high + 1) 0 ≡ g.low
   opposite-back = ap (λ q. get_or l.partners q 0) (sym filled.opposite) ∙ (links.each g.low low-in).partner_back
 
@@ -45,9 +46,11 @@ module _ (l : Links) (place : ℕ) (g : Gap) (links : AreLinks l) (filled : IsFi
   node-high : IsNode l.nodes g.high_node
   node-high = subst (IsNode l.nodes) filled.high_node (links.each (g.high + 1) filled.within).tail
 
+  -- The earlier link leads to the node of the later one,
   pub head-low : get_or l.heads g.low 0 ≡ g.high_node
   head-low = ap (λ q. get_or l.heads q 0) (sym opposite-back) ∙ filled.high_node
 
+  -- and the later one leads back.
   pub head-high : get_or l.heads (g.high + 1) 0 ≡ g.low_node
   head-high = ap (λ q. get_or l.heads q 0) (sym filled.opposite) ∙ filled.low_node
 
@@ -66,6 +69,7 @@ module _ (l : Links) (place : ℕ) (g : Gap) (links : AreLinks l) (filled : IsFi
         omega (arith, before-sum g v, ap (λ u. get_or l.first u 0) end, links.last, filled.within)
   ]
 
+  -- A place moves up by one for each of the two links at it or before it.
   pub shift-is : (p : ℕ) → shifted g p ≡ p + min 1 (p + 1 - g.low) + min 1 (p + 1 - g.high)
   shift-is p = shifted-sum g p filled.order
 
@@ -73,19 +77,24 @@ module _ (l : Links) (place : ℕ) (g : Gap) (links : AreLinks l) (filled : IsFi
   pub partner-kept : (q : ℕ) → q < length l.heads → q ≢ g.low → q ≢ g.high + 1
       → (get_or l.partners q 0 ≢ g.low) × (get_or l.partners q 0 ≢ g.high + 1)
   partner-kept q within low high =
-      let back = (links.each q within).partner_back in
-      (λ same. high (sym back ∙ ap (λ r. get_or l.partners r 0) same ∙ filled.opposite), λ same. low (sym back ∙ ap (λ r. get_or l.partners r 0) same ∙ opposite-back))
+      let back = (links.each q within).partner_back in (
+        λ same. high (sym back ∙ ap (λ r. get_or l.partners r 0) same ∙ filled.opposite),
+        λ same. low (sym back ∙ ap (λ r. get_or l.partners r 0) same ∙ opposite-back),
+      )
 
   module _ (n : Links) (grown : IsGrown g n l) where
+    -- The place of a link that stays is a place of the links before.
     pub shifted-in : (p : ℕ) → p < length n.heads → shifted g p < length l.heads
     shifted-in p within = omega (arith, shift-is p, grown.heads.long, within)
 
     pub in-shifted : (p : ℕ) → shifted g p < length l.heads → p < length n.heads
     in-shifted p within = omega (arith, shift-is p, grown.heads.long, within, filled.within)
 
+    -- It is neither of the two that go,
     pub shifted-other : (p : ℕ) → (shifted g p ≢ g.low) × (shifted g p ≢ g.high + 1)
     shifted-other p = (λ same. omega (arith, same, shift-is p, filled.order), λ same. omega (arith, same, shift-is p, filled.order))
 
+    -- and no two links that stay have the same place there.
     pub shifted-one : (p q : ℕ) → shifted g p ≡ shifted g q → p ≡ q
     shifted-one p q same = omega (arith, same, shift-is p, shift-is q, filled.order)
 
@@ -113,16 +122,20 @@ module _ (l : Links) (place : ℕ) (g : Gap) (links : AreLinks l) (filled : IsFi
         let below : shifted g p < get_or l.first (v + 1) 0 = omega (arith, one, next, shift-is p, lies.from, lies.below, low, high, filled.order) in
         record { from = from; below = below }
 
+    -- A link that stays keeps its opposite,
     pub partner-was : (p : ℕ) → p < length n.heads → get_or l.partners (shifted g p) 0 ≡ shifted g (get_or n.partners p 0)
     partner-was p within = grown.partners.kept p (omega (arith, within, grown.heads.long, grown.partners.long, links.partners_long))
 
+    -- which stays, too.
     pub partner-in : (p : ℕ) → p < length n.heads → get_or n.partners p 0 < length n.heads
     partner-in p within = in-shifted (get_or n.partners p 0)
         (subst (λ q. q < length l.heads) (partner-was p within) (links.each (shifted g p) (shifted-in p within)).partner)
 
+    -- It leads to the same node,
     pub head-was : (p : ℕ) → p < length n.heads → get_or l.heads (shifted g p) 0 ≡ get_or n.heads p 0
     head-was p within = grown.heads.kept p within
 
+    -- and lies at the same node.
     pub tail-was : (p : ℕ) → p < length n.heads → tail_of l (shifted g p) ≡ tail_of n p
     tail-was p within = ap (λ q. get_or l.heads q 0) (partner-was p within) ∙ head-was (get_or n.partners p 0) (partner-in p within)
 

@@ -55,6 +55,7 @@ module _ (l : Links) (places : List ℕ) (k : ℕ) (g : Gap) (links : AreLinks l
     pub within : get_or after j 0 < length n.heads
     pub is : get_or places (counted k j) 0 ≡ shifted g (get_or after j 0)
 
+  -- The place of a pair that stays was one that is shifted.
   pub place-was : (j : ℕ) → j < length after → get_or places (counted k j) 0 ≢ no_place → WasShifted j
   place-was j within there =
       let i = counted k j in

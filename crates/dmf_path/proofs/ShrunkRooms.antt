@@ -114,6 +114,7 @@ module _ (l : Links) (place : ℕ) (g : Gap) (links : AreLinks l) (filled : IsFi
   }
 
   module _ (n : Links) (grown : IsGrown g n l) where
+    -- Without those of the two links, the rooms are rooms of the links that are left,
     pub AreRooms-left : (rooms left : List ℕ) → AreRooms l rooms → left ≡ without_two g rooms → AreRooms n left
     AreRooms-left rooms left are is =
         let within : g.high + 1 < length rooms = omega (arith, filled.within, are.0) in
@@ -131,6 +132,7 @@ module _ (l : Links) (place : ℕ) (g : Gap) (links : AreLinks l) (filled : IsFi
               ),
         )
 
+    -- and so are the flags that tell of them.
     pub AreFlags-left : (rooms flags left told : List ℕ) → length rooms ≡ length l.heads → AreFlags l rooms flags → left ≡ without_two g rooms
         → told ≡ without_two g flags → AreFlags n left told
     AreFlags-left rooms flags left told one_each are is flagged =

@@ -1,6 +1,6 @@
 -- Splitting a path at its full links: the links before and after them become the walk and the rest.
 use Rattle.std.proofs.Common.{ℕ, ◌≡◌, ◌≢◌, ◌+◌, ◌-◌, ◌^◌, ◌<◌, ◌≤◌, min, Bool, List, [], ◌∷◌, ◌++◌, length, take, drop, get_or, ap, sym, ◌∙◌, subst, ⊎_elim}
-use Rattle.std.proofs.Common.{arith}
+use Rattle.std.proofs.Common.{refl, arith}
 use Rattle.std.proofs.lemmas.Bool.{cases_lt}
 use Rattle.std.proofs.lemmas.List.{take-append-drop, drop-drop, take_more, take-map, get_or-map, get_or-take, get_or-drop, length-take, length-drop, length-map}
 use Rattle.std.proofs.lemmas.List.{map_push}
@@ -9,7 +9,7 @@ use Rattle.dmf_node.specs.Node.{IsNode}
 use Rattle.dmf_path.specs.Links.{Links, AreLinks, AreRooms}
 use Rattle.dmf_path.specs.Walk.{AreCurrent, ArePassed, IsTrail, end_of}
 use Rattle.dmf_path.specs.Held.{Way, places_of, walked_slots, rest_slots, filled_slots, settled, HaveLeft, slot_at}
-use Rattle.dmf_path.specs.Residual.{Residual, roomed, told, IsSplit, stays, split_at}
+use Rattle.dmf_path.specs.Residual.{Residual, roomed, told, IsSplit, stays, split_at, MakesWay, free, leaves}
 use Rattle.dmf_path.specs.Searching.{IsUnderWay, IsHolding}
 use Rattle.dmf_path.proofs.Walking.{end_of-push, end-node}
 use Rattle.dmf_path.proofs.Pushed.{IsTrail-open, IsTrail-take}
@@ -111,23 +111,27 @@ middle-leaves l takes_back labels sent top rooms slots first behind links long d
           (subst (HaveLeft sent rooms) parts have),
     )
 
--- The ends of the path stay, and so does the memory for slots.
-pub split-start : (r : Residual) (w : Way) (next : Residual) (new : Way) → IsSplit r w next new → new.start ≡ w.start
-split-start r w next new (stays first behind none open_links same kept) = ap (λ (u : Way). u.start) same
-split-start r w next new (split_at first behind less within open_links same kept) = ap (λ (u : Way). u.start) same
+-- The ends of the path stay, and so does the memory for slots,
+pub record KeepsAim (old new : Way) : Type 0 where
+  pub start : new.start ≡ old.start
+  pub goal : new.goal ≡ old.goal
+  pub capacity : new.capacity ≡ old.capacity
 
-pub split-goal : (r : Residual) (w : Way) (next : Residual) (new : Way) → IsSplit r w next new → new.goal ≡ w.goal
-split-goal r w next new (stays first behind none open_links same kept) = ap (λ (u : Way). u.goal) same
-split-goal r w next new (split_at first behind less within open_links same kept) = ap (λ (u : Way). u.goal) same
+-- where it is split,
+pub split-aim : (r : Residual) (w : Way) (next : Residual) (new : Way) → IsSplit r w next new → KeepsAim w new
+split-aim r w next new (stays first behind none open_links same kept) = rw same (record { start = refl; goal = refl; capacity = refl })
+split-aim r w next new (split_at first behind less within open_links same kept) = rw same (record { start = refl; goal = refl; capacity = refl })
 
-pub split-capacity : (r : Residual) (w : Way) (next : Residual) (new : Way) → IsSplit r w next new → new.capacity ≡ w.capacity
-split-capacity r w next new (stays first behind none open_links same kept) = ap (λ (u : Way). u.capacity) same
-split-capacity r w next new (split_at first behind less within open_links same kept) = ap (λ (u : Way). u.capacity) same
+-- and where a slot is made free.
+pub made-aim : (r : Residual) (w : Way) (next : Residual) (new : Way) → MakesWay r w next new → KeepsAim w new
+made-aim r w next new (free less is kept) = rw is (record { start = refl; goal = refl; capacity = refl })
+made-aim r w next new (leaves meets is put) = rw is (record { start = refl; goal = refl; capacity = refl })
 
 -- the links along which so much was sent, once their held pushes are applied
 abbrev pub sent_along : Residual → Way → Residual
 sent_along r w = roomed r (settled r.links r.takes_back w.sent w.slots r.rooms)
 
+-- A path that is split leaves its open links in slots, and all that was sent put on.
 pub has-split : (r : Residual) (labels before current : List ℕ) (w : Way) (next : Residual) (new : Way) → IsSent r labels before current w
     → IsNode r.links.nodes w.joint → IsSplit r w next new → AreRooms next.links next.rooms → HasSplit next labels (sent_along r w) current new
 has-split r labels before current w next new is joint_is (stays first behind none open_links same kept) sums =

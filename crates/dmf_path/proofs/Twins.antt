@@ -27,6 +27,7 @@ emptied-pair l rooms place =
     (λ (other : place ≢ no_place). rw (ne_eqb place no_place other) refl)
     (cases_eq place no_place)
 
+-- Without their rooms, the pairs at places are the same whatever the rooms are.
 pub emptied-pairs : (l : Links) (places rooms : List ℕ) → map emptied (pairs_at l places rooms) ≡ pairs_at l places []
 emptied-pairs l [] rooms = refl
 emptied-pairs l (place ∷ places) rooms = λ i. emptied-pair l rooms place i ∷ emptied-pairs l places rooms i
@@ -110,6 +111,7 @@ is-at l places pairs j p links are same is =
       partner = (links.each (get_or places j 0) below).partner;
     }
 
+-- The pair that is read is that at its place.
 pub is-read : (l : Links) (places : List ℕ) (pairs : List (Option Pair)) (k : ℕ) (p : Pair) → AreLinks l → ArePlaces l places → HaveEnds l places pairs
     → slice_get pairs k ≡ Some (Some p) → IsAt l places k
 is-read l places pairs k p links are same read = is-at l places pairs k p links are same (get_or_from_slice_get pairs k (Some p) None read)

@@ -30,6 +30,7 @@ walked-label l labels rooms current w way =
     (omega (arith, way.order, way.within)) in
     omega (arith, long, way.one_slot_each, label-trail l labels rooms current w.start (places_of (walked_slots w)) way.walking.trail_is)
 
+-- The rest has as many links as its beginning has labels to the goal.
 pub rest-label : (l : Links) (labels rooms current : List ℕ) (w : Way) → IsUnderWay l labels rooms current w → w.rest + get_or labels w.joint 0 ≡ length w.slots
 rest-label l labels rooms current w way =
     let long : length (places_of (rest_slots w)) ≡ length w.slots - w.rest = length-map (rest_slots w) (λ s. s.place) ∙ length-drop w.rest w.slots in
@@ -60,6 +61,7 @@ descends-rest l labels rooms current w links way =
     subst (λ bottom. Descends l labels (get_or labels w.joint 0) bottom (places_of (rest_slots w))) e
     (descends-trail l labels rooms current w.joint (places_of (rest_slots w)) links way.joint_is way.rest_is)
 
+-- So all links in slots do.
 pub descends-way : (l : Links) (labels rooms current : List ℕ) (w : Way) → AreLinks l → IsNode l.nodes w.start → IsUnderWay l labels rooms current w
     → Descends l labels (get_or labels w.start 0) 0 (places_of (walked_slots w) ++ places_of (rest_slots w))
 descends-way l labels rooms current w links start way =
@@ -88,6 +90,7 @@ pub record IsFree (l : Links) (w : Way) (p : ℕ) : Type 0 where
   pub rest : IsOff p (places_of (rest_slots w))
   pub partner : IsOff (get_or l.partners p 0) (places_of (filled_slots w))
 
+-- A link that falls from the walk's end is free.
 pub is-free : (l : Links) (labels rooms current : List ℕ) (w : Way) (node p : ℕ) → AreLinks l → IsNode l.nodes w.start → IsNode l.nodes node
     → IsUnderWay l labels rooms current w
     → end_of l w.start (places_of (walked_slots w)) ≡ node → node ≢ w.joint → LiesAt l node p → get_or labels (get_or l.heads p 0) 0 + 1 ≡ get_or labels node 0

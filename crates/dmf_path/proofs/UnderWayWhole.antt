@@ -25,11 +25,13 @@ IsTrail-append l labels rooms current v (p ∷ ps) qs first later = (
   IsTrail-append l labels rooms current (get_or l.heads p 0) ps qs first.2 later,
 )
 
+-- The end of a trail is one from where it begins.
 pub IsTrail-behind : (l : Links) (labels rooms current : List ℕ) (v : ℕ) (ps qs : List ℕ) → IsTrail l labels rooms current v (ps ++ qs)
     → IsTrail l labels rooms current (end_of l v ps) qs
 IsTrail-behind l labels rooms current v [] qs trail = trail
 IsTrail-behind l labels rooms current v (p ∷ ps) qs trail = IsTrail-behind l labels rooms current (get_or l.heads p 0) ps qs trail.2
 
+-- A path that goes on ends where what comes after it ends.
 pub end_of-append : (l : Links) (v : ℕ) (ps qs : List ℕ) → end_of l v (ps ++ qs) ≡ end_of l (end_of l v ps) qs
 end_of-append l v [] qs = refl
 end_of-append l v (p ∷ ps) qs = end_of-append l (get_or l.heads p 0) ps qs
@@ -41,6 +43,7 @@ pub record IsWhole (l : Links) (labels after current : List ℕ) (w : Way) : Typ
   pub trail : IsTrail l labels after current w.start (places_of w.slots)
   pub ends : end_of l w.start (places_of w.slots) ≡ w.goal
 
+-- Once the walk has come to the joint, the slots are a whole path.
 pub is-whole : (l : Links) (labels after current : List ℕ) (w : Way) → IsUnderWay l labels after current w
     → end_of l w.start (places_of (walked_slots w)) ≡ w.joint → IsWhole l labels after current w
 is-whole l labels after current w way joins =
@@ -97,6 +100,7 @@ slot-room l takes_back labels sent top bottom rooms slots i links long descends 
       parts.1.0,
     )
 
+-- The place in a slot is that of a link.
 pub slot-within : (l : Links) (labels : List ℕ) (top bottom : ℕ) (slots : List Slot) (i : ℕ) → Descends l labels top bottom (places_of slots) → i < length slots
     → (slot_at slots i).place < length l.heads
 slot-within l labels top bottom slots i descends within =

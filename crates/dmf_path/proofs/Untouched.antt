@@ -93,6 +93,7 @@ numbers-listed known slots i h =
     subst (Contains (numbers_of known slots)) (get_or-map number slots i (record { place = 0; full_at = 0 }) 0 h)
     (Contains-get_or (numbers_of known slots) i 0 (omega (arith, h, length-map slots number)))
 
+-- A push along links whose numbers are listed leaves the pairs that are not touched.
 pub kept-untouched : (l : Links) (takes_back : Bool) (places : List ℕ) (numbers : Option (Rc (Vec ℕ Global) Global)) (rooms : List ℕ)
     (sent more : ℕ) (slots : List Slot) (old touched : Option (List ℕ))
     → AreLinks l → ArePlaces l places → MayBeNumbered l places numbers → length rooms ≡ length l.heads → Lists numbers slots old touched

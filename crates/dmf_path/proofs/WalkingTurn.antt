@@ -135,6 +135,7 @@ passed-set : (n : ℕ) (current : List ℕ) (v p : ℕ) → v < length current �
     → sum_by (λ q. n - q) (set current v p) < sum_by (λ q. n - q) current
 passed-set n current v p within on one = omega (arith, sum_by-set (λ q. n - q) current v p 0 within)
 
+-- A walk that goes on over a link has less work left.
 pub work-found : (t : WalkTurn) (head : ℕ) → t.place < t.end → slice_index t.labels (slice_index t.heads t.place) + 1 ≡ slice_index t.labels t.node
     → head ≡ get_or t.l.heads t.place head → work_left t.l t.labels t.start
     (set t.current t.node t.place) head < work_left t.l t.labels t.start t.current t.node
@@ -155,6 +156,7 @@ pub tail-within : (t : WalkTurn) (rest : List ℕ) (back tail : ℕ) → t.trail
 tail-within t rest back tail popped is =
     omega (arith, is, (last-link t rest back popped).is_link.tail.to_last, length-set t.current t.node t.place, t.come.walking.current_is.one_each)
 
+-- A walk that steps back has less work left.
 pub work-popped : (t : WalkTurn) (rest : List ℕ) (back tail : ℕ) → t.trail ≡ rest ++ back ∷ [] → tail ≡ tail_of t.l back
     → work_left t.l t.labels t.start (set (set t.current t.node t.place) tail (back + 1)) tail < work_left t.l t.labels t.start t.current t.node
 work-popped t rest back tail popped is =

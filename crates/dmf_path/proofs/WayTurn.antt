@@ -106,6 +106,7 @@ way-left r labels current aim w node links start on within meets sums =
       other = λ e. omega (arith, trail.0.falls, node-low r labels current aim w node on, ap (λ u. get_or labels u 0) e);
     }
 
+-- Once a slot is free, the walk is where it was.
 pub way-made : (r : Residual) (labels current : List ℕ) (aim : Residual) (w : Way) (next : Residual) (new : Way) (node : ℕ) → AreLinks r.links
     → IsNode r.links.nodes w.start → IsOnWay r labels current aim w node → node ≢ w.joint → w.walked < length w.slots
     → MakesWay r w next new → AreRooms next.links next.rooms → IsMade next labels current aim new node
@@ -164,6 +165,7 @@ last-split w some within =
     let e : w.walked - 1 + 1 ≡ w.walked = omega (arith, some) in
     ap (λ n. take n w.slots) (sym e) ∙ take_more w.slots (w.walked - 1) _ (omega (arith, some, within))
 
+-- The last link of the walk comes after the others.
 pub last-places : (w : Way) → 0 < w.walked → w.walked ≤ length w.slots
     → places_of (walked_slots w) ≡ places_of (take (w.walked - 1) w.slots) ++ (slot_at w.slots (w.walked - 1)).place ∷ []
 last-places w some within = ap places_of (last-split w some within) ∙ map_push (λ (t : Slot). t.place) (take (w.walked - 1) w.slots)

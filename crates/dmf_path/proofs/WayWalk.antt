@@ -12,6 +12,7 @@ use Rattle.dmf_path.proofs.Walking.{end_of-push, IsTrail-pop, come-next, end-nod
 use Rattle.dmf_path.proofs.WalkingTurn.{WalkTurn, walk-turn, node-within, come-moved, found-within, none-found, come-popped, tail-within, work_left, work-found}
 use Rattle.dmf_path.proofs.WalkingTurn.{work-popped}
 use Rattle.dmf_path.proofs.UnderWay.{goal-joint, is-free, free-room}
+use Rattle.dmf_path.proofs.Splitting.{made-aim}
 use Rattle.dmf_path.proofs.WayStart.{walk-end, last-link_within}
 use Rattle.dmf_path.proofs.WayTurn.{IsOnWay, on-moved, slots-left, first-leaves, IsMade, way-made, on-entered, last-places, last-leaves, on-back}
 
@@ -72,6 +73,7 @@ walk_of t =
     walk-turn t.r.links t.labels t.aim.rooms t.w.start t.w.goal t.current
     (places_of (walked_slots t.w)) t.node t.place t.end t.r.links.heads t.links t.start_is t.on.come t.end_read refl t.from t.to (none-told t)
 
+-- With the node's current link moved on, the walk is still on its way.
 pub on-turned : (t : Turn) → IsOnWay t.r t.labels (set t.current t.node t.place) t.aim t.w t.node
 on-turned t = on-moved t.r t.labels t.current t.aim t.w t.node t.place t.on t.other (come-moved (walk_of t))
 
@@ -103,6 +105,7 @@ lies-found t f = record {
       omega (arith, f.found, where-ends t);
 }
 
+-- The link found is one of the links.
 pub within-found : (t : Turn) → IsFound t → t.place < length t.r.links.heads
 within-found t f = found-within (walk_of t) f.found
 
@@ -114,20 +117,7 @@ slot-found t f = omega (arith, slots-left t.r t.labels t.current t.aim t.w t.nod
 pub slot-first : (t : Turn) → IsFound t → t.w.walked ≡ t.w.rest → IsSlot t.r.links t.w.sent t.r.rooms (slot_at t.w.slots t.w.rest)
 slot-first t f meets = (first-leaves t.r t.labels t.current t.aim t.w t.node t.links t.start_is t.on (omega (arith, meets, slot-found t f))).slot
 
--- the ends of the path, and for how many links there is memory, once the slot is free
-pub made-start : (r : Residual) (w : Way) (next : Residual) (new : Way) → MakesWay r w next new → new.start ≡ w.start
-made-start r w next new (free less is kept) = ap (λ (u : Way). u.start) is
-made-start r w next new (leaves meets is put) = ap (λ (u : Way). u.start) is
-
-pub made-goal : (r : Residual) (w : Way) (next : Residual) (new : Way) → MakesWay r w next new → new.goal ≡ w.goal
-made-goal r w next new (free less is kept) = ap (λ (u : Way). u.goal) is
-made-goal r w next new (leaves meets is put) = ap (λ (u : Way). u.goal) is
-
-pub made-capacity : (r : Residual) (w : Way) (next : Residual) (new : Way) → MakesWay r w next new → new.capacity ≡ w.capacity
-made-capacity r w next new (free less is kept) = ap (λ (u : Way). u.capacity) is
-made-capacity r w next new (leaves meets is put) = ap (λ (u : Way). u.capacity) is
-
--- The links stay,
+-- Once the slot is free, the links are the same,
 pub made-links : (r : Residual) (w : Way) (next : Residual) (new : Way) → MakesWay r w next new → next.links ≡ r.links
 made-links r w next new (free less is kept) = ap (λ (x : Residual). x.links) kept
 made-links r w next new (leaves meets is put) = ap (λ (x : Residual). x.links) put
@@ -151,7 +141,7 @@ on-found t next new head f way sums read =
     let falls : get_or t.labels (get_or next.links.heads t.place 0) 0 + 1 ≡ get_or t.labels t.node 0 =
     subst (λ (l : Links). get_or t.labels (get_or l.heads t.place 0) 0 + 1 ≡ get_or t.labels t.node 0) (sym same) f.falls in
     let start : IsNode next.links.nodes new.start =
-    subst (λ (l : Links). IsNode l.nodes new.start) (sym same) (subst (IsNode t.r.links.nodes) (sym (made-start t.r t.w next new way)) t.start_is) in
+    subst (λ (l : Links). IsNode l.nodes new.start) (sym same) (subst (IsNode t.r.links.nodes) (sym (made-aim t.r t.w next new way).start) t.start_is) in
     let head_is : head ≡ get_or next.links.heads t.place 0 = read ∙ get_or_default next.links.heads t.place head 0 within in
     let told : get_or t.aim.rooms t.place 0 ≡ get_or t.r.rooms t.place 0 =
     told-room t.r t.labels t.current t.aim t.w t.node t.place t.links t.start_is t.on t.other (lies-found t f) f.falls in
@@ -166,6 +156,7 @@ on-found t next new head f way sums read =
 same-links : (t : Turn) → t.r.links ≡ t.aim.links
 same-links t = ap (λ (x : Residual). x.links) t.on.same
 
+-- Over a link that was found, less work is left.
 pub less-found : (t : Turn) (next : Residual) (new : Way) (head : ℕ) → IsFound t → MakesWay t.r t.w next new → head ≡ get_or next.links.heads t.place head
     → work_left t.aim.links t.labels t.w.start (set t.current t.node t.place) head < work_left t.aim.links t.labels t.w.start t.current t.node
 less-found t next new head f way read =
@@ -183,9 +174,11 @@ popped : (t : Turn) → 0 < t.w.walked → places_of (walked_slots t.w) ≡ plac
     (slot_at t.w.slots (t.w.walked - 1)).place ∷ []
 popped t some = last-places t.w some (omega (arith, t.on.way.order, t.on.way.within))
 
+-- It has a slot,
 pub slot-last : (t : Turn) → 0 < t.w.walked → IsSlot t.r.links t.w.sent t.r.rooms (slot_at t.w.slots (t.w.walked - 1))
 slot-last t some = (last-leaves t.r t.labels t.current t.aim t.w t.node t.links t.start_is t.on some).slot
 
+-- and it is one of the links.
 pub back-within : (t : Turn) (back : ℕ) → 0 < t.w.walked → back ≡ (slot_at t.w.slots (t.w.walked - 1)).place → back < length t.r.links.heads
 back-within t back some is = omega (arith, is, (slot-last t some).within)
 
@@ -203,11 +196,13 @@ back-tail t new tail some step first last =
     let fits : t.w.walked - 1 ≤ length t.w.slots = omega (arith, t.on.way.order, t.on.way.within) in
     sym (walk-end l (stepped_back t.w) tail fits (rw step at first) (rw step at last)) ∙ sym (t.links.at_tail (end_of l t.w.start front) p node before.1.lies)
 
+-- That node has a current link,
 pub back-tail_within : (t : Turn) (tail : ℕ) → 0 < t.w.walked → tail ≡ tail_of t.r.links (slot_at t.w.slots (t.w.walked - 1)).place
     → tail < length (set t.current t.node t.place)
 back-tail_within t tail some is = tail-within (walk_of t) (places_of (take (t.w.walked - 1) t.w.slots)) (slot_at t.w.slots (t.w.walked - 1)).place tail
     (popped t some) is
 
+-- and there less work is left.
 pub less-back : (t : Turn) (back tail : ℕ) → 0 < t.w.walked → back ≡ (slot_at t.w.slots (t.w.walked - 1)).place
     → tail ≡ tail_of t.r.links (slot_at t.w.slots (t.w.walked - 1)).place
     → work_left t.aim.links t.labels t.w.start (set (set t.current t.node t.place) tail (back + 1)) tail

@@ -4,7 +4,7 @@ use Rattle.std.specs.Prelude.{ℕ, ◌≡◌, ◌-◌, ◌<◌, ◌≤◌, ◌�
 use Rattle.std.specs.List.{range_with_len}
 use Rattle.dmf_path.specs.declared.pair.Pair.{Pair}
 use Rattle.dmf_path.specs.declared.places.Indices.{Indices}
-use Rattle.dmf_path.specs.declared.places.Indices.TheVariants.{Below, Listed}
+use Rattle.dmf_path.specs.declared.places.Indices.TheVariants.{Within, Listed}
 use Rattle.dmf_path.specs.declared.search.AugmentingPath.{AugmentingPath}
 use Rattle.dmf_path.specs.Step.{Step}
 use Rattle.dmf_path.specs.Path.{IsLeastPath, bottleneck_up_to}
@@ -69,9 +69,9 @@ with_rooms pairs k along against = slice_set pairs k (option_map (pair_with alon
 abbrev pub lowered_along : List (Option Pair) → ℕ → ℕ → List (Option Pair)
 lowered_along pairs k amount = slice_set pairs k (option_map (lowered_pair amount) (pair_number pairs k))
 
--- the list of these indices
+-- the list of the indices that are left
 abbrev pub indices_of : Indices → List ℕ
-indices_of (Below count) = range_with_len 0 count
+indices_of (Within range) = range_with_len range.start (range.end - range.start)
 indices_of (Listed indices) = indices.now
 
 -- The indices ascend and are below the count. An index that is not among them may be left out.

@@ -1,6 +1,7 @@
 //! Least paths over pairs of opposite links between nodes: the search of the maximum-flow solver `dmf`.
 #![tactic(auto)]
 
+pub use aside::Ends;
 pub use pair::{Pair, Pairs};
 pub use places::Indices;
 pub use search::{AugmentingPath, Search};

@@ -7,45 +7,36 @@ ghost use Rattle.dmf_path.specs.Shrunk.{IsUnplaced};
 use crate::grown::Gap;
 use crate::links::NO_PLACE;
 use std::marker::Model;
+use std::ops::Range;
 
-/// Indices in ascending order.
-#[derive(Clone, Copy, Debug)]
+/// An iterator over indices, in ascending order. Takes no memory.
+#[derive(Drop)]
 pub enum Indices<'a> {
-    /// All below this number.
-    Below(usize),
+    /// Those within a range.
+    Within(Range<usize>),
     /// Those that are listed.
     Listed(&'a [u32]),
 }
 
-impl Indices<'_> {
-    /// How many there are. Takes no memory.
-    pub fn len(&self) -> usize
-        ensures { result ≡ length (indices_of self.now) }
-    {
+impl Iterator for Indices<'_> {
+    ghost use Rattle.std.specs.Iterator.{YieldsFirst, item_count};
+
+    type Item = usize;
+
+    ghost next_gives = { YieldsFirst indices_of };
+
+    ghost remaining = { item_count indices_of };
+
+    fn next(&mut self) -> Option<usize> {
         match self {
-            Indices::Below(count) => *count,
-            Indices::Listed(indices) => indices.len(),
+            Indices::Within(range) => range.next(),
+            Indices::Listed(listed) => {
+                let (&index, left) = listed.split_first()?;
+                *listed = left;
+                Some(index as usize)
+            }
         }
     }
-
-    /// That which is number `i`, counted from 0. Takes no memory.
-    pub fn at(&self, i: usize) -> usize
-        requires { i < length (indices_of self.now) }
-        ensures { result ≡ slice_index (indices_of self.now) i }
-    {
-        match self {
-            Indices::Below(_) => i,
-            Indices::Listed(indices) => number_at(indices, i),
-        }
-    }
-}
-
-/// Number `i` of a list.
-fn number_at(numbers: &[u32], i: usize) -> usize
-    requires { i < length numbers.now }
-    ensures { result ≡ slice_index numbers.now i }
-{
-    numbers[i] as usize
 }
 
 /// The place of each pair's link along, or [`NO_PLACE`].

@@ -1,5 +1,5 @@
 //! The search for least paths, one after the other, from one node to another.
-ghost use Rattle.std.specs.Prelude.{◌≡◌, ◌≢◌, ℕ, ◌+◌, ◌-◌, ◌^◌, ◌<◌, ◌↔◌, false, IsTrue, length, slice_index_or, IfOk, MatchOption};
+ghost use Rattle.std.specs.Prelude.{if◌then◌else◌, ◌≡◌, ◌≢◌, ℕ, ◌+◌, ◌-◌, ◌^◌, ◌<◌, ◌↔◌, false, IsTrue, length, slice_index_or, IfOk, MatchOption};
 ghost use Rattle.dmf_node.specs.Node.{IsNode};
 ghost use Rattle.dmf_path.specs.Path.{HasNoPath, IsReachable};
 ghost use Rattle.dmf_path.specs.Pair.{steps_of};
@@ -142,8 +142,7 @@ impl Search {
         requires { k < length self.now.pairs }
         ensures { result ≡ against_at self.now.pairs k }
     {
-        let place = self.places.place_of(k)?;
-        Some(self.links.opposite_room(&self.trail, place))
+        self.room(k, true)
     }
 
     /// The room of the link along the pair at index `k`. `None` if there is no pair. Takes no memory.
@@ -151,8 +150,20 @@ impl Search {
         requires { k < length self.now.pairs }
         ensures { result ≡ along_at self.now.pairs k }
     {
+        self.room(k, false)
+    }
+
+    /// The room of one of the two links of the pair at index `k`: of that against it where `against` says so.
+    fn room(&self, k: usize, against: bool) -> Option<u64>
+        requires { k < length self.now.pairs }
+        ensures { result ≡ (if against then against_at self.now.pairs k else along_at self.now.pairs k) }
+    {
         let place = self.places.place_of(k)?;
-        Some(self.links.settled_room(&self.trail, place))
+        Some(if against {
+            self.links.opposite_room(&self.trail, place)
+        } else {
+            self.links.settled_room(&self.trail, place)
+        })
     }
 
     /// Takes an amount off the room of the link along the pair at index `k`. Takes no memory.

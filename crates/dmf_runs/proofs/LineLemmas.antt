@@ -1,6 +1,6 @@
 -- What one line leaves, and one line more of a run.
-use Rattle.std.proofs.Common.{ℕ, ◌≡◌, ◌+◌, List, [], ◌∷◌, ◌++◌, length, ltb, cond, Bool, true, false, ◌||◌, Result, Err, ◌⊎◌, inl, inr, refl, sym, ap, ◌∙◌, subst, arith}
-use Rattle.std.proofs.Common.{append_assoc, append-nil}
+use Rattle.std.proofs.Common.{ℕ, ◌≡◌, ◌+◌, List, [], ◌∷◌, ◌++◌, length, ltb, cond, Bool, true, false, ◌||◌, Result, Err, ◌⊎◌, inl, inr, refl}
+use Rattle.std.proofs.Common.{sym, ap, ◌∙◌, subst, arith, append_assoc, append-nil}
 use Rattle.std.specs.Str.Lines.{strip_carriage_return}
 use Rattle.dmf_session.specs.declared.command.Command.{Command}
 use Rattle.dmf_session.specs.declared.command.Reply.{Reply}
@@ -21,6 +21,7 @@ pub answers-cases : (want_cut : Bool) (t : Timeline) (command : Command) (result
 answers-cases want_cut t command (Err NoMemory) u a = inl a.1
 answers-cases want_cut t command result u a = inr a
 
+-- Nothing was refused besides.
 pub or-false : (b : Bool) → b ≡ (b || false)
 or-false true = refl
 or-false false = refl

@@ -31,6 +31,7 @@ optimal-after : SolvedIsOptimal → (want_cut : Bool) (t u : Timeline) (command 
 optimal-after solved want_cut t u command (Ok reply) has answers is = solved want_cut t u reply has (subst (λ c. Answers want_cut t c (Ok reply) u) is answers)
 optimal-after solved want_cut t u command (Err refusal) has answers is = tt
 
+-- Each solve of a run comes to an optimal state.
 pub runs-are-optimal : HasAnswer → HasOneAnswer → SolvedIsOptimal → RunsAreOptimal
 runs-are-optimal some one solved want_cut brief bound s given text refused state all =
     RunsAll-tells brief (Answers want_cut) (Answers-keeps some one want_cut) (AnswersOptimally want_cut)

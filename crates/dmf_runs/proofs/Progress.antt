@@ -43,6 +43,7 @@ pub record Progress (wanted : SolveReply) (t : Timeline) (before now : InputStat
   pub writer : holds.has_failed ≡ held.has_failed
   pub runs : Runs wanted.brief (Answers wanted.cut) 1 t lines written is_refused u
 
+-- At first none was carried out.
 pub Progress-none : (wanted : SolveReply) (t : Timeline) (input : InputState) (held : Writer) → IsFresh input
     → Progress wanted t input input held held 1 t false
 Progress-none wanted t input held fresh = record {
@@ -69,6 +70,7 @@ pub record Carried (wanted : SolveReply) (u : Timeline) (meaning : Result (Optio
   pub appends : Appends holds.contents next.contents text
   pub writer : next.has_failed ≡ holds.has_failed
 
+-- One line more is progress by one.
 abbrev pub Progress-more : (wanted : SolveReply) (t : Timeline) (before now then : InputState) (held holds next : Writer) (number : ℕ) (u : Timeline)
     (is_refused : Bool)
     (meaning : Result (Option Command) Refusal) (kept : Kept) (refused : Bool) (v : Timeline)

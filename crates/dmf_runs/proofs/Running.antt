@@ -225,10 +225,12 @@ abbrev pub Keeps : Answering → Type 0
 Keeps Gives = (t u : Timeline) (command : Command) (result : Result Reply Refusal) → HasStates t → Gives t command result u → HasStates u
 
 module _ (brief : Bool) (Gives : Answering) (keeps : Keeps Gives) where
+  -- A line leaves states where there were some,
   pub LineRuns-keeps : (number : ℕ) (t : Timeline) (meaning : Result (Option Command) Refusal) (text : List ℕ) (refused : Bool) (u : Timeline) → HasStates t
       → LineRuns brief Gives number t meaning text refused u → HasStates u
   LineRuns-keeps = line-keeps brief (λ _ t. HasStates t) Gives (λ number t has. has) (λ number. keeps)
 
+  -- and so do several lines.
   pub Runs-keeps : (number : ℕ) (t : Timeline) (lines : List (List ℕ)) (text : List ℕ) (refused : Bool) (u : Timeline) → HasStates t
       → Runs brief Gives number t lines text refused u → HasStates u
   Runs-keeps = lines-keep brief (λ _ t. HasStates t) Gives (λ number t has. has) (λ number. keeps)

@@ -143,6 +143,7 @@ wanted : HasSmallestSide → (want_cut : Bool) (s : NetworkState) → IsState s 
 wanted law true s state = let some = law s.network state.network in record { side = Some some.0; is = some.1 }
 wanted law false s state = record { side = None; is = tt }
 
+-- A solve has an answer.
 pub solve-answered : NetworkLaws → (want_cut : Bool) (t : Timeline) → HasStates t → Answered want_cut t Solve
 solve-answered laws want_cut t has =
     let s = some-present t has in
@@ -170,6 +171,7 @@ solve-answered laws want_cut t has =
 moved : (t : Timeline) (has : HasStates t) → IsMoved t (Ok (Value (value_of (some-present t has).state))) t
 moved t has = let s = some-present t has in record { state = s.state; present = s.present; told = refl; moves = refl }
 
+-- So has an undo, whether or not there are so many states before,
 pub undo-by : (want_cut : Bool) (t : Timeline) (count : ℕ) → HasStates t → (b : Bool) → nat_le count t.place ≡ b → Answered want_cut t (Undo count)
 undo-by want_cut t count has true within =
     let u = back t count in
@@ -179,6 +181,7 @@ undo-by want_cut t count has false past =
     let is : IsRefused t NothingToUndo (Err NothingToUndo) t = record { told = refl; unchanged = refl } in
     record { result = Err NothingToUndo; after = t; steps = rw past is; memory = λ e. cc; has_states = has }
 
+-- and a redo, whether or not there are so many past.
 pub redo-by : (want_cut : Bool) (t : Timeline) (count : ℕ) → HasStates t → (b : Bool) → nat_le count (future_of t) ≡ b → Answered want_cut t (Redo count)
 redo-by want_cut t count has true within =
     let u = forward t count in
@@ -190,6 +193,7 @@ redo-by want_cut t count has false past =
 
 -- ---- printing a cut
 
+-- The command for a cut has an answer.
 pub cut-answered : NetworkLaws → (want_cut : Bool) (t : Timeline) → HasStates t → Answered want_cut t PrintCut
 cut-answered laws want_cut t has =
     let s = some-present t has in

@@ -21,9 +21,11 @@ pub record Grows (t u : Timeline) : Type 0 where
   pub at_most : length u.states ≤ length t.states + 1
   pub bound : u.bound ≡ t.bound
 
+-- A timeline that stays has grown by none.
 pub same : (t u : Timeline) → t.place < length t.states → u ≡ t → Grows t u
 same t u within e = subst (λ v. Grows t v) (sym e) (record { place = within; at_most = omega arith; bound = refl })
 
+-- With one state appended it has grown by one.
 pub appended-grows : (t u : Timeline) (s : NetworkState) → t.place < length t.states → u ≡ appended t s → Grows t u
 appended-grows t u s within e =
     let front : List NetworkState = take (t.place + 1) t.states in
@@ -34,12 +36,14 @@ appended-grows t u s within e =
     (record { place = omega (arith, length_push front s, long); at_most = omega (arith, length_push front s, long); bound = refl })
     (λ past. record { place = omega (arith, length_push front s, long, fewer); at_most = omega (arith, length_push front s, long, fewer); bound = refl }))
 
+-- An answer to a change grows it by at most one,
 pub change-grows : (t u : Timeline) (s : NetworkState) (made : Change) (reply : NetworkState → Reply) (result : Result Reply Refusal)
     (fault : Option PlanFault) → t.place < length t.states
     → MatchOption fault (IsChanged t s made reply result u) (λ f. IsRefused t (refusal_of f) result u) → Grows t u
 change-grows t u s made reply result None within m = appended-grows t u m.new within m.appends
 change-grows t u s made reply result (Some f) within m = same t u within m.unchanged
 
+-- one to an undo,
 pub undo-grows : (t u : Timeline) (steps : ℕ) (result : Result Reply Refusal) (b : Bool) → t.place < length t.states
     → MatchBool b (IsMoved (back t steps) result u) (IsRefused t NothingToUndo result u) → Grows t u
 undo-grows t u steps result true within m = subst (λ v. Grows t v) (sym m.moves) (record { place = omega arith; at_most = omega arith; bound = refl })
@@ -49,6 +53,7 @@ test-cases : (m n : ℕ) → ((nat_le m n ≡ true) × (m ≤ n)) ⊎ (nat_le m 
 test-cases m n = elim (nat_le m n) as (λ b. (nat_le m n ≡ b → (b ≡ true → m ≤ n) → ((b ≡ true) × (m ≤ n)) ⊎ (b ≡ false)))
     [ true ↦ λ e f. inl (refl, f refl) | false ↦ λ e f. inr refl ] refl (leb-true m n)
 
+-- and one to a redo by none.
 pub redo-grows : (t u : Timeline) (steps : ℕ) (result : Result Reply Refusal) → t.place < length t.states
     → MatchBool (nat_le steps (future_of t)) (IsMoved (forward t steps) result u) (IsRefused t NothingToRedo result u) → Grows t u
 redo-grows t u steps result within m = ⊎_elim

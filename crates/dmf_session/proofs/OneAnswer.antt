@@ -65,6 +65,7 @@ one-wanted law false n None None a b = refl
 one-wanted law false n None (Some other) a b = absurd b
 one-wanted law false n (Some side) other a b = absurd a
 
+-- Any two answers to one solve are equal.
 pub one-solved : NetworkOneLaws → (want_cut : Bool) (t u v : Timeline) (s : NetworkState) (result other : Result Reply Refusal) → IsState s
     → IsSolved want_cut t s result u → IsSolved want_cut t s other v → (result ≡ other) × (u ≡ v)
 one-solved laws want_cut t u v s result other state a b =
@@ -79,6 +80,7 @@ one-moved : (t u v : Timeline) (result other : Result Reply Refusal) → IsMoved
 one-moved t u v result other a b =
     (a.told ∙ ap (λ s. Ok (Value (value_of s))) (one-present t a.state b.state a.present b.present) ∙ sym b.told, a.moves ∙ sym b.moves)
 
+-- Any two answers to one undo or redo are equal.
 pub one-move : (t moved u v : Timeline) (refusal : Refusal) (result other : Result Reply Refusal) (may : Bool)
     → MatchBool may (IsMoved moved result u) (IsRefused t refusal result u) → MatchBool may (IsMoved moved other v) (IsRefused t refusal other v)
     → (result ≡ other) × (u ≡ v)
@@ -104,6 +106,7 @@ told-cases s (Ok (Cut side)) a = inl (record { side = side; is = refl; greatest 
 told-cases s (Err NotGreatest) a = inr (record { is = refl; larger = a })
 told-cases s result a = absurd a
 
+-- Any two answers that tell the cut of one state are equal.
 pub one-told : HasOneSmallestSide → (s : NetworkState) (result other : Result Reply Refusal) → TellsCut s result → TellsCut s other → result ≡ other
 one-told law s result other a b = ⊎_elim
     (λ (x : ToldCut s result). ⊎_elim

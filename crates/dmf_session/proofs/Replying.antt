@@ -14,6 +14,7 @@ use Rattle.dmf_session.specs.Step.{IsReplyTo, IsChanged, IsRefused, IsMoved, Tel
 use Rattle.dmf_history.specs.Timeline.{Timeline}
 
 module _ (command : Command) (reply : Reply) where
+  -- A reply that is that of an answer is one to the command.
   pub told-reply : (answer : Reply) → ◌≡◌ {A = Result Reply Refusal} (Ok reply) (Ok answer) → IsReplyTo command answer → IsReplyTo command reply
   told-reply answer told is = let same : answer ≡ reply = cc in subst (IsReplyTo command) same is
 
@@ -30,6 +31,7 @@ module _ (command : Command) (reply : Reply) where
   moved-reply t moved u refusal true fits is = told-reply (Value (value_of is.state)) is.told (fits (value_of is.state))
   moved-reply t moved u refusal false fits is = absurd (let no : ⊥ = cc is.told in no)
 
+-- What tells a cut is a reply to the command for one.
 pub cut-reply : (s : NetworkState) (reply : Reply) → TellsCut s (Ok reply) → IsReplyTo PrintCut reply
 cut-reply s (Cut side) told = tt
 cut-reply s reply told = absurd told

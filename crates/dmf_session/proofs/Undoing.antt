@@ -44,6 +44,7 @@ undone t v s new result is present m =
           refused.told;
     }
 
+-- A change that is undone leaves the state before it.
 pub change-undone : ChangeIsUndone
 change-undone want_cut t u v command reply result s is present asked answers steps =
     let appends = change-appends want_cut t u command reply asked answers in

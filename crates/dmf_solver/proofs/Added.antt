@@ -16,6 +16,7 @@ use Rattle.dmf_state.specs.NetworkState.{NetworkState, IsState, with_last_arc, w
 use Rattle.dmf_solver.specs.ResidualNetwork.{residual_pair, residual_pairs, closed_return, network_pairs, residual_search}
 use Rattle.dmf_solver.proofs.NetworkPairs.{length-residual_pairs, length-network_pairs, pair-is}
 
+-- With one arc more there is its pair behind those of the arcs before.
 pub pairs-added : (arcs : List Arc) (flows : List ℕ) (arc : Arc) → length flows ≡ length arcs
     → residual_pairs (arcs ++ arc ∷ []) (flows ++ 0 ∷ []) ≡ residual_pairs arcs flows ++ residual_pair arc 0 ∷ []
 pairs-added [] [] arc same = refl
@@ -44,6 +45,7 @@ module _ (s : NetworkState) (arc : Arc) (state : IsState (with_idle_arc s arc)) 
   pub pairs-before : (search : Searched) → search ≡ residual_search s.network s.flows → length search.pairs ≡ length s.network.arcs + 1
   pairs-before search is = ap (λ (x : Searched). length x.pairs) is ∙ length-network_pairs s.network s.flows one_each
 
+  -- The arcs that there were, and one more, are not too many.
   pub few-before : length s.network.arcs + 1 ≤ 2 ^ 27
   few-before = omega (arith, state.network.at_most_arcs, length_push s.network.arcs arc)
 

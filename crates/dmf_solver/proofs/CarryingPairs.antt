@@ -94,6 +94,7 @@ return-steps n flows =
     let rank : 2 * (1 + length n.arcs) ≡ 2 * length n.arcs + 2 = omega arith in
     rw rank (append-nil (return_link n flows))
 
+-- The steps of the pairs are the carrying steps that do not come back.
 pub carrying-without_loops : (n : Network) (flows : List ℕ) → length flows ≡ length n.arcs
     → AreWithoutLoops (carrying_steps n flows) (steps_of (carrying_pairs n flows))
 carrying-without_loops n flows same =
@@ -156,6 +157,7 @@ last-at [] flows last same = refl
 last-at (arc ∷ arcs) [] last same = absurd (omega (arith, same))
 last-at (arc ∷ arcs) (flow ∷ flows) last same = last-at arcs flows last (omega (arith, same))
 
+-- The pair of an arc is at its index.
 pub pair-of_arc : (n : Network) (flows : List ℕ) (k : ℕ) → k < length n.arcs → length flows ≡ length n.arcs
     → slice_get (carrying_pairs n flows) k ≡ Some (carrying_pair (get_or n.arcs k no_arc) (get_or flows k 0))
 pair-of_arc n flows k within same = arc-at n.arcs flows (return_pair n flows) k within same
@@ -170,12 +172,14 @@ length-carrying [] flows same = refl
 length-carrying (arc ∷ arcs) [] same = absurd (omega (arith, same))
 length-carrying (arc ∷ arcs) (flow ∷ flows) same = ap suc (length-carrying arcs flows (omega (arith, same)))
 
+-- There is a pair for each arc, and one for the return link, whatever room that has,
 pub length-carrying_with : (n : Network) (flows : List ℕ) (room : ℕ) → length flows ≡ length n.arcs
     → length (carrying_from n.arcs flows ++ return_of n room ∷ []) ≡ length n.arcs + 1
 length-carrying_with n flows room same =
     let all = length-append (carrying_from n.arcs flows) (return_of n room ∷ []) in
     omega (arith, all, length-carrying n.arcs flows same)
 
+-- and so with the value as its room.
 pub length-carrying_pairs : (n : Network) (flows : List ℕ) → length flows ≡ length n.arcs → length (carrying_pairs n flows) ≡ length n.arcs + 1
 length-carrying_pairs n flows same = length-carrying_with n flows (value_or_zero n flows) same
 
@@ -196,6 +200,7 @@ pair-at s k at state is =
     pair-of_arc s.network s.flows k is.within (AllZip-long _ s.network.arcs s.flows state.flow.within)
     ∙ (λ t. Some (carrying_pair (sym is.arc_is t) (sym is.flow_is t)))
 
+-- Past the arcs there is the pair of the return link.
 pub pair-past : (s : NetworkState) (k : ℕ) → IsState s → k < length (carrying_pairs s.network s.flows) → length s.network.arcs ≤ k
     → slice_get (carrying_pairs s.network s.flows) k ≡ Some (return_pair s.network s.flows)
 pair-past s k state within past =

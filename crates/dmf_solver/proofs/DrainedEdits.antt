@@ -22,6 +22,7 @@ module _ (s : NetworkState) (arc old j : ℕ) (moves : Vec Move Global) (same : 
   found : IsOpenWith s.network arc old
   found = subst (λ k. IsOpenWith s.network k old) (sym same) asked
 
+  -- A capacity within the largest one fits once its arc is drained to it,
   pub cap-fits : (cap largest : ℕ) → largest + (capacity_sum s.network.arcs - old) + 1 ≡ 2 ^ 64 → cap ≤ largest → AreDrainingMoves s arc cap moves.items
       → Fits (edit.Cap arc old cap moves) s
   cap-fits cap largest is_largest at_most drained = record {
@@ -31,6 +32,7 @@ module _ (s : NetworkState) (arc old j : ℕ) (moves : Vec Move Global) (same : 
         (omega (arith, is_largest, at_most, found.has_cap));
   }
 
+  -- so the edit is a plan of the change.
   pub cap-plans : (cap largest : ℕ) → largest + (capacity_sum s.network.arcs - old) + 1 ≡ 2 ^ 64 → cap ≤ largest → AreDrainingMoves s arc cap moves.items
       → Plans s (change.Cap j cap) (edit.Cap arc old cap moves)
   cap-plans cap largest is_largest at_most drained = record {
@@ -40,6 +42,7 @@ module _ (s : NetworkState) (arc old j : ℕ) (moves : Vec Move Global) (same : 
     moves = drained.differ;
   }
 
+  -- Closing fits once the arc is drained,
   pub close-fits : AreDrainingMoves s arc 0 moves.items → Fits (edit.Close arc old moves) s
   close-fits drained = record {
     arc = found;
@@ -47,6 +50,7 @@ module _ (s : NetworkState) (arc old j : ℕ) (moves : Vec Move Global) (same : 
     applied = IsState-closed (with_flows s (moved moves.items s.flows)) arc drained.state found.is_there drained.drains.within;
   }
 
+  -- so the edit is a plan of the change.
   pub close-plans : AreDrainingMoves s arc 0 moves.items → Plans s (change.Close j) (edit.Close arc old moves)
   close-plans drained = record {
     kind = same;
@@ -60,6 +64,7 @@ module _ (s : NetworkState) (arc old j : ℕ) (moves : Vec Move Global) (same : 
       → TakesOff s.network (flow_on s.flows j - limit) s.flows (moved moves.items s.flows)
   takes-off limit drained = subst (λ k. TakesOff s.network (flow_on s.flows k - limit) s.flows (moved moves.items s.flows)) same drained.takes_off
 
+  -- The drain takes off all that flows on the arc.
   pub takes-all_off : AreDrainingMoves s arc 0 moves.items → TakesOff s.network (flow_on s.flows j) s.flows (moved moves.items s.flows)
   takes-all_off drained =
       let all : flow_on s.flows j - 0 ≡ flow_on s.flows j = omega arith in
@@ -67,6 +72,7 @@ module _ (s : NetworkState) (arc old j : ℕ) (moves : Vec Move Global) (same : 
 
 module _ (s : NetworkState) (arcs : Vec Shutting Global) (moves : Vec Move Global) (state : IsState s) (are : AreOpenWith 0 arcs.items s.network)
     (drained : AreShuttingMoves s (numbers arcs.items) moves.items) where
+  -- Shutting fits once its arcs are drained,
   pub shut-fits : Fits (edit.Shut arcs moves) s
   shut-fits =
       let last = moved moves.items s.flows in
@@ -74,6 +80,7 @@ module _ (s : NetworkState) (arcs : Vec Shutting Global) (moves : Vec Move Globa
       (HasArcs-open 0 arcs.items s.network are) drained.drains in
       record { arc = are; moves = drained.fit; applied = IsState-all_closed 0 arcs.items s.network last drained.state are left.without_flow }
 
+  -- so the edit is a plan of the change.
   pub shut-plans : (v : ℕ) → numbers arcs.items ≡ open_arcs_at v 1 s.network.arcs → Plans s (change.Shut v) (edit.Shut arcs moves)
   shut-plans v all = record {
     kind = tt;

@@ -43,6 +43,7 @@ pub record AreLeft (n : Network) (js flows last : List ℕ) : Type 0 where
   pub value_from_zero : pos 0 ≤ℤ flow_value n last
   pub without_flow : AreWithoutFlow last js
 
+-- After arcs are drained in turn it holds.
 pub left-in_turn : (n : Network) (js flows last : List ℕ) → IsNetwork n → IsFlow n flows → pos 0 ≤ℤ flow_value n flows → HasArcs n js
     → DrainsInTurn n js flows last → AreLeft n js flows last
 left-in_turn n [] flows last network flow from_zero has is = record {
@@ -97,6 +98,7 @@ pub record AreDrainedUpTo (s : NetworkState) (all left unpaired : List ℕ) (sea
   pub carrying : IsCarryingSearch s unpaired search
   pub onward : (last : List ℕ) → DrainsInTurn s.network left (flows_read Along unpaired search.pairs) last → DrainsInTurn s.network all s.flows last
 
+-- After the drain of the next arc, one arc less is left.
 pub drained-next_arc : (s : NetworkState) (all left unpaired next_unpaired : List ℕ) (j : ℕ) (rest : List ℕ) (search next : Searched) → left ≡ j ∷ rest
     → IsCarryingSearch s next_unpaired next → Drains s.network j 0 (flows_read Along unpaired search.pairs) (flows_read Along next_unpaired next.pairs)
     → AreDrainedUpTo s all left unpaired search → AreDrainedUpTo s all rest next_unpaired next
@@ -105,6 +107,7 @@ drained-next_arc s all left unpaired next_unpaired j rest search next is carryin
   onward = λ last more. up_to.onward last (rw is (flows_read Along next_unpaired next.pairs, drains, more));
 }
 
+-- Once none is left, all were drained in turn.
 pub drained-every_arc : (s : NetworkState) (all left unpaired : List ℕ) (search : Searched) → left ≡ [] → AreDrainedUpTo s all left unpaired search
     → DrainsInTurn s.network all s.flows (flows_read Along unpaired search.pairs)
 drained-every_arc s all left unpaired search none up_to = up_to.onward (flows_read Along unpaired search.pairs) (rw none refl)

@@ -22,6 +22,7 @@ IsLeastPath-none steps a b same = record {
   first = λ other leads long before. none-before other long before;
 }
 
+-- Taking the flow of a self loop down to the limit drains it.
 pub drained-loop : (n : Network) (j limit : ℕ) (flows : List ℕ) → has_arc n j ≡ true → IsFlow n flows → (arc_number n j).tail ≡ (arc_number n j).head
     → limit < flow_on flows j → Drains n j limit flows (set flows (j - 1) limit)
 drained-loop n j limit flows has flow loop above =

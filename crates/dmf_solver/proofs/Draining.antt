@@ -20,6 +20,7 @@ pub no_more-same : (xs : List ℕ) → IsNoMore xs xs
 no_more-same [] = tt
 no_more-same (x ∷ xs) = (omega arith, no_more-same xs)
 
+-- What is no more than what is no more is no more.
 pub no_more-in_turn : (xs ys zs : List ℕ) → IsNoMore xs ys → IsNoMore ys zs → IsNoMore xs zs
 no_more-in_turn [] [] zs first second = second
 no_more-in_turn [] (y ∷ ys) zs first second = absurd first

@@ -239,6 +239,7 @@ draining-has_path s unpaired first j limit left search has some draining none =
     no_path-without_loops (carrying_steps n draining.flows) (steps_of (carrying_pairs n draining.flows)) (arc_number n j).head
     (arc_number n j).tail without here found.path found.leads
 
+-- A search that drains has a pair for each arc, and one more.
 pub length-draining : (s : NetworkState) (unpaired first : List ℕ) (j limit left : ℕ) (search : Searched)
     → IsDraining s unpaired first j limit left search → length search.pairs ≡ length s.network.arcs + 1
 length-draining s unpaired first j limit left search draining =
@@ -252,6 +253,7 @@ pub record DrainsOnce (s : NetworkState) (unpaired first : List ℕ) (j limit le
   pub room : HasAlong next.pairs (j - 1) amount
   pub draining : IsDraining s unpaired first j limit (left - amount) (with_pairs next (lowered_along next.pairs (j - 1) amount))
 
+-- One path more drains the arc further.
 pub draining-once : (s : NetworkState) (unpaired first : List ℕ) (j limit left : ℕ) (found : AugmentingPath) (search next : Searched)
     → has_arc s.network j ≡ true → (arc_number s.network j).head ≢ (arc_number s.network j).tail → 0 < left → IsDraining s unpaired first j limit left search
     → Augments left found search next → DrainsOnce s unpaired first j limit left found.amount next

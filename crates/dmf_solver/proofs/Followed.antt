@@ -4,6 +4,7 @@ use Rattle.std.proofs.Common.{sym, ◌∙◌, subst, arith, Option, Some, None, 
 use Rattle.std.specs.Option.{option_map}
 use Rattle.std.proofs.lemmas.List.{length_push}
 use Rattle.std.proofs.lemmas.Option.{slice_get_within}
+use Rattle.std.proofs.lemmas.Slice.Zip.{AllZip-long}
 use Rattle.std.proofs.Math.ListN.{drop_of_length-le}
 use Rattle.std.proofs.Math.Seq.{drop-cons}
 use Rattle.dmf_path.specs.declared.pair.Pair.{Pair}
@@ -19,7 +20,7 @@ use Rattle.dmf_state.specs.Arc.{no_arc, closed_arc, open_arc, with_cap}
 use Rattle.dmf_state.specs.Direction.{along, cap_along, edited_along, FitsAlong}
 use Rattle.dmf_state.specs.Edit.{applied, moved, moves_of, numbers, with_closed, AddsArc, ArcFits, MovesFit}
 use Rattle.dmf_state.specs.Network.{Network, arc_number, with_arc}
-use Rattle.dmf_state.specs.NetworkState.{NetworkState}
+use Rattle.dmf_state.specs.NetworkState.{NetworkState, IsState}
 use Rattle.dmf_solver.specs.Pairs.{recapped, with_capacity}
 use Rattle.dmf_solver.specs.ResidualNetwork.{residual_pair, residual_pairs, closed_return, network_pairs, residual_search}
 use Rattle.dmf_state.specs.Revert.{with_opened}
@@ -38,6 +39,7 @@ pub record ArePut (moves : List Move) (last_flows : List ℕ) (i : ℕ) (flows :
   pub fit : MovesFit last (drop i moves) flows
   pub rest : moved (drop i moves) flows ≡ last_flows
 
+-- At first none is made.
 pub put-none : (moves : List Move) (flows : List ℕ) → MovesFit 0 moves flows → ArePut moves (moved moves flows) 0 flows
 put-none moves flows fit = record { last = 0; fit = fit; rest = refl }
 
@@ -50,9 +52,11 @@ module _ (moves : List Move) (last_flows : List ℕ) (i : ℕ) (flows : List ℕ
   fit : MovesFit a.last (get_or moves i no_move ∷ drop (i + 1) moves) flows
   fit = subst (λ ms. MovesFit a.last ms flows) split a.fit
 
+  -- The next move is that of an arc.
   pub index-put : (1 ≤ (get_or moves i no_move).arc) × ((get_or moves i no_move).arc - 1 < length flows)
   index-put = (omega (arith, fit.0), slice_get_within flows ((get_or moves i no_move).arc - 1) (get_or moves i no_move).from fit.1)
 
+  -- One more is made.
   pub put-more : ArePut moves last_flows (i + 1) (set flows ((get_or moves i no_move).arc - 1) (get_or moves i no_move).to)
   put-more = record {
     last = (get_or moves i no_move).arc;
@@ -60,6 +64,7 @@ module _ (moves : List Move) (last_flows : List ℕ) (i : ℕ) (flows : List ℕ
     rest = subst (λ ms. moved ms flows ≡ last_flows) split a.rest;
   }
 
+-- Once all are made, the flows are the last ones.
 pub put-all : (moves : List Move) (last_flows : List ℕ) (i : ℕ) (flows : List ℕ) → length moves ≤ i → ArePut moves last_flows i flows → flows ≡ last_flows
 put-all moves last_flows i flows long a = subst (λ ms. moved ms flows ≡ last_flows) (drop_of_length-le moves long) a.rest
 
@@ -133,6 +138,7 @@ told-some pairs k cap flow (Some p) here is =
     let same : p.against ≡ flow = cc in
     rw (here, sym same) refl
 
+-- These rooms are those that the capacity leaves.
 pub rooms-told : (pairs : List (Option Pair)) (k cap flow : ℕ) → against_at pairs k ≡ Some flow
     → with_rooms pairs k (cap - flow) flow ≡ with_capacity pairs k cap
 rooms-told pairs k cap flow is = told-some pairs k cap flow (pair_number pairs k) refl is
@@ -145,6 +151,16 @@ pub record AreFollowed (n : Network) (moves : List Move) (last : List ℕ) (i : 
   pub put : ArePut moves last i flows
   pub one_each : length flows ≡ length n.arcs
   pub is : search ≡ residual_search n flows
+
+-- At first none is.
+pub followed-none : (s : NetworkState) (moves : List Move) (search : Searched) → IsState s → MovesFit 0 moves s.flows
+    → search ≡ residual_search s.network s.flows → AreFollowed s.network moves (moved moves s.flows) 0 search
+followed-none s moves search state fit is = record {
+  flows = s.flows;
+  put = put-none moves s.flows fit;
+  one_each = AllZip-long _ s.network.arcs s.flows state.flow.within;
+  is = is;
+}
 
 -- there is a pair for each arc, and one more
 pub long-followed : (n : Network) (moves : List Move) (last : List ℕ) (i : ℕ) (search : Searched) → AreFollowed n moves last i search
@@ -183,6 +199,7 @@ followed-all n moves last i search long are = are.is ∙ ap (residual_search n) 
 
 -- ---- one capacity, changed or reverted
 
+-- The search follows another capacity, made or taken back,
 pub cap-along : (d : Direction) (s : NetworkState) (flows : List ℕ) (j old new : ℕ) (moves : Vec Move Global) (search after : Searched)
     → length search.pairs ≡ length s.network.arcs + 1 → j - 1 < length s.network.arcs
     → after ≡ with_pairs search (with_capacity search.pairs (j - 1) (cap_along d old new)) → search ≡ residual_search s.network flows
@@ -192,6 +209,7 @@ cap-along Forward s flows j old new moves search after long h put is = cap-searc
 cap-along Back s flows j old new moves search after long h put is = cap-search s.network flows j
     (open_arc (arc_number s.network j).tail (arc_number s.network j).head old) search after long h refl refl put is
 
+-- and so it does an arc that is closed.
 pub close-along : (d : Direction) (s : NetworkState) (flows : List ℕ) (j old : ℕ) (moves : Vec Move Global) (search after : Searched)
     → length search.pairs ≡ length s.network.arcs + 1 → j - 1 < length s.network.arcs
     → after ≡ with_pairs search (with_capacity search.pairs (j - 1) (cap_along d old 0)) → search ≡ residual_search s.network flows
@@ -230,6 +248,7 @@ pub record AreShutUpTo (d : Direction) (n last : Network) (rest : List Shutting)
   pub one_each : length search.pairs ≡ length now.arcs + 1
   pub is : (flows : List ℕ) → old ≡ residual_search n flows → search ≡ residual_search now flows
 
+-- The search follows the next arc that is shut.
 pub shut-next : (d : Direction) (n last : Network) (a : Shutting) (rest all : List Shutting) (old search new : Searched) → all ≡ a ∷ rest
     → AreShutUpTo d n last all old search
     → new ≡ with_pairs search (with_capacity search.pairs (a.arc - 1) (cap_along d a.old 0)) → AreShutUpTo d n last rest old new

@@ -202,6 +202,7 @@ rank-not_first s path rank none = ⊎_elim
     (λ (other : ((s.rank == rank) ≡ false) × (s.rank ≢ rank)). (other.1, rw other.0 at none))
     (eqb_tells s.rank rank)
 
+-- A path that does not take the return link returns nothing over it.
 pub returned-none : (amount : ℕ) (n : Network) (path : List Step) (u v : ℕ) → has_rank path (2 * length n.arcs + 2) ≡ false → returned amount n path u v ≡ 0
 returned-none amount n [] u v none = refl
 returned-none amount n (s ∷ path) u v none =

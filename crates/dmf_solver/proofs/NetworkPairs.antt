@@ -63,12 +63,14 @@ pair-of_return : (n : Network) (flows : List ℕ) (k : ℕ) → length flows ≡
     → slice_get (network_pairs n flows) k ≡ Some (closed_return n)
 pair-of_return n flows k same past = rw past (last-at n.arcs flows (closed_return n) same)
 
+-- The pair at the index of an arc is that of the arc,
 pub pair-at : (s : NetworkState) (k : ℕ) (at : Arc × ℕ) → IsState s → IsArcAt s k at
     → slice_get (network_pairs s.network s.flows) k ≡ Some (residual_pair at.0 at.1)
 pair-at s k at state is =
     pair-of_arc s.network s.flows k (AllZip-long _ s.network.arcs s.flows state.flow.within) is.within
     ∙ (λ t. Some (residual_pair (sym is.arc_is t) (sym is.flow_is t)))
 
+-- and past the arcs there is that of the return link.
 pub pair-past : (s : NetworkState) (k : ℕ) → IsState s → k < length (network_pairs s.network s.flows) → length s.network.arcs ≤ k
     → slice_get (network_pairs s.network s.flows) k ≡ Some (closed_return s.network)
 pair-past s k state within past =
@@ -100,6 +102,7 @@ return-is n p network has =
     subst (IsPair n.nodes) same
     (record { tail = network.sink; head = network.source; no_loop = λ loop. network.two_terminals (sym loop); fits = omega arith })
 
+-- So all are pairs.
 pub ArePairs-network : (s : NetworkState) → IsState s → ArePairs s.network.nodes (network_pairs s.network s.flows)
 ArePairs-network s is =
     let n = s.network in
@@ -133,6 +136,7 @@ steps-closed : (n : Network) (j : ℕ) (pairs : List (Option Pair)) → steps_fr
 steps-closed n j [] = refl
 steps-closed n j (p ∷ pairs) = ap (λ (steps : List Step). pair_steps j p ++ steps) (steps-closed n (j + 1) pairs)
 
+-- so the steps are those of the arcs' pairs.
 pub network-steps : (n : Network) (flows : List ℕ) → steps_of (network_pairs n flows) ≡ steps_of (residual_pairs n.arcs flows)
 network-steps n flows = steps-closed n 1 (residual_pairs n.arcs flows)
 
@@ -199,5 +203,6 @@ ends-from (arc ∷ arcs) (flow ∷ flows) last other same =
     let rest = ends-from arcs flows last other same in
     λ t. here t ∷ rest t
 
+-- The pairs for carrying steps have the same ends.
 pub carrying-ends : (n : Network) (flows : List ℕ) → map emptied (carrying_pairs n flows) ≡ map emptied (network_pairs n flows)
 carrying-ends n flows = ends-from n.arcs flows (return_pair n flows) (closed_return n) refl

@@ -47,6 +47,7 @@ one-closed_in_turn (j ∷ js) s t u network has is same =
     (subst (λ n. HasArcs n js) back (HasArcs-closed s.network j js has.1)) is.2
     (subst (λ w. Closes js w u) (sym (one-closed s is.0 same.0 j network is.1 same.1)) same.2)
 
+-- Each change has one outcome.
 pub one-outcome : HasOneOutcome
 one-outcome s t u (Cap j cap) state is same =
     let network : t.network ≡ u.network = is.0 ∙ sym same.0 in

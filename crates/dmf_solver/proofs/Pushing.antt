@@ -57,6 +57,7 @@ rank-pushed amount arcs flows s (against k leads some) = omega (arith, leads.ran
 pub length-pushed_once : (amount : ℕ) (s : Step) (flows : List ℕ) → length (pushed_once amount s flows) ≡ length flows
 length-pushed_once amount s flows = length-set flows _ _
 
+-- A push leaves as many flows as there were.
 pub length-pushed : (amount : ℕ) (path : List Step) (flows : List ℕ) → length (pushed amount path flows) ≡ length flows
 length-pushed amount [] flows = refl
 length-pushed amount (s ∷ path) flows = length-pushed amount path (pushed_once amount s flows) ∙ length-pushed_once amount s flows

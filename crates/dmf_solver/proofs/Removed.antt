@@ -54,9 +54,11 @@ module _ (t : NetworkState) (has : HasIdleLast t) where
       → search ≡ residual_search (with_last_arc has.before.network has.arc) (has.before.flows ++ 0 ∷ [])
   with-last search is = is ∙ ap (λ (u : NetworkState). residual_search u.network u.flows) (sym has.gives)
 
+  -- There are the pairs of the last arc and of the return link.
   pub some-pairs : (search : Searched) → search ≡ residual_search t.network t.flows → 2 ≤ length search.pairs
   some-pairs search is = omega (arith, pairs-after has.before has.arc has.state search (with-last search is))
 
+  -- Without the pair of the last arc, the search is that of the state before.
   pub search-before : (before after : Searched) → before ≡ residual_search t.network t.flows
       → after ≡ with_pairs before (remove before.pairs (length before.pairs - 2))
       → after ≡ residual_search (without_last t).network (without_last t).flows

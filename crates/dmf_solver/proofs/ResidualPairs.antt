@@ -77,6 +77,7 @@ others-from j (arc ∷ arcs) (flow ∷ flows) s apart c =
     (steps_from (j + 1) (residual_pairs arcs flows)) s (others-from (j + 1) arcs flows s apart later))
     (Contains-append_cases (forward j arc flow ++ backward j arc flow) (residual_from (j + 1) arcs flows) s c)
 
+-- The steps of the pairs are the residual steps that do not come back.
 pub residual-without_loops : (arcs : List Arc) (flows : List ℕ) → AreWithoutLoops (residual_steps arcs flows) (steps_of (residual_pairs arcs flows))
 residual-without_loops arcs flows = record {
   within = λ s c. within-from 1 arcs flows s c;

@@ -130,6 +130,7 @@ some-closed_in_turn (j ∷ js) s state has =
     let rest = some-closed_in_turn js first.after first.state there in
     record { after = rest.after; state = rest.state; closes = (first.after, first.becomes, rest.closes) }
 
+-- Each change has an outcome.
 pub some-outcome : HasOutcome
 some-outcome s (Cap j cap) state accepted =
     let n : Network = s.network in

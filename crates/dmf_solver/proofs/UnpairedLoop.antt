@@ -51,6 +51,7 @@ loop-drains s j unpaired flows search has loop carries = ⊎_elim
     record { paths = []; lowers = sym same; within = rw same none })
     (cases_lt 0 (flow_on flows j))
 
+-- In the list, too, that drains the loop.
 pub drained-by_list : (s : NetworkState) (j : ℕ) (unpaired : List ℕ) (search : Searched) → has_arc s.network j ≡ true
     → (arc_number s.network j).tail ≡ (arc_number s.network j).head → IsCarryingSearch s unpaired search → IsDrainedLoop s j unpaired search
 drained-by_list s j unpaired search has loop carries =

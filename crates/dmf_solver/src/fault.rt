@@ -5,10 +5,11 @@ ghost use Rattle.dmf_solver.specs.Change.{plan_fault};
 
 use dmf_state::{ArcFault, NoMemory};
 use std::alloc::AllocError;
-use std::fmt;
+use thiserror::Error;
 
 /// Why a change cannot be planned.
-#[derive(Clone, Copy, Debug, PartialEq, Eq)]
+#[derive(Clone, Copy, Debug, PartialEq, Eq, Error)]
+#[error("{}", self.text())]
 pub enum PlanFault {
     /// The arc's number is 0 or exceeds the number of arcs.
     NoSuchArc,
@@ -38,14 +39,6 @@ impl PlanFault {
     }
 }
 
-impl fmt::Display for PlanFault {
-    fn fmt<W: fmt::Write>(&self, f: &mut fmt::Formatter<W>) -> fmt::Result {
-        f.write_str(self.text())
-    }
-}
-
-impl std::error::Error for PlanFault {}
-
 impl From<ArcFault> for PlanFault {
     ghost from_gives = { λ fault e. e ≡ plan_fault fault };
 
@@ -67,7 +60,8 @@ impl From<AllocError> for PlanFault {
 }
 
 /// Why the smallest side of a network is not told.
-#[derive(Clone, Copy, Debug, PartialEq, Eq)]
+#[derive(Clone, Copy, Debug, PartialEq, Eq, Error)]
+#[error("{}", self.text())]
 pub enum CutFault {
     /// Some flow of the network has a larger value.
     NotGreatest,
@@ -84,14 +78,6 @@ impl CutFault {
         }
     }
 }
-
-impl fmt::Display for CutFault {
-    fn fmt<W: fmt::Write>(&self, f: &mut fmt::Formatter<W>) -> fmt::Result {
-        f.write_str(self.text())
-    }
-}
-
-impl std::error::Error for CutFault {}
 
 impl From<AllocError> for CutFault {
     ghost from_gives = { λ _ e. e ≡ cut.NoMemory };

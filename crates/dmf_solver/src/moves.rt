@@ -30,7 +30,7 @@ pub fn list_all_moves<F: Flows>(
     requires { length (F.flows after.now) ≡ length state.now.flows }
     ensures { IfOk result (λ moves. moves.items ≡ differences 1 state.now.flows (F.flows after.now)) }
 {
-    list_moves(alloc, state, after, Indices::Below(state.flows().len()))
+    list_moves(alloc, state, after, Indices::Within(0..state.flows().len()))
 }
 
 /// The same if only the flows on the arcs at these indices may differ: the call looks at no other arc.
@@ -45,8 +45,7 @@ pub fn list_moves<F: Flows>(
     ensures { IfOk result (λ moves. moves.items ≡ differences 1 state.now.flows (F.flows after.now)) }
 {
     let mut moves = Vec::new(alloc);
-    for i in 0..indices.len() {
-        let k = indices.at(i);
+    for k in indices {
         if let Some(m) = move_at(state, after, k) {
             moves.push(m)?;
         }

@@ -44,33 +44,15 @@ pub fn plan_cap(alloc: Global, state: &State, j: u64, cap: u64) -> Result<Edit, 
     ensures plan { IfOk result (Plans state.now (Cap j cap)) }
     ensures takes_off { IfOk result (EditTakesOff state.now (flow_on state.now.flows j - cap)) }
 {
-    plan_cap_with(alloc, state, j, cap, &mut None)
+    let wanted = NewCap { arc: j, cap };
+    plan_cap_watched(alloc, state, wanted, &mut None, &mut Unwatched)
 }
 
-/// Plans the same capacity, and makes the kept network that of the state that the edit makes.
+/// Plans the same capacity, makes the kept network that of the state that the edit makes, and tells the watch what each path of a
+/// drain takes off.
 ///
 /// A plan that drains takes the kept network for it; where none is kept, one is made and kept. A plan that is refused leaves the
 /// network as it is, but for want of memory: then it may be dropped, or lose the search that drains use.
-pub fn plan_cap_with(
-    alloc: Global,
-    state: &State,
-    j: u64,
-    cap: u64,
-    kept: &mut Option<ResidualNetwork>,
-) -> Result<Edit, PlanFault>
-    requires { Keeps state.now kept.old }
-    ensures refused { IsRefusedFor state.now (Cap j cap) result }
-    ensures at_once { flow_on state.now.flows j ≤ cap → result ≢ Err PlanFault.NoMemory }
-    ensures plan { IfOk result (Plans state.now (Cap j cap)) }
-    ensures takes_off { IfOk result (EditTakesOff state.now (flow_on state.now.flows j - cap)) }
-    ensures kept { IfOk result (λ edit. Keeps (applied edit state.now) kept.new) }
-    ensures kept_if_refused { OnErr result (Keeps state.now kept.new) }
-    ensures same_if_refused { IfErr result (λ fault. fault ≢ PlanFault.NoMemory → kept.new ≡ kept.old) }
-{
-    plan_cap_watched(alloc, state, NewCap { arc: j, cap }, kept, &mut Unwatched)
-}
-
-/// As [`plan_cap_with`]; also tells the watch what each path of a drain takes off.
 pub fn plan_cap_watched<W: Watch>(
     alloc: Global,
     state: &State,
@@ -116,30 +98,10 @@ pub fn plan_close(alloc: Global, state: &State, j: u64) -> Result<Edit, PlanFaul
     ensures plan { IfOk result (Plans state.now (Close j)) }
     ensures takes_off { IfOk result (EditTakesOff state.now (flow_on state.now.flows j)) }
 {
-    plan_close_with(alloc, state, j, &mut None)
+    plan_close_watched(alloc, state, j, &mut None, &mut Unwatched)
 }
 
-/// Plans to close the same arc, and makes the kept network that of the state that the edit makes, as
-/// [`plan_cap_with`] does.
-pub fn plan_close_with(
-    alloc: Global,
-    state: &State,
-    j: u64,
-    kept: &mut Option<ResidualNetwork>,
-) -> Result<Edit, PlanFault>
-    requires { Keeps state.now kept.old }
-    ensures refused { IsRefusedFor state.now (Close j) result }
-    ensures at_once { flow_on state.now.flows j ≡ 0 → result ≢ Err PlanFault.NoMemory }
-    ensures plan { IfOk result (Plans state.now (Close j)) }
-    ensures takes_off { IfOk result (EditTakesOff state.now (flow_on state.now.flows j)) }
-    ensures kept { IfOk result (λ edit. Keeps (applied edit state.now) kept.new) }
-    ensures kept_if_refused { OnErr result (Keeps state.now kept.new) }
-    ensures same_if_refused { IfErr result (λ fault. fault ≢ PlanFault.NoMemory → kept.new ≡ kept.old) }
-{
-    plan_close_watched(alloc, state, j, kept, &mut Unwatched)
-}
-
-/// As [`plan_close_with`]; also tells the watch what each path of a drain takes off.
+/// Plans to close the same arc; does with the kept network and with the watch as [`plan_cap_watched`] does.
 pub fn plan_close_watched<W: Watch>(
     alloc: Global,
     state: &State,
@@ -182,30 +144,10 @@ pub fn plan_shut(alloc: Global, state: &State, v: u64) -> Result<Edit, PlanFault
     ensures arcs { IfOk result (λ edit. shut_arcs edit ≡ open_arcs_at v 1 state.now.network.arcs) }
     ensures takes_off { IfOk result (EditTakesOff state.now (flow_on_all state.now.flows (open_arcs_at v 1 state.now.network.arcs))) }
 {
-    plan_shut_with(alloc, state, v, &mut None)
+    plan_shut_watched(alloc, state, v, &mut None, &mut Unwatched)
 }
 
-/// Plans to close the same arcs, and makes the kept network that of the state that the edit makes, as
-/// [`plan_cap_with`] does.
-pub fn plan_shut_with(
-    alloc: Global,
-    state: &State,
-    v: u64,
-    kept: &mut Option<ResidualNetwork>,
-) -> Result<Edit, PlanFault>
-    requires { Keeps state.now kept.old }
-    ensures refused { IsRefusedFor state.now (Shut v) result }
-    ensures plan { IfOk result (Plans state.now (Shut v)) }
-    ensures arcs { IfOk result (λ edit. shut_arcs edit ≡ open_arcs_at v 1 state.now.network.arcs) }
-    ensures takes_off { IfOk result (EditTakesOff state.now (flow_on_all state.now.flows (open_arcs_at v 1 state.now.network.arcs))) }
-    ensures kept { IfOk result (λ edit. Keeps (applied edit state.now) kept.new) }
-    ensures kept_if_refused { OnErr result (Keeps state.now kept.new) }
-    ensures same_if_refused { IfErr result (λ fault. fault ≢ PlanFault.NoMemory → kept.new ≡ kept.old) }
-{
-    plan_shut_watched(alloc, state, v, kept, &mut Unwatched)
-}
-
-/// As [`plan_shut_with`]; also tells the watch what each path of the drains takes off.
+/// Plans to close the same arcs; does with the kept network and with the watch as [`plan_cap_watched`] does.
 pub fn plan_shut_watched<W: Watch>(
     alloc: Global,
     state: &State,

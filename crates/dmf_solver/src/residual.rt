@@ -1,9 +1,9 @@
-ghost use Rattle.std.specs.Prelude.{◌≡◌, IfOk};
+ghost use Rattle.std.specs.Prelude.{◌≡◌, ◌≤◌, IfOk};
 ghost use Rattle.dmf_state.specs.NetworkState.{IsState};
 ghost use Rattle.dmf_solver.specs.ResidualNetwork.{closed_return, residual_pair, IsResidualOf};
 
 use crate::arc_flow::arc_at;
-use dmf_path::{Pair, Pairs, Search};
+use dmf_path::{Ends, Pair, Pairs, Search};
 use dmf_state::{Arc, State};
 use std::alloc::{AllocError, Global};
 
@@ -13,12 +13,12 @@ pub fn residual_search(alloc: Global, state: &State) -> Result<Search, AllocErro
     ensures search { IfOk result (IsResidualOf state.now) }
     ensures state { IsState state.now }
 {
+    let (start, goal) = (state.source(), state.sink());
     Search::new(
         alloc,
         state.nodes(),
         &ResidualPairs { state },
-        state.source(),
-        state.sink(),
+        Ends { start, goal },
         true,
     )
 }
@@ -47,8 +47,9 @@ impl Pairs for ResidualPairs<'_> {
     }
 }
 
-/// The pair of an arc on which so much flows, at most its capacity.
+/// The pair of an arc on which so much flows.
 pub fn residual_pair(arc: Arc, flow: u64) -> Option<Pair>
+    requires { flow ≤ arc.cap }
     ensures { result ≡ residual_pair arc flow }
 {
     if arc.tail == arc.head {
@@ -57,7 +58,7 @@ pub fn residual_pair(arc: Arc, flow: u64) -> Option<Pair>
     Some(Pair {
         tail: arc.tail,
         head: arc.head,
-        along: arc.cap.saturating_sub(flow),
+        along: arc.cap - flow,
         against: flow,
     })
 }

@@ -41,6 +41,7 @@ conserved-to_same : (n : Network) (flows leaving entering : List ℕ) (v : ℕ) 
 conserved-to_same n flows leaving entering v s node conserved =
     sum_at _ _ _ _ leaving v s.tails node ∙ conserved ∙ sym (sum_at _ _ _ _ entering v s.heads node)
 
+-- Where the sums at all inner nodes agree, flow is conserved there.
 pub conserved-from_sums : (n : Network) (flows leaving entering : List ℕ) → AreBothSums n flows leaving entering
     → ((v : ℕ) → IsInnerUpTo (length leaving) n.source n.sink v → AreSameAt leaving entering v) → (v : ℕ) → IsInnerNode n v → IsConservedAt n flows v
 conserved-from_sums n flows leaving entering s same v inner =
@@ -72,6 +73,7 @@ differ-from_unbalanced n flows leaving entering v s u = record {
   differ = λ same. u.differ (same-to_conserved n flows leaving entering v s u.inner.node same);
 }
 
+-- The least node at which the sums differ is the least that does not conserve flow.
 pub least_unbalanced : (n : Network) (flows leaving entering : List ℕ) (v : ℕ) → AreBothSums n flows leaving entering
     → IsLeast (DifferAt n.source n.sink leaving entering) v → IsLeast (IsUnbalanced n flows) v
 least_unbalanced n flows leaving entering v s least = record {

@@ -45,12 +45,15 @@ left-next arcs i h =
     let next : suc i ≡ i + 1 = omega arith in
     subst (λ k. drop i arcs ≡ get_or arcs i no_shutting ∷ drop k arcs) next (drop-cons arcs i no_shutting h)
 
+-- Their numbers are that of the next one and those of the rest.
 pub numbers-next : (arcs : List Shutting) (i : ℕ) → i < length arcs → numbers (drop i arcs) ≡ (get_or arcs i no_shutting).arc ∷ numbers (drop (i + 1) arcs)
 numbers-next arcs i h = ap numbers (left-next arcs i h)
 
+-- Once all are passed, no numbers are left.
 pub numbers-end : (arcs : List Shutting) (i : ℕ) → length arcs ≤ i → numbers (drop i arcs) ≡ []
 numbers-end arcs i long = ap numbers (drop_of_length-le arcs long)
 
+-- Arcs that are open are arcs of the network.
 pub HasArcs-open : (last : ℕ) (arcs : List Shutting) (n : Network) → AreOpenWith last arcs n → HasArcs n (numbers arcs)
 HasArcs-open last [] n are = tt
 HasArcs-open last (a ∷ arcs) n are = (are.1.is_there, HasArcs-open a.arc arcs n are.2)

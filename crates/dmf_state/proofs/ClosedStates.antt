@@ -57,6 +57,7 @@ closes-first final a rest t flows state own =
       up_to = record { last = a.arc; are = later; state = own.state; final_is = own.final_is; flows_are = own.flows_are };
     }
 
+-- Closing the next arc leaves a state, and the rest to be closed.
 pub closes-next : (final : Network) (arcs : List Shutting) (i : ℕ) (t : NetworkState) (flows : List ℕ) → IsState t → i < length arcs
     → AreClosedUpTo final (drop i arcs) t flows → ClosesNext final (get_or arcs i no_shutting) (drop (i + 1) arcs) t flows
 closes-next final arcs i t flows state inside up_to =
@@ -122,6 +123,7 @@ opens-first final a rest t flows state own =
       up_to = record { last = a.arc; before = n; state = own.state; are = others; gives = sym opened; final_is = own.final_is; flows_are = own.flows_are };
     }
 
+-- Opening the next arc leaves a state, and the rest to be opened.
 pub opens-next : (final : Network) (arcs : List Shutting) (i : ℕ) (t : NetworkState) (flows : List ℕ) → IsState t → i < length arcs
     → AreOpenedUpTo final (drop i arcs) t flows → OpensNext final (get_or arcs i no_shutting) (drop (i + 1) arcs) t flows
 opens-next final arcs i t flows state inside up_to =

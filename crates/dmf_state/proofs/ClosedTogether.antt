@@ -23,6 +23,7 @@ pub HasArcs-long : (n m : Network) (js : List ℕ) → length m.arcs ≡ length 
 HasArcs-long n m [] long has = tt
 HasArcs-long n m (j ∷ js) long has = (rw long has.0, HasArcs-long n m js long has.1)
 
+-- Closing an arc leaves the arcs' numbers.
 pub HasArcs-closed : (n : Network) (j : ℕ) (js : List ℕ) → HasArcs n js → HasArcs (closed_at n j) js
 HasArcs-closed n j js has = HasArcs-long n (closed_at n j) js (length-set n.arcs (j - 1) (closed_arc (arc_number n j))) has
 
@@ -32,6 +33,7 @@ HasArcs-at v n = subst (HasArcs n) (numbers-listed v 1 n.arcs) (HasArcs-open 0 (
 
 -- ---- what stays
 
+-- Closing arcs leaves as many as there were.
 pub length-closed : (arcs : List Shutting) (n : Network) → length (with_closed arcs n).arcs ≡ length n.arcs
 length-closed [] n = refl
 length-closed (a ∷ arcs) n = length-closed arcs (closed_at n a.arc) ∙ length-set n.arcs (a.arc - 1) (closed_arc (arc_number n a.arc))

@@ -47,6 +47,7 @@ int-from_zero : (x : ℤ) → pos 0 ≤ℤ x → int_lt x (pos 0) ≡ false
 int-from_zero (pos a) from = not_less-told a 0 (omega arith)
 int-from_zero (negsuc a) from = absurd (omega (arith, ints, from))
 
+-- The test for a number below 0 tells of one.
 pub below-told : (x : ℤ) → int_lt x (pos 0) ≡ true → x <ℤ pos 0
 below-told (pos a) less = absurd (let wrong : a < 0 = ltb-true a 0 less in omega (arith, wrong))
 below-told (negsuc a) less = omega (arith, ints)
@@ -123,14 +124,18 @@ module _ (n : Network) (flows : List ℕ) where
 
   -- ---- the fault
 
+  -- A flow over a capacity is told, with the first such arc.
   pub fault-over : (j : ℕ) → IsLeast (IsOverCapacity n.arcs flows) j → flow_fault n flows ≡ Some (OverCapacity j)
   fault-over j least = rw (least-over n.arcs flows j least) refl
 
+  -- If there is none, a node that does not conserve flow is told, the least one.
   pub fault-unbalanced : (v : ℕ) → AreWithinCapacities n.arcs flows → IsLeast (IsUnbalanced n flows) v → flow_fault n flows ≡ Some (NotConserved v)
   fault-unbalanced v within least = rw (none-over n.arcs flows within, least-unbalanced v least) refl
 
+  -- If there is none either, a value below 0 is told.
   pub fault-negative : IsFlow n flows → flow_value n flows <ℤ pos 0 → flow_fault n flows ≡ Some Negative
   fault-negative flow less = rw (none-over n.arcs flows flow.within, none-unbalanced flow, int-below (flow_value n flows) less) refl
 
+  -- A state's flow has no fault.
   pub fault-none : IsState (record { network = n; flows = flows }) → flow_fault n flows ≡ None
   fault-none state = rw (none-over n.arcs flows state.flow.within, none-unbalanced state.flow, int-from_zero (flow_value n flows) state.value_from_zero) refl

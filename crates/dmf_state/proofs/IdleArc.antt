@@ -74,6 +74,7 @@ IsState-idle s arc state fits few small =
       value_from_zero = rw (flow_value-idle s.network s.flows arc e) state.value_from_zero;
     }
 
+-- A node by the test is a node.
 pub IsNode-is_node : (nodes v : ℕ) → is_node nodes v ≡ true → IsNode nodes v
 IsNode-is_node nodes v h = record { from_one = grind (arith, nat_tests); to_last = grind (arith, nat_tests) }
 

@@ -108,6 +108,7 @@ module _ (arcs : List Arc) (moves : List Move) (last_flows : List ℕ) (v i : �
   rest : moved (m ∷ drop (i + 1) moves) flows ≡ last_flows
   rest = subst (λ ms. moved ms flows ≡ last_flows) split a.rest
 
+  -- The next move is of an arc, and moves its flow.
   pub next-move : IsNextMove arcs last_flows flows m
   next-move =
       let within = slice_get_within flows (m.arc - 1) m.from fit.1 in
@@ -125,11 +126,13 @@ module _ (arcs : List Arc) (moves : List Move) (last_flows : List ℕ) (v i : �
   to-le : AreWithinCapacities arcs last_flows → m.to ≤ (get_or arcs (m.arc - 1) no_arc).cap
   to-le within = omega (arith, within-at arcs last_flows (m.arc - 1) within, next-move.will_be)
 
+  -- Where the arc is at the node, the move's flow is part of the sum there,
   pub part-of_sum : (end : Arc → ℕ) → (end (get_or arcs (m.arc - 1) no_arc) == v) ≡ true → m.from ≤ flow_at end arcs flows v
   part-of_sum end here =
       let part = flow_at-part end arcs flows (m.arc - 1) v next-move.same next-move.in_arcs in
       omega (arith, rw here at part, next-move.was)
 
+  -- which becomes that of the flows after the move,
   pub sum-after : (end : Arc → ℕ) (old : ℕ) → old ≡ flow_at end arcs flows v → (new : ℕ)
       → new + cond (end (get_or arcs (m.arc - 1) no_arc) == v) m.from 0 ≡ old + cond (end (get_or arcs (m.arc - 1) no_arc) == v) m.to 0
       → new ≡ flow_at end arcs (set flows (m.arc - 1) m.to) v
@@ -138,6 +141,7 @@ module _ (arcs : List Arc) (moves : List Move) (last_flows : List ℕ) (v i : �
       let changed-from = rw next-move.was at changed in
       omega (arith, was, e, changed-from)
 
+  -- and fits 64 bits.
   pub small-after : (end : Arc → ℕ) → AreWithinCapacities arcs last_flows → capacity_sum arcs < 2 ^ 64 → (end (get_or arcs (m.arc - 1) no_arc) == v) ≡ true
       → flow_at end arcs flows v - m.from + m.to < 2 ^ 64
   small-after end within capacities here =
@@ -146,6 +150,7 @@ module _ (arcs : List Arc) (moves : List Move) (last_flows : List ℕ) (v i : �
       let le = flow_at-le end arcs (set flows (m.arc - 1) m.to) v (within-set arcs flows (m.arc - 1) m.to a.within (to-le within)) in
       omega (arith, changed, le, capacities, part-of_sum end here)
 
+  -- So one more is made.
   pub moved-more : (after : NodeFlow) → AreWithinCapacities arcs last_flows → IsNodeFlow arcs (set flows (m.arc - 1) m.to) v after
       → AreMoved arcs moves last_flows v (i + 1) (set flows (m.arc - 1) m.to) after
   moved-more after within at_node = record {
@@ -165,12 +170,14 @@ moved-all arcs moves last_flows v i flows sums long a = subst (λ ms. moved ms f
 abbrev pub move_of : ℕ → ℕ → ℕ → List Move
 move_of j x y = if x == y then [] else record { arc = j; from = x; to = y } ∷ []
 
+-- It is there where the flows differ,
 pub move_of-differ : (j x y : ℕ) → x ≢ y → move_of j x y ≡ record { arc = j; from = x; to = y } ∷ []
 move_of-differ j x y d = ⊎_elim
     (λ (e : ((x == y) ≡ true) × (x ≡ y)). absurd (d e.1))
     (λ (e : ((x == y) ≡ false) × (x ≢ y)). rw e.0 refl)
     (eqb_tells x y)
 
+-- and else not.
 pub move_of-same : (j x y : ℕ) → x ≡ y → move_of j x y ≡ []
 move_of-same j x y e = rw (eq-eqb x y e) refl
 
@@ -257,6 +264,7 @@ pub record AreMovesBetween (moves : List Move) (before after : List ℕ) : Type 
   pub makes : moved moves before ≡ after
   pub differ : moves ≡ differences 1 before (moved moves before)
 
+-- Such are the differences of two lists of flows.
 pub moves-between : (moves : List Move) (before after : List ℕ) → length after ≡ length before → moves ≡ differences 1 before after
     → AreMovesBetween moves before after
 moves-between moves before after same is =

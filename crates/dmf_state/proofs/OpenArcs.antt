@@ -29,6 +29,7 @@ listed-next v j (suc i) (arc ∷ arcs) h =
     (λ k. listed_from v (j + 1) (take i arcs) ++ listed v k (get_or arcs i no_arc)) place)
     ∙ sym (append_assoc (listed v j arc) (listed_from v (j + 1) (take i arcs)) (listed v (j + suc i) (get_or arcs i no_arc)))
 
+-- With one arc more, what is listed of it comes last.
 pub listed-more : (v i : ℕ) (arcs : List Arc) → i < length arcs → listed_from v 1 (take (i + 1) arcs) ≡ listed_from v 1 (take i arcs) ++ listed v (i + 1)
     (get_or arcs i no_arc)
 listed-more v i arcs h =
@@ -43,6 +44,7 @@ numbers-step : (v j : ℕ) (arc : Arc) (rest : List Shutting) (js : List ℕ) (i
 numbers-step v j arc rest js true e same = rw e (ap (λ ks. j ∷ ks) same)
 numbers-step v j arc rest js false e same = rw e same
 
+-- The same, of all that are listed.
 pub numbers-listed : (v j : ℕ) (arcs : List Arc) → numbers (listed_from v j arcs) ≡ open_arcs_at v j arcs
 numbers-listed v j [] = refl
 numbers-listed v j (arc ∷ arcs) = numbers-step v j arc (listed_from v (j + 1) arcs) (open_arcs_at v (j + 1) arcs) (is_open_at v arc) refl

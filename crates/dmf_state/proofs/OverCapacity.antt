@@ -8,6 +8,7 @@ use Rattle.dmf_state.specs.Arc.{no_arc}
 abbrev pub AreWithinBelow : ℕ → List Arc → List ℕ → Type 0
 AreWithinBelow i arcs flows = (k : ℕ) → k < i → get_or flows k 0 ≤ (get_or arcs k no_arc).cap
 
+-- Once that holds of all, the flows are within the capacities.
 pub within-from_below : (arcs : List Arc) (flows : List ℕ) → length flows ≡ length arcs → AreWithinBelow (length arcs) arcs flows
     → AreWithinCapacities arcs flows
 within-from_below [] [] same below = tt

@@ -24,6 +24,7 @@ use Rattle.dmf_state.specs.Laws.{HasOneBefore, GivesBack}
 take-push : {A : Type 0} (xs : List A) (x : A) → take (length (xs ++ x ∷ []) - 1) (xs ++ x ∷ []) ≡ xs
 take-push xs x = take_at xs (x ∷ []) (length (xs ++ x ∷ []) - 1) (omega (arith, length_push xs x))
 
+-- Without its new arc, a state is as it was.
 pub without_last-idle : (s : NetworkState) (arc : Arc) → without_last (with_idle_arc s arc) ≡ s
 without_last-idle s arc =
     let arcs = take-push s.network.arcs arc in
@@ -33,6 +34,7 @@ without_last-idle s arc =
       flows = flows i;
     }
 
+-- Taking back an edit gives back the state before it.
 pub gives-back : GivesBack
 gives-back (Add tail head cap) s fits = without_last-idle s (open_arc tail head cap)
 gives-back (Cap j old new moves) s fits =
@@ -51,6 +53,7 @@ gives-back (Solve moves) s fits =
     let flows = moved_back-moved 0 moves.items s.flows fits.moves in
     λ i. record { network = s.network; flows = flows i }
 
+-- Only one state is before an edit.
 pub one-before : HasOneBefore
 one-before edit s t fits_s fits_t same = sym (gives-back edit s fits_s) ∙ ap (reverted edit) same ∙ gives-back edit t fits_t
 
@@ -98,6 +101,7 @@ KeepsTotals-without_last t sum source count has keeps =
     (subst (λ a. KeepsTotals (without_last (with_idle_arc s arc)) (sum - a.cap) source (count - 1)) (sym last)
     (subst (λ u. KeepsTotals u (sum - arc.cap) source (count - 1)) (sym (without_last-idle s arc)) before))
 
+-- A state with an idle last arc has an arc.
 pub length-idle_last : (t : NetworkState) → HasIdleLast t → 1 ≤ length t.network.arcs
 length-idle_last t has =
     let long = length_push has.before.network.arcs has.arc in

@@ -22,6 +22,7 @@ pub record AreSumsSoFar (end : Arc → ℕ) (nodes : ℕ) (arcs : List Arc) (flo
   pub one_each : length sums ≡ nodes
   pub each : (k : ℕ) → k < nodes → get_or sums k 0 ≡ sum_by (at_node end (k + 1)) (take i (zip arcs flows))
 
+-- Over no arcs they are zeros.
 pub sums-none : (end : Arc → ℕ) (nodes : ℕ) (arcs : List Arc) (flows : List ℕ) → AreSumsSoFar end nodes arcs flows 0 (replicate nodes 0)
 sums-none end nodes arcs flows = record { one_each = length-replicate nodes 0; each = λ k h. get_or-replicate nodes k 0 0 h }
 

@@ -48,6 +48,7 @@ length-along : (direction : Direction) (moves : List Move) → length (along dir
 length-along Forward moves = refl
 length-along Back moves = length-map moves opposite
 
+-- so past the moves there is no step,
 pub long-along : (direction : Direction) (moves : List Move) (i : ℕ) → length moves ≤ i → length (along direction moves) ≤ i
 long-along direction moves i over = omega (arith, length-along direction moves, over)
 
@@ -57,6 +58,7 @@ get_or-along : (direction : Direction) (moves : List Move) (i : ℕ) (m : Move) 
 get_or-along Forward moves i m h is = sym is
 get_or-along Back moves i m h is = get_or-map opposite moves i no_move no_move h ∙ sym is
 
+-- The step of a move is the one at its place.
 pub move-along : (direction : Direction) (moves : List Move) (i : ℕ) (m : Move) → i < length moves → m ≡ step_along direction (get_or moves i no_move)
     → IsMoveAt (along direction moves) i m
 move-along direction moves i m h is = record { within = omega (arith, length-along direction moves, h); is = get_or-along direction moves i m h is }

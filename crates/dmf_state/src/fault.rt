@@ -19,7 +19,8 @@ impl From<AllocError> for NoMemory {
 }
 
 /// Why a network cannot take an arc. [`NetFault`] and the faults of a plan come from it.
-#[derive(Clone, Copy, Debug, PartialEq, Eq)]
+#[derive(Clone, Copy, Debug, PartialEq, Eq, Error)]
+#[error("{}", self.text())]
 pub enum ArcFault {
     /// An end is 0 or past the last node.
     NoSuchNode,
@@ -40,16 +41,9 @@ impl ArcFault {
     }
 }
 
-impl fmt::Display for ArcFault {
-    fn fmt<W: fmt::Write>(&self, f: &mut fmt::Formatter<W>) -> fmt::Result {
-        f.write_str(self.text())
-    }
-}
-
-impl std::error::Error for ArcFault {}
-
 /// Why an arc was not added while a network was built.
-#[derive(Clone, Copy, Debug, PartialEq, Eq)]
+#[derive(Clone, Copy, Debug, PartialEq, Eq, Error)]
+#[error("{}", self.text())]
 pub enum NetFault {
     /// An end is 0 or past the last node.
     NoSuchNode,
@@ -72,14 +66,6 @@ impl NetFault {
         }
     }
 }
-
-impl fmt::Display for NetFault {
-    fn fmt<W: fmt::Write>(&self, f: &mut fmt::Formatter<W>) -> fmt::Result {
-        f.write_str(self.text())
-    }
-}
-
-impl std::error::Error for NetFault {}
 
 impl From<ArcFault> for NetFault {
     ghost from_gives = { λ fault e. e ≡ net_fault fault };

@@ -44,26 +44,33 @@ impl Direction {
     }
 }
 
-/// Applies or reverts these moves: each arc that they name gets its flow after them, or before them. `at_node` stays the outflow and
-/// the inflow of the node.
+/// Moves that are made, or taken back.
+#[derive(Clone, Copy)]
+pub struct Moving<'a> {
+    /// The moves, in the order of their arcs.
+    pub moves: &'a [Move],
+    /// Whether they are made or taken back.
+    pub direction: Direction,
+}
+
+/// Gives each arc that the moves name its flow after them, or before them. `at_node` stays the outflow and the inflow of the node.
 pub fn make_moves(
     arcs: &[Arc],
     flows: &mut [u64],
-    moves: &[Move],
-    direction: Direction,
+    moving: Moving<'_>,
     node: u32,
     at_node: &mut NodeFlow,
 )
     requires capacities { capacity_sum arcs.now < 2 ^ 64 }
     requires within { AreWithinCapacities arcs.now flows.old }
-    requires fit { MovesFit 0 (along direction moves.now) flows.old }
-    requires within_after { AreWithinCapacities arcs.now (moved (along direction moves.now) flows.old) }
+    requires fit { MovesFit 0 (along moving.direction moving.moves.now) flows.old }
+    requires within_after { AreWithinCapacities arcs.now (moved (along moving.direction moving.moves.now) flows.old) }
     requires at_node { IsNodeFlow arcs.now flows.old node at_node.old }
-    ensures flows { flows.new ≡ moved (along direction moves.now) flows.old }
+    ensures flows { flows.new ≡ moved (along moving.entry.direction moving.entry.moves.now) flows.old }
     ensures at_node { IsNodeFlow arcs.now flows.new node at_node.new }
 {
-    for m in moves {
-        let step = direction.step(m);
+    for m in moving.moves {
+        let step = moving.direction.step(m);
         let i = step.arc as usize - 1;
         let arc = arcs[i];
         at_node.leaving = sum_after(at_node.leaving, arc.tail == node, &step);

@@ -8,6 +8,7 @@ use Rattle.dmf_text.specs.Streams.{Reader}
 use Rattle.dmf_streams.specs.Pending.{Pending}
 use Rattle.dmf_streams.specs.Input.{InputState, input_over, Takes, left}
 
+-- Taking bytes, and then others, takes both.
 pub Takes-trans : (a b c : InputState) (x y : List ℕ) → Takes a b x → Takes b c y → Takes a c (x ++ y)
 Takes-trans a b c x y t u = record {
   consumes = Consumes-trans (left a.pending a.reader.known) (left b.pending b.reader.known) (left c.pending c.reader.known) x y t.consumes u.consumes;
@@ -32,9 +33,11 @@ pub some-length : (xs : List ℕ) → (xs ≡ [] → ⊥) → 0 < length xs
 some-length [] not_empty = absurd (not_empty refl)
 some-length (x ∷ xs) not_empty = omega arith
 
+-- Taking no more bytes changes nothing of what was taken.
 pub Takes-nil : (a b c : InputState) (x : List ℕ) → Takes a b x → Takes b c [] → Takes a c x
 Takes-nil a b c x t u = subst (λ l. Takes a c l) (append-nil x) (Takes-trans a b c x [] t u)
 
+-- Of a piece that has come to its end nothing is pending.
 pub nothing-pending : (piece : List ℕ) (start end : ℕ) → end ≤ start → slice_range piece start end ≡ []
 nothing-pending piece start end none =
     let no : end - start ≡ 0 = omega arith in

@@ -1,6 +1,7 @@
 -- What a run takes from a reader of command lines, byte by byte.
 -- Private: only contracts inside the crate and proofs use this.
-use Rattle.std.specs.Prelude.{◌^◌, ℕ, ◌≡◌, ◌≢◌, ◌+◌, ◌<◌, ◌≤◌, List, [], ◌∷◌, ◌++◌, length, All, Bool, true, false, if◌then◌else◌, Option, Some, None, Result, Ok, Err}
+use Rattle.std.specs.Prelude.{◌^◌, ℕ, ◌≡◌, ◌≢◌, ◌+◌, ◌<◌, ◌≤◌, List, [], ◌∷◌, ◌++◌, length, All, Bool, true, false}
+use Rattle.std.specs.Prelude.{if◌then◌else◌, Option, Some, None, Result, Ok, Err}
 use Rattle.std.specs.Io.KnownBytes.{prepend_known, Consumes, IsAtEnd}
 use Rattle.dmf_streams.specs.declared.input.Next.{Next}
 use Rattle.dmf_streams.specs.declared.input.Next.TheVariants.{Line, End}

@@ -357,5 +357,6 @@ accepted-after before (line ∷ more) s sound good =
     accepted-after (before ++ line ∷ []) more s
     (subst Sound (sym (facts_of-push before line)) (sound-line (facts_of before) line sound first.0)) first.1
 
+-- A problem text that is accepted stands for a state.
 pub accepted-is-state : (text : List ℕ) (s : NetworkState) → problem_of text ≡ Ok s → IsState s
 accepted-is-state text s = accepted-after [] (map fields (lines text)) s sound-nothing

@@ -19,6 +19,7 @@ fields-blank : (b : ℕ) (bs : List ℕ) → is_blank b ≡ true → fields (b �
 unfolding fields
 fields-blank b bs blank = ap (filter has_byte) (slice_split-cons_yes is_blank b bs blank)
 
+-- No bytes have no fields.
 pub fields-nil : (bytes : List ℕ) → length bytes ≡ 0 → fields bytes ≡ []
 unfolding fields
 fields-nil [] none = refl
@@ -93,6 +94,7 @@ pub record IsSplit (line field after : List ℕ) : Type 0 where
   pub front : field ≡ take (position_or_len is_blank rest) rest
   pub back : after ≡ drop (position_or_len is_blank rest) rest
 
+-- The field before the cut is the first one,
 pub fields-split : (line field after : List ℕ) → IsSplit line field after → 0 < length field → fields line ≡ field ∷ fields after
 fields-split line field after split some =
     let rest = split.rest in
@@ -101,6 +103,7 @@ fields-split line field after split some =
     fields-skip line ∙ ap fields (sym split.skipped) ∙ fields-first rest (omega arith)
     ∙ ap (λ f. f ∷ fields (drop m rest)) (sym split.front) ∙ ap (λ a. field ∷ fields a) (sym split.back)
 
+-- and without one there are no fields.
 pub fields-split_none : (line field after : List ℕ) → IsSplit line field after → length field ≡ 0 → (fields line ≡ []) × (fields after ≡ [])
 fields-split_none line field after split none =
     let rest = split.rest in

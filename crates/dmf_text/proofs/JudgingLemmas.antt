@@ -10,6 +10,7 @@ use Rattle.dmf_text.specs.Judging.{Line, first_fact, ◌>>◌, at_line, outcome_
 
 -- ---- what lines say first
 
+-- What lines say first is what they say without the last one, or else what that says.
 pub first_fact-push : {X : Type 0} (say : Line → Option X) (lines : List Line) (line : Line)
     → first_fact say (lines ++ line ∷ []) ≡ option_or (first_fact say lines) (say line)
 first_fact-push say [] line = elim (say line) as (λ o. option_or o None ≡ o) [ None ↦ refl | Some x ↦ refl ]
@@ -78,6 +79,7 @@ pub record Walk {Facts Kind Fault A : Type 0} (facts_of : List Line → Facts) (
 
 module _ {Facts Kind Fault A : Type 0} {facts_of : List Line → Facts} {judged : Facts → Line → Result (Unit {0}) Kind}
     {ended : Facts → Result A Kind} {fault : ℕ → Kind → Fault} where
+  -- At first no lines were taken, and all are left.
   pub walk-start : (text : List ℕ) (left : List (ℕ × List ℕ)) → left ≡ numbered_lines text → length left ≤ length text
       → Walk facts_of judged ended fault text (facts_of []) 0 left
   walk-start text left is bound = record {

@@ -92,5 +92,6 @@ lines-agree (suc fuel) (b ∷ bs) le =
     (lines-whole text (omega arith) whole))
     (cases_lt w (length text))
 
+-- The lines of a text are those of `bstr` without their terminators.
 pub lines-bstr : (text : List ℕ) → map without_terminator (lines_of text) ≡ lines text
 lines-bstr text = lines-agree (length text) text (omega arith)

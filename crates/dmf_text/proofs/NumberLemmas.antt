@@ -13,17 +13,21 @@ use Rattle.dmf_text.specs.declared.digits.NumberFault.TheVariants.{NotANumber, T
 use Rattle.std.specs.Option.{SomeIff}
 use Rattle.dmf_text.specs.Number.{within, number_of}
 
+-- A number below 2^64 is within 64 bits,
 pub within-below : (n : ℕ) → n < 2 ^ 64 → within n ≡ Some n
 unfolding within
 within-below n below = cond-true _ _ _ (lt-ltb n (2 ^ 64) below)
 
+-- and one from there on is not.
 pub within-past : (n : ℕ) → 2 ^ 64 ≤ n → within n ≡ None
 unfolding within
 within-past n past = cond-false _ _ _ (le-ltb n (2 ^ 64) past)
 
+-- So one that is not within them is past them,
 pub past-within : (n : ℕ) → None ≡ within n → 2 ^ 64 ≤ n
 past-within n e = ⊎_elim (λ below. let is = within-below n below in cc) (λ past. past) (cases_lt n (2 ^ 64))
 
+-- and one that is keeps its value.
 pub value-within : (n value : ℕ) → Some value ≡ within n → n ≡ value
 value-within n value e = ⊎_elim (λ below. let is = within-below n below in cc) (λ past. let is = within-past n past in cc) (cases_lt n (2 ^ 64))
 
@@ -40,15 +44,18 @@ within-sum n value digit (Some sum) e fits =
     let is : n * 10 + digit ≡ sum = omega (arith, fits.1) in
     ap (λ x. Some x) (sym is) ∙ sym (within-below _ below)
 
+-- An empty field is no number,
 pub number_of-empty : (field : List ℕ) → length field ≡ 0 → number_of field ≡ Err NotANumber
 unfolding number_of
 number_of-empty [] e = refl
 number_of-empty (b ∷ bs) e = absurd (omega arith)
 
+-- nor is one with a byte that is no digit.
 pub number_of-other : (field : List ℕ) (i : ℕ) → i < length field → false ≡ is_ascii_digit (get_or field i 0) → Err NotANumber ≡ number_of field
 unfolding number_of
 number_of-other field i below other = sym (cond-false _ _ _ (and_right _ _ (list_all_at is_ascii_digit field i 0 below (sym other))))
 
+-- Digits are a number, unless it is too large.
 pub number_of-digits : (field : List ℕ) → 0 < length field → list_all is_ascii_digit field ≡ true
     → number_of field ≡ ok_or (within (digits_value 10 field)) TooLarge
 unfolding number_of
@@ -59,6 +66,7 @@ pub record MoreDigits (field : List ℕ) (i : ℕ) : Type 0 where
   pub digits : list_all is_ascii_digit (take i field) ≡ true → list_all is_ascii_digit (take (i + 1) field) ≡ true
   pub value : digits_value 10 (take i field) * 10 + (get_or field i 0 - 48) ≡ digits_value 10 (take (i + 1) field)
 
+-- They are what the first ones are, with one more at the end.
 pub more-digits : (field : List ℕ) (i : ℕ) → i < length field → true ≡ is_ascii_digit (get_or field i 0) → MoreDigits field i
 more-digits field i below digit =
     let parts = and_parts _ _ (sym digit) in
@@ -78,6 +86,7 @@ number_of-all field i value some end all is =
     ap (λ v. ok_or v TooLarge) (is ∙ ap (λ ds. within (digits_value 10 ds)) whole) ∙ sym
     (number_of-digits field some (sym (ap (λ ds. list_all is_ascii_digit ds) whole) ∙ all))
 
+-- Digits whose value fits are the number.
 pub number_of-short : (field : List ℕ) (i value : ℕ) → 0 < length field → length field ≤ i → list_all is_ascii_digit (take i field) ≡ true
     → value ≡ digits_value 10 (take i field) → value < 2 ^ 64 → Ok value ≡ number_of field
 number_of-short field i value some end all is small = number_of-all field i (Some value) some end all (sym (within-below value small) ∙ ap within is)

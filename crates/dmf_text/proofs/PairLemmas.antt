@@ -38,6 +38,7 @@ none-same arc pair small large =
     (λ (other : same_pair (ends arc) pair ≡ false). other)
     (cases_Bool (same_pair (ends arc) pair))
 
+-- No arc is between nodes past 32 bits.
 pub none-large : (arcs : List Arc) (pair : Pair) → All HasSmallEnds arcs → (2 ^ 32 ≤ pair.0) ⊎ (2 ^ 32 ≤ pair.1) → has_pair arcs pair ≡ false
 none-large [] pair small large = refl
 none-large (arc ∷ arcs) pair small large =
@@ -54,6 +55,7 @@ small-ends nodes arcs few are = All-weaker (IsArc nodes) HasSmallEnds (λ (arc :
 
 -- one more arc
 module _ (arcs : List Arc) (arc : Arc) where
+  -- adds its capacity to that between its ends.
   pub capacity-more : (pair : Pair) → pair_capacity (arcs ++ arc ∷ []) pair ≡ pair_capacity arcs pair + (if same_pair (ends arc) pair then arc.cap else 0)
   capacity-more pair =
       let cap : Arc → ℕ = λ a. if same_pair (ends a) pair then a.cap else 0 in

@@ -13,6 +13,7 @@ arcs-push lines line =
     filter_map-append arc_in lines (line ∷ [])
     ∙ ap (λ more. filter_map arc_in lines ++ more) (elim (arc_in line) as (λ o. cons_option o [] ≡ option_to_list o) [ None ↦ refl | Some x ↦ refl ])
 
+-- The facts of lines are those without the last one, with that added.
 pub facts_of-push : (lines : List Line) (line : Line) → facts_of (lines ++ line ∷ []) ≡ with_line (facts_of lines) line
 facts_of-push lines line = λ i. record {
   counts = first_fact-push counts_in lines line i;

@@ -4,6 +4,7 @@ use Rattle.std.proofs.lemmas.Bool.{and_parts, leb-true}
 use Rattle.std.specs.Option.{ForSome}
 use Rattle.dmf_node.specs.Node.{IsNode, is_node}
 
+-- A node by the test is a node.
 pub node-from : (nodes v : ℕ) → is_node nodes v ≡ true → IsNode nodes v
 node-from nodes v range = let parts = and_parts _ _ range in record { from_one = leb-true _ _ parts.0; to_last = leb-true _ _ parts.1 }
 

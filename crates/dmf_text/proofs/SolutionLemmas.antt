@@ -52,6 +52,7 @@ module _ (arcs : List Arc) (facts : Facts) (reading now : SolutionReading) (f g 
   line-says : with_line facts (codes "f" ∷ f ∷ g ∷ h ∷ []) ≡ record { value = facts.value; flows = facts.flows ++ ((tail, head), flow) ∷ [] }
   line-says = rw (first, second, third) (λ i. record { value = or-nothing facts.value i; flows = facts.flows ++ ((tail, head), flow) ∷ [] })
 
+  -- The flow was added, or the line has the fault.
   pub line-taken : (result : Result (Unit {0}) SolutionFaultKind)
       → MatchResult result (λ _. AddsFlow reading.pairs (tail, head) flow now.pairs) (CannotAdd (known_of reading.pairs (tail, head)) flow)
       → TakesLine arcs facts (codes "f" ∷ f ∷ g ∷ h ∷ []) (judged_flow arcs facts (f ∷ g ∷ h ∷ [])) now result
@@ -104,6 +105,7 @@ module _ (s : NetworkState) (facts : Facts) (value : ℕ) (told : facts.value �
       rw (is, told, found, other) refl
   refused-by why None false found less fault_is = absurd (cc)
 
+  -- A flow that is refused is refused at the end of the text.
   pub ended-refused : (why : FlowFault) → IsErrOf {T = NetworkState} (Err why) fault.NoMemory ⊎ (Some why ≡ flow_fault s.network flows)
       → (flow_kind why ≡ NoMemory) ⊎ (Err (flow_kind why) ≡ ended s facts)
   ended-refused why (inl memory) = inl (let is : why ≡ fault.NoMemory = cc in ap flow_kind is)

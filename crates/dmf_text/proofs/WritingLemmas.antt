@@ -1,5 +1,7 @@
 -- What several puts do, one after the other.
 use Rattle.std.proofs.Common.{◌≡◌, ℕ, ◌-◌, List, ◌++◌, length, take, drop, Result, Ok, Err, true, sym, ap, subst, ◌∙◌, append_assoc, take-append-drop}
+use Rattle.std.specs.Prelude.{IsErrAnd}
+use Rattle.std.proofs.lemmas.Result.{err_from_is_err_and}
 use Rattle.std.proofs.KnownBytes.{Appends-trans}
 use Rattle.std.specs.Io.KnownBytes.{Appends}
 use Rattle.dmf_text.specs.Streams.{Writer}
@@ -33,10 +35,11 @@ writes-more a b c (Ok v) s t held mark then = (Appends-trans _ _ _ s t held then
 writes-more a b c (Err e) s t held mark then = front-after a b c s t held then
 
 -- Of a text the first part was to be put, and the rest after it. The first part failed.
-pub first-failed : {V E : Type 0} (a b : Writer) (outcome : Result V E) (e : E) (text first rest : List ℕ) → outcome ≡ Err e → text ≡ first ++ rest
-    → PutsFront a b first → Writes a b outcome text
-first-failed a b outcome e text first rest is split put_front =
-    subst (λ o. Writes a b o text) (sym is) (subst (λ t. PutsFront a b t) (sym split) (front-of a b first rest put_front))
+pub first-failed : {V E : Type 0} (P : E → Type 0) (a b : Writer) (outcome : Result V E) (text first rest : List ℕ) → IsErrAnd outcome P
+    → text ≡ first ++ rest → PutsFront a b first → Writes a b outcome text
+first-failed P a b outcome text first rest failed split put_front =
+    subst (λ o. Writes a b o text) (sym (err_from_is_err_and outcome failed).1)
+    (subst (λ t. PutsFront a b t) (sym split) (front-of a b first rest put_front))
 
 -- or the first part was put, and this is what became of the rest.
 pub first-put : {V E : Type 0} (a b c : Writer) (outcome : Result V E) (text first rest : List ℕ) → text ≡ first ++ rest

@@ -38,10 +38,12 @@ module _ {X : Type 0} (bytes : X → List ℕ) (fields : List X) (i : ℕ) (d : 
   from-one : map bytes (drop i fields) ≡ bytes (get_or fields i d) ∷ map bytes (drop (i + 1) fields)
   from-one = ap (map bytes) (drop-cons fields i d below) ∙ ap (λ k. bytes (get_or fields i d) ∷ map bytes (drop k fields)) (sym (add-one i))
 
+  -- The last field ends the line.
   pub line-last : length fields ≤ i + 1 → written_line (map bytes (drop i fields)) ≡ bytes (get_or fields i d) ++ 10 ∷ []
   line-last last =
       ap written_line (from-one ∙ ap (λ l. bytes (get_or fields i d) ∷ map bytes l) (drop_all (i + 1) fields last)) ∙ line-one (bytes (get_or fields i d))
 
+  -- Behind each other field stand a blank and the fields after it.
   pub line-from : i + 1 < length fields
       → written_line (map bytes (drop i fields)) ≡ bytes (get_or fields i d) ++ (32 ∷ written_line (map bytes (drop (i + 1) fields)))
   line-from more =
@@ -53,10 +55,12 @@ module _ {X : Type 0} (is_kept : X → Bool) (fields : X → Line) where
   abbrev pub kept_text : List X → List ℕ
   kept_text xs = written (map fields (filter is_kept xs))
 
+  -- None have no lines,
   pub kept-nil : kept_text [] ≡ []
   unfolding written
   kept-nil = refl
 
+  -- and one has its line where it is to be written.
   pub kept-one : (x : X) → kept_text (x ∷ []) ≡ (if is_kept x then written_line (fields x) else [])
   unfolding written
   kept-one x = elim (is_kept x) as (λ b. written (map fields (if b then x ∷ [] else [])) ≡ (if b then written_line (fields x) else []))
@@ -73,6 +77,7 @@ module _ {X : Type 0} (is_kept : X → Bool) (fields : X → Line) where
   pub kept-more : (xs : List X) (i : ℕ) (d : X) → i < length xs → kept_text (take (i + 1) xs) ≡ kept_text (take i xs) ++ kept_text (get_or xs i d ∷ [])
   kept-more xs i d below = ap kept_text (take_more xs i d below) ∙ kept-append (take i xs) (get_or xs i d ∷ [])
 
+  -- The lines are those before an item, its own, and those after it.
   pub kept-split : (xs : List X) (i : ℕ) (d : X) → i < length xs
       → kept_text xs ≡ kept_text (take i xs) ++ (kept_text (get_or xs i d ∷ []) ++ kept_text (drop (suc i) xs))
   kept-split xs i d below =
@@ -85,6 +90,7 @@ module _ {X : Type 0} (fields : X → Line) where
   abbrev pub all_text : List X → List ℕ
   all_text xs = written (map fields xs)
 
+  -- None have no lines.
   pub all-nil : all_text [] ≡ []
   unfolding written
   all-nil = refl
@@ -101,14 +107,17 @@ module _ {X : Type 0} (fields : X → Line) where
   pub all-last : (xs : List X) (x : X) → all_text (xs ++ x ∷ []) ≡ all_text xs ++ written_line (fields x)
   all-last xs x = all-append xs (x ∷ []) ∙ ap (λ l. all_text xs ++ l) (all-one x)
 
+  -- The lines are those before an item, its own, and those after it.
   pub all-split : (xs : List X) (x : X) (ys : List X) → all_text (xs ++ x ∷ ys) ≡ all_text xs ++ (written_line (fields x) ++ all_text ys)
   all-split xs x ys =
       all-append xs (x ∷ ys)
       ∙ ap (λ l. all_text xs ++ l) (all-append (x ∷ []) ys ∙ ap (λ l. l ++ all_text ys) (all-one x))
 
+-- Whether an arc is open,
 abbrev pub is_open : Arc → Bool
 is_open arc = not arc.closed
 
+-- also beside its flow.
 abbrev pub is_open_flow : Arc × ℕ → Bool
 is_open_flow p = not p.0.closed
 
@@ -123,6 +132,7 @@ flow-line arcs flows i flow d one_each below is =
     ∙ ap (λ x. (get_or arcs i d, x)) (get_or_from_slice_get flows i flow 0 (subst (λ k. slice_get flows k ≡ Some flow) (omega arith) is)))
     ∙ kept-one is_open_flow flow_fields (get_or arcs i d, flow)
 
+-- There are as many arcs with their flows as arcs.
 pub zip-long : (arcs : List Arc) (flows : List ℕ) → length flows ≡ length arcs → length (zip arcs flows) ≡ length arcs
 zip-long arcs flows one_each = length-zip arcs flows ∙ omega (arith, one_each)
 

@@ -33,6 +33,7 @@ pub record IsField (text : List ℕ) : Type 0 where
   pub some : 0 < length text
   pub all : list_all plain text ≡ true
 
+-- A line all of whose texts can stand as fields.
 abbrev pub AreFields : Line → Type 0
 AreFields line = AllByRecursion IsField line
 
@@ -80,6 +81,7 @@ lines-line text rest all =
     ap lines_of_parts (slice_split_at (λ b. b == 10) text 10 rest none refl) ∙ parts-more text rest
     ∙ ap (λ l. l ∷ lines rest) (cond-false _ _ _ (ne_eqb _ 13 (no-return text all)))
 
+-- Written and read again, such lines have the same fields.
 pub lines-written : (ls : List Line) → AllByRecursion AreFields ls → map fields (lines (written ls)) ≡ ls
 unfolding written written_line
 lines-written [] are = refl
@@ -108,12 +110,14 @@ ascii-digits (c ∷ cs) are =
     let range = digit_from_value c are.0 in
     and_from _ _ (and_from _ _ (le-leb 48 c range.0) (le-leb c 57 range.1)) (ascii-digits cs are.1)
 
+-- A decimal number can stand as a field.
 pub decimal-field : (n : ℕ) → n < 2 ^ 64 → IsField (decimal n)
 decimal-field n small = record {
   some = decimal_nonempty n small;
   all = plain-digits (decimal n) (decimal_is_IsNumeral n small).0.1;
 }
 
+-- A decimal number is read as the number.
 pub number_of-decimal : (n : ℕ) → n < 2 ^ 64 → number_of (decimal n) ≡ Ok n
 number_of-decimal n small =
     let numeral = decimal_is_IsNumeral n small in

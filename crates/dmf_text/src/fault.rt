@@ -17,7 +17,8 @@ use std::fmt;
 use thiserror::Error;
 
 /// What is wrong with a line of a problem text, or with its end.
-#[derive(Clone, Copy, Debug, PartialEq, Eq)]
+#[derive(Clone, Copy, Debug, PartialEq, Eq, Error)]
+#[error("{}", self.text())]
 pub enum ProblemFaultKind {
     /// A node or arc line comes before the problem line, or the text has no problem line.
     ProblemLineExpected = 1,
@@ -82,14 +83,6 @@ impl ProblemFaultKind {
         }
     }
 }
-
-impl fmt::Display for ProblemFaultKind {
-    fn fmt<W: fmt::Write>(&self, f: &mut fmt::Formatter<W>) -> fmt::Result {
-        f.write_str(self.text())
-    }
-}
-
-impl std::error::Error for ProblemFaultKind {}
 
 impl From<NumberFault> for ProblemFaultKind {
     ghost from_gives = { λ fault kind. kind ≡ problem.number_fault fault };

@@ -3,14 +3,4 @@
 #![tactic(auto)]
 
 #[cfg(test)]
-mod examples;
-#[cfg(test)]
-mod histories;
-#[cfg(test)]
-mod networks;
-#[cfg(test)]
-mod plans;
-#[cfg(test)]
-mod runs;
-#[cfg(test)]
-mod texts;
+mod tests;

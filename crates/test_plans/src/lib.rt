@@ -2,18 +2,4 @@
 #![tactic(auto)]
 
 #[cfg(test)]
-mod draining;
-#[cfg(test)]
-mod keeping;
-#[cfg(test)]
-mod moves;
-#[cfg(test)]
-mod networks;
-#[cfg(test)]
-mod reverting;
-#[cfg(test)]
-mod sides;
-#[cfg(test)]
-mod solving;
-#[cfg(test)]
-mod states;
+mod tests;

@@ -3,12 +3,4 @@
 #![tactic(auto)]
 
 #[cfg(test)]
-mod flushes;
-#[cfg(test)]
-mod histories;
-#[cfg(test)]
-mod slow;
-#[cfg(test)]
-mod watching;
-#[cfg(test)]
-mod worked;
+mod tests;

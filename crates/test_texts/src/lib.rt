@@ -2,8 +2,4 @@
 #![tactic(auto)]
 
 #[cfg(test)]
-mod fields;
-#[cfg(test)]
-mod solutions;
-#[cfg(test)]
-mod streams;
+mod tests;

@@ -5,6 +5,7 @@ ghost use Rattle.dmf_path.specs.Pair.{ArePairs, emptied};
 ghost use Rattle.dmf_path.specs.Links.{AreBuilt, ArePlaces, AreRooms, pairs_at};
 ghost use Rattle.dmf_path.specs.LinkTable.{links_of};
 
+use crate::aside::Ends;
 use crate::levels::Levels;
 use crate::links::{build, opposite_flags, put_pair};
 use crate::pair::Pairs;
@@ -32,25 +33,24 @@ impl Search {
         alloc: Global,
         nodes: u32,
         pairs: &P,
-        start: u32,
-        goal: u32,
+        ends: Ends,
         takes_back: bool,
     ) -> Result<Search, AllocError>
         requires nodes { nodes ≤ 2 ^ 24 }
         requires pairs { ArePairs nodes (P.pairs pairs.now) }
-        requires start { IsNode nodes start }
-        requires goal { IsNode nodes goal }
-        requires apart { start ≢ goal }
+        requires start { IsNode nodes ends.start }
+        requires goal { IsNode nodes ends.goal }
+        requires apart { ends.start ≢ ends.goal }
         ensures { IfOk result (λ search. search ≡ record {
           nodes = nodes;
           pairs = P.pairs pairs.now;
-          start = start;
-          goal = goal;
+          start = ends.start;
+          goal = ends.goal;
           takes_back = takes_back;
         }) }
     {
         let linked = link(alloc, nodes, pairs)?;
-        linked.search(alloc, start, goal, takes_back)
+        linked.search(alloc, ends.start, ends.goal, takes_back)
     }
 
     /// Another search over the same links, with the rooms of these pairs, which have the same ends. Takes memory for a room and a flag

@@ -1,12 +1,13 @@
 //! Building a state: appending arcs, and putting a flow on them.
-ghost use Rattle.std.specs.Prelude.{◌≡◌, false, ◌+◌, ◌-◌, ◌<◌, ◌⊎◌, length, vec_len, vec_capacity, Some, Ok, Err, IfOk, OnOk, OnErr, IsErrOf, IsOkUnless, MatchOption};
+ghost use Rattle.std.specs.Prelude.{◌≡◌, false, ◌+◌, ◌-◌, ◌<◌, ◌⊎◌, length, vec_len, vec_capacity, Some, Ok, Err};
+ghost use Rattle.std.specs.Prelude.{IfOk, OnOk, OnErr, IsErrOf, IsOkUnless, MatchOption};
 ghost use Rattle.std.specs.Result.{result_err};
 ghost use Rattle.dmf_node.specs.Node.{is_node};
 ghost use Rattle.dmf_state.specs.Arc.{open_arc};
-ghost use Rattle.dmf_state.specs.FlowSums.{IsNodeFlow};
-ghost use Rattle.dmf_state.specs.FlowFault.{flow_fault};
-ghost use Rattle.dmf_state.specs.NetworkState.{IsState, with_flows, with_idle_arc};
 ghost use Rattle.dmf_state.specs.ArcFault.{arc_fault, net_fault};
+ghost use Rattle.dmf_state.specs.FlowFault.{flow_fault};
+ghost use Rattle.dmf_state.specs.FlowSums.{IsNodeFlow};
+ghost use Rattle.dmf_state.specs.NetworkState.{IsState, with_flows, with_idle_arc};
 
 use crate::arc::Arc;
 use crate::fault::{ArcFault, FlowFault, NetFault, NoMemory};

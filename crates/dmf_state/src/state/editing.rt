@@ -10,7 +10,7 @@ ghost use Rattle.dmf_state.specs.Revert.{with_opened, without_last};
 use crate::arc::Arc;
 use crate::edit::{Edit, Move, Shutting};
 use crate::fault::NoMemory;
-use crate::moves::{Direction, make_moves};
+use crate::moves::{Direction, Moving, make_moves};
 use crate::state::State;
 
 impl State {
@@ -130,11 +130,11 @@ impl State {
         requires state { IsState self.old → IsState (with_flows self.old (moved (along direction moves.now) self.old.flows)) }
         ensures { self.new ≡ with_flows self.old (moved (along direction moves.now) self.old.flows) }
     {
+        let moving = Moving { moves, direction };
         make_moves(
             &self.arcs,
             &mut self.flows,
-            moves,
-            direction,
+            moving,
             self.source,
             &mut self.at_source,
         );

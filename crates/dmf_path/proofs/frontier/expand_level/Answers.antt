@@ -1,5 +1,7 @@
 -- A level: its first node, a turn, and its end.
 use Rattle.std.proofs.Common.{rules, ◌≡◌, ◌+◌, refl, ap, sym, ◌∙◌, arith, length, get_or}
+use Rattle.dmf_path.specs.declared.frontier.Frontier.{Frontier}
+use Rattle.dmf_path.specs.BothEnds.{AreLevels}
 use Rattle.dmf_path.specs.LinkTable.{links_of}
 use Rattle.dmf_path.proofs.Expanding.{IsLevel, level-first, level-next, level-labels, level-read, beyond-next, apart-next, behind-at, behind-long, behind-node}
 use Rattle.dmf_path.proofs.frontier.expand_level.Goals as goal
@@ -12,6 +14,15 @@ first-is g c =
     level-read (links_of c.args.table.now) (g.O.OpenLinks.flags c.args.opens.now) c.args.frontier.now.root c.args.frontier.now.labels.items
     c.args.frontier.now.queue.items c.args.frontier.now.done c.index.result.now c.index-level.result.now c.args.table.now.are c.requires.so_far
     c.requires.ahead c.index.ensures c.index-level.ensures
+
+-- What is labelled up to the level, is labelled by levels.
+labelled : (g : _) (c : After-index-level g) (f : Frontier)
+    → IsLevel (links_of c.args.table.now) (g.O.OpenLinks.flags c.args.opens.now) f.root c.index-level.result.now f.labels.items f.queue.items f.done
+    → AreLevels (links_of c.args.table.now) (g.O.OpenLinks.flags c.args.opens.now) f.root
+    (get_or c.args.frontier.now.labels.items (get_or c.args.frontier.now.queue.items c.args.frontier.now.done 0) 0) f.labels.items
+labelled g c f level =
+    rw (first-is g c) (level-labels (links_of c.args.table.now) (g.O.OpenLinks.flags c.args.opens.now) f.root c.index-level.result.now f.labels.items
+    f.queue.items f.done c.args.table.now.are level)
 
 -- the label of the node that is expanded
 next-is : (g : _) (c : After-expand g)
@@ -59,9 +70,7 @@ first_labelled-met-requires g c i within =
 pub returns-then-is_some-clause-levels : goal.returns-then-is_some-clause-levels
 returns-then-is_some-clause-levels g c =
     let at = goal.at.returns-then-is_some-clause-levels g c in
-    rw (first-is g at.After-index-level) (level-labels (links_of c.args.table.now) (g.O.OpenLinks.flags c.args.opens.now) c.expand.new.frontier.root
-    c.index-level.result.now c.expand.new.frontier.labels.items c.expand.new.frontier.queue.items c.expand.new.frontier.done c.args.table.now.are
-    (turn g at.After-expand))
+    labelled g at.After-index-level c.expand.new.frontier (turn g at.After-expand)
 
 pub returns-then-is_some-clause-beyond : goal.returns-then-is_some-clause-beyond
 returns-then-is_some-clause-beyond g c =
@@ -110,14 +119,8 @@ loop-frontier-preserved g c =
 
 pub returns-else-index-level-clause-levels : goal.returns-else-index-level-clause-levels
 returns-else-index-level-clause-levels g c =
-    let at = goal.at.returns-else-index-level-clause-levels g c in
-    rw (first-is g at.After-index-level) (level-labels (links_of c.args.table.now) (g.O.OpenLinks.flags c.args.opens.now) c.loop-frontier.frontier.root
-    c.index-level.result.now c.loop-frontier.frontier.labels.items c.loop-frontier.frontier.queue.items c.loop-frontier.frontier.done c.args.table.now.are
-    c.loop-frontier.invariant.level)
+    labelled g (goal.at.returns-else-index-level-clause-levels g c).After-index-level c.loop-frontier.frontier c.loop-frontier.invariant.level
 
 pub returns-after-loop-frontier-clause-levels : goal.returns-after-loop-frontier-clause-levels
 returns-after-loop-frontier-clause-levels g c =
-    let at = goal.at.returns-after-loop-frontier-clause-levels g c in
-    rw (first-is g at.After-index-level) (level-labels (links_of c.args.table.now) (g.O.OpenLinks.flags c.args.opens.now) c.loop-frontier.frontier.root
-    c.index-level.result.now c.loop-frontier.frontier.labels.items c.loop-frontier.frontier.queue.items c.loop-frontier.frontier.done c.args.table.now.are
-    c.loop-frontier.invariant.level)
+    labelled g (goal.at.returns-after-loop-frontier-clause-levels g c).After-index-level c.loop-frontier.frontier c.loop-frontier.invariant.level

@@ -23,12 +23,8 @@ push_reserved-requires c =
     let k = c.loop-node.node-index in
     let so_far = c.loop-node.invariant.joining in
     let v = get_or c.args.nodes.now k 0 in
-    let inside : v < length c.loop-node.labels = omega (
-      arith,
-      c.requires.far_queued.within k c.loop-node-test.true,
-      so_far.one_each,
-      c.requires.one_label_each,
-    ) in
+    let inside : v < length c.loop-node.labels =
+    omega (arith, c.requires.far_queued.within k c.loop-node-test.true, so_far.one_each, c.requires.one_label_each) in
     let has : c.args.long - get_or c.args.from_start.now v 0 ≢ no_label = λ none. omega (arith, none, c.requires.small) in
     let less = unlabelled_count-set c.loop-node.labels v (c.args.long - get_or c.args.from_start.now v 0) inside c.if-labels-node.true has in
     omega (arith, so_far.room, less, c.loop-node.invariant.queue_capacity, c.loop-node.queue.ok.0)
@@ -38,12 +34,8 @@ loop-node-preserved c =
     let k = c.loop-node.node-index in
     let so_far = c.loop-node.invariant.joining in
     let v = get_or c.args.nodes.now k 0 in
-    let inside : v < length c.loop-node.labels = omega (
-      arith,
-      c.requires.far_queued.within k c.loop-node-test.true,
-      so_far.one_each,
-      c.requires.one_label_each,
-    ) in
+    let inside : v < length c.loop-node.labels =
+    omega (arith, c.requires.far_queued.within k c.loop-node-test.true, so_far.one_each, c.requires.one_label_each) in
     elim c.if-labels-node.branch [
       | then-labels-node w ↦
           let items : c.if-labels-node.queue.items ≡ c.loop-node.queue.items ++ v ∷ [] = ap (λ q. q.items) w.queue-is ∙ w.push_reserved.ensures.items in

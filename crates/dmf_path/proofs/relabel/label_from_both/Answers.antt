@@ -1,12 +1,30 @@
 -- Two searches begin and meet, and their labels are joined.
-use Rattle.std.proofs.Common.{◌+◌, get_or, map, refl, ◌∙◌, arith, inl, inr}
+use Rattle.std.proofs.Common.{ℕ, ◌≡◌, ◌+◌, length, get_or, map, refl, ◌∙◌, arith, inl, inr}
 use Rattle.std.proofs.lemmas.List.{get_or_default, with_items_is}
+use Rattle.dmf_node.specs.Node.{IsNode}
 use Rattle.dmf_path.specs.Links.{open_flag}
 use Rattle.dmf_path.specs.LinkTable.{links_of}
+use Rattle.dmf_path.specs.BothEnds.{HasMetAt}
 use Rattle.dmf_path.proofs.BothEnds.{labelled-met, met-sum}
 use Rattle.dmf_path.proofs.Labelling.{queue-short, starts-spread}
 use Rattle.dmf_path.proofs.Reaching.{AreOpen-map}
 use Rattle.dmf_path.proofs.relabel.label_from_both.Goals as goal
+use Rattle.dmf_path.proofs.relabel.label_from_both.Goals.{In-Some, After-index-2}
+
+-- where the searches meet
+has_met : (c : In-Some) → HasMetAt (links_of c.args.links.now.table.value) c.args.links.now.flags.items (map open_flag c.args.links.now.rooms.items)
+    c.begin-2.new.frontier.root c.begin.new.frontier.root c.in-Some.node c.meet.new.to_goal.labels.items c.meet.new.from_start.labels.items
+has_met c = rw (c.deref.ensures, c.deref-2.ensures.value, c.deref-3.ensures.value) at (c.in-Some.ensures.met c.in-Some.node refl)
+
+-- the sum of the two labels there, as it is read
+long : (c : After-index-2) (nodes : ℕ) → IsNode nodes c.in-Some.node → length c.meet.new.to_goal.labels.items ≡ nodes + 1
+    → length c.meet.new.from_start.labels.items ≡ nodes + 1
+    → c.index.result.now + c.index-2.result.now
+    ≡ get_or c.meet.new.to_goal.labels.items c.in-Some.node 0 + get_or c.meet.new.from_start.labels.items c.in-Some.node 0
+long c nodes node near_long far_long =
+    let near = get_or_default c.meet.new.to_goal.labels.items c.in-Some.node 0 c.index.result.now (omega (arith, node.to_last, near_long)) in
+    let far = get_or_default c.meet.new.from_start.labels.items c.in-Some.node 0 c.index-2.result.now (omega (arith, node.to_last, far_long)) in
+    omega (arith, near, far, c.index.ensures, c.index-2.ensures)
 
 pub meet-requires-clause-goal_side : goal.meet-requires-clause-goal_side
 meet-requires-clause-goal_side c =
@@ -25,61 +43,54 @@ meet-requires-clause-start_side c =
 
 pub index-requires : goal.index-requires
 index-requires c =
-    let met = rw (c.deref.ensures, c.deref-2.ensures.value, c.deref-3.ensures.value) at (c.in-Some.ensures.met c.in-Some.node refl) in
+    let met = has_met (goal.at.index-requires c).In-Some in
     omega (arith, met.met.node.to_last, met.goal_side.one_each, c.meet.new.to_goal.labels.ok.0)
 
 pub index-requires-2 : goal.index-requires-2
 index-requires-2 c =
-    let met = rw (c.deref.ensures, c.deref-2.ensures.value, c.deref-3.ensures.value) at (c.in-Some.ensures.met c.in-Some.node refl) in
+    let met = has_met (goal.at.index-requires-2 c).In-Some in
     omega (arith, met.met.node.to_last, met.start_side.one_each, c.meet.new.from_start.labels.ok.0)
 
 pub overflow_add-long : goal.overflow_add-long
 overflow_add-long c =
-    let met = rw (c.deref.ensures, c.deref-2.ensures.value, c.deref-3.ensures.value) at (c.in-Some.ensures.met c.in-Some.node refl) in
-    let near = get_or_default c.meet.new.to_goal.labels.items c.in-Some.node 0 c.index.result.now
-    (omega (arith, met.met.node.to_last, met.goal_side.one_each)) in
-    let far = get_or_default c.meet.new.from_start.labels.items c.in-Some.node 0 c.index-2.result.now
-    (omega (arith, met.met.node.to_last, met.start_side.one_each)) in
-    omega (arith, near, far, c.index.ensures, c.index-2.ensures, met-sum _ _ _ _ _ _ met.met, met.long, c.args.links.now.table.value.are.at_most_nodes)
+    let at = goal.at.overflow_add-long c in
+    let met = has_met at.In-Some in
+    let sum = long at.After-index-2 _ met.met.node met.goal_side.one_each met.start_side.one_each in
+    omega (arith, sum, met-sum _ _ _ _ _ _ met.met, met.long, c.args.links.now.table.value.are.at_most_nodes)
 
 pub join-requires-clause-at_most : goal.join-requires-clause-at_most
 join-requires-clause-at_most c =
-    let met = rw (c.deref.ensures, c.deref-2.ensures.value, c.deref-3.ensures.value) at (c.in-Some.ensures.met c.in-Some.node refl) in
+    let at = goal.at.join-requires-clause-at_most c in
+    let met = has_met at.In-Some in
     let far = c.meet.new.from_start in
     let so_far = rw (c.deref.ensures, c.deref-2.ensures.value) at c.in-Some.ensures.start_side in
-    let near_read = get_or_default c.meet.new.to_goal.labels.items c.in-Some.node 0 c.index.result.now
-    (omega (arith, met.met.node.to_last, met.goal_side.one_each)) in
-    let far_read = get_or_default far.labels.items c.in-Some.node 0 c.index-2.result.now (omega (arith, met.met.node.to_last, met.start_side.one_each)) in
     rw (c.deref-4.ensures.value, c.deref-5.ensures.value) (λ i before.
     let entry = so_far.queued i before in
     elim (met.start_side.small (get_or far.queue.items i 0) entry.node) [
       | inl none ↦ absurd (omega (arith, none, entry.small, before, queue-short _ _ _ _ _ _ so_far, c.args.links.now.table.value.are.at_most_nodes))
-      | inr least ↦ omega (arith, least, near_read, far_read, c.index.ensures, c.index-2.ensures, met-sum _ _ _ _ _ _ met.met)
+      | inr least ↦ omega (arith, least, long at.After-index-2 _ met.met.node met.goal_side.one_each met.start_side.one_each, met-sum _ _ _ _ _ _ met.met)
     ])
 
 pub join-requires-clause-small : goal.join-requires-clause-small
 join-requires-clause-small c =
-    let met = rw (c.deref.ensures, c.deref-2.ensures.value, c.deref-3.ensures.value) at (c.in-Some.ensures.met c.in-Some.node refl) in
-    let near = get_or_default c.meet.new.to_goal.labels.items c.in-Some.node 0 c.index.result.now
-    (omega (arith, met.met.node.to_last, met.goal_side.one_each)) in
-    let far = get_or_default c.meet.new.from_start.labels.items c.in-Some.node 0 c.index-2.result.now
-    (omega (arith, met.met.node.to_last, met.start_side.one_each)) in
-    omega (arith, near, far, c.index.ensures, c.index-2.ensures, met-sum _ _ _ _ _ _ met.met, met.long, c.args.links.now.table.value.are.at_most_nodes)
+    let at = goal.at.join-requires-clause-small c in
+    let met = has_met at.In-Some in
+    let sum = long at.After-index-2 _ met.met.node met.goal_side.one_each met.start_side.one_each in
+    omega (arith, sum, met-sum _ _ _ _ _ _ met.met, met.long, c.args.links.now.table.value.are.at_most_nodes)
 
 pub returns-clause-labelled : goal.returns-clause-labelled
 returns-clause-labelled c =
     let l = links_of c.args.links.now.table.value in
     let rooms = c.args.links.now.rooms.items in
-    let met = rw (c.deref.ensures, c.deref-2.ensures.value, c.deref-3.ensures.value) at (c.in-Some.ensures.met c.in-Some.node refl) in
+    let at = goal.at.returns-clause-labelled c in
+    let met = has_met at.In-Some in
     let near = c.meet.new.to_goal.labels in
     let far = c.meet.new.from_start.labels in
-    let near_read = get_or_default near.items c.in-Some.node 0 c.index.result.now (omega (arith, met.met.node.to_last, met.goal_side.one_each)) in
-    let far_read = get_or_default far.items c.in-Some.node 0 c.index-2.result.now (omega (arith, met.met.node.to_last, met.start_side.one_each)) in
     let labels = with_items_is near c.join.new.labels (c.join.auto.labels ∙ c.deref_mut.ensures.len) in
     rw labels
     (λ _. labelled-met l rooms c.args.links.now.flags.items (map open_flag rooms) c.args.start c.args.goal c.in-Some.node
     (c.index.result.now + c.index-2.result.now) near.items far.items c.join.new.labels
     c.args.links.now.table.value.are c.args.links.now.flags_are (AreOpen-map l rooms (map open_flag rooms) c.args.links.now.rooms_are refl)
     c.requires.start c.requires.goal
-    (rw (c.begin.ensures.root, c.begin-2.ensures.root) at met) (omega (arith, near_read, far_read, c.index.ensures, c.index-2.ensures))
+    (rw (c.begin.ensures.root, c.begin-2.ensures.root) at met) (long at.After-index-2 _ met.met.node met.goal_side.one_each met.start_side.one_each)
     (rw (c.deref_mut.ensures.value, c.deref-4.ensures.value) at c.join.ensures.joined))

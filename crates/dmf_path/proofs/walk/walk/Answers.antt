@@ -1,20 +1,21 @@
 -- Where the walk begins, a turn that goes on, one that steps back, and what the work is each time.
-use Rattle.std.proofs.Common.{◌≡◌, ◌+◌, ◌<◌, set, get_or, refl, ap, sym, subst, ◌∙◌, arith, length}
+use Rattle.std.proofs.Common.{◌≡◌, ◌+◌, ◌-◌, ◌<◌, set, get_or, refl, ap, sym, subst, ◌∙◌, arith, length}
 use Rattle.std.proofs.lemmas.List.{get_or_default}
 use Rattle.dmf_node.specs.Node.{IsNode}
-use Rattle.dmf_path.specs.Links.{Links}
-use Rattle.dmf_path.specs.Held.{Way, way_of}
-use Rattle.dmf_path.specs.Residual.{Residual, residual_of, told}
+use Rattle.dmf_path.specs.Links.{Links, tail_of}
+use Rattle.dmf_path.specs.Held.{Way, way_of, slot_at}
+use Rattle.dmf_path.specs.Residual.{Residual, residual_of, told, MakesWay}
 use Rattle.dmf_path.specs.Walk.{IsWalk}
 use Rattle.dmf_path.specs.Searching.{IsUnderWay}
 use Rattle.dmf_path.proofs.LinkPlaces.{end-within}
 use Rattle.dmf_path.proofs.WalkingTurn.{work_left}
 use Rattle.dmf_path.proofs.WayStart.{last-link_within, on-start, searching-on, same-sought}
-use Rattle.dmf_path.proofs.WayWalk.{Turn, IsFound, on-turned, skipped-turned, within-found, slot-found, slot-first, made-start, made-goal, made-capacity}
+use Rattle.dmf_path.proofs.WayWalk.{Turn, IsFound, on-turned, skipped-turned, within-found, slot-found, slot-first}
+use Rattle.dmf_path.proofs.Splitting.{made-aim}
 use Rattle.dmf_path.proofs.WayWalk.{made-links, is-made}
 use Rattle.dmf_path.proofs.WayWalk.{on-found, less-found, no-walk, slot-last, back-within, back-tail, back-tail_within, less-back, on-stepped, back-last}
 use Rattle.dmf_path.proofs.walk.walk.Goals as goal
-use Rattle.dmf_path.proofs.walk.walk.Goals.{After-first_admissible-place}
+use Rattle.dmf_path.proofs.walk.walk.Goals.{After-first_admissible-place, After-end_node-node-else-place-end}
 
 pub end_node-node-requires : goal.end_node-node-requires
 end_node-node-requires c =
@@ -74,74 +75,50 @@ turn c =
       none = found.first;
     }
 
+-- what it finds,
+found : (c : After-first_admissible-place) → c.first_admissible-place.result < c.index-end.result.now → IsFound (turn c)
+found c below = record { found = below; room = c.first_admissible-place.ensures.room below; falls = c.first_admissible-place.ensures.falls below }
+
+-- and that the link found is still there once its slot is free
+found_within : (t : Turn) → IsFound t → (next : Residual) (new : Way) → MakesWay t.r t.w next new → t.place < length next.links.heads
+found_within t f next new made = subst (λ (l : Links). t.place < length l.heads) (sym (made-links t.r t.w next new made)) (within-found t f)
+
 pub make_way-requires-clause-within : goal.make_way-requires-clause-within
 make_way-requires-clause-within c =
     let t = turn (goal.at.make_way-requires-clause-within c).After-first_admissible-place in
-    let f : IsFound t = record {
-      found = c.if-place-end.true;
-      room = c.first_admissible-place.ensures.room c.if-place-end.true;
-      falls =
-          c.first_admissible-place.ensures.falls c.if-place-end.true;
-    } in
+    let f = found (goal.at.make_way-requires-clause-within c).After-first_admissible-place c.if-place-end.true in
     slot-found t f
 
 pub make_way-requires-clause-slot : goal.make_way-requires-clause-slot
 make_way-requires-clause-slot c =
     let t = turn (goal.at.make_way-requires-clause-slot c).After-first_admissible-place in
-    let f : IsFound t = record {
-      found = c.if-place-end.true;
-      room = c.first_admissible-place.ensures.room c.if-place-end.true;
-      falls =
-          c.first_admissible-place.ensures.falls c.if-place-end.true;
-    } in
+    let f = found (goal.at.make_way-requires-clause-slot c).After-first_admissible-place c.if-place-end.true in
     λ meets. slot-first t f meets
 
 pub index-room-requires : goal.index-room-requires
 index-room-requires c =
     let t = turn (goal.at.index-room-requires c).After-first_admissible-place in
-    let f : IsFound t = record {
-      found = c.if-place-end.true;
-      room = c.first_admissible-place.ensures.room c.if-place-end.true;
-      falls =
-          c.first_admissible-place.ensures.falls c.if-place-end.true;
-    } in
-    let within = subst (λ (l : Links). c.first_admissible-place.result < length l.heads)
-    (sym (made-links t.r t.w (residual_of c.make_way.new.links) (way_of c.make_way.new.self) c.make_way.ensures)) (within-found t f) in
+    let f = found (goal.at.index-room-requires c).After-first_admissible-place c.if-place-end.true in
+    let within = found_within t f _ _ c.make_way.ensures in
     omega (arith, within, c.make_way.new.links.rooms_are.0)
 
 pub enter-requires : goal.enter-requires
 enter-requires c =
     let t = turn (goal.at.enter-requires c).After-first_admissible-place in
-    let f : IsFound t = record {
-      found = c.if-place-end.true;
-      room = c.first_admissible-place.ensures.room c.if-place-end.true;
-      falls =
-          c.first_admissible-place.ensures.falls c.if-place-end.true;
-    } in
+    let f = found (goal.at.enter-requires c).After-first_admissible-place c.if-place-end.true in
     record { free = (is-made t (residual_of c.make_way.new.links) (way_of c.make_way.new.self) f c.make_way.ensures c.make_way.new.links.rooms_are).next }
 
 pub index-node-requires : goal.index-node-requires
 index-node-requires c =
     let t = turn (goal.at.index-node-requires c).After-first_admissible-place in
-    let f : IsFound t = record {
-      found = c.if-place-end.true;
-      room = c.first_admissible-place.ensures.room c.if-place-end.true;
-      falls =
-          c.first_admissible-place.ensures.falls c.if-place-end.true;
-    } in
-    let within = subst (λ (l : Links). c.first_admissible-place.result < length l.heads)
-    (sym (made-links t.r t.w (residual_of c.make_way.new.links) (way_of c.make_way.new.self) c.make_way.ensures)) (within-found t f) in
+    let f = found (goal.at.index-node-requires c).After-first_admissible-place c.if-place-end.true in
+    let within = found_within t f _ _ c.make_way.ensures in
     rw c.deref-then-place-end.ensures (omega (arith, within, c.make_way.new.links.table.value.heads.ok.0))
 
 pub loop-node-smaller-then-place-end : goal.loop-node-smaller-then-place-end
 loop-node-smaller-then-place-end c =
     let t = turn (goal.at.loop-node-smaller-then-place-end c).After-first_admissible-place in
-    let f : IsFound t = record {
-      found = c.if-place-end.true;
-      room = c.first_admissible-place.ensures.room c.if-place-end.true;
-      falls =
-          c.first_admissible-place.ensures.falls c.if-place-end.true;
-    } in
+    let f = found (goal.at.loop-node-smaller-then-place-end c).After-first_admissible-place c.if-place-end.true in
     subst (λ s. work_left t.aim.links t.labels s (set t.current t.node t.place) c.index-node.result.now < work_left t.aim.links t.labels s t.current t.node)
     c.loop-node.invariant.start
     (less-found t (residual_of c.make_way.new.links) (way_of c.make_way.new.self) c.index-node.result.now f c.make_way.ensures
@@ -150,16 +127,11 @@ loop-node-smaller-then-place-end c =
 pub loop-node-preserved-then-place-end : goal.loop-node-preserved-then-place-end
 loop-node-preserved-then-place-end c =
     let t = turn (goal.at.loop-node-preserved-then-place-end c).After-first_admissible-place in
-    let f : IsFound t = record {
-      found = c.if-place-end.true;
-      room = c.first_admissible-place.ensures.room c.if-place-end.true;
-      falls =
-          c.first_admissible-place.ensures.falls c.if-place-end.true;
-    } in
+    let f = found (goal.at.loop-node-preserved-then-place-end c).After-first_admissible-place c.if-place-end.true in
     let made = c.make_way.ensures in
     let new = c.make_way.new.links in
-    let within = subst (λ (l : Links). c.first_admissible-place.result < length l.heads)
-    (sym (made-links t.r t.w (residual_of c.make_way.new.links) (way_of c.make_way.new.self) c.make_way.ensures)) (within-found t f) in
+    let within = found_within t f _ _ c.make_way.ensures in
+    let kept = made-aim t.r t.w (residual_of new) (way_of c.make_way.new.self) made in
     let room : c.index-room.result.now ≡ get_or new.rooms.items t.place 0 =
     c.index-room.ensures ∙ get_or_default new.rooms.items t.place _ 0 (omega (arith, within, new.rooms_are.0)) in
     let on = on-found t (residual_of c.make_way.new.links) (way_of c.make_way.new.self) c.index-node.result.now f made new.rooms_are
@@ -167,12 +139,9 @@ loop-node-preserved-then-place-end c =
     record {
       on = rw (c.enter.ensures, room) on;
       skipped = λ was none. skipped-turned t (c.loop-node.invariant.skipped was none);
-      start = ap (λ (w : Way). w.start) c.enter.ensures ∙ made-start t.r t.w (residual_of c.make_way.new.links)
-          (way_of c.make_way.new.self) made ∙ c.loop-node.invariant.start;
-      goal = ap (λ (w : Way). w.goal) c.enter.ensures ∙ made-goal t.r t.w (residual_of c.make_way.new.links)
-          (way_of c.make_way.new.self) made ∙ c.loop-node.invariant.goal;
-      capacity = ap (λ (w : Way). w.capacity) c.enter.ensures ∙ made-capacity t.r t.w (residual_of c.make_way.new.links)
-          (way_of c.make_way.new.self) made ∙ c.loop-node.invariant.capacity;
+      start = ap (λ (w : Way). w.start) c.enter.ensures ∙ kept.start ∙ c.loop-node.invariant.start;
+      goal = ap (λ (w : Way). w.goal) c.enter.ensures ∙ kept.goal ∙ c.loop-node.invariant.goal;
+      capacity = ap (λ (w : Way). w.capacity) c.enter.ensures ∙ kept.capacity ∙ c.loop-node.invariant.capacity;
     }
 
 pub returns-then-trail-eq0-clause-searching : goal.returns-then-trail-eq0-clause-searching
@@ -227,22 +196,29 @@ overflow_add-current c =
     let some : 0 < c.loop-node.trail.walked = omega (arith, c.if-trail-eq0.false) in
     omega (arith, back-within t c.step_back-back.result some c.step_back-back.ensures.place, t.links.at_most)
 
-pub bounds-current-node-else-place-end : goal.bounds-current-node-else-place-end
-bounds-current-node-else-place-end c =
+-- a turn steps back to the tail of the last link
+back_to : (c : After-end_node-node-else-place-end)
+    → c.end_node-node-else-place-end.result
+    ≡ tail_of (residual_of c.loop-node.links).links (slot_at c.loop-node.trail.slots.items (c.loop-node.trail.walked - 1)).place
+back_to c =
     let t = turn (goal.at.bounds-current-node-else-place-end c).After-first_admissible-place in
     let some : 0 < c.loop-node.trail.walked = omega (arith, c.if-trail-eq0.false) in
     let led = rw (c.deref-else-place-end.ensures, ap (λ (x : Residual). x.links.heads) c.step_back-back.ensures.links)
     at c.end_node-node-else-place-end.ensures in
-    let tail = back-tail t (way_of c.step_back-back.new.self) c.end_node-node-else-place-end.result some c.step_back-back.ensures.way led.first led.last in
+    back-tail t (way_of c.step_back-back.new.self) c.end_node-node-else-place-end.result some c.step_back-back.ensures.way led.first led.last
+
+pub bounds-current-node-else-place-end : goal.bounds-current-node-else-place-end
+bounds-current-node-else-place-end c =
+    let t = turn (goal.at.bounds-current-node-else-place-end c).After-first_admissible-place in
+    let some : 0 < c.loop-node.trail.walked = omega (arith, c.if-trail-eq0.false) in
+    let tail = back_to (goal.at.bounds-current-node-else-place-end c).After-end_node-node-else-place-end in
     back-tail_within t c.end_node-node-else-place-end.result some tail
 
 pub loop-node-smaller : goal.loop-node-smaller
 loop-node-smaller c =
     let t = turn (goal.at.loop-node-smaller c).After-first_admissible-place in
     let some : 0 < c.loop-node.trail.walked = omega (arith, c.if-trail-eq0.false) in
-    let led = rw (c.deref-else-place-end.ensures, ap (λ (x : Residual). x.links.heads) c.step_back-back.ensures.links)
-    at c.end_node-node-else-place-end.ensures in
-    let tail = back-tail t (way_of c.step_back-back.new.self) c.end_node-node-else-place-end.result some c.step_back-back.ensures.way led.first led.last in
+    let tail = back_to (goal.at.loop-node-smaller c).After-end_node-node-else-place-end in
     let node = c.end_node-node-else-place-end.result in
     subst (λ s. work_left t.aim.links t.labels s (set (set t.current t.node t.place) node (c.step_back-back.result + 1)) node
     < work_left t.aim.links t.labels s t.current t.node) c.loop-node.invariant.start
@@ -252,9 +228,7 @@ pub loop-node-preserved : goal.loop-node-preserved
 loop-node-preserved c =
     let t = turn (goal.at.loop-node-preserved c).After-first_admissible-place in
     let some : 0 < c.loop-node.trail.walked = omega (arith, c.if-trail-eq0.false) in
-    let led = rw (c.deref-else-place-end.ensures, ap (λ (x : Residual). x.links.heads) c.step_back-back.ensures.links)
-    at c.end_node-node-else-place-end.ensures in
-    let tail = back-tail t (way_of c.step_back-back.new.self) c.end_node-node-else-place-end.result some c.step_back-back.ensures.way led.first led.last in
+    let tail = back_to (goal.at.loop-node-preserved c).After-end_node-node-else-place-end in
     let back = c.step_back-back.ensures in
     let i = c.loop-node.invariant in
     record {

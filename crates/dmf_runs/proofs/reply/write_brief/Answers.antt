@@ -1,6 +1,5 @@
 use Rattle.std.proofs.Common.{◌≡◌, ◌++◌, true, ap, sym}
 use Rattle.std.specs.Prelude.{nat_abs}
-use Rattle.std.proofs.lemmas.Result.{err_from_is_err_and}
 use Rattle.dmf_session.specs.declared.command.Command.TheVariants.{Solve}
 use Rattle.dmf_text.proofs.WritingLemmas.{first-failed, first-put}
 use Rattle.dmf_solving.specs.Solved.{side_text}
@@ -15,8 +14,7 @@ first g c = ap (λ value. value_text Solve value ++ side_text c.args.side.now) (
 
 pub returns-in_err-write_line : goal.returns-in_err-write_line
 returns-in_err-write_line g c =
-    let failed = err_from_is_err_and c.from_residual.result c.from_residual.ensures.1 in
-    first-failed _ _ _ _ _ _ _ failed.1 (first g (goal.at.returns-in_err-write_line g c).After-write_line)
+    first-failed _ _ _ _ _ _ _ c.from_residual.ensures.1 (first g (goal.at.returns-in_err-write_line g c).After-write_line)
     (rw c.value_line.ensures at c.in_err-write_line.ensures)
 
 pub returns : goal.returns

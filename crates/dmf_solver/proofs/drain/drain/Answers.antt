@@ -20,5 +20,6 @@ pub returns-then-arc-clause-moves : goal.returns-then-arc-clause-moves
 returns-then-arc-clause-moves g c =
     let loop = rw c.arc-arc.ensures.value at c.if-arc.true in
     let on = ap (λ flows. flow_on flows c.args.turn.arc) c.flows.ensures.value in
-    draining-loop c.args.state.now c.args.turn.arc _ c.args.turn.limit c.in_ok-moves.moves.items c.flows.ensures.state c.requires.is_there loop on c.if-flow-limit.false
+    draining-loop c.args.state.now c.args.turn.arc _ c.args.turn.limit c.in_ok-moves.moves.items c.flows.ensures.state
+    c.requires.is_there loop on c.if-flow-limit.false
     c.in_ok-moves.ensures

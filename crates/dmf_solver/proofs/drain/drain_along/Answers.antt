@@ -34,7 +34,11 @@ loop-left-init g c =
       told = AreTold-none _;
       drained = λ unpaired carries.
           let along = carries-along s unpaired _ c.args.search.now c.args.turn.arc c.requires.is_there (λ e. differ (sym e)) carries in
-          omega (arith, c.saturating_sub-left.ensures ∙ ap (λ x. x - c.args.turn.limit) (c.unwrap_or.ensures ∙ ap (λ o. unwrap_or o 0) c.along.ensures ∙ along));
+          omega (
+            arith,
+            c.saturating_sub-left.ensures ∙ ap (λ x. x - c.args.turn.limit) (c.unwrap_or.ensures
+                ∙ ap (λ o. unwrap_or o 0) c.along.ensures ∙ along),
+          );
       touches = record {
         more = c.add.ensures.more;
         below = c.add.ensures.below (length c.args.search.now.pairs)
@@ -52,16 +56,21 @@ returns-then-left-eq0-clause-drains g c = λ unpaired carries.
     let flows = flows_read Along unpaired c.args.search.now.pairs in
     let along = carries-along s unpaired flows c.args.search.now c.args.turn.arc c.requires.is_there (λ e. differ (sym e)) carries in
     let left = c.saturating_sub-left.ensures ∙ ap (λ x. x - c.args.turn.limit) (c.unwrap_or.ensures ∙ ap (λ o. unwrap_or o 0) c.along.ensures ∙ along) in
-    let within : flow_on flows c.args.turn.arc ≤ c.args.turn.limit = omega (arith, left, c.if-left-eq0.true) in
-    (carries, drained-all (with_flows s flows) c.args.turn.arc c.args.turn.limit flows within (drained-none (with_flows s flows) c.args.turn.arc c.args.turn.limit carries.state))
+    let within : flow_on flows c.args.turn.arc ≤ c.args.turn.limit = omega (arith, left, c.if-left-eq0.true) in (
+      carries,
+      drained-all (with_flows s flows) c.args.turn.arc c.args.turn.limit flows within
+          (drained-none (with_flows s flows) c.args.turn.arc c.args.turn.limit carries.state),
+    )
 
 -- what one more path does
 once : (g : _) (c : goal.After-lowered g) (unpaired : List ℕ) → IsCarryingSearch c.args.state.now unpaired c.args.search.now
-    → DrainsOnce c.args.state.now unpaired (flows_read Along unpaired c.args.search.now.pairs) c.args.turn.arc c.args.turn.limit c.loop-left.left c.in-Some.found.amount
+    → DrainsOnce c.args.state.now unpaired (flows_read Along unpaired c.args.search.now.pairs)
+    c.args.turn.arc c.args.turn.limit c.loop-left.left c.in-Some.found.amount
     c.augment.new.self
 once g c unpaired carries =
     let differ = c.requires.no_loop in
-    draining-once c.args.state.now unpaired _ c.args.turn.arc c.args.turn.limit _ c.in-Some.found _ _ c.requires.is_there (λ e. differ (sym e)) c.loop-left-test.true
+    draining-once c.args.state.now unpaired _ c.args.turn.arc c.args.turn.limit _ c.in-Some.found _ _
+    c.requires.is_there (λ e. differ (sym e)) c.loop-left-test.true
     (c.loop-left.invariant.draining unpaired carries) c.in-Some.ensures.found
 
 pub lower-requires : goal.lower-requires
@@ -98,11 +107,13 @@ loop-left-preserved g c = record {
 
 -- the flow on the arc comes back
 pub unreachable-requires : goal.unreachable-requires
-unreachable-requires g c = draining-has_path c.args.state.now c.requires.carrying.0 _ c.args.turn.arc c.args.turn.limit _ _ c.requires.is_there c.loop-left-test.true
+unreachable-requires g c =
+    draining-has_path c.args.state.now c.requires.carrying.0 _ c.args.turn.arc c.args.turn.limit _ _ c.requires.is_there c.loop-left-test.true
     (c.loop-left.invariant.draining c.requires.carrying.0 c.requires.carrying.1) c.in-None.ensures.found.0
 
 pub returns-clause-drains : goal.returns-clause-drains
-returns-clause-drains g c = λ unpaired carries. rw c.settle.ensures (draining-done c.args.state.now unpaired _ c.args.turn.arc c.args.turn.limit _ _ c.loop-left-test.false
+returns-clause-drains g c = λ unpaired carries.
+    rw c.settle.ensures (draining-done c.args.state.now unpaired _ c.args.turn.arc c.args.turn.limit _ _ c.loop-left-test.false
     (c.loop-left.invariant.draining unpaired carries))
 
 pub returns-clause-drained : goal.returns-clause-drained

@@ -62,7 +62,8 @@ returns-clause-moves g c =
     let listed = rw c.flows-before.ensures.value at c.in_ok-moves.ensures in
     let here = begun g (goal.at.returns-clause-moves g c).In_ok-touched in
     let drains = rw here.1 at (c.drain_along.ensures.drains s.flows here.0).1 in
-    draining-moves s c.args.turn.arc c.args.turn.limit (flows_read Along s.flows c.drain_along.new.search.pairs) c.in_ok-moves.moves.items c.flows-before.ensures.state
+    draining-moves s c.args.turn.arc c.args.turn.limit (flows_read Along s.flows c.drain_along.new.search.pairs)
+    c.in_ok-moves.moves.items c.flows-before.ensures.state
     c.requires.is_there drains listed
 
 pub returns-clause-carrying : goal.returns-clause-carrying
@@ -70,7 +71,8 @@ returns-clause-carrying g c =
     let s = c.args.state.now in
     let listed = rw c.flows-before.ensures.value at c.in_ok-moves.ensures in
     let here = begun g (goal.at.returns-clause-carrying g c).In_ok-touched in
-    carries-moved s s.flows c.in_ok-moves.moves.items c.drain_along.new.search c.flows-before.ensures.state (c.drain_along.ensures.drains s.flows here.0).0 listed
+    carries-moved s s.flows c.in_ok-moves.moves.items c.drain_along.new.search c.flows-before.ensures.state
+    (c.drain_along.ensures.drains s.flows here.0).0 listed
 
 pub returns-clause-drained : goal.returns-clause-drained
 returns-clause-drained g c =

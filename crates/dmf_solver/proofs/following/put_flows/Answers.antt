@@ -1,18 +1,11 @@
-use Rattle.std.proofs.lemmas.Slice.Zip.{AllZip-long}
 use Rattle.dmf_state.specs.Direction.{along}
-use Rattle.dmf_solver.proofs.Followed.{put-none, long-followed, move-within, followed-next, followed-all}
+use Rattle.dmf_solver.proofs.Followed.{followed-none, long-followed, move-within, followed-next, followed-all}
 use Rattle.dmf_state.proofs.TakenBack.{long-along, move-along}
 use Rattle.dmf_solver.proofs.following.put_flows.Goals as goal
 
 pub loop-m-init : goal.loop-m-init
 loop-m-init c =
-    let s = c.args.state.now in
-    record {
-      flows = s.flows;
-      put = put-none (along c.args.direction c.args.moves.now) s.flows c.requires.fit;
-      one_each = AllZip-long _ s.network.arcs s.flows c.arcs-arcs.ensures.state.flow.within;
-      is = c.requires.residual;
-    }
+    followed-none c.args.state.now (along c.args.direction c.args.moves.now) _ c.arcs-arcs.ensures.state c.requires.fit c.requires.residual
 
 pub overflow_sub-k : goal.overflow_sub-k
 overflow_sub-k c = (move-within _ _ _ _ _ _ (move-along _ _ _ _ c.loop-m-test.true c.step-step.ensures) c.loop-m.invariant).0

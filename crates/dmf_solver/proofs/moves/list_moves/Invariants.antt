@@ -1,8 +1,8 @@
-use Rattle.std.proofs.Common.{◌≡◌}
+use Rattle.std.proofs.Common.{◌≡◌, length}
 use Rattle.dmf_path.specs.Search.{indices_of}
 use Rattle.dmf_path.proofs.Covering.{index_behind}
 use Rattle.dmf_solver.proofs.ListedMoves.{moves_before}
 use Rattle.dmf_solver.proofs.moves.list_moves.Given as goal
 
-abbrev pub invariant-loop-i : goal.invariant-loop-i
-invariant-loop-i g l = l.moves.items ≡ moves_before l.state.flows (g.F.Flows.flows l.after) (index_behind (indices_of l.indices) l.i)
+abbrev pub invariant-loop-k : goal.invariant-loop-k
+invariant-loop-k g l = l.moves.items ≡ moves_before l.state.flows (g.F.Flows.flows l.after) (index_behind (indices_of l.fn.indices) (length l.yielded))

@@ -1,5 +1,4 @@
 use Rattle.std.proofs.Common.{refl}
-use Rattle.std.proofs.lemmas.Result.{err_from_is_err_and}
 use Rattle.dmf_text.specs.Written.{solution_text}
 use Rattle.dmf_text.proofs.WritingLemmas.{first-failed, first-put}
 use Rattle.dmf_solving.specs.Solved.{side_text}
@@ -7,8 +6,7 @@ use Rattle.dmf_solving.proofs.solved.write_solved.Goals as goal
 
 pub returns-in_err-write_solution : goal.returns-in_err-write_solution
 returns-in_err-write_solution g c =
-    let failed = err_from_is_err_and c.from_residual.result c.from_residual.ensures.1 in
-    first-failed _ _ _ _ _ (solution_text c.args.state.now) (side_text c.args.side.now) failed.1 refl c.in_err-write_solution.ensures.written
+    first-failed _ _ _ _ _ (solution_text c.args.state.now) (side_text c.args.side.now) c.from_residual.ensures.1 refl c.in_err-write_solution.ensures.written
 
 pub returns : goal.returns
 returns g c =

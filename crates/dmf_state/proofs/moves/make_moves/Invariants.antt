@@ -5,5 +5,5 @@ use Rattle.dmf_state.proofs.moves.make_moves.Given as goal
 
 abbrev pub invariant-loop-m : goal.invariant-loop-m
 invariant-loop-m l =
-    let moves = along l.direction l.moves in
+    let moves = along l.moving.direction l.moving.moves.now in
     AreMoved l.arcs moves (moved moves l.initial.flows) l.node l.m-index l.flows l.at_node

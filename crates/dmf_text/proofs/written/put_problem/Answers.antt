@@ -1,5 +1,4 @@
 use Rattle.std.proofs.Common.{◌≡◌, [], ◌∷◌, ◌++◌, codes, decimal, ap, ◌∙◌, sym, subst}
-use Rattle.std.proofs.lemmas.Result.{err_from_is_err_and}
 use Rattle.dmf_text.specs.Writing.{Writes}
 use Rattle.dmf_text.specs.Written.{written_line, arcs_text, problem_text}
 use Rattle.dmf_text.proofs.WrittenLemmas.{problem_text-lines}
@@ -40,23 +39,20 @@ third g c = ap (λ k. written_line (codes "n" ∷ decimal k ∷ codes "t" ∷ []
 pub returns-in_err-put_line-clause-written : goal.returns-in_err-put_line-clause-written
 returns-in_err-put_line-clause-written g c =
     let at = goal.at.returns-in_err-put_line-clause-written g c in
-    let failed = err_from_is_err_and c.from_residual.result c.from_residual.ensures.1 in
-    first-failed _ _ _ _ _ _ _ failed.1 (first g at.After-put_line) c.in_err-put_line.ensures
+    first-failed _ _ _ _ _ _ _ c.from_residual.ensures.1 (first g at.After-put_line) c.in_err-put_line.ensures
 
 pub returns-in_err-put_terminal-clause-written : goal.returns-in_err-put_terminal-clause-written
 returns-in_err-put_terminal-clause-written g c =
     let at = goal.at.returns-in_err-put_terminal-clause-written g c in
-    let failed = err_from_is_err_and c.from_residual-in_err-put_terminal.result c.from_residual-in_err-put_terminal.ensures.1 in
     first-put _ (g.W.Sink.written c.put_line.new.out) _ _ _ _ _ (first g at.After-put_line) c.in_ok-put_line.ensures
-    (first-failed _ _ _ _ _ _ _ failed.1 (second g at.After-put_terminal) c.in_err-put_terminal.ensures)
+    (first-failed _ _ _ _ _ _ _ c.from_residual-in_err-put_terminal.ensures.1 (second g at.After-put_terminal) c.in_err-put_terminal.ensures)
 
 pub returns-in_err-put_terminal-2-clause-written : goal.returns-in_err-put_terminal-2-clause-written
 returns-in_err-put_terminal-2-clause-written g c =
     let at = goal.at.returns-in_err-put_terminal-2-clause-written g c in
-    let failed = err_from_is_err_and c.from_residual-in_err-put_terminal-2.result c.from_residual-in_err-put_terminal-2.ensures.1 in
     first-put _ (g.W.Sink.written c.put_line.new.out) _ _ _ _ _ (first g at.After-put_line) c.in_ok-put_line.ensures
     (first-put _ (g.W.Sink.written c.put_terminal.new.out) _ _ _ _ _ (second g at.After-put_terminal) c.in_ok-put_terminal.ensures
-    (first-failed _ _ _ _ _ _ _ failed.1 (third g at.After-put_terminal-2) c.in_err-put_terminal-2.ensures))
+    (first-failed _ _ _ _ _ _ _ c.from_residual-in_err-put_terminal-2.ensures.1 (third g at.After-put_terminal-2) c.in_err-put_terminal-2.ensures))
 
 pub returns-clause-written : goal.returns-clause-written
 returns-clause-written g c =

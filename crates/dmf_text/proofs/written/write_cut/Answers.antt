@@ -1,5 +1,4 @@
 use Rattle.std.proofs.Common.{◌≡◌, [], ◌∷◌, ◌++◌, codes, decimal, ap, ◌∙◌, sym, subst}
-use Rattle.std.proofs.lemmas.Result.{err_from_is_err_and}
 use Rattle.dmf_text.specs.Writing.{Writes}
 use Rattle.dmf_text.specs.Written.{written_line, cut_text, nodes_text}
 use Rattle.dmf_text.proofs.WrittenLemmas.{cut_text-lines}
@@ -17,9 +16,8 @@ first g c =
 
 pub returns-in_err-put_line : goal.returns-in_err-put_line
 returns-in_err-put_line g c =
-    let failed = err_from_is_err_and c.from_residual.result c.from_residual.ensures.1 in
     record {
-      written = first-failed _ _ _ _ _ _ _ failed.1
+      written = first-failed _ _ _ _ _ _ _ c.from_residual.ensures.1
           (first g (goal.at.returns-in_err-put_line g c).After-put_line) c.in_err-put_line.ensures;
     }
 

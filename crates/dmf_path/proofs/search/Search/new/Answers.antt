@@ -22,8 +22,8 @@ returns g c =
     ∙ λ i. record {
       nodes = b.nodes_are i;
       pairs = b.pairs_are i;
-      start = c.args.start;
-      goal = c.args.goal;
+      start = c.args.ends.start;
+      goal = c.args.ends.goal;
       takes_back = c.args.takes_back;
     })
     c.search.ensures

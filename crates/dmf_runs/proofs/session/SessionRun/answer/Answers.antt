@@ -47,7 +47,8 @@ returns-in-Err g c =
 pub put_reply-requires : goal.put_reply-requires
 put_reply-requires g c =
     let timeline = g.H.History.timeline in
-    answers-reply c.args.self.wanted.cut (timeline c.args.session.now) c.in-Ok-Some.command c.in-Ok.reply (timeline c.step_watched.new.self) c.in-Ok.ensures.answer
+    answers-reply c.args.self.wanted.cut (timeline c.args.session.now) c.in-Ok-Some.command c.in-Ok.reply (timeline c.step_watched.new.self)
+    c.in-Ok.ensures.answer
 
 pub returns-in_err-put_reply-in-Ok : goal.returns-in_err-put_reply-in-Ok
 returns-in_err-put_reply-in-Ok g c =

@@ -1,6 +1,13 @@
 use Rattle.std.proofs.Common.{Some, ap, sym, ◌∙◌}
+use Rattle.dmf_state.proofs.Changing.{within-at}
 use Rattle.dmf_solver.proofs.NetworkPairs.{pair-at, pair-past}
 use Rattle.dmf_solver.proofs.residual.ResidualPairsPairs.pair.Goals as goal
+
+pub residual_pair-requires : goal.residual_pair-requires
+residual_pair-requires c =
+    let s = c.args.self.now.state.now in
+    let at = c.in-Some.ensures.at in
+    rw (at.arc_is, at.flow_is) (within-at s.network.arcs s.flows c.args.k c.arc_at.ensures.state.flow.within)
 
 pub returns-in-Some : goal.returns-in-Some
 returns-in-Some c =

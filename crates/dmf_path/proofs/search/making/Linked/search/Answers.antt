@@ -9,48 +9,44 @@ use Rattle.dmf_path.specs.Searching.{labelling_of, Sought, searched}
 use Rattle.dmf_path.proofs.Asides.{aside-none}
 use Rattle.dmf_path.proofs.SearchTurns.{search-new, sought-free}
 use Rattle.dmf_path.proofs.search.making.Linked.search.Goals as goal
+use Rattle.dmf_path.proofs.search.making.Linked.search.Goals.{In_ok-slots}
+
+-- the links, with their rooms
+abbrev residual : In_ok-slots → Residual
+residual c = record { links = links_of c.args.self.table.value; takes_back = c.args.takes_back; rooms = c.args.self.rooms.items }
+
+-- a path without links
+abbrev way : In_ok-slots → Way
+way c = record {
+  slots = c.in_ok-slots.slots.items;
+  capacity = vec_capacity c.in_ok-slots.slots;
+  walked = 0;
+  rest = 0;
+  joint = c.args.goal;
+  sent = 0;
+  start = c.args.start;
+  goal = c.args.goal;
+}
 
 pub invariant_of-links : goal.invariant_of-links
 invariant_of-links c = record { rooms_are = c.requires.rooms; flags_are = rw (c.deref.ensures, c.deref-2.ensures.value) at c.in_ok-flags.ensures }
 
 pub invariant_of-result : goal.invariant_of-result
 invariant_of-result c =
+    let at = (goal.at.invariant_of-result c).In_ok-slots in
     let table = c.args.self.table.value in
     let l = links_of table in
-    let slots = c.in_ok-slots.slots in
     let m = rw c.deref-5.ensures at c.make_fresh.ensures in
-    let r : Residual = record { links = l; takes_back = c.args.takes_back; rooms = c.args.self.rooms.items } in
-    let w : Way = record {
-      slots = slots.items;
-      capacity = vec_capacity slots;
-      walked = 0;
-      rest = 0;
-      joint = c.args.goal;
-      sent = 0;
-      start = c.args.start;
-      goal =
-          c.args.goal;
-    } in
-    let current : AreCurrent l c.make_fresh.new.levels.current.items = subst (AreCurrent l) (sym (ap (λ v. v.items) m.current)) (rw c.deref-3.ensures at c.in_ok-levels.ensures.current) in (
+    let current : AreCurrent l c.make_fresh.new.levels.current.items =
+    subst (AreCurrent l) (sym (ap (λ v. v.items) m.current)) (rw c.deref-3.ensures at c.in_ok-levels.ensures.current) in (
       ((table.nodes, m.ready), tt, λ e. let no = m.all in absurd (cc), aside-none _ _ c.new-2.ensures.items),
-      search-new r c.args.self.places.value (labelling_of c.make_fresh.new.levels) w (way_of c.make_fresh.new.trail) table.are c.requires.places
+      search-new (residual at) c.args.self.places.value (labelling_of c.make_fresh.new.levels) (way at) (way_of c.make_fresh.new.trail)
+          table.are c.requires.places
           c.requires.rooms m.labels current c.requires.start c.requires.goal c.requires.apart
           (omega (arith, rw c.deref-4.ensures at c.in_ok-slots.ensures.capacity)) (omega arith) m.way,
     )
 
 pub returns : goal.returns
 returns c =
-    let slots = c.in_ok-slots.slots in
-    let r : Residual = record { links = links_of c.args.self.table.value; takes_back = c.args.takes_back; rooms = c.args.self.rooms.items } in
-    let w : Way = record {
-      slots = slots.items;
-      capacity = vec_capacity slots;
-      walked = 0;
-      rest = 0;
-      joint = c.args.goal;
-      sent = 0;
-      start = c.args.start;
-      goal =
-          c.args.goal;
-    } in
-    ap (λ (s : Sought). searched s c.args.self.places.value) (sought-free r w (way_of c.make_fresh.new.trail) [] c.make_fresh.ensures.way)
+    let at = (goal.at.returns c).In_ok-slots in
+    ap (λ (s : Sought). searched s c.args.self.places.value) (sought-free (residual at) (way at) (way_of c.make_fresh.new.trail) [] c.make_fresh.ensures.way)

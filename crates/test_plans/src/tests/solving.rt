@@ -1,6 +1,6 @@
 //! A test of solving.
-use crate::moves::listed;
-use crate::networks::detour;
+use crate::tests::moves::listed;
+use crate::tests::networks::detour;
 use dmf_solver::plan_solve;
 use dmf_state::Edit;
 use std::test::Fail;

@@ -5,7 +5,7 @@ ghost use Rattle.dmf_solver.specs.KeptNetwork.{IsNetworkOf};
 ghost use Rattle.dmf_state.specs.Edit.{applied, Fits};
 ghost use Rattle.dmf_state.specs.Revert.{reverted, Stands};
 
-use crate::networks::{example, flowing};
+use crate::tests::networks::{example, flowing};
 use dmf_solver::{
     PlanFault, ResidualNetwork, Unwatched, plan_add, plan_cap, plan_close, plan_shut, plan_solve,
 };

@@ -1,6 +1,6 @@
 //! Tests of draining.
-use crate::moves::{listed, shuttings};
-use crate::networks::{coming_back, going_round, self_loop, tangle};
+use crate::tests::moves::{listed, shuttings};
+use crate::tests::networks::{coming_back, going_round, self_loop, tangle};
 use dmf_solver::{plan_cap, plan_shut};
 use dmf_state::{Edit, State};
 use std::alloc::Global;

@@ -1,5 +1,5 @@
 //! Tests of building states and of reading them.
-use crate::networks::{example, flowing, network};
+use crate::tests::networks::{example, flowing, network};
 use dmf_state::{Arc, FlowFault, NetFault, State};
 use std::alloc::Global;
 use std::test::Fail;

@@ -1,7 +1,7 @@
 //! Sessions over a history of edits and over a history of whole states write the same.
 ghost use Rattle.std.specs.Prelude.{◌≤◌};
 
-use crate::worked::WORKED;
+use crate::tests::worked::WORKED;
 use dmf_history::{DeltaHistory, WholeHistory};
 use dmf_runs::{EngineFault, Status, run_commands};
 use dmf_session::Session;
@@ -37,21 +37,27 @@ fn random_script(alloc: Global, draws: &mut Draws) -> Result<Vec<u8>, AllocError
     Ok(script)
 }
 
-/// Holds a session over a history of edits with this bound, or over one of whole states with it.
+/// What a history keeps: so many edits, or states.
+#[derive(Clone, Copy)]
+struct Keeping {
+    bound: u32,
+    states: bool,
+    ghost few: { bound ≤ 1000000 },
+}
+
+/// Holds a session over a history that keeps this.
 fn hold(
     alloc: Global,
     problem: &[u8],
     commands: &[u8],
+    keeping: Keeping,
     written: &mut Vec<u8>,
-    bound: u32,
-    keeps_states: bool,
-) -> Result<Status, EngineFault>
-    requires { bound ≤ 1000000 }
-{
+) -> Result<Status, EngineFault> {
+    let bound = keeping.bound;
     let state = read_problem(alloc, problem).map_err(EngineFault::Problem)?;
     let mut commands = StdSource::new(commands);
     let mut out = StdSink::new(written);
-    if keeps_states {
+    if keeping.states {
         let session = Session::new(WholeHistory::with_bound(alloc, state, bound)?);
         return run_commands(alloc, session, &mut commands, &mut out, false);
     }
@@ -63,10 +69,20 @@ fn hold(
 fn compare(alloc: Global, problem: &[u8], script: &[u8], bound: u32) -> Result<(), Fail>
     requires { bound ≤ 1000000 }
 {
+    let (edits, states) = (
+        Keeping {
+            bound,
+            states: false,
+        },
+        Keeping {
+            bound,
+            states: true,
+        },
+    );
     let mut by_edits = Vec::new(alloc);
-    let status = hold(alloc, problem, script, &mut by_edits, bound, false)?;
+    let status = hold(alloc, problem, script, edits, &mut by_edits)?;
     let mut by_states = Vec::new(alloc);
-    let status_by_states = hold(alloc, problem, script, &mut by_states, bound, true)?;
+    let status_by_states = hold(alloc, problem, script, states, &mut by_states)?;
     if status != status_by_states || by_edits.as_slice() != by_states.as_slice() {
         return Err(Fail::from("the histories differ"));
     }

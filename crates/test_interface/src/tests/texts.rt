@@ -1,5 +1,5 @@
 //! Texts: lines, fields and numbers, problems, solutions and cuts, and what they are read from and written to.
-use crate::networks::two_arcs;
+use crate::tests::networks::two_arcs;
 use dmf_net::{Side, State, plan_solve, side_after};
 use dmf_text::{
     Failed, Fields, Lines, NumberFault, ProblemFault, Sink, SolutionFault, Source, StdSink,

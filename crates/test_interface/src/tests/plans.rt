@@ -1,5 +1,5 @@
 //! Changes that are planned on a state, applied and taken back, and the smallest minimum cut.
-use crate::networks::two_arcs;
+use crate::tests::networks::two_arcs;
 use dmf_net::{
     CutFault, Edit, Move, PlanFault, Shutting, Side, SideIds, plan_add, plan_cap, plan_close,
     plan_shut, plan_solve, side_after, smallest_side,

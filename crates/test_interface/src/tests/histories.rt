@@ -1,5 +1,5 @@
 //! Histories and sessions over them: those of the library, and one that a caller writes.
-use crate::networks::two_arcs;
+use crate::tests::networks::two_arcs;
 use dmf_net::{Edit, NoMemory, State, plan_solve};
 use dmf_session::{
     Command, DeltaHistory, History, NothingToUndo, RedoFault, Refusal, Reply, Session, WholeHistory,

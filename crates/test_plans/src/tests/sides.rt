@@ -1,8 +1,8 @@
 //! Tests of smallest sides.
 ghost use Rattle.dmf_state.specs.Edit.{Fits};
 
-use crate::moves::{listed, shuttings};
-use crate::networks::{example, solved_example};
+use crate::tests::moves::{listed, shuttings};
+use crate::tests::networks::{example, solved_example};
 use dmf_solver::{
     is_greatest, plan_shut, plan_solve, plan_solve_with_side, side_after, smallest_side,
 };

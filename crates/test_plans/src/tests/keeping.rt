@@ -1,5 +1,5 @@
 //! A test that a residual network that is kept is let go where an arc is added.
-use crate::networks::solved_example;
+use crate::tests::networks::solved_example;
 use dmf_solver::{ResidualNetwork, plan_add};
 use std::test::Fail;
 

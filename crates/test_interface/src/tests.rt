@@ -1,0 +1,6 @@
+mod examples;
+mod histories;
+mod networks;
+mod plans;
+mod runs;
+mod texts;

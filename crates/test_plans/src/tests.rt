@@ -1,0 +1,8 @@
+mod draining;
+mod keeping;
+mod moves;
+mod networks;
+mod reverting;
+mod sides;
+mod solving;
+mod states;

@@ -1,0 +1,5 @@
+mod flushes;
+mod histories;
+mod slow;
+mod watching;
+mod worked;
