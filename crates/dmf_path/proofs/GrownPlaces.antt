@@ -50,7 +50,7 @@ module _ (l : Links) (places : List ℕ) (k : ℕ) (g : Gap) (links : AreLinks l
   partner-was p within = grown.partners.kept p (omega (arith, within, links.partners_long))
 
   -- A shifted link belongs to the same pair,
-  of-shifted : (p j : ℕ) → IsOf l places p j → IsOf n after (shifted g p) (counted k j)
+  pub of-shifted : (p j : ℕ) → IsOf l places p j → IsOf n after (shifted g p) (counted k j)
   of-shifted p j of =
       let below = are.within j of.0 of.1 in
       let at = place-was j of.0 of.1 in (
@@ -69,7 +69,7 @@ module _ (l : Links) (places : List ℕ) (k : ℕ) (g : Gap) (links : AreLinks l
   new-there : get_or after k 0 ≢ no_place
   new-there none = new-some (sym placed.new_is ∙ none)
 
-  of-low : IsOf n after g.low k
+  pub of-low : IsOf n after g.low k
   of-low = (
     new-in,
     new-there,
@@ -79,7 +79,7 @@ module _ (l : Links) (places : List ℕ) (k : ℕ) (g : Gap) (links : AreLinks l
     ],
   )
 
-  of-high : IsOf n after (g.high + 1) k
+  pub of-high : IsOf n after (g.high + 1) k
   of-high = (
     new-in,
     new-there,

@@ -69,3 +69,5 @@ pub mod Slots
 pub mod ShrunkLinks
 pub mod ShrunkPlaces
 pub mod ShrunkRooms
+pub mod GrownTogether
+pub mod ShrunkTogether

@@ -11,11 +11,11 @@ use Rattle.dmf_path.proofs.ShrunkLinks.{shifted-in, shifted-other, shifted-one, 
 
 module _ (l : Links) (places : List ℕ) (k : ℕ) (g : Gap) (links : AreLinks l) (filled : IsFilled l (get_or places k 0) g) (n : Links)
     (grown : IsGrown g n l) (after : List ℕ) (left : IsUnplaced g k places after) (are : ArePlaces l places) (index : k < length places) where
-  counted-in : (j : ℕ) → j < length after → (counted k j < length places) × (counted k j ≢ k)
+  pub counted-in : (j : ℕ) → j < length after → (counted k j < length places) × (counted k j ≢ k)
   counted-in j within = (omega (arith, counted-sum k j, left.long, within), λ same. omega (arith, counted-sum k j, same))
 
   -- The two links are those of the pair.
-  of-pair : (q : ℕ) → IsOf l places q k → (q ≡ g.low) ⊎ (q ≡ g.high + 1)
+  pub of-pair : (q : ℕ) → IsOf l places q k → (q ≡ g.low) ⊎ (q ≡ g.high + 1)
   of-pair q of = elim filled.own [
     | inl at ↦ elim of.2 [
       | inl here ↦ inl (sym here ∙ at)
@@ -89,7 +89,7 @@ module _ (l : Links) (places : List ℕ) (k : ℕ) (g : Gap) (links : AreLinks l
         ],
       )
 
-  of-back : (p j : ℕ) → j < length after → IsOf l places (shifted g p) (counted k j) → IsOf n after p j
+  pub of-back : (p j : ℕ) → j < length after → IsOf l places (shifted g p) (counted k j) → IsOf n after p j
   of-back p j within of =
       let w = place-was j within of.1 in (
         within,
@@ -103,15 +103,26 @@ module _ (l : Links) (places : List ℕ) (k : ℕ) (g : Gap) (links : AreLinks l
         ],
       )
 
-  each-of : (p : ℕ) → p < length n.heads → (j : ℕ) × IsOf n after p j
-  each-of p within =
+  -- Of which pair a link is that stays.
+  pub record IsItsIndex (p i : ℕ) : Type 0 where
+    pub j : ℕ
+    pub was_index : i ≡ counted k j
+    pub of : IsOf n after p j
+
+  pub its-index : (p i : ℕ) → IsOf l places (shifted g p) i → IsItsIndex p i
+  its-index p i of =
       let q = shifted g p in
       let other = shifted-other l (get_or places k 0) g links filled n grown p in
-      let found = are.each q (shifted-in l (get_or places k 0) g links filled n grown p within) in
-      elim (some-index k (length after) found.0 (omega (arith, index, left.long)) (omega (arith, found.1.0, left.long))) [
-        | was j below same ↦ (j, of-back p j below (subst (IsOf l places q) same found.1))
-        | new same ↦ absurd (elim (of-pair q (subst (IsOf l places q) same found.1)) [ inl at ↦ other.0 at | inr at ↦ other.1 at ])
+      elim (some-index k (length after) i (omega (arith, index, left.long)) (omega (arith, of.0, left.long))) [
+        | was j below same ↦ record { j = j; was_index = same; of = of-back p j below (subst (IsOf l places q) same of) }
+        | new same ↦ absurd (elim (of-pair q (subst (IsOf l places q) same of)) [ inl at ↦ other.0 at | inr at ↦ other.1 at ])
       ]
+
+  each-of : (p : ℕ) → p < length n.heads → (j : ℕ) × IsOf n after p j
+  each-of p within =
+      let found = are.each (shifted g p) (shifted-in l (get_or places k 0) g links filled n grown p within) in
+      let its = its-index p found.0 found.1 in
+      (its.j, its.of)
 
   ascends : (v p q i j : ℕ) → IsNode n.nodes v → LiesAt n v p → LiesAt n v q → p < q → IsOf n after p i → IsOf n after q j → i < j
   ascends v p q i j node p_lies q_lies before its other =

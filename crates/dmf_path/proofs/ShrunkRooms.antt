@@ -7,7 +7,7 @@ use Rattle.std.proofs.lemmas.List.Edits.{length-remove, get_or-remove_below, get
 use Rattle.dmf_path.specs.declared.grown.Gap.{Gap}
 use Rattle.dmf_path.specs.Links.{Links, AreLinks, ArePlaces, AreRooms, AreFlags, open_flag, no_place, pair_at, pairs_at}
 use Rattle.dmf_path.specs.Grown.{shifted, counted, new_before, IsGrown, IsSpread}
-use Rattle.dmf_path.specs.Shrunk.{without_two, AreUnshifted, IsFilled, IsUnplaced}
+use Rattle.dmf_path.specs.Shrunk.{without_two, AreRenumbered, AreUnshifted, IsFilled, IsUnplaced}
 use Rattle.dmf_path.proofs.GrownLinks.{old, low, high, some-link, shifted-sum}
 use Rattle.dmf_path.proofs.GrownPlaces.{counted-sum}
 use Rattle.dmf_path.proofs.ShrunkLinks.{shifted-in, partner-was, partner-in, partner-kept, tail-was, head-was, opposite-back, head-low}
@@ -22,10 +22,10 @@ module _ {A : Type 0} (g : Gap) (xs : List A) (d : A) (order : g.low ≤ g.high)
   low-in : g.low < length (remove xs (g.high + 1))
   low-in = omega (arith, one-long, order, within)
 
-  left-long : length xs ≡ length (without_two g xs) + 2
+  pub left-long : length xs ≡ length (without_two g xs) + 2
   left-long = omega (arith, one-long, length-remove (remove xs (g.high + 1)) g.low low-in)
 
-  left-kept : (p : ℕ) → get_or xs (shifted g p) d ≡ get_or (without_two g xs) p d
+  pub left-kept : (p : ℕ) → get_or xs (shifted g p) d ≡ get_or (without_two g xs) p d
   left-kept p = elim (cases_lt p g.low) [
     | inl before ↦
         let at : shifted g p ≡ p = cond-true _ _ _ (lt-ltb p g.low before) in
@@ -56,6 +56,14 @@ spread-left g first second xs left order within at_low at_high is = rw is (recor
   at_low = at_low;
   at_high = at_high;
 })
+
+-- The numbers that are left, each lowered where it was raised.
+pub renumbered : (g : Gap) (k : ℕ) (xs left new : List ℕ) → g.low ≤ g.high → g.high + 1 < length xs → left ≡ without_two g xs → length new ≡ length left
+    → ((p j : ℕ) → p < length left → get_or left p 0 ≡ counted k j → get_or new p 0 ≡ j) → AreRenumbered g k xs new
+renumbered g k xs left new order within is same each = record {
+  long = omega (arith, left-long g xs 0 order within, ap length is, same);
+  each = λ p j h was. each p j (omega (arith, h, same)) (ap (λ ys. get_or ys p 0) is ∙ sym (left-kept g xs 0 order within p) ∙ was);
+}
 
 -- what is read before the place that is gone
 pub get-removed : {A : Type 0} (xs : List A) (k : ℕ) (d : A) (j : ℕ) → k < length xs → get_or (remove xs k) j d ≡ get_or xs (counted k j) d

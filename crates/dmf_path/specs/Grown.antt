@@ -1,6 +1,6 @@
 -- Putting the two links of a new pair among other links, which keep their order.
 -- Private: only contracts inside the crate and proofs use this.
-use Rattle.std.specs.Prelude.{ℕ, ◌≡◌, ◌+◌, ◌^◌, ◌<◌, ◌≤◌, ◌==◌, nat_lt, if◌then◌else◌, List, length, slice_index, insert}
+use Rattle.std.specs.Prelude.{ℕ, ◌≡◌, ◌+◌, ◌-◌, ◌^◌, ◌<◌, ◌≤◌, ◌==◌, nat_lt, if◌then◌else◌, List, length, slice_index, insert}
 use Rattle.dmf_node.specs.Node.{IsNode}
 use Rattle.dmf_path.specs.declared.grown.Gap.{Gap}
 use Rattle.dmf_path.specs.declared.grown.NewPair.{NewPair}
@@ -73,3 +73,15 @@ pub data IsOfPair (p : Pair) (new : NewPair) : Type 0 where
       → new.high_room ≡ p.against → IsOfPair p new
   falling : p.tail ≡ new.gap.high_node → p.head ≡ new.gap.low_node → new.place ≡ new.gap.high + 1 → new.low_room ≡ p.against
       → new.high_room ≡ p.along → IsOfPair p new
+
+-- The links and the places of the pairs have become these: with those of this pair before the last one.
+pub record AreGrown (l : Links) (places : List ℕ) (p : Pair) (made : NewPair) (n : Links) (after : List ℕ) : Type 0 where
+  pub gap : IsGap l places (length places - 1) made.gap
+  pub pair : IsOfPair p made
+  pub table : IsGrown made.gap l n
+  pub placed : IsPlaced made.gap (length places - 1) made.place places after
+
+-- It is the same pair but for its rooms.
+pub record HasEndsOf (p q : Pair) : Type 0 where
+  pub tail : q.tail ≡ p.tail
+  pub head : q.head ≡ p.head

@@ -14,6 +14,7 @@ pub mod Touched
 pub mod Searching
 pub mod BothEnds
 pub mod Frontier
-pub mod Touching
 pub mod Grown
 pub mod Shrunk
+pub mod Touching
+pub mod Apart

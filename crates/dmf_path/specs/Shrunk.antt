@@ -3,7 +3,7 @@
 use Rattle.std.specs.Prelude.{ℕ, ◌≡◌, ◌≢◌, ◌+◌, ◌<◌, ◌≤◌, ◌⊎◌, List, length, slice_index, remove}
 use Rattle.dmf_path.specs.declared.grown.Gap.{Gap}
 use Rattle.dmf_path.specs.Links.{Links, no_place, tail_of}
-use Rattle.dmf_path.specs.Grown.{shifted, counted}
+use Rattle.dmf_path.specs.Grown.{shifted, counted, IsGrown}
 
 -- The link at this place and its opposite are the two that went in at the gap.
 pub record IsFilled (l : Links) (place : ℕ) (g : Gap) : Type 0 where
@@ -28,3 +28,14 @@ pub record IsUnplaced (g : Gap) (k : ℕ) (old new : List ℕ) : Type 0 where
   pub none : (j : ℕ) → j < length new → slice_index old (counted k j) ≡ no_place → slice_index new j ≡ no_place
   pub some : (j p : ℕ) → j < length new → slice_index old (counted k j) ≢ no_place → slice_index old (counted k j) ≡ shifted g p
       → slice_index new j ≡ p
+
+-- The links and the places of the pairs have become these: without those of the pair at index `k`.
+pub record AreShrunk (l : Links) (places : List ℕ) (k : ℕ) (g : Gap) (n : Links) (after : List ℕ) : Type 0 where
+  pub filled : IsFilled l (slice_index places k) g
+  pub table : IsGrown g n l
+  pub left : IsUnplaced g k places after
+
+-- Of each link there is the number that its pair has then.
+pub record AreRenumbered (g : Gap) (k : ℕ) (old new : List ℕ) : Type 0 where
+  pub long : length old ≡ length new + 2
+  pub each : (p j : ℕ) → p < length new → slice_index old (shifted g p) ≡ counted k j → slice_index new p ≡ j

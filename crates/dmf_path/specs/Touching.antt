@@ -4,7 +4,10 @@ use Rattle.std.specs.Prelude.{ℕ, ◌≡◌, ◌<◌, ◌++◌, List, length, m
 use Rattle.std.specs.declared.alloc.Global.{Global}
 use Rattle.std.specs.declared.rc.Rc.{Rc}
 use Rattle.dmf_path.specs.declared.trail.Slot.{Slot}
+use Rattle.dmf_path.specs.declared.grown.Gap.{Gap}
 use Rattle.dmf_path.specs.Links.{Links, IsOf}
+use Rattle.dmf_path.specs.Grown.{counted, IsSpread}
+use Rattle.dmf_path.specs.Shrunk.{AreRenumbered}
 
 -- the items of a vector, if there is one
 abbrev pub items_of : Option (Vec ℕ Global) → Option (List ℕ)
@@ -28,3 +31,15 @@ pub data Lists (numbers : Option (Rc (Vec ℕ Global) Global)) (slots : List Slo
   all : new ≡ None → Lists numbers slots old new
   these : (known : Rc (Vec ℕ Global) Global) (indices : List ℕ) → numbers ≡ Some known → old ≡ Some indices
       → new ≡ Some (indices ++ numbers_of known.value.items slots) → Lists numbers slots old new
+
+-- There are no numbers; or where there were some, these are spread among those of a new pair at index `k`.
+pub data AreSpreadNumbers (g : Gap) (k : ℕ) (old new : Option (Rc (Vec ℕ Global) Global)) : Type 0 where
+  none : new ≡ None → AreSpreadNumbers g k old new
+  some : (known after : Rc (Vec ℕ Global) Global) → old ≡ Some known → new ≡ Some after
+      → IsSpread g (counted k) k k known.value.items after.value.items → AreSpreadNumbers g k old new
+
+-- There are no numbers; or where there were some, these are left of them without the pair at index `k`.
+pub data AreNumbersLeft (g : Gap) (k : ℕ) (old new : Option (Rc (Vec ℕ Global) Global)) : Type 0 where
+  none : new ≡ None → AreNumbersLeft g k old new
+  some : (known after : Rc (Vec ℕ Global) Global) → old ≡ Some known → new ≡ Some after
+      → AreRenumbered g k known.value.items after.value.items → AreNumbersLeft g k old new

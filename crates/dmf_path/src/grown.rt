@@ -4,7 +4,7 @@ ghost use Rattle.dmf_node.specs.Node.{IsNode};
 ghost use Rattle.dmf_path.specs.Pair.{IsPair};
 ghost use Rattle.dmf_path.specs.Links.{ArePlaces, no_place, open_flag};
 ghost use Rattle.dmf_path.specs.LinkTable.{links_of};
-ghost use Rattle.dmf_path.specs.Grown.{shifted, shifted_place, new_before, with_two, IsSlot, IsGap, IsOfPair, IsGrown, IsPlaced, IsSpread, IsShort};
+ghost use Rattle.dmf_path.specs.Grown.{shifted, shifted_place, new_before, with_two, IsSlot, IsGap, IsOfPair, IsGrown, IsPlaced, IsSpread, IsShort, HasEndsOf};
 
 use crate::links::{NO_PLACE, open_flag};
 use crate::pair::Pair;
@@ -197,7 +197,7 @@ impl Gap {
     }
 
     /// A vector with a value for each link, with the values of the new links. Takes memory for it.
-    fn put_two<T: Copy + Drop>(
+    pub fn put_two<T: Copy + Drop>(
         &self,
         mut items: Vec<T>,
         low: T,
@@ -233,6 +233,23 @@ impl LinkTable {
 }
 
 impl NewPair {
+    /// The same with the rooms of this pair, which has the same ends.
+    pub fn with_rooms_of(&self, pair: Pair) -> NewPair
+        requires order { self.now.gap.low_node < self.now.gap.high_node }
+        requires ends { (p : Pair) × (IsOfPair p self.now × HasEndsOf p pair) }
+        ensures pair { IsOfPair pair result }
+        ensures gap { result.gap ≡ self.now.gap }
+        ensures place { result.place ≡ self.now.place }
+    {
+        let is_rising = pair.tail == self.gap.low_node;
+        NewPair {
+            gap: self.gap,
+            place: self.place,
+            low_room: if is_rising { pair.along } else { pair.against },
+            high_room: if is_rising { pair.against } else { pair.along },
+        }
+    }
+
     /// The places of the pairs, with that of the new pair before the last one. Takes memory for all of them.
     pub fn grown_places(&self, alloc: Global, places: &Places) -> Result<Vec<u32>, AllocError>
         requires some { 0 < length places.now }

@@ -1,12 +1,16 @@
 //! For each link the index of its pair.
-ghost use Rattle.std.specs.Prelude.{◌≡◌, ℕ, true, List, length, IfOk};
-ghost use Rattle.dmf_path.specs.Links.{ArePlaces};
+ghost use Rattle.std.specs.Prelude.{◌≡◌, ℕ, ◌+◌, ◌^◌, ◌<◌, ◌≤◌, true, List, length, slice_index, IfOk, IfSome};
+ghost use Rattle.dmf_path.specs.Grown.{counted, IsSpread};
+ghost use Rattle.dmf_path.specs.Links.{ArePlaces, Links};
 ghost use Rattle.dmf_path.specs.LinkTable.{links_of};
-ghost use Rattle.dmf_path.specs.Touching.{AreNumbers};
+ghost use Rattle.dmf_path.specs.Shrunk.{AreRenumbered};
+ghost use Rattle.dmf_path.specs.Touching.{AreNumbers, AreNumbersLeft, AreSpreadNumbers, MayBeNumbered};
 
+use crate::grown::Gap;
 use crate::places::Places;
 use crate::table::LinkTable;
 use std::alloc::{AllocError, Global};
+use std::rc::Rc;
 
 /// For each link the index of its pair. Takes memory for a number a link.
 pub fn number_links(
@@ -45,6 +49,104 @@ fn put_numbers(table: &LinkTable, places: &Places, numbers: &mut [u32])
         if let Some(place) = places.place_of(k) {
             numbers[place as usize] = k as u32;
             numbers[table.opposite(place) as usize] = k as u32;
+        }
+    }
+}
+
+/// The numbers where there are some, once there is a pair more at index `k`, whose links go in at this gap. Takes memory for a number
+/// a link.
+pub fn grow_numbers(
+    alloc: Global,
+    numbers: &Option<Rc<Vec<u32>>>,
+    gap: &Gap,
+    k: u32,
+) -> Result<Option<Rc<Vec<u32>>>, AllocError>
+    requires order { gap.now.low ≤ gap.now.high }
+    requires within { IfSome numbers.now (λ known. gap.now.high ≤ length known.value.items) }
+    requires small { IfSome numbers.now (λ known. (p : ℕ) → p < length known.value.items → slice_index known.value.items p < 2 ^ 31) }
+    ensures { IfOk result (AreSpreadNumbers gap.now k numbers.now) }
+{
+    let Some(known) = numbers else {
+        return Ok(None);
+    };
+    let after = grown_numbers(alloc, known, gap, k)?;
+    Ok(Some(Rc::new(alloc, after)?))
+}
+
+/// The same numbers, which searches then share. Takes no memory.
+pub fn share_known(numbers: &Option<Rc<Vec<u32>>>) -> Result<Option<Rc<Vec<u32>>>, AllocError>
+    ensures { IfOk result (λ shared. (l : Links) (places : List ℕ) → MayBeNumbered l places numbers.now → MayBeNumbered l places shared) }
+{
+    match numbers {
+        Some(known) => Ok(Some(known.clone()?)),
+        None => Ok(None),
+    }
+}
+
+/// The numbers where there are some and none has them too, without those of the pair at index `k`, whose links leave this gap. Takes no
+/// memory.
+pub fn numbers_left(numbers: Option<Rc<Vec<u32>>>, gap: &Gap, k: u32) -> Option<Rc<Vec<u32>>>
+    requires order { gap.now.low ≤ gap.now.high }
+    requires within { IfSome numbers (λ known. gap.now.high + 1 < length known.value.items) }
+    ensures { AreNumbersLeft gap.now k numbers result }
+{
+    let mut known = numbers?;
+    leave_out_numbers(Rc::get_mut(&mut known)?, gap, k);
+    Some(known)
+}
+
+/// The numbers, once there is a pair more at index `k`, whose links go in at this gap. Takes memory for a number a link.
+fn grown_numbers(alloc: Global, numbers: &[u32], gap: &Gap, k: u32) -> Result<Vec<u32>, AllocError>
+    requires order { gap.now.low ≤ gap.now.high }
+    requires within { gap.now.high ≤ length numbers.now }
+    requires small { (p : ℕ) → p < length numbers.now → slice_index numbers.now p < 2 ^ 31 }
+    ensures { IfOk result (λ after. IsSpread gap.now (counted k) k k numbers.now after.items) }
+{
+    let after = counted_up(alloc, numbers, k)?;
+    gap.put_two(after, k, k)
+}
+
+/// The numbers of the links that were there. Takes memory for them.
+fn counted_up(alloc: Global, numbers: &[u32], k: u32) -> Result<Vec<u32>, AllocError>
+    requires { (p : ℕ) → p < length numbers.now → slice_index numbers.now p < 2 ^ 31 }
+    ensures long { IfOk result (λ after. length after.items ≡ length numbers.now) }
+    ensures each { IfOk result (λ after. (p : ℕ) → p < length numbers.now
+        → slice_index after.items p ≡ counted k (slice_index numbers.now p)) }
+{
+    let mut after = Vec::from_slice(alloc, numbers)?;
+    count_up(&mut after, k);
+    Ok(after)
+}
+
+/// Raises each number from `k` on by one.
+fn count_up(numbers: &mut [u32], k: u32)
+    requires { (p : ℕ) → p < length numbers.old → slice_index numbers.old p < 2 ^ 31 }
+    ensures { (p : ℕ) → p < length numbers.old → slice_index numbers.new p ≡ counted k (slice_index numbers.old p) }
+{
+    for number in numbers.iter_mut() {
+        if *number >= k {
+            *number += 1;
+        }
+    }
+}
+
+/// Leaves out the numbers of the two links that leave this gap, those of the pair at index `k`. Takes no memory.
+fn leave_out_numbers(numbers: &mut Vec<u32>, gap: &Gap, k: u32)
+    requires order { gap.now.low ≤ gap.now.high }
+    requires within { gap.now.high + 1 < length numbers.old.items }
+    ensures { AreRenumbered gap.now k numbers.old.items numbers.new.items }
+{
+    gap.take_two(numbers);
+    count_down(numbers, k);
+}
+
+/// Lowers each number past `k` by one.
+fn count_down(numbers: &mut [u32], k: u32)
+    ensures { (p j : ℕ) → p < length numbers.old → slice_index numbers.old p ≡ counted k j → slice_index numbers.new p ≡ j }
+{
+    for number in numbers.iter_mut() {
+        if *number > k {
+            *number -= 1;
         }
     }
 }

@@ -1,5 +1,5 @@
 //! The two links of a pair are taken out from among the others, which keep their order.
-ghost use Rattle.std.specs.Prelude.{◌≡◌, ◌≢◌, ℕ, ◌+◌, ◌<◌, ◌≤◌, true, length, slice_index, IfSome};
+ghost use Rattle.std.specs.Prelude.{◌≡◌, ◌≢◌, ℕ, ◌+◌, ◌<◌, ◌≤◌, true, length, slice_index};
 ghost use Rattle.dmf_path.specs.Links.{no_place};
 ghost use Rattle.dmf_path.specs.LinkTable.{links_of};
 ghost use Rattle.dmf_path.specs.Grown.{shifted, new_before, IsGrown};
@@ -7,7 +7,6 @@ ghost use Rattle.dmf_path.specs.Shrunk.{without_two, AreUnshifted, IsFilled};
 
 use crate::grown::Gap;
 use crate::links::NO_PLACE;
-use crate::push::Links;
 use crate::table::LinkTable;
 use std::rc::Rc;
 
@@ -124,7 +123,7 @@ impl LinkTable {
 }
 
 /// Takes the two links that leave this gap out of a table. If others have the table too, the answer is `false`, and it stays as it is.
-fn shrink_own(table: &mut Rc<LinkTable>, gap: &Gap) -> bool
+pub fn shrink_own(table: &mut Rc<LinkTable>, gap: &Gap) -> bool
     requires { (place : ℕ) × IsFilled (links_of table.old.value) place gap.now }
     ensures { result ≡ true → IsGrown gap.now (links_of table.new.value) (links_of table.old.value) }
 {
@@ -134,33 +133,5 @@ fn shrink_own(table: &mut Rc<LinkTable>, gap: &Gap) -> bool
             true
         }
         None => false,
-    }
-}
-
-impl Links {
-    /// The links with their rooms, without the two that leave this gap. `None` if another search has the same links. Takes no memory.
-    pub fn shrunk(self, gap: &Gap) -> Option<Links>
-        requires { (place : ℕ) × IsFilled (links_of self.table.value) place gap.now }
-        ensures table { IfSome result (λ left. IsGrown gap.now (links_of left.table.value) (links_of self.table.value)) }
-        ensures rooms { IfSome result (λ left. left.rooms.items ≡ without_two gap.now self.rooms.items) }
-        ensures takes_back { IfSome result (λ left. left.takes_back ≡ self.takes_back) }
-    {
-        let Links {
-            mut table,
-            takes_back,
-            mut rooms,
-            mut flags,
-        } = self;
-        if !shrink_own(&mut table, gap) {
-            return None;
-        }
-        gap.take_two(&mut rooms);
-        gap.take_two(&mut flags);
-        Some(Links {
-            table,
-            takes_back,
-            rooms,
-            flags,
-        })
     }
 }

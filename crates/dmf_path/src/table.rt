@@ -19,7 +19,7 @@ pub struct LinkTable {
 }
 
 impl LinkTable {
-    ghost use Rattle.std.specs.Prelude.{◌≡◌, ◌+◌, ◌<◌, ◌≤◌, length, slice_index};
+    ghost use Rattle.std.specs.Prelude.{◌≡◌, ◌+◌, ◌<◌, ◌≤◌, true, length, slice_index};
     ghost use Rattle.dmf_path.specs.Links.{tail_of};
     ghost use Rattle.dmf_path.specs.LinkTable.{links_of};
 
@@ -49,5 +49,15 @@ impl LinkTable {
         ensures { result ≡ tail_of (links_of self.now) place }
     {
         self.heads[self.opposite(place) as usize]
+    }
+
+    /// Whether another table has the same links.
+    pub fn is(&self, other: &LinkTable) -> bool
+        ensures { result ≡ true → links_of self.now ≡ links_of other.now }
+    {
+        self.nodes == other.nodes
+            && self.first == other.first
+            && self.heads == other.heads
+            && self.partners == other.partners
     }
 }

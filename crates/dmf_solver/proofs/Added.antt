@@ -24,7 +24,7 @@ pairs-added [] (flow ∷ flows) arc same = absurd (omega (arith, same))
 pairs-added (a ∷ arcs) [] arc same = absurd (omega (arith, same))
 pairs-added (a ∷ arcs) (flow ∷ flows) arc same = ap (λ pairs. residual_pair a flow ∷ pairs) (pairs-added arcs flows arc (omega (arith, same)))
 
-before-last : (pairs : List (Option Pair)) (k : ℕ) (p last : Option Pair) → k ≡ length pairs
+pub before-last : (pairs : List (Option Pair)) (k : ℕ) (p last : Option Pair) → k ≡ length pairs
     → insert (pairs ++ last ∷ []) k p ≡ (pairs ++ p ∷ []) ++ last ∷ []
 before-last pairs k p last at =
     insert-append_left pairs (last ∷ []) k p (omega (arith, at)) ∙ ap (λ made. made ++ last ∷ []) (ap (λ i. insert pairs i p) at ∙ insert_end pairs p)

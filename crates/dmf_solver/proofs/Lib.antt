@@ -24,6 +24,7 @@ pub mod ResidualPairs
 pub mod NetworkPairs
 mod Added
 pub mod Removed
+pub mod CarryingAdded
 pub mod SmallestSide
 pub mod RoomLeaving
 pub mod Enclosing

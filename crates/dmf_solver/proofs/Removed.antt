@@ -14,7 +14,7 @@ use Rattle.dmf_solver.specs.ResidualNetwork.{residual_pair, residual_pairs, clos
 use Rattle.dmf_solver.proofs.Added.{pairs-added}
 use Rattle.dmf_solver.proofs.NetworkPairs.{length-residual_pairs, length-network_pairs}
 
-last-removed : {A : Type 0} (xs : List A) (x last : A) (k : ℕ) → length xs ≡ k → remove ((xs ++ x ∷ []) ++ last ∷ []) k ≡ xs ++ last ∷ []
+pub last-removed : {A : Type 0} (xs : List A) (x last : A) (k : ℕ) → length xs ≡ k → remove ((xs ++ x ∷ []) ++ last ∷ []) k ≡ xs ++ last ∷ []
 last-removed xs x last k at =
     let here : k - k ≡ 0 = omega arith in
     remove-append_left (xs ++ x ∷ []) (last ∷ []) k (omega (arith, at, length_push xs x))

@@ -21,7 +21,7 @@ use crate::residual::{residual_pair, residual_search};
 use crate::side::{side_along, wanted_side};
 use crate::solve::{Solved, solve};
 use crate::watch::Watch;
-use dmf_path::Search;
+use dmf_path::{Pair, Search};
 use dmf_state::{Arc, Direction, Edit, Move, NoMemory, Side, State};
 use std::alloc::{AllocError, Global};
 use std::marker::Model;
@@ -174,25 +174,45 @@ impl ResidualNetwork {
         }
     }
 
-    /// The residual network of the state with one more arc, on which nothing flows. The search for drains has to be made anew for it.
+    /// The residual network of the state with one more arc, on which nothing flows.
     fn with_arc(self, alloc: Global, state: &State, arc: Arc) -> Option<ResidualNetwork>
         requires network { IsNetworkOf state.now self }
         requires state { IsState (with_idle_arc state.now arc) }
         ensures { IfSome result (IsNetworkOf (with_idle_arc state.now arc)) }
     {
         let pair = residual_pair(arc, 0)?;
-        let ResidualNetwork { search, .. } = self;
-        match search.insert(alloc, pair) {
-            Ok(search) => Some(ResidualNetwork {
+        let ResidualNetwork {
+            search,
+            carrying,
+            looks,
+        } = self;
+        let Some(others) = carrying else {
+            let Ok(search) = search.insert(alloc, pair) else {
+                return None;
+            };
+            return Some(ResidualNetwork {
                 search,
                 carrying: None,
-                looks: 0,
+                looks,
+            });
+        };
+        let idle = Pair {
+            tail: pair.tail,
+            head: pair.head,
+            along: 0,
+            against: 0,
+        };
+        match search.insert_both(alloc, pair, others, idle) {
+            Ok((search, carrying)) => Some(ResidualNetwork {
+                search,
+                carrying,
+                looks,
             }),
             Err(_) => None,
         }
     }
 
-    /// The residual network of the state without its last arc, on which nothing flows. The search for drains has to be made anew for it.
+    /// The residual network of the state without its last arc, on which nothing flows.
     fn without_last_arc(self, state: &State) -> Option<ResidualNetwork>
         requires network { IsNetworkOf state.now self }
         requires last { HasIdleLast state.now }
@@ -201,15 +221,21 @@ impl ResidualNetwork {
         let ResidualNetwork {
             search,
             carrying,
-            ..
+            looks,
         } = self;
-        // It has the same links, and they are taken out in place.
-        drop(carrying);
-        let search = search.remove()?;
+        let Some(others) = carrying else {
+            let search = search.remove()?;
+            return Some(ResidualNetwork {
+                search,
+                carrying: None,
+                looks,
+            });
+        };
+        let (search, carrying) = search.remove_both(others)?;
         Some(ResidualNetwork {
             search,
-            carrying: None,
-            looks: 0,
+            carrying,
+            looks,
         })
     }
 
