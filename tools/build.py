@@ -36,14 +36,15 @@ PROGRAM = "dmf"
 FAILED, INTERRUPTED = 70, 130
 # The most memory that proving one crate takes, in GiB.
 MEMORY = 3.5
-# The processor seconds that each crate takes by one job, on processors of 2.5 GHz: they say which is begun first, and how long the rest
-# takes. Measured by `/usr/bin/time rt lib --jobs 1`, from nothing, with nothing beside it.
+# The processor seconds that each crate takes by one job, from nothing (`/usr/bin/time rt lib --jobs 1`): they say which begins first, and
+# how long the rest takes. On processors of 2.5 GHz on 2026-11-25; those of half of the crates are estimates by the size of their proofs.
 SECONDS = {
-    "dmf_node": 3, "dmf_arguments": 70, "dmf_state": 75, "dmf_history": 40, "dmf_path": 200, "dmf_text": 100, "dmf_streams": 22, "dmf_solver": 95,
-    "dmf_solving": 28, "dmf_session": 78, "dmf_explain": 85, "dmf_terminal": 42, "dmf_progress": 22, "dmf_runs": 62, "dmf_host": 40, "dmf": 92,
+    "dmf_node": 2, "dmf_arguments": 75, "dmf_state": 85, "dmf_history": 40, "dmf_path": 240, "dmf_text": 160, "dmf_streams": 26,
+    "dmf_solver": 170, "dmf_solving": 36, "dmf_session": 104, "dmf_explain": 130, "dmf_terminal": 55, "dmf_progress": 35, "dmf_runs": 102,
+    "dmf_host": 51, "dmf": 95,
 }  # fmt: skip
 UNKNOWN_SECONDS = 60
-# A crate that delays nothing though it takes this many times its seconds more is built by one job, which takes a third less processor time
+# A crate that delays nothing though it takes this many times its seconds more is built by one job, which takes a quarter less processor time
 # than several, and is as nice as can be. One with less room is less nice. More niceness would leave it too little beside a long chain.
 ROOM_FOR_ONE_JOB = 2
 MOST_NICENESS = 5
@@ -71,10 +72,10 @@ class Crate:
 
     @property
     def command(self) -> list[str]:
-        """The command that builds it. `rt run` also runs the program, so it gets a session without commands, which ends with 0. The
-        program is built alone, after all crates below it, so it gets all processors; `rt` would take one for so small a crate."""
+        """The command that builds it. `rt run` also runs the program, so it gets a session without commands, which ends with 0. One
+        job builds the program in two thirds of the time of several, which each load all crates below."""
         if self.name == PROGRAM:
-            return ["rt", "run", "--jobs", str(at_once()), "--", "session", str(ROOT / "examples/a.max")]
+            return ["rt", "run", "--jobs", "1", "--", "session", str(ROOT / "examples/a.max")]
         return ["rt", "lib"]
 
 
