@@ -1,18 +1,22 @@
 -- Two searches meet: what their labels say then, and that a path has no more links than there are nodes.
-use Rattle.std.proofs.Common.{ℕ, ◌≡◌, ◌≢◌, ◌+◌, ◌≤◌, ◌<◌, ◌⊎◌, inl, inr, List, [], ◌∷◌, length, get_or, suc, refl, ap, sym, subst, ◌∙◌, arith, true, ◌==◌, cond}
+use Rattle.std.proofs.Common.{ℕ, ◌≡◌, ◌≢◌, ◌+◌, ◌≤◌, ◌<◌, ◌⊎◌, inl, inr, List, [], ◌∷◌, Option, None, length, get_or, map, suc, refl, ap, sym, subst, ◌∙◌, arith}
+use Rattle.std.proofs.Common.{true, ◌==◌, cond}
 use Rattle.std.proofs.lemmas.Bool.Decides.{eqb_tells}
 use Rattle.std.proofs.lemmas.Bool.{cases_lt, eq-eqb}
 use Rattle.std.proofs.lemmas.List.Sums.{sum_by-cons}
 use Rattle.dmf_node.specs.Node.{IsNode}
-use Rattle.dmf_path.specs.Links.{Links, LiesAt, AreLinks, AreFlags, open_flag, tail_of}
+use Rattle.dmf_path.specs.declared.frontier.Frontier.{Frontier}
+use Rattle.dmf_path.specs.declared.push.Links.{Links as Roomy}
+use Rattle.dmf_path.specs.Links.{Links, LiesAt, AreLinks, open_flag, tail_of}
+use Rattle.dmf_path.specs.LinkTable.{links_of}
 use Rattle.dmf_path.specs.Labels.{no_label, unlabelled_count}
-use Rattle.dmf_path.specs.BothEnds.{AreLevels, HasMetAt}
+use Rattle.dmf_path.specs.BothEnds.{AreLevels, AreNearing, HasMetAt, HaveGoneOn}
 use Rattle.dmf_path.specs.Searching.{IsSeparated}
 use Rattle.dmf_path.specs.Frontier.{AreSpread, IsAtRest, AreApart, MeetBeyond}
 use Rattle.dmf_path.proofs.LinkPlaces.{lies-partner}
 use Rattle.dmf_path.proofs.Flags.{room-of_flag, flag-of_room}
 use Rattle.dmf_path.proofs.Labelling.{queue-short, queued-at, labels-spread}
-use Rattle.dmf_path.proofs.Reaching.{AreOpen, separated-unlabelled, separated-labelled}
+use Rattle.dmf_path.proofs.Reaching.{AreOpen-map, separated-unlabelled, separated-labelled}
 
 -- A search at rest has labelled all nodes up to the level of the next one,
 pub rest-levels : (l : Links) (opens : List ℕ) (root level : ℕ) (labels queue : List ℕ) (done : ℕ) → AreLinks l → AreSpread l opens root labels queue done
@@ -109,106 +113,155 @@ apart-count (x ∷ g) (y ∷ s) long apart =
     let rest = apart-count g s (omega (arith, long)) (λ v within. apart (suc v) (omega (arith, within))) in
     omega (arith, rest, one-of x y (apart 0 (omega arith)), count-cons x g, count-cons y s)
 
+-- the level of the next node of a search
+abbrev pub next_level : Frontier → ℕ
+next_level f = get_or f.labels.items (get_or f.queue.items f.done 0) 0
+
+-- the open links of the search from the start
+abbrev opens_of : Roomy → List ℕ
+opens_of links = map open_flag links.rooms.items
+
 -- As long as both searches are apart, they queue no more nodes together than there are. So they have few levels.
-few-levels : (l : Links) (flags opens : List ℕ) (start goal : ℕ) (g queue_g : List ℕ) (done_g : ℕ) (s queue_s : List ℕ) (done_s : ℕ)
-    → AreSpread l flags goal g queue_g done_g → done_g < length queue_g → AreSpread l opens start s queue_s done_s → done_s < length queue_s → AreApart g s
-    → get_or g (get_or queue_g done_g 0) 0 + get_or s (get_or queue_s done_s 0) 0 < l.nodes
-few-levels l flags opens start goal g queue_g done_g s queue_s done_s spread_g ahead_g spread_s ahead_s apart =
+few-levels : (links : Roomy) (g s : Frontier) → AreNearing links g s → g.done < length g.queue.items → s.done < length s.queue.items
+    → next_level g + next_level s < links.table.value.nodes
+few-levels links g s are ahead_g ahead_s =
+    let goal = are.goal_side in
+    let start = are.start_side in
     omega (
       arith,
-      (spread_g.queued done_g ahead_g).small,
-      (spread_s.queued done_s ahead_s).small,
+      (goal.queued g.done ahead_g).small,
+      (start.queued s.done ahead_s).small,
       ahead_g,
       ahead_s,
-      spread_g.counted,
-      spread_s.counted,
-      spread_g.one_each,
-      apart-count g s (spread_g.one_each ∙ sym spread_s.one_each) apart,
+      goal.counted,
+      start.counted,
+      goal.one_each,
+      apart-count g.labels.items s.labels.items (goal.one_each ∙ sym start.one_each) are.apart,
     )
 
+-- A link that is open to one search is open to the other from its other end.
+mirrored-goal : (links : Roomy) (p : ℕ) → p < length (links_of links.table.value).heads → get_or links.flags.items p 0 ≡ 1
+    → get_or (opens_of links) (get_or (links_of links.table.value).partners p 0) 0 ≡ 1
+mirrored-goal links p within one =
+    let l : Links = links_of links.table.value in
+    let q : ℕ = get_or l.partners p 0 in
+    AreOpen-map l links.rooms.items (opens_of links) links.rooms_are refl q (links.table.value.are.each p within).partner
+    ∙ flag-of_room (get_or links.rooms.items q 0) (room-of_flag (get_or links.rooms.items q 0) (sym (links.flags_are.1 p within) ∙ one))
+
+mirrored-start : (links : Roomy) (p : ℕ) → p < length (links_of links.table.value).heads → get_or (opens_of links) p 0 ≡ 1
+    → get_or links.flags.items (get_or (links_of links.table.value).partners p 0) 0 ≡ 1
+mirrored-start links p within one =
+    let l : Links = links_of links.table.value in
+    let link = links.table.value.are.each p within in
+    links.flags_are.1 (get_or l.partners p 0) link.partner ∙ ap (λ q. open_flag (get_or links.rooms.items q 0)) link.partner_back
+    ∙ sym (AreOpen-map l links.rooms.items (opens_of links) links.rooms_are refl p within) ∙ one
+
+-- Two searches have met if the labels of each node that has both add up to the length of a path across their two levels.
+has-met : (links : Roomy) (start goal at near far : ℕ) (g s : List ℕ) → AreLevels (links_of links.table.value) links.flags.items goal near g
+    → AreLevels (links_of links.table.value) (opens_of links) start far s → near + far < links.table.value.nodes → IsNode links.table.value.nodes at
+    → get_or g at 0 ≢ no_label → get_or s at 0 ≢ no_label
+    → ((v : ℕ) → IsNode links.table.value.nodes v → get_or g v 0 ≢ no_label → get_or s v 0 ≢ no_label → get_or g v 0 + get_or s v 0 ≡ near + far + 1)
+    → HasMetAt (links_of links.table.value) links.flags.items (opens_of links) start goal at g s
+has-met links start goal at near far g s goal_side start_side few node has_g has_s sum = record {
+  near = near;
+  far = far;
+  goal_side = goal_side;
+  start_side = start_side;
+  met = record {
+    node = node;
+    goal_label = has_g;
+    start_label = has_s;
+    both = λ v is. either-met g s v (near + far + 1) (sum v is);
+  };
+  long = few;
+}
+
 -- The goal's side has met the start's.
-pub has-met_goal : (l : Links) (rooms flags opens : List ℕ) (start goal at : ℕ) (g queue_g : List ℕ) (done_g : ℕ) (s queue_s : List ℕ) (done_s : ℕ)
-    (new : List ℕ)
-    → AreLinks l → AreFlags l rooms flags → AreOpen l rooms opens → AreSpread l flags goal g queue_g done_g → done_g < length queue_g
-    → AreSpread l opens start s queue_s done_s → done_s < length queue_s → IsAtRest s queue_s done_s → AreApart g s
-    → AreLevels l flags goal (get_or g (get_or queue_g done_g 0) 0) new → MeetBeyond (get_or g (get_or queue_g done_g 0) 0) new s → IsNode l.nodes at
-    → get_or new at 0 ≢ no_label → get_or s at 0 ≢ no_label → HasMetAt l flags opens start goal at new s
-has-met_goal l rooms flags opens start goal at g queue_g done_g s queue_s done_s new are flagged opened spread_g ahead_g spread_s ahead_s rest apart levels
-    beyond node has_g has_s =
-    let near : ℕ = get_or g (get_or queue_g done_g 0) 0 in
-    let far : ℕ = get_or s (get_or queue_s done_s 0) 0 in
-    let few = few-levels l flags opens start goal g queue_g done_g s queue_s done_s spread_g ahead_g spread_s ahead_s apart in
-    record {
-      near = near;
-      far = far;
-      goal_side = levels;
-      start_side = rest-levels l opens start far s queue_s done_s are spread_s ahead_s rest refl;
-      met = record {
-        node = node;
-        goal_label = has_g;
-        start_label = has_s;
-        both = λ v is. either-met new s v (near + far + 1) (sum-met l flags opens goal start near far v new s queue_s done_s are
-            (λ p within one. opened (get_or l.partners p 0) (are.each p within).partner ∙ flag-of_room (get_or rooms (get_or l.partners p 0) 0)
-            (room-of_flag (get_or rooms (get_or l.partners p 0) 0) (sym (flagged.1 p within) ∙ one)))
-            levels spread_s ahead_s rest refl beyond is (omega (arith, few, are.at_most_nodes)));
-      };
-      long = few;
-    }
+pub has-met_goal : (links : Roomy) (g s : Frontier) (at : ℕ) (new : List ℕ) → AreNearing links g s → g.done < length g.queue.items
+    → s.done < length s.queue.items → AreLevels (links_of links.table.value) links.flags.items g.root (next_level g) new
+    → MeetBeyond (next_level g) new s.labels.items → IsNode links.table.value.nodes at → get_or new at 0 ≢ no_label → get_or s.labels.items at 0 ≢ no_label
+    → HasMetAt (links_of links.table.value) links.flags.items (opens_of links) s.root g.root at new s.labels.items
+has-met_goal links g s at new are ahead_g ahead_s levels beyond node has_g has_s =
+    let l : Links = links_of links.table.value in
+    let whole = links.table.value.are in
+    let few = few-levels links g s are ahead_g ahead_s in
+    has-met links s.root g.root at (next_level g) (next_level s) new s.labels.items levels
+    (rest-levels l (opens_of links) s.root (next_level s) s.labels.items s.queue.items s.done whole are.start_side ahead_s are.start_rest refl) few node
+    has_g has_s
+    (λ v is. sum-met l links.flags.items (opens_of links) g.root s.root (next_level g) (next_level s) v new s.labels.items s.queue.items s.done whole
+    (mirrored-goal links) levels are.start_side ahead_s are.start_rest refl beyond is (omega (arith, few, whole.at_most_nodes)))
 
 -- The start's side has met the goal's.
-pub has-met_start : (l : Links) (rooms flags opens : List ℕ) (start goal at : ℕ) (g queue_g : List ℕ) (done_g : ℕ) (s queue_s : List ℕ) (done_s : ℕ)
-    (new : List ℕ)
-    → AreLinks l → AreFlags l rooms flags → AreOpen l rooms opens → AreSpread l flags goal g queue_g done_g → done_g < length queue_g
-    → IsAtRest g queue_g done_g → AreSpread l opens start s queue_s done_s → done_s < length queue_s → AreApart g s
-    → AreLevels l opens start (get_or s (get_or queue_s done_s 0) 0) new → MeetBeyond (get_or s (get_or queue_s done_s 0) 0) new g → IsNode l.nodes at
-    → get_or new at 0 ≢ no_label → get_or g at 0 ≢ no_label → HasMetAt l flags opens start goal at g new
-has-met_start l rooms flags opens start goal at g queue_g done_g s queue_s done_s new are flagged opened spread_g ahead_g rest spread_s ahead_s apart levels
-    beyond node has_s has_g =
-    let near : ℕ = get_or g (get_or queue_g done_g 0) 0 in
-    let far : ℕ = get_or s (get_or queue_s done_s 0) 0 in
-    let few = few-levels l flags opens start goal g queue_g done_g s queue_s done_s spread_g ahead_g spread_s ahead_s apart in
-    record {
-      near = near;
-      far = far;
-      goal_side = rest-levels l flags goal near g queue_g done_g are spread_g ahead_g rest refl;
-      start_side = levels;
-      met = record {
-        node = node;
-        goal_label = has_g;
-        start_label = has_s;
-        both = λ v is. either-met g new v (near + far + 1) (λ has_x has_y. omega (
-          arith,
-          sum-met l opens flags start goal far near v new g queue_g done_g are
-              (λ p within one. let link = are.each p within in flagged.1 (get_or l.partners p 0) link.partner
-              ∙ ap (λ q. open_flag (get_or rooms q 0)) link.partner_back ∙ sym (opened p within) ∙ one)
-              levels spread_g ahead_g rest refl beyond is (omega (arith, few, are.at_most_nodes)) has_y has_x,
-        ));
-      };
-      long = few;
-    }
+pub has-met_start : (links : Roomy) (g s : Frontier) (at : ℕ) (new : List ℕ) → AreNearing links g s → g.done < length g.queue.items
+    → s.done < length s.queue.items → AreLevels (links_of links.table.value) (opens_of links) s.root (next_level s) new
+    → MeetBeyond (next_level s) new g.labels.items → IsNode links.table.value.nodes at → get_or new at 0 ≢ no_label → get_or g.labels.items at 0 ≢ no_label
+    → HasMetAt (links_of links.table.value) links.flags.items (opens_of links) s.root g.root at g.labels.items new
+has-met_start links g s at new are ahead_g ahead_s levels beyond node has_s has_g =
+    let l : Links = links_of links.table.value in
+    let whole = links.table.value.are in
+    let few = few-levels links g s are ahead_g ahead_s in
+    has-met links s.root g.root at (next_level g) (next_level s) g.labels.items new
+    (rest-levels l links.flags.items g.root (next_level g) g.labels.items g.queue.items g.done whole are.goal_side ahead_g are.goal_rest refl) levels few node
+    has_g has_s
+    (λ v is has_x has_y.
+    let sum = sum-met l (opens_of links) links.flags.items s.root g.root (next_level s) (next_level g) v new g.labels.items g.queue.items g.done whole
+    (mirrored-start links) levels are.goal_side ahead_g are.goal_rest refl beyond is (omega (arith, few, whole.at_most_nodes)) has_y has_x in
+    omega (arith, sum))
+
+-- ---- one level after the other
+
+-- Two searches that have not met are as far as they are,
+pub on-from : (links : Roomy) (g s : Frontier) → AreNearing links g s → HaveGoneOn links g s g s None
+on-from links g s are = record {
+  goal_side = are.goal_side;
+  start_side = are.start_side;
+  met = λ v none. absurd (cc);
+  goal_root = refl;
+  start_root = refl;
+  goal_capacity = refl;
+  start_capacity = refl;
+}
+
+-- and where they have gone on and go on again, they have gone on.
+pub on-again : (links : Roomy) (g s a b c d : Frontier) (at : Option ℕ) → HaveGoneOn links g s a b None → HaveGoneOn links a b c d at
+    → HaveGoneOn links g s c d at
+on-again links g s a b c d at on next = record {
+  goal_side = rw (← on.goal_root) next.goal_side;
+  start_side = rw (← on.start_root) next.start_side;
+  met = rw (← on.goal_root, ← on.start_root) next.met;
+  goal_root = next.goal_root ∙ on.goal_root;
+  start_root = next.start_root ∙ on.start_root;
+  goal_capacity = next.goal_capacity ∙ on.goal_capacity;
+  start_capacity = next.start_capacity ∙ on.start_capacity;
+}
 
 -- ---- no path is left
 
+-- of two labels, the one that is missing
+first-none : (a b : ℕ) → (a ≡ no_label) ⊎ (b ≡ no_label) → b ≡ 0 → a ≡ no_label
+first-none a b (inl none) zero = none
+first-none a b (inr none) zero = absurd (omega (arith, none, zero))
+
+second-none : (a b : ℕ) → (a ≡ no_label) ⊎ (b ≡ no_label) → a ≡ 0 → b ≡ no_label
+second-none a b (inl none) zero = absurd (omega (arith, none, zero))
+second-none a b (inr none) zero = none
+
 -- All nodes that lead to the goal have labels, and the start has none.
-pub goal-used_up : (l : Links) (rooms flags opens : List ℕ) (start goal : ℕ) (g queue : List ℕ) (done : ℕ) (s queue_s : List ℕ) (done_s : ℕ) → AreLinks l
-    → AreFlags l rooms flags → AreSpread l flags goal g queue done → length queue ≤ done → AreSpread l opens start s queue_s done_s → AreApart g s
-    → IsNode l.nodes start → IsSeparated l rooms start goal
-goal-used_up l rooms flags opens start goal g queue done s queue_s done_s are flagged spread all other apart node =
-    let labels = labels-spread l flags goal start g queue done are spread node.to_last (inl (omega (arith, all, spread.come))) in
-    let unset : get_or g start 0 ≡ no_label = elim (apart start (omega (arith, node.to_last, spread.one_each))) [
-      | inl none ↦ none
-      | inr none ↦ absurd (omega (arith, none, other.root_is))
-    ] in
-    separated-unlabelled l rooms flags g start goal start are flagged labels unset unset
+pub goal-used_up : (links : Roomy) (g s : Frontier) → AreNearing links g s → length g.queue.items ≤ g.done
+    → IsSeparated (links_of links.table.value) links.rooms.items s.root g.root
+goal-used_up links g s are all =
+    let side = are.goal_side in
+    let unset = first-none _ (get_or s.labels.items s.root 0) (are.apart s.root (omega (arith, are.start.to_last, side.one_each))) are.start_side.root_is in
+    separated-unlabelled (links_of links.table.value) links.rooms.items links.flags.items g.labels.items s.root g.root s.root links.table.value.are links.flags_are
+    (labels-spread (links_of links.table.value) links.flags.items g.root s.root g.labels.items g.queue.items g.done links.table.value.are side are.start.to_last
+    (inl (omega (arith, all, side.come)))) unset unset
 
 -- All nodes to which the start leads have labels, and the goal has none.
-pub start-used_up : (l : Links) (rooms flags opens : List ℕ) (start goal : ℕ) (g queue_g : List ℕ) (done_g : ℕ) (s queue : List ℕ) (done : ℕ) → AreLinks l
-    → AreOpen l rooms opens → AreSpread l flags goal g queue_g done_g → AreSpread l opens start s queue done → length queue ≤ done → AreApart g s
-    → IsNode l.nodes goal → IsSeparated l rooms start goal
-start-used_up l rooms flags opens start goal g queue_g done_g s queue done are opened other spread all apart node =
-    let labels = labels-spread l opens start goal s queue done are spread node.to_last (inl (omega (arith, all, spread.come))) in
-    let unset : get_or s goal 0 ≡ no_label = elim (apart goal (omega (arith, node.to_last, other.one_each))) [
-      | inl none ↦ absurd (omega (arith, none, other.root_is))
-      | inr none ↦ none
-    ] in
-    separated-labelled l rooms opens s start goal are opened labels unset
+pub start-used_up : (links : Roomy) (g s : Frontier) → AreNearing links g s → length s.queue.items ≤ s.done
+    → IsSeparated (links_of links.table.value) links.rooms.items s.root g.root
+start-used_up links g s are all =
+    separated-labelled (links_of links.table.value) links.rooms.items (opens_of links) s.labels.items s.root g.root links.table.value.are
+    (AreOpen-map (links_of links.table.value) links.rooms.items (opens_of links) links.rooms_are refl)
+    (labels-spread (links_of links.table.value) (opens_of links) s.root g.root s.labels.items s.queue.items s.done links.table.value.are are.start_side
+    are.goal.to_last (inl (omega (arith, all, are.start_side.come))))
+    (second-none (get_or g.labels.items g.root 0) _ (are.apart g.root (omega (arith, are.goal.to_last, are.goal_side.one_each))) are.goal_side.root_is)

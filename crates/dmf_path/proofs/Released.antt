@@ -19,6 +19,7 @@ use Rattle.dmf_path.proofs.SettledRoom.{room-along}
 use Rattle.dmf_path.proofs.Leaving.{HaveLeft-set}
 use Rattle.dmf_path.proofs.Lowered.{HasPlace, pairs-lowered}
 use Rattle.dmf_path.proofs.UnderWay.{descends-way}
+use Rattle.dmf_path.proofs.SearchTurns.{aimed-with}
 
 -- A link that does not fall is in no slot.
 pub off-slots : (l : Links) (labels after current : List ℕ) (w : Way) (p : ℕ) → AreLinks l → IsNode l.nodes w.start → IsUnderWay l labels after current w
@@ -110,16 +111,8 @@ searching-lowered r v w p amount next is within off enough made sums =
     let apart = off-front p (places_of (walked_slots w)) (places_of (rest_slots w)) (subst (IsOff p) (places-append (walked_slots w) (rest_slots w)) off) in
     let a = is.aimed in
     let way = is.under_way in
-    let aimed : IsAimed (record { residual = lowered (told r w) p amount; start = w.start; goal = w.goal }) labels w.capacity = record {
-      links = a.links;
-      one_label_each = a.one_label_each;
-      start_label = a.start_label;
-      sound = sound-opens l labels before after (get_or labels w.start 0) a.links opens a.sound;
-      start_is = a.start_is;
-      goal_is = a.goal_is;
-      apart = a.apart;
-      capacity_is = a.capacity_is;
-    } in
+    let aimed = aimed-with r w labels labels after a a.start_label
+    (sound-opens l labels before after (get_or labels w.start 0) a.links opens a.sound) in
     let goes_on : IsUnderWay l labels after v.current w = record {
       walking = record {
         current_is = way.walking.current_is;

@@ -6,7 +6,8 @@ use Rattle.dmf_node.specs.Node.{IsNode}
 use Rattle.dmf_path.specs.Links.{Links, AreLinks, ArePlaces, AreRooms}
 use Rattle.dmf_path.specs.Walk.{AreCurrent, ArePassed, end_of}
 use Rattle.dmf_path.specs.Held.{Way, places_of, rest_slots, filled_slots, IsOff, emptied, with_slots}
-use Rattle.dmf_path.specs.Residual.{Residual, told}
+use Rattle.dmf_path.specs.Residual.{Residual, roomed, told}
+use Rattle.dmf_path.specs.BothEnds.{AreSound}
 use Rattle.dmf_path.specs.Searching.{IsUnderWay, Labelling, Sought, sought, IsAimed, IsSearching, IsFresh, IsMarked, begun, fresh, IsSearch, fresh_labels}
 use Rattle.dmf_path.proofs.Beginning.{BeginsFresh, begins-fresh, passed-fresh, sound-fresh}
 use Rattle.dmf_path.proofs.Settled.{AreRooms-settled}
@@ -15,6 +16,20 @@ use Rattle.dmf_path.proofs.Settling.{told-free, holding-free, way-free, way-empt
 -- the network of a search that holds no push
 abbrev pub plainly : Residual → Way → Sought
 plainly r w = record { residual = r; start = w.start; goal = w.goal }
+
+-- Where a search is aimed, it is so with other sound labels, and with other rooms.
+pub aimed-with : (r : Residual) (w : Way) (old labels rooms : List ℕ) → IsAimed (sought r w) old w.capacity → get_or labels w.start 0 ≤ r.links.nodes
+    → AreSound r.links labels rooms (get_or labels w.start 0) → IsAimed (plainly (roomed r rooms) w) labels w.capacity
+aimed-with r w old labels rooms is start_label sound = record {
+  links = is.links;
+  one_label_each = sound.small.0;
+  start_label = start_label;
+  sound = sound;
+  start_is = is.start_is;
+  goal_is = is.goal_is;
+  apart = is.apart;
+  capacity_is = is.capacity_is;
+}
 
 -- With free slots, and if no link is passed that leads to the goal, a search begins.
 pub searching-free : (r : Residual) (v : Labelling) (w : Way) (slots : List Slot) → IsAimed (plainly r w) v.labels w.capacity

@@ -18,6 +18,7 @@ use Rattle.dmf_path.proofs.Settled.{length-settled}
 use Rattle.dmf_path.proofs.SettledSent.{CanSend, CanSend-least, HaveLeft-sent, settled-sent, bottleneck-settled}
 use Rattle.dmf_path.proofs.UnderWayWhole.{IsWhole, is-whole}
 use Rattle.dmf_path.proofs.Splitting.{IsSent, has-split, sent_along, split-aim}
+use Rattle.dmf_path.proofs.SearchTurns.{aimed-with}
 
 -- what a trail keeps after so much more is sent
 abbrev pub sent_on : Way → ℕ → Way
@@ -124,16 +125,7 @@ split-on r places v w limit amount next new is joins can split sums =
     λ i. record { residual = has.same i; start = kept.start i; goal = kept.goal i } in
     let sound = sound-opens r.links v.labels (told r w).rooms (sent_along r (sent_on w amount)).rooms
     (get_or v.labels w.start 0) is.aimed.links can.opens is.aimed.sound in
-    let aimed : IsAimed (record { residual = sent_along r (sent_on w amount); start = w.start; goal = w.goal }) v.labels w.capacity = record {
-      links = is.aimed.links;
-      one_label_each = is.aimed.one_label_each;
-      start_label = is.aimed.start_label;
-      sound = sound;
-      start_is = is.aimed.start_is;
-      goal_is = is.aimed.goal_is;
-      apart = is.aimed.apart;
-      capacity_is = is.aimed.capacity_is;
-    } in
+    let aimed = aimed-with r w v.labels v.labels (sent_along r (sent_on w amount)).rooms is.aimed is.aimed.start_label sound in
     record {
       searching = record {
         aimed = subst (IsAimed (sought next new) v.labels) (sym kept.capacity)

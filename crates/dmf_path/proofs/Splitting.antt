@@ -8,7 +8,7 @@ use Rattle.dmf_path.specs.declared.trail.Slot.{Slot}
 use Rattle.dmf_node.specs.Node.{IsNode}
 use Rattle.dmf_path.specs.Links.{Links, AreLinks, AreRooms}
 use Rattle.dmf_path.specs.Walk.{AreCurrent, ArePassed, IsTrail, end_of}
-use Rattle.dmf_path.specs.Held.{Way, places_of, walked_slots, rest_slots, filled_slots, settled, HaveLeft, slot_at}
+use Rattle.dmf_path.specs.Held.{Way, places_of, walked_slots, filled_slots, settled, AreOpen, HaveLeft, slot_at}
 use Rattle.dmf_path.specs.Residual.{Residual, roomed, told, IsSplit, stays, split_at, MakesWay, free, leaves}
 use Rattle.dmf_path.specs.Searching.{IsUnderWay, IsHolding}
 use Rattle.dmf_path.proofs.Walking.{end_of-push, end-node}
@@ -131,40 +131,47 @@ made-aim r w next new (leaves meets is put) = rw is (record { start = refl; goal
 abbrev pub sent_along : Residual → Way → Residual
 sent_along r w = roomed r (settled r.links r.takes_back w.sent w.slots r.rooms)
 
+-- The open links before `first` and from `behind` on, where those before `behind` lead to this joint, are a walk and a rest.
+under-split : (r : Residual) (labels before current : List ℕ) (w : Way) (first behind joint : ℕ) → IsSent r labels before current w
+    → IsNode r.links.nodes joint → first ≤ behind → behind ≤ length w.slots → AreOpen w.sent w.slots first behind
+    → end_of r.links w.start (places_of (take behind w.slots)) ≡ joint
+    → IsUnderWay r.links labels (sent_along r w).rooms current (record w { walked = first; rest = behind; joint = joint })
+under-split r labels before current w first behind joint is joint_is order within open_links joins = record {
+  walking = record {
+    current_is = is.current_is;
+    passed = is.passed;
+    trail_is = front-open r labels before current w first is (λ i below inside. open_links.before i below);
+  };
+  rest_is = subst (λ v. IsTrail r.links labels (sent_along r w).rooms current v (places_of (drop behind w.slots))) joins
+      (rest-open r labels before current w behind is (λ i from inside. open_links.after i from inside));
+  ends = ap (λ v. end_of r.links v (places_of (drop behind w.slots))) (sym joins) ∙ rest-ends r labels before current w behind is;
+  joint_is = joint_is;
+  order = order;
+  within = within;
+  one_slot_each = is.one_slot_each;
+  goal_label = is.goal_label;
+}
+
 -- A path that is split leaves its open links in slots, and all that was sent put on.
 pub has-split : (r : Residual) (labels before current : List ℕ) (w : Way) (next : Residual) (new : Way) → IsSent r labels before current w
     → IsNode r.links.nodes w.joint → IsSplit r w next new → AreRooms next.links next.rooms → HasSplit next labels (sent_along r w) current new
 has-split r labels before current w next new is joint_is (stays first behind none open_links same kept) sums =
-    let after : List ℕ = settled r.links r.takes_back w.sent w.slots r.rooms in
     let not_full : (i : ℕ) → i < length w.slots → (slot_at w.slots i).full_at ≢ w.sent = λ i inside. ⊎_elim
     (λ (early : i < first). open_links.before i early)
     (λ (late : first ≤ i). open_links.after i (omega (arith, late, none)) inside)
     (cases_lt i first) in
-    let joins : end_of r.links w.start (places_of (take w.rest w.slots)) ≡ w.joint =
-    ap (λ n. end_of r.links w.start (places_of (take n w.slots))) (sym is.meets) ∙ is.joins in
+    let open_at : AreOpen w.sent w.slots w.walked w.rest = record {
+      before = λ i below. not_full i (omega (arith, below, is.meets, is.within));
+      after = λ i from inside. not_full i inside;
+    } in
     rw (same, kept)
     (record {
-      way = record {
-        walking = record {
-          current_is = is.current_is;
-          passed = is.passed;
-          trail_is =
-              front-open r labels before current w w.walked is (λ i below inside. not_full i inside);
-        };
-        rest_is = subst (λ v. IsTrail r.links labels after current v (places_of (rest_slots w))) joins
-            (rest-open r labels before current w w.rest is (λ i from inside. not_full i inside));
-        ends = ap (λ v. end_of r.links v (places_of (rest_slots w))) (sym joins) ∙ rest-ends r labels before current w w.rest is;
-        joint_is = joint_is;
-        order = omega (arith, is.meets);
-        within = is.within;
-        one_slot_each = is.one_slot_each;
-        goal_label = is.goal_label;
-      };
+      way = under-split r labels before current w w.walked w.rest w.joint is joint_is (omega (arith, is.meets)) is.within open_at
+          (ap (λ n. end_of r.links w.start (places_of (take n w.slots))) (sym is.meets) ∙ is.joins);
       holding = record { rooms_are = is.rooms_are; small = is.small; have = subst (HaveLeft w.sent r.rooms) (sym is.filled) is.have };
       same = ap (λ (ss : List Slot). roomed r (settled r.links r.takes_back w.sent ss r.rooms)) is.filled;
     })
 has-split r labels before current w next new is joint_is (split_at first behind less within open_links same kept) sums =
-    let after : List ℕ = settled r.links r.takes_back w.sent w.slots r.rooms in
     let left = middle-leaves r.links r.takes_back labels w.sent (get_or labels w.start 0) r.rooms w.slots first behind is.links is.rooms_are.0 is.descends
     is.have less in
     let p : ℕ = (slot_at w.slots (behind - 1)).place in
@@ -175,26 +182,12 @@ has-split r labels before current w next new is joint_is (split_at first behind 
     let joins : end_of r.links w.start (places_of (take behind w.slots)) ≡ get_or r.links.heads p 0 =
     ap (end_of r.links w.start) last ∙ end_of-push r.links w.start (places_of (take (behind - 1) w.slots)) p in
     let front = IsTrail-take r.links labels before current w.start behind (places_of w.slots) is.trail in
-    let split_sums = subst (λ (x : Residual). AreRooms x.links x.rooms) kept sums in
+    let joint : IsNode r.links.nodes (get_or r.links.heads p 0) =
+    subst (IsNode r.links.nodes) (ap (end_of r.links w.start) (take-map (λ (s : Slot). s.place) behind w.slots) ∙ joins)
+    (end-node r.links labels before current w.start (take behind (places_of w.slots)) is.links is.start_is front) in
     rw (same, kept)
     (record {
-      way = record {
-        walking = record {
-          current_is = is.current_is;
-          passed = is.passed;
-          trail_is =
-              front-open r labels before current w first is (λ i below inside. open_links.before i below);
-        };
-        rest_is = subst (λ v. IsTrail r.links labels after current v (places_of (drop behind w.slots))) joins
-            (rest-open r labels before current w behind is (λ i from inside. open_links.after i from inside));
-        ends = ap (λ v. end_of r.links v (places_of (drop behind w.slots))) (sym joins) ∙ rest-ends r labels before current w behind is;
-        joint_is = subst (IsNode r.links.nodes) (ap (end_of r.links w.start) (take-map (λ (s : Slot). s.place) behind w.slots) ∙ joins)
-            (end-node r.links labels before current w.start (take behind (places_of w.slots)) is.links is.start_is front);
-        order = omega (arith, less);
-        within = within;
-        one_slot_each = is.one_slot_each;
-        goal_label = is.goal_label;
-      };
-      holding = record { rooms_are = split_sums; small = is.small; have = left.1.have };
+      way = under-split r labels before current w first behind (get_or r.links.heads p 0) is joint (omega (arith, less)) within open_links joins;
+      holding = record { rooms_are = subst (λ (x : Residual). AreRooms x.links x.rooms) kept sums; small = is.small; have = left.1.have };
       same = ap (roomed r) (sym left.1.same ∙ ap (λ (ss : List Slot). settled r.links r.takes_back w.sent ss r.rooms) (sym left.0));
     })

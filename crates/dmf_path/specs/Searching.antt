@@ -118,7 +118,15 @@ pub record IsReady (nodes : ℕ) (near far : Frontier) : Type 0 where
   pub capacity : nodes + 1 ≤ vec_capacity near.queue
   pub clean : IsClean nodes far
 
--- The same for some number of nodes.
+-- No node has a label of either search, and the ends of paths are two nodes.
+pub record MayBeLabelled (nodes : ℕ) (near far : Frontier) (start goal : ℕ) : Type 0 where
+  pub near_is : IsClean nodes near
+  pub far_is : IsClean nodes far
+  pub start_is : IsNode nodes start
+  pub goal_is : IsNode nodes goal
+  pub apart : start ≢ goal
+
+-- The labels can be removed from the levels of some number of nodes.
 abbrev pub AreReady : Levels → Type 0
 AreReady v = (nodes : ℕ) × IsReady nodes v.near v.far
 

@@ -1,50 +1,23 @@
 //! Two breadth-first searches meet: one from the goal, against the links, and one from the start, along them.
-ghost use Rattle.std.specs.Prelude.{◌≡◌, ℕ, ◌+◌, ◌≤◌, ◌<◌, None, Some, length, map, slice_index, vec_capacity};
-ghost use Rattle.dmf_node.specs.Node.{IsNode};
-ghost use Rattle.dmf_path.specs.Links.{AreRooms, AreFlags, open_flag};
+ghost use Rattle.std.specs.Prelude.{◌≡◌, ℕ, ◌+◌, ◌≤◌, ◌<◌, None, length, slice_index};
 ghost use Rattle.dmf_path.specs.LinkTable.{links_of};
-ghost use Rattle.dmf_path.specs.BothEnds.{HasMetAt};
-ghost use Rattle.dmf_path.specs.Frontier.{AreSpread, AreApart, IsAtRest};
+ghost use Rattle.dmf_path.specs.BothEnds.{AreNearing, HaveGoneOn};
 ghost use Rattle.dmf_path.specs.Searching.{IsSeparated};
 
 use crate::frontier::{Frontier, expand_level};
 use crate::open::{Flagged, Roomy};
+use crate::push::Links;
 use crate::table::LinkTable;
 
 /// Labels the nodes from both ends until a node has a label of both searches. Returns that node, or `None` if no path leads from the
 /// start to the goal.
-pub fn meet(
-    table: &LinkTable,
-    rooms: &[u64],
-    flags: &[u8],
-    to_goal: &mut Frontier,
-    from_start: &mut Frontier,
-) -> Option<u32>
-    requires rooms { AreRooms (links_of table.now) rooms.now }
-    requires flags { AreFlags (links_of table.now) rooms.now flags.now }
-    requires goal_side { AreSpread (links_of table.now) flags.now to_goal.old.root to_goal.old.labels.items to_goal.old.queue.items to_goal.old.done }
-    requires start_side { AreSpread (links_of table.now) (map open_flag rooms.now) from_start.old.root
-        from_start.old.labels.items from_start.old.queue.items from_start.old.done }
-    requires start { IsNode table.now.nodes from_start.old.root }
-    requires goal { IsNode table.now.nodes to_goal.old.root }
-    requires goal_rest { IsAtRest to_goal.old.labels.items to_goal.old.queue.items to_goal.old.done }
-    requires start_rest { IsAtRest from_start.old.labels.items from_start.old.queue.items from_start.old.done }
-    requires apart { AreApart to_goal.old.labels.items from_start.old.labels.items }
-    requires goal_capacity { table.now.nodes + 1 ≤ vec_capacity to_goal.old.queue }
-    requires start_capacity { table.now.nodes + 1 ≤ vec_capacity from_start.old.queue }
-    ensures goal_side { AreSpread (links_of table.now) flags.now to_goal.old.root to_goal.new.labels.items to_goal.new.queue.items to_goal.new.done }
-    ensures start_side { AreSpread (links_of table.now) (map open_flag rooms.now) from_start.old.root
-        from_start.new.labels.items from_start.new.queue.items from_start.new.done }
-    ensures met { (v : ℕ) → result ≡ Some v → HasMetAt (links_of table.now) flags.now (map open_flag rooms.now) from_start.old.root to_goal.old.root v
-        to_goal.new.labels.items from_start.new.labels.items }
-    ensures none { result ≡ None → IsSeparated (links_of table.now) rooms.now from_start.old.root to_goal.old.root }
-    ensures goal_root { to_goal.new.root ≡ to_goal.old.root }
-    ensures start_root { from_start.new.root ≡ from_start.old.root }
-    ensures goal_capacity { vec_capacity to_goal.new.queue ≡ vec_capacity to_goal.old.queue }
-    ensures start_capacity { vec_capacity from_start.new.queue ≡ vec_capacity from_start.old.queue }
+pub fn meet(links: &Links, to_goal: &mut Frontier, from_start: &mut Frontier) -> Option<u32>
+    requires { AreNearing links.now to_goal.old from_start.old }
+    ensures on { HaveGoneOn links.now to_goal.old from_start.old to_goal.new from_start.new result }
+    ensures none { result ≡ None → IsSeparated (links_of links.now.table.value) links.now.rooms.items from_start.old.root to_goal.old.root }
 {
     while to_goal.done < to_goal.queue.len() && from_start.done < from_start.queue.len() {
-        let met = expand_one(table, rooms, flags, to_goal, from_start);
+        let met = expand_one(links, to_goal, from_start);
         if met.is_some() {
             return met;
         }
@@ -53,47 +26,21 @@ pub fn meet(
 }
 
 /// Expands the next level of the search whose waiting nodes have fewer links.
-fn expand_one(
-    table: &LinkTable,
-    rooms: &[u64],
-    flags: &[u8],
-    to_goal: &mut Frontier,
-    from_start: &mut Frontier,
-) -> Option<u32>
-    requires rooms { AreRooms (links_of table.now) rooms.now }
-    requires flags { AreFlags (links_of table.now) rooms.now flags.now }
-    requires goal_side { AreSpread (links_of table.now) flags.now to_goal.old.root to_goal.old.labels.items to_goal.old.queue.items to_goal.old.done }
-    requires start_side { AreSpread (links_of table.now) (map open_flag rooms.now) from_start.old.root
-        from_start.old.labels.items from_start.old.queue.items from_start.old.done }
-    requires start { IsNode table.now.nodes from_start.old.root }
-    requires goal { IsNode table.now.nodes to_goal.old.root }
-    requires goal_rest { IsAtRest to_goal.old.labels.items to_goal.old.queue.items to_goal.old.done }
-    requires start_rest { IsAtRest from_start.old.labels.items from_start.old.queue.items from_start.old.done }
-    requires apart { AreApart to_goal.old.labels.items from_start.old.labels.items }
-    requires goal_capacity { table.now.nodes + 1 ≤ vec_capacity to_goal.old.queue }
-    requires start_capacity { table.now.nodes + 1 ≤ vec_capacity from_start.old.queue }
+fn expand_one(links: &Links, to_goal: &mut Frontier, from_start: &mut Frontier) -> Option<u32>
+    requires nearing { AreNearing links.now to_goal.old from_start.old }
     requires goal_ahead { to_goal.old.done < length to_goal.old.queue.items }
     requires start_ahead { from_start.old.done < length from_start.old.queue.items }
-    ensures goal_side { AreSpread (links_of table.now) flags.now to_goal.old.root to_goal.new.labels.items to_goal.new.queue.items to_goal.new.done }
-    ensures start_side { AreSpread (links_of table.now) (map open_flag rooms.now) from_start.old.root
-        from_start.new.labels.items from_start.new.queue.items from_start.new.done }
-    ensures met { (v : ℕ) → result ≡ Some v → HasMetAt (links_of table.now) flags.now (map open_flag rooms.now) from_start.old.root to_goal.old.root v
-        to_goal.new.labels.items from_start.new.labels.items }
-    ensures goal_rest { result ≡ None → IsAtRest to_goal.new.labels.items to_goal.new.queue.items to_goal.new.done }
-    ensures start_rest { result ≡ None → IsAtRest from_start.new.labels.items from_start.new.queue.items from_start.new.done }
-    ensures apart { result ≡ None → AreApart to_goal.new.labels.items from_start.new.labels.items }
+    ensures on { HaveGoneOn links.now to_goal.old from_start.old to_goal.new from_start.new result }
+    ensures nearing { result ≡ None → AreNearing links.now to_goal.new from_start.new }
     ensures further { result ≡ None → to_goal.old.done + from_start.old.done < to_goal.new.done + from_start.new.done }
     ensures goal_on { result ≡ None → to_goal.old.done ≤ to_goal.new.done }
     ensures start_on { result ≡ None → from_start.old.done ≤ from_start.new.done }
-    ensures goal_root { to_goal.new.root ≡ to_goal.old.root }
-    ensures start_root { from_start.new.root ≡ from_start.old.root }
-    ensures goal_capacity { vec_capacity to_goal.new.queue ≡ vec_capacity to_goal.old.queue }
-    ensures start_capacity { vec_capacity from_start.new.queue ≡ vec_capacity from_start.old.queue }
 {
+    let table = &links.table;
     if waiting_links(table, from_start) < waiting_links(table, to_goal) {
-        return expand_level(table, &Roomy(rooms), from_start, &to_goal.labels);
+        return expand_level(table, &Roomy(&links.rooms), from_start, &to_goal.labels);
     }
-    expand_level(table, &Flagged(flags), to_goal, &from_start.labels)
+    expand_level(table, &Flagged(&links.flags), to_goal, &from_start.labels)
 }
 
 /// The number of links of the waiting nodes. If many wait, each counts as many as a node has on average.

@@ -5,7 +5,7 @@ ghost use Rattle.dmf_path.specs.LinkTable.{links_of};
 ghost use Rattle.dmf_path.specs.Labels.{AreQueued, no_label, unlabelled_count};
 ghost use Rattle.dmf_path.specs.BothEnds.{AreJoined, AreWhole, IsLabelled};
 ghost use Rattle.dmf_path.specs.Frontier.{IsClean};
-ghost use Rattle.dmf_path.specs.Searching.{IsReady, IsSeparated};
+ghost use Rattle.dmf_path.specs.Searching.{IsReady, IsSeparated, MayBeLabelled};
 
 use crate::frontier::{Frontier, begin, unlabel};
 use crate::label::{NO_LABEL, label_most, label_nodes};
@@ -19,11 +19,7 @@ use crate::push::Links;
 /// If a search looks for paths from several starts in turn, all nodes get a label once labelling from both ends has looked at more
 /// links than there are.
 pub fn label_anew(links: &Links, levels: &mut Levels, start: u32, goal: u32) -> bool
-    requires near { IsClean links.now.table.value.nodes levels.old.near }
-    requires far { IsClean links.now.table.value.nodes levels.old.far }
-    requires start { IsNode links.now.table.value.nodes start }
-    requires goal { IsNode links.now.table.value.nodes goal }
-    requires apart { start ≢ goal }
+    requires { MayBeLabelled links.now.table.value.nodes levels.old.near levels.old.far start goal }
     ensures ready { IsReady links.now.table.value.nodes levels.new.near levels.new.far }
     ensures labelled { result ≡ true → IsLabelled (links_of links.now.table.value) links.now.rooms.items levels.new.near.labels.items start goal }
     ensures none { result ≡ false → IsSeparated (links_of links.now.table.value) links.now.rooms.items start goal }
@@ -105,11 +101,7 @@ fn is_enclosed(links: &Links, near: &mut Frontier, start: u32, goal: u32, few: u
 /// Labels the nodes from the goal and from the start until the searches meet, and joins the labels to those of the goal's side. Returns
 /// whether they meet.
 fn label_from_both(links: &Links, levels: &mut Levels, start: u32, goal: u32) -> bool
-    requires near { IsClean links.now.table.value.nodes levels.old.near }
-    requires far { IsClean links.now.table.value.nodes levels.old.far }
-    requires start { IsNode links.now.table.value.nodes start }
-    requires goal { IsNode links.now.table.value.nodes goal }
-    requires apart { start ≢ goal }
+    requires { MayBeLabelled links.now.table.value.nodes levels.old.near levels.old.far start goal }
     ensures ready { IsReady links.now.table.value.nodes levels.new.near levels.new.far }
     ensures labelled { result ≡ true → IsLabelled (links_of links.now.table.value) links.now.rooms.items levels.new.near.labels.items start goal }
     ensures none { result ≡ false → IsSeparated (links_of links.now.table.value) links.now.rooms.items start goal }
@@ -121,7 +113,7 @@ fn label_from_both(links: &Links, levels: &mut Levels, start: u32, goal: u32) ->
     let far = &mut levels.far;
     begin(near, goal);
     begin(far, start);
-    let Some(node) = meet(&links.table, &links.rooms, &links.flags, near, far) else {
+    let Some(node) = meet(links, near, far) else {
         unlabel(far);
         return false;
     };

@@ -1,29 +1,76 @@
 -- The side that goes on meets the other one.
-use Rattle.std.proofs.Common.{map, refl}
-use Rattle.dmf_path.specs.Links.{open_flag}
-use Rattle.dmf_path.specs.LinkTable.{links_of}
-use Rattle.dmf_path.proofs.Reaching.{AreOpen-map}
+use Rattle.std.proofs.Common.{refl, arith, inl, inr}
 use Rattle.dmf_path.proofs.Meeting.{has-met_goal, has-met_start}
 use Rattle.dmf_path.proofs.meet.expand_one.Goals as goal
 
-pub returns-then-waiting_links-clause-met : goal.returns-then-waiting_links-clause-met
-returns-then-waiting_links-clause-met c v is =
-    let met = c.expand_level.ensures.met v is in
-    has-met_start (links_of c.args.table.now) c.args.rooms.now c.args.flags.now (map open_flag c.args.rooms.now) c.args.from_start.now.root
-    c.args.to_goal.now.root v c.args.to_goal.now.labels.items c.args.to_goal.now.queue.items c.args.to_goal.now.done c.args.from_start.now.labels.items
-    c.args.from_start.now.queue.items c.args.from_start.now.done c.expand_level.new.frontier.labels.items
-    c.args.table.now.are c.requires.flags (AreOpen-map (links_of c.args.table.now) c.args.rooms.now (map open_flag c.args.rooms.now) c.requires.rooms refl)
-    c.requires.goal_side c.requires.goal_ahead c.requires.goal_rest c.requires.start_side c.requires.start_ahead c.requires.apart
-    (rw (← c.expand_level.ensures.root) c.expand_level.ensures.levels) (rw (← c.deref.ensures.value) c.expand_level.ensures.beyond) met.0 met.1
-    (rw (← c.deref.ensures.value) met.2)
+pub returns-then-waiting_links : goal.returns-then-waiting_links
+returns-then-waiting_links c =
+    let n = c.requires.nearing in
+    let root = c.expand_level.ensures.root in
+    let e = rw (c.deref-then-waiting_links.ensures, c.deref-then-waiting_links-2.ensures.value, c.deref-then-waiting_links-3.ensures.value, root)
+    at c.expand_level.ensures in
+    record {
+      on = record {
+        goal_side = n.goal_side;
+        start_side = e.so_far;
+        met = λ v is.
+            let met = e.met v is in
+            has-met_start c.args.links.now c.args.to_goal.now c.args.from_start.now v c.expand_level.new.frontier.labels.items n c.requires.goal_ahead
+            c.requires.start_ahead e.levels e.beyond met.0 met.1 met.2;
+        goal_root = refl;
+        start_root = root;
+        goal_capacity = refl;
+        start_capacity = e.capacity;
+      };
+      nearing = λ none. record {
+        goal = n.goal;
+        start = rw root n.start;
+        goal_side = n.goal_side;
+        start_side = rw root e.so_far;
+        goal_rest = n.goal_rest;
+        start_rest = e.at_rest none;
+        apart = λ v within. elim (e.apart none v (omega (arith, within, n.goal_side.one_each, e.so_far.one_each))) [
+          | inl here ↦ inr here
+          | inr there ↦ inl there
+        ];
+        goal_capacity = n.goal_capacity;
+        start_capacity = omega (arith, e.capacity, n.start_capacity);
+      };
+      further = λ none. omega (arith, e.further none);
+      goal_on = λ none. omega arith;
+      start_on = λ none. omega (arith, e.further none);
+    }
 
-pub returns-clause-met : goal.returns-clause-met
-returns-clause-met c v is =
-    let met = c.expand_level-2.ensures.met v is in
-    has-met_goal (links_of c.args.table.now) c.args.rooms.now c.args.flags.now (map open_flag c.args.rooms.now) c.args.from_start.now.root
-    c.args.to_goal.now.root v c.args.to_goal.now.labels.items c.args.to_goal.now.queue.items c.args.to_goal.now.done c.args.from_start.now.labels.items
-    c.args.from_start.now.queue.items c.args.from_start.now.done c.expand_level-2.new.frontier.labels.items
-    c.args.table.now.are c.requires.flags (AreOpen-map (links_of c.args.table.now) c.args.rooms.now (map open_flag c.args.rooms.now) c.requires.rooms refl)
-    c.requires.goal_side c.requires.goal_ahead c.requires.start_side c.requires.start_ahead c.requires.start_rest c.requires.apart
-    (rw (← c.expand_level-2.ensures.root) c.expand_level-2.ensures.levels) (rw (← c.deref-2.ensures.value) c.expand_level-2.ensures.beyond) met.0 met.1
-    (rw (← c.deref-2.ensures.value) met.2)
+pub returns : goal.returns
+returns c =
+    let n = c.requires.nearing in
+    let root = c.expand_level-2.ensures.root in
+    let e = rw (c.deref-3.ensures, c.deref-4.ensures.value, c.deref-5.ensures.value, root) at c.expand_level-2.ensures in
+    record {
+      on = record {
+        goal_side = e.so_far;
+        start_side = n.start_side;
+        met = λ v is.
+            let met = e.met v is in
+            has-met_goal c.args.links.now c.args.to_goal.now c.args.from_start.now v c.expand_level-2.new.frontier.labels.items n c.requires.goal_ahead
+            c.requires.start_ahead e.levels e.beyond met.0 met.1 met.2;
+        goal_root = root;
+        start_root = refl;
+        goal_capacity = e.capacity;
+        start_capacity = refl;
+      };
+      nearing = λ none. record {
+        goal = rw root n.goal;
+        start = n.start;
+        goal_side = rw root e.so_far;
+        start_side = n.start_side;
+        goal_rest = e.at_rest none;
+        start_rest = n.start_rest;
+        apart = e.apart none;
+        goal_capacity = omega (arith, e.capacity, n.goal_capacity);
+        start_capacity = n.start_capacity;
+      };
+      further = λ none. omega (arith, e.further none);
+      goal_on = λ none. omega (arith, e.further none);
+      start_on = λ none. omega arith;
+    }

@@ -6,9 +6,9 @@ use Rattle.dmf_path.specs.Labels.{no_label}
 use Rattle.dmf_path.specs.Walk.{AreCurrent}
 use Rattle.dmf_path.specs.Held.{Way, way_of, with_slots}
 use Rattle.dmf_path.specs.Residual.{residual_of}
-use Rattle.dmf_path.specs.Searching.{Labelling, labelling_of, IsAimed, IsReady}
+use Rattle.dmf_path.specs.Searching.{Labelling, labelling_of, IsReady}
 use Rattle.dmf_path.proofs.Beginning.{first-queued, skipped-first, ready-at}
-use Rattle.dmf_path.proofs.SearchTurns.{plainly, searching-free, searching-anew}
+use Rattle.dmf_path.proofs.SearchTurns.{aimed-with, searching-free, searching-anew}
 use Rattle.dmf_path.proofs.phase.relabel.Goals as goal
 use Rattle.dmf_path.proofs.phase.relabel.Goals.{Start, After-index-start_label}
 
@@ -24,13 +24,13 @@ label_anew-requires c =
     let a = c.requires.searching.aimed in
     let is = ready-at c.args.links.now.table.value.nodes c.args.levels.now c.requires.ready a.one_label_each in
     record {
-      near = record {
+      near_is = record {
         labels_are = c.unlabel.ensures.labels ∙ ap (λ n. replicate n no_label) is.one_label_each;
         capacity = omega (arith, c.unlabel.ensures.capacity, is.capacity);
       };
-      far = is.clean;
-      start = a.start_is;
-      goal = a.goal_is;
+      far_is = is.clean;
+      start_is = a.start_is;
+      goal_is = a.goal_is;
       apart = a.apart;
     }
 
@@ -94,16 +94,8 @@ returns c =
     let first = first-queued l levels.near.labels.items levels.near.queue.items c.set_current.new.current is.one_label_each is.queued
     (rw (c.deref-2.ensures, c.deref-3.ensures.value) at c.set_current.ensures.first) in
     let skipped = skipped-first l levels.near.labels.items links.rooms.items c.set_current.new.current a.links labelled.sound.small first in
-    let aimed : IsAimed (plainly (residual_of links) w) levels.near.labels.items w.capacity = record {
-      links = a.links;
-      one_label_each = is.one_label_each;
-      start_label = labelled.start_label;
-      sound = labelled.sound;
-      start_is = a.start_is;
-      goal_is = a.goal_is;
-      apart = a.apart;
-      capacity_is = a.capacity_is;
-    } in
+    let aimed = aimed-with (residual_of links) w (labelling_of c.args.levels.now).labels levels.near.labels.items links.rooms.items a
+    labelled.start_label labelled.sound in
     let v : Labelling = record { labels = levels.near.labels.items; current = c.set_current.new.current } in
     let searching = searching-free (residual_of links) v w slots aimed links.rooms_are c.requires.searching.holding.small
     (rw c.deref-2.ensures at c.set_current.ensures.current)

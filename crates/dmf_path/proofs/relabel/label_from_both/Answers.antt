@@ -1,5 +1,6 @@
 -- Two searches begin and meet, and their labels are joined.
 use Rattle.std.proofs.Common.{ℕ, ◌≡◌, ◌+◌, length, get_or, map, refl, ◌∙◌, arith, inl, inr}
+use Rattle.std.proofs.lemmas.Grind.{common_steps}
 use Rattle.std.proofs.lemmas.List.{get_or_default, with_items_is}
 use Rattle.dmf_node.specs.Node.{IsNode}
 use Rattle.dmf_path.specs.Links.{open_flag}
@@ -14,7 +15,7 @@ use Rattle.dmf_path.proofs.relabel.label_from_both.Goals.{In-Some, After-index-2
 -- where the searches meet
 has_met : (c : In-Some) → HasMetAt (links_of c.args.links.now.table.value) c.args.links.now.flags.items (map open_flag c.args.links.now.rooms.items)
     c.begin-2.new.frontier.root c.begin.new.frontier.root c.in-Some.node c.meet.new.to_goal.labels.items c.meet.new.from_start.labels.items
-has_met c = rw (c.deref.ensures, c.deref-2.ensures.value, c.deref-3.ensures.value) at (c.in-Some.ensures.met c.in-Some.node refl)
+has_met c = c.in-Some.ensures.on.met c.in-Some.node refl
 
 -- the sum of the two labels there, as it is read
 long : (c : After-index-2) (nodes : ℕ) → IsNode nodes c.in-Some.node → length c.meet.new.to_goal.labels.items ≡ nodes + 1
@@ -26,20 +27,26 @@ long c nodes node near_long far_long =
     let far = get_or_default c.meet.new.from_start.labels.items c.in-Some.node 0 c.index-2.result.now (omega (arith, node.to_last, far_long)) in
     omega (arith, near, far, c.index.ensures, c.index-2.ensures)
 
-pub meet-requires-clause-goal_side : goal.meet-requires-clause-goal_side
-meet-requires-clause-goal_side c =
+pub meet-requires : goal.meet-requires
+meet-requires c =
+    let l = links_of c.args.links.now.table.value in
     let near = c.begin.new.frontier in
-    rw (c.deref.ensures, c.deref-3.ensures.value, c.begin.ensures.root)
-    (starts-spread (links_of c.args.links.now.table.value) c.args.links.now.flags.items c.args.goal c.args.levels.now.near.labels.items
-    near.labels.items near.queue.items near.done c.requires.goal c.requires.near.labels_are c.begin.ensures.labels c.begin.ensures.queue c.begin.ensures.done)
-
-pub meet-requires-clause-start_side : goal.meet-requires-clause-start_side
-meet-requires-clause-start_side c =
     let far = c.begin-2.new.frontier in
-    rw (c.deref.ensures, c.deref-2.ensures.value, c.begin-2.ensures.root)
-    (starts-spread (links_of c.args.links.now.table.value) (map open_flag c.args.links.now.rooms.items) c.args.start
-    c.args.levels.now.far.labels.items far.labels.items far.queue.items far.done c.requires.start c.requires.far.labels_are c.begin-2.ensures.labels
-    c.begin-2.ensures.queue c.begin-2.ensures.done)
+    record {
+      goal = rw c.begin.ensures.root c.requires.goal_is;
+      start = rw c.begin-2.ensures.root c.requires.start_is;
+      goal_side = rw c.begin.ensures.root
+          (starts-spread l c.args.links.now.flags.items c.args.goal c.args.levels.now.near.labels.items near.labels.items near.queue.items near.done
+          c.requires.goal_is c.requires.near_is.labels_are c.begin.ensures.labels c.begin.ensures.queue c.begin.ensures.done);
+      start_side = rw c.begin-2.ensures.root
+          (starts-spread l (map open_flag c.args.links.now.rooms.items) c.args.start c.args.levels.now.far.labels.items far.labels.items far.queue.items
+          far.done c.requires.start_is c.requires.far_is.labels_are c.begin-2.ensures.labels c.begin-2.ensures.queue c.begin-2.ensures.done);
+      goal_rest = λ j ahead within. grind (arith, common_steps);
+      start_rest = λ j ahead within. grind (arith, common_steps);
+      apart = λ v within. grind (arith, common_steps);
+      goal_capacity = omega (arith, c.begin.ensures.capacity, c.requires.near_is.capacity);
+      start_capacity = omega (arith, c.begin-2.ensures.capacity, c.requires.far_is.capacity);
+    }
 
 pub index-requires : goal.index-requires
 index-requires c =
@@ -63,8 +70,8 @@ join-requires-clause-at_most c =
     let at = goal.at.join-requires-clause-at_most c in
     let met = has_met at.In-Some in
     let far = c.meet.new.from_start in
-    let so_far = rw (c.deref.ensures, c.deref-2.ensures.value) at c.in-Some.ensures.start_side in
-    rw (c.deref-4.ensures.value, c.deref-5.ensures.value) (λ i before.
+    let so_far = c.in-Some.ensures.on.start_side in
+    rw (c.deref.ensures.value, c.deref-2.ensures.value) (λ i before.
     let entry = so_far.queued i before in
     elim (met.start_side.small (get_or far.queue.items i 0) entry.node) [
       | inl none ↦ absurd (omega (arith, none, entry.small, before, queue-short _ _ _ _ _ _ so_far, c.args.links.now.table.value.are.at_most_nodes))
@@ -91,6 +98,6 @@ returns-clause-labelled c =
     (λ _. labelled-met l rooms c.args.links.now.flags.items (map open_flag rooms) c.args.start c.args.goal c.in-Some.node
     (c.index.result.now + c.index-2.result.now) near.items far.items c.join.new.labels
     c.args.links.now.table.value.are c.args.links.now.flags_are (AreOpen-map l rooms (map open_flag rooms) c.args.links.now.rooms_are refl)
-    c.requires.start c.requires.goal
+    c.requires.start_is c.requires.goal_is
     (rw (c.begin.ensures.root, c.begin-2.ensures.root) at met) (long at.After-index-2 _ met.met.node met.goal_side.one_each met.start_side.one_each)
-    (rw (c.deref_mut.ensures.value, c.deref-4.ensures.value) at c.join.ensures.joined))
+    (rw (c.deref_mut.ensures.value, c.deref.ensures.value) at c.join.ensures.joined))
