@@ -28,8 +28,8 @@ def told_forms(field: str) -> list[str]:
 
 
 def test_second_implementation() -> None:
-    assert {word.decode(): counts for word, counts in session.FIELDS.items()} == COUNTS
-    assert {it.decode() for it in session.PRINTED} == set(PRINTED)
+    assert [*session.NUMBERED] == [told for form in LISTED for told in told_forms(form)]
+    assert [*session.PRINTS] == LISTED_PRINTS
     assert set(session.CHANGES) == CHANGES
 
 

@@ -15,29 +15,37 @@ class Mutant(NamedTuple):
     test: str
 
 
-MAIN, FILES, RUNS = "crates/dmf/src/main.rt", "crates/dmf_host/src/files.rt", "crates/dmf_host/src/runs.rt"
-PROGRESS, HELP = "crates/dmf_progress/src/progress.rt", "crates/dmf_arguments/src/help.rt"
-TESTS = "tests/program/"
+def in_file(file: str, *rows: tuple[str, str, str, str]) -> list[Mutant]:
+    """The faults of a file below crates/. A row has a fault's name, the two texts, and its test below tests/."""
+    return [Mutant(name, f"crates/{file}", old, new, f"tests/{test}") for name, old, new, test in rows]
+
+
 MUTANTS = [
-    Mutant("cuts and brief replies are taken for each other", MAIN, "SolveReply { cut, brief },", "SolveReply { cut: brief, brief: cut },",
-           TESTS + "test_random_cases.py::test_drawn[a session]"),
-    Mutant("a solve tells no cut", MAIN, "Mode::Solve { cut } => solve(rt, cut, progress),", "Mode::Solve { cut } => solve(rt, cut && progress, progress),",
-           TESTS + "test_random_cases.py::test_drawn[a solve]"),
-    Mutant("the problem has the descriptor of standard input", FILES, "File::open(rt, path).and_then(|file| file.try_clone())", "File::open(rt, path)",
-           TESTS + "test_streams.py::test_closed"),
-    Mutant("nothing says that a problem is typed", RUNS, "    invite(rt);\n", "    if want_cut {\n        invite(rt);\n    }\n",
-           TESTS + "test_terminal.py::test_typed_problem"),
-    Mutant("a fault is not explained", MAIN, "        explain(&rt, fault);\n", "        if let Fault::Usage(_) = fault {\n            explain(&rt, fault);\n        }\n",
-           TESTS + "test_terminal.py::test_problem"),
-    Mutant("progress comes late", PROGRESS, "const PATIENCE: u64 = 500;", "const PATIENCE: u64 = 500_000;",
-           TESTS + "test_progress.py::test_slow_solve"),
-    Mutant("the line of progress is not erased", PROGRESS, "            self.is_shown.set(true);\n", "            self.is_shown.set(false);\n",
-           TESTS + "test_progress.py::test_slow_solve"),
-    Mutant("no size is told", PROGRESS, "Ok(told) if told.is_file() => Some(told.len()),", "Ok(told) if !told.is_file() => Some(told.len()),",
-           TESTS + "test_progress.py::test_size"),
-    Mutant("a bound is told of nothing", PROGRESS, "        Some(value_limit(state))\n", "        Some(value_limit(state) / 2)\n",
-           TESTS + "test_progress.py::test_bound_in_session"),
-    Mutant("the help tells another reply", HELP, "c add ARC value VALUE\n", "c add value VALUE\n", "tests/test_commands.py::test_help"),
-    Mutant("the help tells another status", HELP, "  0  success\n", "  0  good\n", TESTS + "test_worked.py::test_words"),
-    Mutant("another version", HELP, 'VERSION: &str = "0.1.0"', 'VERSION: &str = "0.1.1"', TESTS + "test_program.py::test_ends"),
+    *in_file(
+        "dmf/src/main.rt",
+        ("cuts and brief replies change places", "{ cut, brief }", "{ cut: brief, brief: cut }", "program/test_random_cases.py::test_drawn[a session]"),
+        ("a solve tells no cut", "solve(rt, cut, progress)", "solve(rt, cut && progress, progress)", "program/test_random_cases.py::test_drawn[a solve]"),
+        ("a fault is not explained", "explain(&rt, fault);", "if let Fault::Usage(_) = fault { explain(&rt, fault); }", "program/test_terminal.py::test_problem"),
+    ),
+    *in_file(
+        "dmf_host/src/files.rt",
+        ("the problem has the descriptor of standard input", ".and_then(|file| file.try_clone())", "", "program/test_streams.py::test_closed"),
+    ),
+    *in_file(
+        "dmf_host/src/runs.rt",
+        ("nothing says that a problem is typed", "invite(rt);", "if want_cut { invite(rt); }", "program/test_terminal.py::test_typed_problem"),
+    ),
+    *in_file(
+        "dmf_progress/src/progress.rt",
+        ("progress comes late", "PATIENCE: u64 = 500;", "PATIENCE: u64 = 500_000;", "program/test_progress.py::test_slow_solve"),
+        ("the line of progress is not erased", "is_shown.set(true)", "is_shown.set(false)", "program/test_progress.py::test_slow_solve"),
+        ("no size is told", "if told.is_file()", "if !told.is_file()", "program/test_progress.py::test_size"),
+        ("a bound is told of nothing", "Some(value_limit(state))", "Some(value_limit(state) / 2)", "program/test_progress.py::test_bound_in_session"),
+    ),
+    *in_file(
+        "dmf_arguments/src/help.rt",
+        ("the help tells another reply", "c add ARC value VALUE\n", "c add value VALUE\n", "test_commands.py::test_help"),
+        ("the help tells another status", "  0  success\n", "  0  good\n", "program/test_worked.py::test_words"),
+        ("another version", 'VERSION: &str = "0.1.0"', 'VERSION: &str = "0.1.1"', "program/test_program.py::test_ends"),
+    ),
 ]  # fmt: skip

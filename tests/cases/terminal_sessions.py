@@ -29,7 +29,8 @@ SOLVED = "s 5\nf 1 2 3\nf 1 3 2\nf 2 3 1\nf 2 4 2\nf 3 4 3\n"
 INVITATION = "dmf: reads a problem from the terminal; Ctrl-D ends it (dmf --help says more)\n"
 COMMANDS = f"the commands are {', '.join(LISTED)} and {', '.join(LISTED_PRINTS)}; Ctrl-D ends the session"
 ADD_FORM = "add takes two nodes and a capacity (add V W U, 4 fields)"
-BOUNDS = "is no whole number from 0 to 18446744073709551615"
+LARGEST = 18446744073709551615
+BOUNDS = f"is no whole number from 0 to {LARGEST}"
 
 
 @dataclass(frozen=True)
@@ -41,65 +42,66 @@ class Words:
     meant: str
 
 
-# Each command line, what it is refused for (none, where it has another reply), and what is said of that.
-REFUSED = [
-    ("help", "unknown command", COMMANDS),
-    ("?", "unknown command", COMMANDS),
-    ("quit", "unknown command", COMMANDS),
-    ("exit", "unknown command", COMMANDS),
-    ("wash it", "unknown command", f"'wash' is no command: {COMMANDS}"),
-    ("SOLVE", "unknown command", "'SOLVE' is no command: all commands are in lower case (help lists them)"),
-    ("print x", "unknown command", "'x' is not printed: print problem, print flow or print cut"),
-    ("close Tunnel", "not a number", "arcs go by number here: 2 is Tunnel"),
-    ("close Mill Street, 300 mm", "wrong number of fields", "arcs go by number here: 3 is Mill Street, 300 mm"),
-    ("cap Mill Street, 300 mm 5", "wrong number of fields", "arcs go by number here: 3 is Mill Street, 300 mm"),
-    ("shut Old Mill", "wrong number of fields", "nodes go by number here: 2 is Old Mill"),
-    ("add Old Mill New Harbour 5", "wrong number of fields", "nodes go by number here: the two are 2 and 4"),
-    ("add 3 Old Mill 5", "wrong number of fields", "nodes go by number here: the two are 3 and 2"),
-    # The first name may end at two places.
-    ("add Old Mill Old Mill Old Mill 5", "wrong number of fields", f"{ADD_FORM}; found 8 fields"),
-    ("add Old Mill Nowhere 5", "wrong number of fields", f"{ADD_FORM}; found 5 fields"),
-    ("cap Bridge 1", "not a number", "arcs go by number here: 4 is Bridge, and so is another"),
-    ("close Nobody", "not a number", "'Nobody' is no number: arcs go by number here, from 1 in the order of the problem"),
-    ("shut Reservoir", "not a number", "nodes go by number here: 3 is Reservoir"),
-    ("add 1 Reservoir 1", "not a number", "nodes go by number here: 3 is Reservoir"),
-    ("shut Tunnel", "not a number", "'Tunnel' is no number: nodes go by number here"),
-    ("add 1 4 inf", "not a number", f"'inf' {BOUNDS}; there is no infinite capacity: write a large number"),
-    ("cap 1 -2", "not a number", f"'-2' {BOUNDS}; numbers have no sign (for no limit write a large number)"),
-    ("undo x", "not a number", f"'x' {BOUNDS}"),
-    ("cap 99 1", "no such arc", "there are arcs 1 to 5"),
-    ("close 0", "no such arc", "there are arcs 1 to 5"),
-    ("shut 9", "no such node", "there are nodes 1 to 4"),
-    ("cap 1", "wrong number of fields", "cap takes an arc and its new capacity (cap I U, 3 fields); found 2 fields"),
-    ("add 1 2", "wrong number of fields", f"{ADD_FORM}; found 3 fields"),
-    ("close", "wrong number of fields", "close takes an arc (close I, 2 fields); found 1 field"),
-    ("shut 1 2", "wrong number of fields", "shut takes a node (shut V, 2 fields); found 3 fields"),
-    ("solve 1", "wrong number of fields", "solve takes nothing (1 field); found 2 fields"),
-    ("redo 1 2", "wrong number of fields", "undo and redo take a count or nothing (1 or 2 fields); found 3 fields"),
-    ("print", "wrong number of fields", "print takes problem, flow or cut (2 fields); found 1 field"),
-    ("cap 1 99999999999999999999", "number too large", "the largest number is 18446744073709551615"),
-    ("cap 1 18446744073709551615", "capacities past 64 bits", "the sum of all capacities would pass 2^64 - 1: give a smaller number"),
-    ("undo", "nothing to undo", "there are not so many changes to undo; undo K takes back all K or none"),
-    ("redo 3", "nothing to redo", "there are not so many undone changes; a new change drops them, and redo K makes all K or none"),
-    ("print cut", "flow is not greatest", "solve first: a cut is told of a greatest flow alone"),
-    ("c close Tunnel", None, ""),
-    ("add 1 4 2", None, "c add 6 value 0"),
+# Of a session before its first change, by what they are refused for: command lines, each with what is said of it.
+REFUSED = {
+    "unknown command": {
+        **dict.fromkeys(("help", "?", "quit", "exit"), COMMANDS),
+        "wash it": f"'wash' is no command: {COMMANDS}",
+        "SOLVE": "'SOLVE' is no command: all commands are in lower case (help lists them)",
+        "print x": "'x' is not printed: print problem, print flow or print cut",
+    },
+    "not a number": {
+        "close Tunnel": "arcs go by number here: 2 is Tunnel",
+        "cap Bridge 1": "arcs go by number here: 4 is Bridge, and so is another",
+        "close Nobody": "'Nobody' is no number: arcs go by number here, from 1 in the order of the problem",
+        "shut Reservoir": "nodes go by number here: 3 is Reservoir",
+        "add 1 Reservoir 1": "nodes go by number here: 3 is Reservoir",
+        "shut Tunnel": "'Tunnel' is no number: nodes go by number here",
+        "add 1 4 inf": f"'inf' {BOUNDS}; there is no infinite capacity: write a large number",
+        "cap 1 -2": f"'-2' {BOUNDS}; numbers have no sign (for no limit write a large number)",
+        "undo x": f"'x' {BOUNDS}",
+    },
+    "wrong number of fields": {
+        "close Mill Street, 300 mm": "arcs go by number here: 3 is Mill Street, 300 mm",
+        "cap Mill Street, 300 mm 5": "arcs go by number here: 3 is Mill Street, 300 mm",
+        "shut Old Mill": "nodes go by number here: 2 is Old Mill",
+        "add Old Mill New Harbour 5": "nodes go by number here: the two are 2 and 4",
+        "add 3 Old Mill 5": "nodes go by number here: the two are 3 and 2",
+        # The first name may end at two places.
+        "add Old Mill Old Mill Old Mill 5": f"{ADD_FORM}; found 8 fields",
+        "add Old Mill Nowhere 5": f"{ADD_FORM}; found 5 fields",
+        "add 1 2": f"{ADD_FORM}; found 3 fields",
+        "cap 1": "cap takes an arc and its new capacity (cap I U, 3 fields); found 2 fields",
+        "close": "close takes an arc (close I, 2 fields); found 1 field",
+        "shut 1 2": "shut takes a node (shut V, 2 fields); found 3 fields",
+        "solve 1": "solve takes nothing (1 field); found 2 fields",
+        "redo 1 2": "undo and redo take a count or nothing (1 or 2 fields); found 3 fields",
+        "print": "print takes problem, flow or cut (2 fields); found 1 field",
+    },
+    "no such arc": dict.fromkeys(("cap 99 1", "close 0"), "there are arcs 1 to 5"),
+    "no such node": {"shut 9": "there are nodes 1 to 4"},
+    "number too large": {"cap 1 99999999999999999999": f"the largest number is {LARGEST}"},
+    "capacities past 64 bits": {f"cap 1 {LARGEST}": "the sum of all capacities would pass 2^64 - 1: give a smaller number"},
+    "nothing to undo": {"undo": "there are not so many changes to undo; undo K takes back all K or none"},
+    "nothing to redo": {"redo 3": "there are not so many undone changes; a new change drops them, and redo K makes all K or none"},
+    "flow is not greatest": {"print cut": "solve first: a cut is told of a greatest flow alone"},
+}
+# Command lines after these, each with what it is refused for and what is said of it, or with its reply.
+CHANGED = [
+    ("c close Tunnel", "", ""),
+    ("add 1 4 2", "", "c add 6 value 0\n"),
     ("cap 99 1", "no such arc", "the problem has arcs 1 to 5, and added ones follow by the number in their reply"),
-    ("close 1", None, "c close value 0"),
+    ("close 1", "", "c close value 0\n"),
     ("close 1", "arc is closed", "undo alone opens a closed arc"),
     ("x" * 5000, "line too long", "a command line has at most 4096 bytes"),
     ("close Tunnel", "not a number", "arcs go by number here: 2 is Tunnel"),
 ]
-
-
-def session_row(number: int, line: str, refusal: str | None, said: str) -> tuple[bytes, str, str]:
-    """A command line, its reply, and the line that is said of it."""
-    if refusal is None:
-        return line.encode(), said and f"{said}\n", ""
-    return line.encode(), f"c refused {number} {refusal}\n", f"dmf: {said}\n"
-
-
-SESSION = [session_row(number, *row) for number, row in enumerate(REFUSED, 1)]
+LINES = [(line, refusal, said) for refusal, lines in REFUSED.items() for line, said in lines.items()] + CHANGED
+# Each command line, its reply, and the line that is said of it.
+SESSION = [
+    (line.encode(), f"c refused {number} {refusal}\n", f"dmf: {said}\n") if refusal else (line.encode(), said, "")
+    for number, (line, refusal, said) in enumerate(LINES, 1)
+]
 
 SOLVE_THIS = "dmf solve <named.max\n"
 BOUND = "N is a whole number from 0 to 1000000\n"

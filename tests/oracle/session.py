@@ -9,24 +9,16 @@ from . import changes
 from .network import State, is_greatest, smallest_side
 from .problem import problem_text
 from .solution import cut_text, solution_text
-from .texts import Fault, fields_of, number_of, written
+from .texts import Fault, fields_of, judge, number_of, written
 
 MOST_LINES = 1_000_000
 # How many states before the present one are kept, where nobody says another number.
 MOST_KEPT = 1_000_000
 LONGEST_LINE = 4_096
-# How many fields may stand after each command's word.
-FIELDS = {
-    b"cap": {2},
-    b"add": {3},
-    b"close": {1},
-    b"shut": {1},
-    b"solve": {0},
-    b"undo": {0, 1},
-    b"redo": {0, 1},
-    b"print": {1},
-}
-PRINTED = {b"problem", b"flow", b"cut"}
+# The forms of commands, as docs/FORMATS.md has them. A capital letter stands for a number.
+NUMBERED = "cap I U", "add V W U", "close I", "shut V", "solve", "undo", "undo K", "redo", "redo K"
+PRINTS = "print problem", "print flow", "print cut"
+FORMS = [tuple(form.encode().split()) for form in (*NUMBERED, *PRINTS)]
 CHANGES: dict[str, Callable[..., State]] = {"cap": changes.cap, "add": changes.add, "close": changes.close, "shut": changes.shut, "solve": changes.solve}
 
 
@@ -38,13 +30,13 @@ def command_of(line: bytes, is_ended: bool) -> tuple[Any, ...] | None:
     if not fields or fields[0] == b"c":
         return None
     word, *rest = fields
-    if word not in FIELDS:
-        raise Fault("unknown command")
-    if len(rest) not in FIELDS[word]:
-        raise Fault("wrong number of fields")
+    forms = [form for form in FORMS if form[0] == word]
+    judge(
+        (not forms, "unknown command"),
+        (len(fields) not in map(len, forms), "wrong number of fields"),
+        (word == b"print" and tuple(fields) not in forms, "unknown command"),
+    )
     if word == b"print":
-        if rest[0] not in PRINTED:
-            raise Fault("unknown command")
         return "print", rest[0].decode()
     numbers = [number_of(field) for field in rest]
     if word in (b"undo", b"redo") and not numbers:

@@ -5,9 +5,10 @@ from __future__ import annotations
 from dataclasses import replace
 
 from .network import State
-from .texts import Fault, number_of, read_text, written
+from .texts import Fault, judge, number_of, read_text, written
 
-FIELDS = {b"s": 2, b"f": 4}
+# How many fields stand after the first one of each line.
+FIELDS = {b"s": 1, b"f": 3}
 
 
 class Reading:
@@ -24,14 +25,13 @@ class Reading:
         self.flows = dict.fromkeys(self.capacities, 0)
 
     def take(self, fields: list[bytes]) -> None:
-        kind = fields[0]
-        if kind not in FIELDS:
-            raise Fault("unknown line")
-        if kind == b"s" and self.value is not None:
-            raise Fault("second value line")
-        if len(fields) != FIELDS[kind]:
-            raise Fault("wrong number of fields")
-        numbers = [number_of(field) for field in fields[1:]]
+        kind, *rest = fields
+        judge(
+            (kind not in FIELDS, "unknown line"),
+            (kind == b"s" and self.value is not None, "second value line"),
+            (len(rest) != FIELDS.get(kind), "wrong number of fields"),
+        )
+        numbers = [number_of(field) for field in rest]
         if kind == b"s":
             self.value = numbers[0]
         else:

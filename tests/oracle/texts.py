@@ -29,6 +29,13 @@ class LineFault(Fault):
         super().__init__(f"line {line}: {fault}")
 
 
+def judge(*judgements: tuple[bool, str]) -> None:
+    """Raises the first fault of those that hold. They stand in the order of docs/FORMATS.md."""
+    for holds, text in judgements:
+        if holds:
+            raise Fault(text)
+
+
 def lines_of(text: bytes) -> list[bytes]:
     """Each line of a text: the pieces between line feeds, without one carriage return directly before a line feed."""
     *ended, rest = text.split(b"\n")
