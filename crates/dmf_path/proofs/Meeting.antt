@@ -1,6 +1,6 @@
 -- Two searches meet: what their labels say then, and that a path has no more links than there are nodes.
-use Rattle.std.proofs.Common.{ℕ, ◌≡◌, ◌≢◌, ◌+◌, ◌≤◌, ◌<◌, ◌⊎◌, inl, inr, List, [], ◌∷◌, Option, None, length, get_or, map, suc, refl, ap, sym, subst, ◌∙◌, arith}
-use Rattle.std.proofs.Common.{true, ◌==◌, cond}
+use Rattle.std.proofs.Common.{ℕ, ◌≡◌, ◌≢◌, ◌+◌, ◌≤◌, ◌<◌, ◌⊎◌, inl, inr, List, [], ◌∷◌, Option, None, length, get_or, map, suc, refl, ap, sym, subst, ◌∙◌}
+use Rattle.std.proofs.Common.{arith, true, ◌==◌, cond}
 use Rattle.std.proofs.lemmas.Bool.Decides.{eqb_tells}
 use Rattle.std.proofs.lemmas.Bool.{cases_lt, eq-eqb}
 use Rattle.std.proofs.lemmas.List.Sums.{sum_by-cons}
@@ -252,7 +252,8 @@ pub goal-used_up : (links : Roomy) (g s : Frontier) → AreNearing links g s →
 goal-used_up links g s are all =
     let side = are.goal_side in
     let unset = first-none _ (get_or s.labels.items s.root 0) (are.apart s.root (omega (arith, are.start.to_last, side.one_each))) are.start_side.root_is in
-    separated-unlabelled (links_of links.table.value) links.rooms.items links.flags.items g.labels.items s.root g.root s.root links.table.value.are links.flags_are
+    separated-unlabelled (links_of links.table.value) links.rooms.items links.flags.items g.labels.items s.root g.root s.root links.table.value.are
+    links.flags_are
     (labels-spread (links_of links.table.value) links.flags.items g.root s.root g.labels.items g.queue.items g.done links.table.value.are side are.start.to_last
     (inl (omega (arith, all, side.come)))) unset unset
 

@@ -49,6 +49,13 @@ abbrev pub MeetBeyond : ℕ → List ℕ → List ℕ → Type 0
 MeetBeyond level labels others =
     (v : ℕ) → v < length labels → slice_index labels v ≢ no_label → slice_index others v ≢ no_label → slice_index labels v ≡ level + 1
 
+-- No node has a label, and some may have no place for one yet, but there is memory for the labels and the queue.
+pub record IsIdle (nodes : ℕ) (frontier : Frontier) : Type 0 where
+  pub labels_are : frontier.labels.items ≡ replicate (length frontier.labels.items) no_label
+  pub at_most : length frontier.labels.items ≤ nodes + 1
+  pub labels_capacity : nodes + 1 ≤ vec_capacity frontier.labels
+  pub capacity : nodes + 1 ≤ vec_capacity frontier.queue
+
 -- No node has a label, and the queue has room for all of them.
 pub record IsClean (nodes : ℕ) (frontier : Frontier) : Type 0 where
   pub labels_are : frontier.labels.items ≡ replicate (nodes + 1) no_label

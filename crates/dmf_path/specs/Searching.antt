@@ -6,7 +6,7 @@ use Rattle.dmf_path.specs.declared.aside.Aside.{Aside}
 use Rattle.dmf_path.specs.declared.levels.Levels.{Levels}
 use Rattle.dmf_path.specs.declared.frontier.Frontier.{Frontier}
 use Rattle.dmf_path.specs.Labels.{no_label, AreQueued}
-use Rattle.dmf_path.specs.Frontier.{IsClean}
+use Rattle.dmf_path.specs.Frontier.{IsClean, IsIdle}
 use Rattle.dmf_path.specs.BothEnds.{AreSound, AreWhole}
 use Rattle.dmf_node.specs.Node.{IsNode}
 use Rattle.dmf_path.specs.Links.{Links, LiesAt, AreLinks, ArePlaces, AreRooms, pairs_at}
@@ -116,12 +116,12 @@ pub record IsReady (nodes : ℕ) (near far : Frontier) : Type 0 where
   pub one_label_each : length near.labels.items ≡ nodes + 1
   pub queued : AreQueued near.labels.items near.queue.items
   pub capacity : nodes + 1 ≤ vec_capacity near.queue
-  pub clean : IsClean nodes far
+  pub idle : IsIdle nodes far
 
 -- No node has a label of either search, and the ends of paths are two nodes.
 pub record MayBeLabelled (nodes : ℕ) (near far : Frontier) (start goal : ℕ) : Type 0 where
   pub near_is : IsClean nodes near
-  pub far_is : IsClean nodes far
+  pub far_is : IsIdle nodes far
   pub start_is : IsNode nodes start
   pub goal_is : IsNode nodes goal
   pub apart : start ≢ goal

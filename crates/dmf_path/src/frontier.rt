@@ -4,7 +4,7 @@ ghost use Rattle.dmf_node.specs.Node.{IsNode};
 ghost use Rattle.dmf_path.specs.LinkTable.{links_of};
 ghost use Rattle.dmf_path.specs.Labels.{AreQueued, no_label};
 ghost use Rattle.dmf_path.specs.BothEnds.{AreLevels};
-ghost use Rattle.dmf_path.specs.Frontier.{AreSpread, AreApart, Expands, IsAtRest, IsClean, MeetBeyond};
+ghost use Rattle.dmf_path.specs.Frontier.{AreSpread, AreApart, Expands, IsAtRest, IsClean, IsIdle, MeetBeyond};
 
 use crate::label::{NO_LABEL, spread, take_off};
 use crate::open::OpenLinks;
@@ -33,14 +33,37 @@ impl Frontier {
         ensures clean { IfOk result (IsClean nodes) }
         ensures empty { IfOk result (λ frontier. frontier.queue.items ≡ []) }
     {
+        let mut frontier = Frontier::idle(alloc, nodes)?;
+        make_ready(&mut frontier, nodes);
+        Ok(frontier)
+    }
+
+    /// The same, but its memory stays untouched until [`make_ready`] is called: where it never is, it costs no time.
+    pub fn idle(alloc: Global, nodes: u32) -> Result<Frontier, AllocError>
+        requires { nodes < 2 ^ 31 }
+        ensures idle { IfOk result (IsIdle nodes) }
+        ensures empty { IfOk result (λ frontier. frontier.queue.items ≡ []) }
+    {
         Ok(Frontier {
             root: 0,
-            labels: vec![in alloc; NO_LABEL; nodes as usize + 1]?,
+            labels: Vec::with_capacity(alloc, nodes as usize + 1)?,
             queue: Vec::with_capacity(alloc, nodes as usize + 1)?,
             done: 0,
             looked: 0,
         })
     }
+}
+
+/// Gives each of so many nodes a place for its label, where it has none yet. Takes no memory: the search has it.
+pub fn make_ready(frontier: &mut Frontier, nodes: u32)
+    requires { IsIdle nodes frontier.old }
+    ensures clean { IsClean nodes frontier.new }
+    ensures queue { frontier.new.queue ≡ frontier.old.queue }
+{
+    frontier
+        .labels
+        .resize(nodes as usize + 1, NO_LABEL)
+        .unwrap();
 }
 
 /// Begins at a root. No node has a label yet.

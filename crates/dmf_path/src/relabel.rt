@@ -7,7 +7,7 @@ ghost use Rattle.dmf_path.specs.BothEnds.{AreJoined, AreWhole, IsLabelled};
 ghost use Rattle.dmf_path.specs.Frontier.{IsClean};
 ghost use Rattle.dmf_path.specs.Searching.{IsReady, IsSeparated, MayBeLabelled};
 
-use crate::frontier::{Frontier, begin, unlabel};
+use crate::frontier::{Frontier, begin, make_ready, unlabel};
 use crate::label::{NO_LABEL, label_most, label_nodes};
 use crate::levels::Levels;
 use crate::meet::meet;
@@ -111,6 +111,7 @@ fn label_from_both(links: &Links, levels: &mut Levels, start: u32, goal: u32) ->
 {
     let near = &mut levels.near;
     let far = &mut levels.far;
+    make_ready(far, links.table.nodes);
     begin(near, goal);
     begin(far, start);
     let Some(node) = meet(links, near, far) else {

@@ -28,7 +28,7 @@ label_anew-requires c =
         labels_are = c.unlabel.ensures.labels ∙ ap (λ n. replicate n no_label) is.one_label_each;
         capacity = omega (arith, c.unlabel.ensures.capacity, is.capacity);
       };
-      far_is = is.clean;
+      far_is = is.idle;
       start_is = a.start_is;
       goal_is = a.goal_is;
       apart = a.apart;

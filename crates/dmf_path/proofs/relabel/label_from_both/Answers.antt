@@ -32,6 +32,7 @@ meet-requires c =
     let l = links_of c.args.links.now.table.value in
     let near = c.begin.new.frontier in
     let far = c.begin-2.new.frontier in
+    let clean = rw c.deref.ensures at c.make_ready.ensures.clean in
     record {
       goal = rw c.begin.ensures.root c.requires.goal_is;
       start = rw c.begin-2.ensures.root c.requires.start_is;
@@ -39,13 +40,13 @@ meet-requires c =
           (starts-spread l c.args.links.now.flags.items c.args.goal c.args.levels.now.near.labels.items near.labels.items near.queue.items near.done
           c.requires.goal_is c.requires.near_is.labels_are c.begin.ensures.labels c.begin.ensures.queue c.begin.ensures.done);
       start_side = rw c.begin-2.ensures.root
-          (starts-spread l (map open_flag c.args.links.now.rooms.items) c.args.start c.args.levels.now.far.labels.items far.labels.items far.queue.items
-          far.done c.requires.start_is c.requires.far_is.labels_are c.begin-2.ensures.labels c.begin-2.ensures.queue c.begin-2.ensures.done);
+          (starts-spread l (map open_flag c.args.links.now.rooms.items) c.args.start c.make_ready.new.frontier.labels.items far.labels.items far.queue.items
+          far.done c.requires.start_is clean.labels_are c.begin-2.ensures.labels c.begin-2.ensures.queue c.begin-2.ensures.done);
       goal_rest = λ j ahead within. grind (arith, common_steps);
       start_rest = λ j ahead within. grind (arith, common_steps);
       apart = λ v within. grind (arith, common_steps);
       goal_capacity = omega (arith, c.begin.ensures.capacity, c.requires.near_is.capacity);
-      start_capacity = omega (arith, c.begin-2.ensures.capacity, c.requires.far_is.capacity);
+      start_capacity = omega (arith, c.begin-2.ensures.capacity, clean.capacity);
     }
 
 pub index-requires : goal.index-requires
@@ -71,7 +72,7 @@ join-requires-clause-at_most c =
     let met = has_met at.In-Some in
     let far = c.meet.new.from_start in
     let so_far = c.in-Some.ensures.on.start_side in
-    rw (c.deref.ensures.value, c.deref-2.ensures.value) (λ i before.
+    rw (c.deref-2.ensures.value, c.deref-3.ensures.value) (λ i before.
     let entry = so_far.queued i before in
     elim (met.start_side.small (get_or far.queue.items i 0) entry.node) [
       | inl none ↦ absurd (omega (arith, none, entry.small, before, queue-short _ _ _ _ _ _ so_far, c.args.links.now.table.value.are.at_most_nodes))
@@ -100,4 +101,4 @@ returns-clause-labelled c =
     c.args.links.now.table.value.are c.args.links.now.flags_are (AreOpen-map l rooms (map open_flag rooms) c.args.links.now.rooms_are refl)
     c.requires.start_is c.requires.goal_is
     (rw (c.begin.ensures.root, c.begin-2.ensures.root) at met) (long at.After-index-2 _ met.met.node met.goal_side.one_each met.start_side.one_each)
-    (rw (c.deref_mut.ensures.value, c.deref.ensures.value) at c.join.ensures.joined))
+    (rw (c.deref_mut.ensures.value, c.deref-2.ensures.value) at c.join.ensures.joined))
