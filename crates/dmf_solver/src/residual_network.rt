@@ -186,21 +186,13 @@ impl ResidualNetwork {
             carrying,
             looks,
         } = self;
-        let Some(others) = carrying else {
-            let search = search.insert(alloc, pair)?;
-            return Some(ResidualNetwork {
-                search,
-                carrying: None,
-                looks,
-            });
-        };
         let idle = Pair {
             tail: pair.tail,
             head: pair.head,
             along: 0,
             against: 0,
         };
-        let (search, carrying) = search.insert_both(alloc, pair, others, idle)?;
+        let (search, carrying) = search.insert(alloc, pair, carrying, idle)?;
         Some(ResidualNetwork {
             search,
             carrying,
@@ -219,15 +211,7 @@ impl ResidualNetwork {
             carrying,
             looks,
         } = self;
-        let Some(others) = carrying else {
-            let search = search.remove()?;
-            return Some(ResidualNetwork {
-                search,
-                carrying: None,
-                looks,
-            });
-        };
-        let (search, carrying) = search.remove_both(others)?;
+        let (search, carrying) = search.remove(carrying)?;
         Some(ResidualNetwork {
             search,
             carrying,

@@ -1,5 +1,5 @@
 //! A search comes apart into what it shares with others and what it has of its own, and is put together over other links.
-ghost use Rattle.std.specs.Prelude.{◌≡◌, IfSome};
+ghost use Rattle.std.specs.Prelude.{◌≡◌, Some, IfSome};
 ghost use Rattle.dmf_path.specs.Apart.{AreShared, IsApart};
 ghost use Rattle.dmf_path.specs.LinkTable.{links_of};
 ghost use Rattle.dmf_path.specs.Search.{Searched};
@@ -80,18 +80,19 @@ impl Search {
         };
         (shared, own)
     }
+}
 
-    /// The search begins anew, and comes apart. What it shares is let go. `None` if its links are not these, at the places of as many
-    /// pairs. Takes no memory, and time for a look at each link.
-    pub fn begun_over(self, shared: &Shared) -> Option<Own>
-        ensures { IfSome result (λ own. IsApart (links_of shared.now.table.value) shared.now.places.value own self) }
-    {
-        let (others, own) = self.begun();
-        if others.table.is(&shared.table) && others.places.are(&shared.places) {
-            Some(own)
-        } else {
-            None
-        }
+/// What a search has of its own, if one is given: it begins anew, and comes apart. What it shares is let go. `None` if its links are not
+/// these, at the places of as many pairs. Takes no memory, and time for a look at each link.
+pub fn begun_over(search: Option<Search>, shared: &Shared) -> Option<Own>
+    ensures { IfSome result (λ own. (s : Searched) × ((search ≡ Some s)
+        × IsApart (links_of shared.now.table.value) shared.now.places.value own s)) }
+{
+    let (others, own) = search?.begun();
+    if others.table.is(&shared.table) && others.places.are(&shared.places) {
+        Some(own)
+    } else {
+        None
     }
 }
 

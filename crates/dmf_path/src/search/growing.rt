@@ -11,32 +11,21 @@ use crate::links::open_flag;
 use crate::numbers::grow_numbers;
 use crate::pair::Pair;
 use crate::search::Search;
-use crate::search::apart::{Own, Shared};
+use crate::search::apart::{Own, Shared, begun_over};
 use std::alloc::Global;
 use std::rc::Rc;
 
 impl Search {
-    /// The search with this pair before the last one. It takes memory for two links more where there is no room for them, and time for
-    /// writing all links once in their order. Labelling begins anew. `None` if memory is refused, or where another search has the same
-    /// links.
-    pub fn insert(self, alloc: Global, pair: Pair) -> Option<Search>
-        requires pair { IsPair self.nodes pair }
-        requires some { 0 < length self.pairs }
-        requires few { length self.pairs ≤ 2 ^ 27 }
-        ensures { IfSome result (λ search. search ≡ with_pairs self (insert self.pairs (length self.pairs - 1) (Some pair))) }
-    {
-        let (shared, own) = self.begun();
-        let (grown, new) = grow(alloc, shared, pair)?;
-        own.taking_in(&new, pair, grown)
-    }
-
-    /// The same, and also another search with a pair between the same nodes before the last one. The two share the links. In place of
-    /// the other search there is `None`, if it has other links.
-    pub fn insert_both(
+    /// The search with this pair before the last one, and with it another search with a pair between the same nodes before its last one,
+    /// if one is given. The two share the links. In place of the other search there is `None`, if it has other links.
+    ///
+    /// Takes memory for two links more where there is no room for them, and time for writing all links once in their order. Labelling
+    /// begins anew. `None` if memory is refused, or where one more search has the same links.
+    pub fn insert(
         self,
         alloc: Global,
         pair: Pair,
-        other: Search,
+        other: Option<Search>,
         other_pair: Pair,
     ) -> Option<(Search, Option<Search>)>
         requires pair { IsPair self.nodes pair }
@@ -45,11 +34,11 @@ impl Search {
         requires ends { HasEndsOf pair other_pair }
         requires fits { other_pair.along + other_pair.against < 2 ^ 64 }
         ensures search { IfSome result (λ both. both.0 ≡ with_pairs self (insert self.pairs (length self.pairs - 1) (Some pair))) }
-        ensures other { IfSome result (λ both. IfSome both.1 (λ search. search
-            ≡ with_pairs other (insert other.pairs (length other.pairs - 1) (Some other_pair)))) }
+        ensures other { IfSome result (λ both. IfSome both.1 (λ search. (o : Searched) × ((other ≡ Some o)
+            × (search ≡ with_pairs o (insert o.pairs (length o.pairs - 1) (Some other_pair)))))) }
     {
         let (shared, own) = self.begun();
-        let others = other.begun_over(&shared);
+        let others = begun_over(other, &shared);
         let (grown, new) = grow(alloc, shared, pair)?;
         let Some(others) = others else {
             let search = own.taking_in(&new, pair, grown)?;

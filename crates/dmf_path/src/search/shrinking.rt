@@ -1,5 +1,5 @@
 //! A pair is taken out of a search, and with it out of another search over the same links.
-ghost use Rattle.std.specs.Prelude.{◌≡◌, ℕ, ◌-◌, ◌<◌, ◌≤◌, length, remove, IfSome};
+ghost use Rattle.std.specs.Prelude.{◌≡◌, ℕ, ◌-◌, ◌<◌, ◌≤◌, length, remove, Some, IfSome};
 ghost use Rattle.dmf_path.specs.Apart.{AreShared, HasShrunk};
 ghost use Rattle.dmf_path.specs.Grown.{IsGrown};
 ghost use Rattle.dmf_path.specs.LinkTable.{links_of};
@@ -10,33 +10,25 @@ use crate::grown::Gap;
 use crate::numbers::numbers_left;
 use crate::places::Places;
 use crate::search::Search;
-use crate::search::apart::{Own, Shared};
+use crate::search::apart::{Own, Shared, begun_over};
 use crate::shrunk::{gap_of, shrink_own};
 use crate::table::LinkTable;
 use std::rc::Rc;
 
 impl Search {
-    /// The search without the pair before the last one, as it was before [`insert`](Search::insert). It takes no memory, and time for
-    /// writing all links once in their order. Labelling begins anew. `None` where there is no pair at that index, or where another
-    /// search has the same links.
-    pub fn remove(self) -> Option<Search>
-        requires { 2 ≤ length self.pairs }
-        ensures { IfSome result (λ search. search ≡ with_pairs self (remove self.pairs (length self.pairs - 2))) }
-    {
-        let (shared, own) = self.begun();
-        let (left, gap) = shrink(shared)?;
-        Some(own.leaving_out(&gap, left))
-    }
-
-    /// The same, and also another search without its pair before the last one, if it has the same links, and else `None` in its place.
-    pub fn remove_both(self, other: Search) -> Option<(Search, Option<Search>)>
+    /// The search without the pair before the last one, as it was before [`insert`](Search::insert), and with it another search without
+    /// its pair before the last one, if one is given. In place of the other search there is `None`, if it has other links.
+    ///
+    /// Takes no memory, and time for writing all links once in their order. Labelling begins anew. `None` where there is no pair at that
+    /// index, or where one more search has the same links.
+    pub fn remove(self, other: Option<Search>) -> Option<(Search, Option<Search>)>
         requires { 2 ≤ length self.pairs }
         ensures search { IfSome result (λ both. both.0 ≡ with_pairs self (remove self.pairs (length self.pairs - 2))) }
-        ensures other { IfSome result (λ both. IfSome both.1 (λ search. search
-            ≡ with_pairs other (remove other.pairs (length other.pairs - 2)))) }
+        ensures other { IfSome result (λ both. IfSome both.1 (λ search. (o : Searched) × ((other ≡ Some o)
+            × (search ≡ with_pairs o (remove o.pairs (length o.pairs - 2)))))) }
     {
         let (shared, own) = self.begun();
-        let others = other.begun_over(&shared);
+        let others = begun_over(other, &shared);
         let (left, gap) = shrink(shared)?;
         let Some(others) = others else {
             return Some((own.leaving_out(&gap, left), None));
