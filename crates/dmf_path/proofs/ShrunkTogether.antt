@@ -1,5 +1,5 @@
 -- Links without those of a pair, the places and the numbers that are left, and the pairs of each search over them.
-use Rattle.std.proofs.Common.{ℕ, ◌≡◌, ◌-◌, ◌<◌, ◌≤◌, List, length, get_or, Option, Vec, Global, refl, ap, sym, ◌∙◌, subst, arith}
+use Rattle.std.proofs.Common.{ℕ, ◌≡◌, ◌-◌, ◌<◌, List, length, get_or, Option, Vec, Global, refl, ap, sym, ◌∙◌, subst, arith}
 use Rattle.std.specs.Prelude.{remove}
 use Rattle.std.specs.declared.rc.Rc.{Rc}
 use Rattle.std.proofs.lemmas.List.{length-map}

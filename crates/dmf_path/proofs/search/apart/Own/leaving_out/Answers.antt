@@ -1,5 +1,4 @@
 -- The rooms and the flags are those that are left.
-use Rattle.std.proofs.Common.{arith}
 use Rattle.dmf_path.proofs.ShrunkTogether.{apart-without}
 use Rattle.dmf_path.proofs.search.apart.Own.leaving_out.Goals as goal
 

@@ -1,6 +1,5 @@
 -- The rooms and the flags are the old ones, and those of the new links.
 use Rattle.std.proofs.Common.{arith}
-use Rattle.dmf_path.specs.LinkTable.{links_of}
 use Rattle.dmf_path.proofs.GrownTogether.{order-with, within-with, apart-with}
 use Rattle.dmf_path.proofs.search.apart.Own.taking_in.Goals as goal
 
