@@ -69,5 +69,6 @@ pub mod Slots
 pub mod ShrunkLinks
 pub mod ShrunkPlaces
 pub mod ShrunkRooms
+pub mod ApartPairs
 pub mod GrownTogether
 pub mod ShrunkTogether

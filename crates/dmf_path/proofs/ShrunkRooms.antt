@@ -90,9 +90,10 @@ module _ (l : Links) (place : ℕ) (g : Gap) (links : AreLinks l) (filled : IsFi
             let low_other : q ≢ g.low = λ at. omega (arith, at, shifted-sum g p filled.order, filled.order) in
             let high_other : q ≢ g.high + 1 = λ at. omega (arith, at, shifted-sum g p filled.order, filled.order) in
             let partner = partner-kept l place g links filled q in_links low_other high_other in
+            let there : get_or left p 0 ≢ no_place = λ none. omega (arith, none, kept p, (links.each q in_links).partner, links.at_most) in
             elim (some-link g (length left) (get_or l.partners q 0) filled.order (omega (arith, filled.within, long, links.partners_long))
             (omega (arith, (links.each q in_links).partner, long, links.partners_long))) [
-              | old r r_in at ↦ at ∙ ap (shifted g) (sym (moved p r below (sym (kept p) ∙ at)))
+              | old r r_in at ↦ at ∙ ap (shifted g) (sym (moved.some p r below there (sym (kept p) ∙ at)))
               | low at ↦ absurd (partner.0 at)
               | high at ↦ absurd (partner.1 at)
             ];

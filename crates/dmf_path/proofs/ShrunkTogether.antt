@@ -1,14 +1,12 @@
 -- Links without those of a pair, the places and the numbers that are left, and the pairs of each search over them.
-use Rattle.std.proofs.Common.{ℕ, ◌≡◌, ◌-◌, ◌<◌, ◌≤◌, List, length, get_or, Option, Vec, Global, refl, ap, sym, ◌∙◌, subst, arith}
+use Rattle.std.proofs.Common.{ℕ, ◌≡◌, ◌-◌, ◌<◌, List, length, get_or, Option, Vec, Global, refl, ap, sym, ◌∙◌, subst, arith}
 use Rattle.std.specs.Prelude.{remove}
 use Rattle.std.specs.declared.rc.Rc.{Rc}
 use Rattle.std.proofs.lemmas.List.{length-map}
 use Rattle.dmf_path.specs.declared.grown.Gap.{Gap}
-use Rattle.dmf_path.specs.declared.push.Links.{Links as Roomy}
-use Rattle.dmf_path.specs.declared.search.apart.Rest.{Rest}
-use Rattle.dmf_path.specs.Apart.{seen}
+use Rattle.dmf_path.specs.declared.search.apart.Own.{Own}
+use Rattle.dmf_path.specs.Apart.{seen, with_values, HasBegun, HasShrunk, IsApart}
 use Rattle.dmf_path.specs.Links.{Links, AreLinks, ArePlaces, AreRooms, AreFlags, IsOf, pair_at, pairs_at}
-use Rattle.dmf_path.specs.LinkTable.{links_of}
 use Rattle.dmf_path.specs.Search.{Searched, with_pairs}
 use Rattle.dmf_path.specs.Grown.{shifted}
 use Rattle.dmf_path.specs.Shrunk.{without_two, AreRenumbered, AreShrunk}
@@ -50,31 +48,35 @@ module _ (l : Links) (places : List ℕ) (k : ℕ) (gap : Gap) (n : Links) (afte
       subst (MayBeNumbered n after) (sym is)
       (numbers-without known.value.items fresh.value.items (subst (MayBeNumbered l places) was numbers) left)
 
--- So a search over them has the pairs that are left.
-pub seen-without : (links : Roomy) (rest : Rest) (places : List ℕ) (gap : Gap) (n : Links) (after : List ℕ) (s : Searched)
-    → seen links places rest ≡ s → ArePlaces (links_of links.table.value) places
-    → AreShrunk (links_of links.table.value) places (length places - 2) gap n after → 2 ≤ length places
-    → record {
-      nodes = n.nodes;
-      pairs = pairs_at n after (without_two gap links.rooms.items);
-      start = rest.trail.start;
-      goal = rest.trail.goal;
-      takes_back = links.takes_back;
-    } ≡ with_pairs s (remove s.pairs (length s.pairs - 2))
-seen-without links rest places gap n after s same are g two =
-    let l = links_of links.table.value in
-    let rooms = links.rooms.items in
-    let before : Searched = seen links places rest in
-    let nodes : n.nodes ≡ l.nodes = sym g.table.nodes in
-    let long : length places - 2 ≡ length before.pairs - 2 = omega (arith, length-map places (pair_at l rooms)) in
-    let pairs : pairs_at n after (without_two gap rooms) ≡ remove before.pairs (length before.pairs - 2) =
-    pairs-without l places (length places - 2) gap n after links.table.value.are are g (omega (arith, two)) rooms links.rooms_are.0
-    ∙ ap (λ (k : ℕ). remove before.pairs k) long in
-    (λ i. record {
-      nodes = nodes i;
-      pairs = pairs i;
-      start = rest.trail.start;
-      goal = rest.trail.goal;
-      takes_back = links.takes_back;
-    })
-    ∙ ap (λ (x : Searched). with_pairs x (remove x.pairs (length x.pairs - 2))) same
+-- So the search that is put together over them has the pairs that are left.
+pub apart-without : (own : Own) (gap : Gap) (n : Links) (after : List ℕ) (s : Searched) (rooms flags : Vec ℕ Global) → HasShrunk own gap n after s
+    → AreLinks n → ArePlaces n after → rooms.items ≡ without_two gap own.rooms.items → flags.items ≡ without_two gap own.flags.items
+    → IsApart n after (with_values own rooms flags) (with_pairs s (remove s.pairs (length s.pairs - 2)))
+apart-without own gap n after s rooms flags h links places_are roomy flagged =
+    let l = h.l in
+    let places = h.places in
+    let k : ℕ = length places - 2 in
+    let old = h.apart in
+    let index : k < length places = omega (arith, h.two) in
+    let before : Searched = seen l places own in
+    let nodes : n.nodes ≡ l.nodes = sym h.shrunk.table.nodes in
+    let long : k ≡ length before.pairs - 2 = omega (arith, length-map places (pair_at l own.rooms.items)) in
+    let pairs : pairs_at n after rooms.items ≡ remove before.pairs (length before.pairs - 2) =
+    ap (λ (xs : List ℕ). pairs_at n after xs) roomy
+    ∙ pairs-without l places k gap n after old.links old.places_are h.shrunk index own.rooms.items old.rooms.0
+    ∙ ap (λ (j : ℕ). remove before.pairs j) long in
+    record {
+      links = links;
+      places_are = places_are;
+      rooms = rw roomy (rooms-without l places k gap n after old.links old.places_are h.shrunk index own.rooms.items old.rooms);
+      flags = rw (roomy, flagged) (flags-without l places k gap n after old.links old.places_are h.shrunk index own.rooms.items own.flags.items
+          old.rooms.0 old.flags);
+      begun = subst (λ m. HasBegun m own.levels own.trail) h.shrunk.table.nodes old.begun;
+      same = (λ i. record {
+        nodes = nodes i;
+        pairs = pairs i;
+        start = own.trail.start;
+        goal = own.trail.goal;
+        takes_back = own.takes_back;
+      }) ∙ ap (λ (x : Searched). with_pairs x (remove x.pairs (length x.pairs - 2))) old.same;
+    }

@@ -1,6 +1,6 @@
 -- Putting the two links of a new pair among other links, which keep their order.
 -- Private: only contracts inside the crate and proofs use this.
-use Rattle.std.specs.Prelude.{ℕ, ◌≡◌, ◌+◌, ◌-◌, ◌^◌, ◌<◌, ◌≤◌, ◌==◌, nat_lt, if◌then◌else◌, List, length, slice_index, insert}
+use Rattle.std.specs.Prelude.{ℕ, ◌≡◌, ◌≢◌, ◌+◌, ◌-◌, ◌^◌, ◌<◌, ◌≤◌, ◌==◌, nat_lt, if◌then◌else◌, List, length, slice_index, insert}
 use Rattle.dmf_node.specs.Node.{IsNode}
 use Rattle.dmf_path.specs.declared.grown.Gap.{Gap}
 use Rattle.dmf_path.specs.declared.grown.NewPair.{NewPair}
@@ -63,9 +63,9 @@ pub record IsPlaced (g : Gap) (k place : ℕ) (old new : List ℕ) : Type 0 wher
   pub kept : (j : ℕ) → j < length old → slice_index new (counted k j) ≡ shifted_place g (slice_index old j)
   pub new_is : slice_index new k ≡ place
 
--- Each of the places belongs to a link, so none stands for no place.
-abbrev pub IsShort : List ℕ → Type 0
-IsShort places = (i : ℕ) → i < length places → slice_index places i < 2 ^ 31
+-- Each of the places is far below the number that stands for no place, or is this number.
+abbrev pub AreShort : List ℕ → Type 0
+AreShort places = (i : ℕ) → i < length places → slice_index places i ≢ no_place → slice_index places i < 2 ^ 31
 
 -- The new links are those of this pair, with its rooms.
 pub data IsOfPair (p : Pair) (new : NewPair) : Type 0 where

@@ -18,9 +18,10 @@ pub record IsFilled (l : Links) (place : ℕ) (g : Gap) : Type 0 where
 abbrev pub without_two : {A : Type 0} → Gap → List A → List A
 without_two g xs = remove (remove xs (g.high + 1)) g.low
 
--- Where the links lay before the two went in: each at a place from which it was shifted to the old one.
-abbrev pub AreUnshifted : Gap → List ℕ → List ℕ → Type 0
-AreUnshifted g old new = (i p : ℕ) → i < length old → slice_index old i ≡ shifted g p → slice_index new i ≡ p
+-- Where the links lay before the two went in: each at a place from which it was shifted to the old one, or at none.
+pub record AreUnshifted (g : Gap) (old new : List ℕ) : Type 0 where
+  pub none : (i : ℕ) → i < length old → slice_index old i ≡ no_place → slice_index new i ≡ no_place
+  pub some : (i p : ℕ) → i < length old → slice_index old i ≢ no_place → slice_index old i ≡ shifted g p → slice_index new i ≡ p
 
 -- The places of the pairs have become these: that of the pair at index `k` is gone.
 pub record IsUnplaced (g : Gap) (k : ℕ) (old new : List ℕ) : Type 0 where

@@ -53,34 +53,39 @@ fn put_numbers(table: &LinkTable, places: &Places, numbers: &mut [u32])
     }
 }
 
-/// The numbers where there are some, once there is a pair more at index `k`, whose links go in at this gap. Takes memory for a number
-/// a link.
+/// The numbers where there are some and none has them too, once there is a pair more at index `k`, whose links go in at this gap. Takes
+/// memory for a number a new link where there is no room.
 pub fn grow_numbers(
     alloc: Global,
-    numbers: &Option<Rc<Vec<u32>>>,
+    numbers: Option<Rc<Vec<u32>>>,
     gap: &Gap,
     k: u32,
-) -> Result<Option<Rc<Vec<u32>>>, AllocError>
+) -> Option<Rc<Vec<u32>>>
     requires order { gap.now.low ≤ gap.now.high }
-    requires within { IfSome numbers.now (λ known. gap.now.high ≤ length known.value.items) }
-    requires small { IfSome numbers.now (λ known. (p : ℕ) → p < length known.value.items → slice_index known.value.items p < 2 ^ 31) }
-    ensures { IfOk result (AreSpreadNumbers gap.now k numbers.now) }
+    requires within { IfSome numbers (λ known. gap.now.high ≤ length known.value.items) }
+    requires small { IfSome numbers (λ known. (p : ℕ) → p < length known.value.items → slice_index known.value.items p < 2 ^ 31) }
+    ensures { AreSpreadNumbers gap.now k numbers result }
 {
-    let Some(known) = numbers else {
-        return Ok(None);
+    let shared = numbers?;
+    let known = Rc::into_inner(shared)?;
+    let grown = grown_numbers(known, gap, k)?;
+    let Ok(after) = Rc::new(alloc, grown) else {
+        return None;
     };
-    let after = grown_numbers(alloc, known, gap, k)?;
-    Ok(Some(Rc::new(alloc, after)?))
+    Some(after)
 }
 
-/// The same numbers, which searches then share. Takes no memory.
-pub fn share_known(numbers: &Option<Rc<Vec<u32>>>) -> Result<Option<Rc<Vec<u32>>>, AllocError>
-    ensures { IfOk result (λ shared. (l : Links) (places : List ℕ) → MayBeNumbered l places numbers.now → MayBeNumbered l places shared) }
+/// The same numbers, which searches then share, if there are some. Takes no memory.
+pub fn share_known(numbers: &Option<Rc<Vec<u32>>>) -> Option<Rc<Vec<u32>>>
+    ensures { (l : Links) (places : List ℕ) → MayBeNumbered l places numbers.now → MayBeNumbered l places result }
 {
-    match numbers {
-        Some(known) => Ok(Some(known.clone()?)),
-        None => Ok(None),
-    }
+    let Some(known) = numbers else {
+        return None;
+    };
+    let Ok(shared) = known.clone() else {
+        return None;
+    };
+    Some(shared)
 }
 
 /// The numbers where there are some and none has them too, without those of the pair at index `k`, whose links leave this gap. Takes no
@@ -95,27 +100,16 @@ pub fn numbers_left(numbers: Option<Rc<Vec<u32>>>, gap: &Gap, k: u32) -> Option<
     Some(known)
 }
 
-/// The numbers, once there is a pair more at index `k`, whose links go in at this gap. Takes memory for a number a link.
-fn grown_numbers(alloc: Global, numbers: &[u32], gap: &Gap, k: u32) -> Result<Vec<u32>, AllocError>
+/// The numbers, once there is a pair more at index `k`, whose links go in at this gap. Takes memory for a number a new link where there
+/// is no room. `None` if it is refused.
+fn grown_numbers(mut numbers: Vec<u32>, gap: &Gap, k: u32) -> Option<Vec<u32>>
     requires order { gap.now.low ≤ gap.now.high }
-    requires within { gap.now.high ≤ length numbers.now }
-    requires small { (p : ℕ) → p < length numbers.now → slice_index numbers.now p < 2 ^ 31 }
-    ensures { IfOk result (λ after. IsSpread gap.now (counted k) k k numbers.now after.items) }
+    requires within { gap.now.high ≤ length numbers.items }
+    requires small { (p : ℕ) → p < length numbers.items → slice_index numbers.items p < 2 ^ 31 }
+    ensures { IfSome result (λ after. IsSpread gap.now (counted k) k k numbers.items after.items) }
 {
-    let after = counted_up(alloc, numbers, k)?;
-    gap.put_two(after, k, k)
-}
-
-/// The numbers of the links that were there. Takes memory for them.
-fn counted_up(alloc: Global, numbers: &[u32], k: u32) -> Result<Vec<u32>, AllocError>
-    requires { (p : ℕ) → p < length numbers.now → slice_index numbers.now p < 2 ^ 31 }
-    ensures long { IfOk result (λ after. length after.items ≡ length numbers.now) }
-    ensures each { IfOk result (λ after. (p : ℕ) → p < length numbers.now
-        → slice_index after.items p ≡ counted k (slice_index numbers.now p)) }
-{
-    let mut after = Vec::from_slice(alloc, numbers)?;
-    count_up(&mut after, k);
-    Ok(after)
+    count_up(&mut numbers, k);
+    gap.put_two(numbers, k, k)
 }
 
 /// Raises each number from `k` on by one.

@@ -1,10 +1,11 @@
 //! The places of the links along of pairs, and indices of pairs.
-ghost use Rattle.std.specs.Prelude.{◌≡◌, ◌<◌, ◌≤◌, true, length, slice_index, MatchOption};
+ghost use Rattle.std.specs.Prelude.{◌≡◌, ◌-◌, ◌<◌, ◌≤◌, true, length, slice_index, IfSome, MatchOption};
+ghost use Rattle.dmf_path.specs.Grown.{AreShort, IsPlaced};
 ghost use Rattle.dmf_path.specs.Links.{no_place, IsPlaceOf};
 ghost use Rattle.dmf_path.specs.Search.{indices_of};
 ghost use Rattle.dmf_path.specs.Shrunk.{IsUnplaced};
 
-use crate::grown::Gap;
+use crate::grown::{Gap, NewPair};
 use crate::links::NO_PLACE;
 use std::marker::Model;
 use std::ops::Range;
@@ -61,6 +62,19 @@ impl Places {
         Places { places }
     }
 
+    /// The places with that of a new pair before the last one. Takes memory for it where there is no room. `None` if it is refused.
+    pub fn grown(self, new: &NewPair) -> Option<Places>
+        requires some { 0 < length self }
+        requires short { AreShort self }
+        ensures { IfSome result (λ after. IsPlaced new.now.gap (length self - 1) new.now.place self after) }
+    {
+        let mut places = self.places;
+        let k = places.len() - 1;
+        new.gap.shift(&mut places);
+        places.insert(k, new.place).ok()?;
+        Some(Places { places })
+    }
+
     /// Leaves out the place of the pair at index `k`, whose two links leave this gap. Takes no memory.
     pub fn leave_out(&mut self, k: usize, gap: &Gap)
         requires index { k < length self.old }
@@ -68,7 +82,7 @@ impl Places {
         ensures { IsUnplaced gap.now k self.old self.new }
     {
         let _ = self.places.remove(k);
-        gap.unshift_places(&mut self.places);
+        gap.unshift(&mut self.places);
     }
 
     /// Whether these are the same places.

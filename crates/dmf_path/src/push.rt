@@ -1,13 +1,10 @@
 //! Links with their rooms: the residual network.
-ghost use Rattle.std.specs.Prelude.{◌≡◌, ℕ, ◌<◌, List, length, slice_index, slice_set, IfOk};
+ghost use Rattle.std.specs.Prelude.{◌≡◌, ◌<◌, length, slice_index, slice_set};
 ghost use Rattle.dmf_path.specs.Links.{AreRooms, AreFlags, open_flag};
 ghost use Rattle.dmf_path.specs.LinkTable.{links_of};
-ghost use Rattle.dmf_path.specs.Grown.{IsGap, IsGrown, IsSpread};
 
-use crate::grown::NewPair;
 use crate::links::open_flag;
 use crate::table::LinkTable;
-use std::alloc::AllocError;
 use std::rc::Rc;
 
 /// Links with their rooms.
@@ -65,26 +62,6 @@ impl Links {
         self.put(place, opposite, 0);
         self.put(opposite, place, against);
         self.put(place, opposite, along);
-    }
-
-    /// Takes in the links of a new pair: `table` has them already. Takes memory for the rooms and the flags.
-    pub fn grown(self, table: Rc<LinkTable>, new: &NewPair) -> Result<Links, AllocError>
-        requires gap { (places : List ℕ) × ((k : ℕ) × IsGap (links_of self.table.value) places k new.now.gap) }
-        requires table { IsGrown new.now.gap (links_of self.table.value) (links_of table.value) }
-        requires fits { new.now.low_room + new.now.high_room < 2 ^ 64 }
-        ensures rooms { IfOk result (λ grown. IsSpread new.now.gap (λ room. room) new.now.low_room new.now.high_room
-            self.rooms.items grown.rooms.items) }
-        ensures table { IfOk result (λ grown. grown.table ≡ table) }
-        ensures takes_back { IfOk result (λ grown. grown.takes_back ≡ self.takes_back) }
-    {
-        let rooms = new.grown_rooms(self.rooms)?;
-        let flags = new.grown_flags(self.flags)?;
-        Ok(Links {
-            table,
-            takes_back: self.takes_back,
-            rooms,
-            flags,
-        })
     }
 
     /// Sets the room of a link, and the flag at its opposite, which says whether the link has room.

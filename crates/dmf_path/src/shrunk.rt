@@ -40,12 +40,13 @@ fn gap_between(table: &LinkTable, low: u32, high: u32) -> Gap
 }
 
 impl Gap {
-    /// Where the link at a place lies, once the two are taken out.
+    /// Where the link at a place lies, once the two are taken out. [`NO_PLACE`] stays.
     fn unshifted(&self, place: u32) -> u32
         requires { self.now.low ≤ self.now.high }
-        ensures { (p : ℕ) → place ≡ shifted self.now p → result ≡ p }
+        ensures none { place ≡ no_place → result ≡ no_place }
+        ensures some { (p : ℕ) → place ≢ no_place → place ≡ shifted self.now p → result ≡ p }
     {
-        if place <= self.low {
+        if place <= self.low || place == NO_PLACE {
             place
         } else if place - 1 <= self.high {
             place - 1
@@ -55,36 +56,12 @@ impl Gap {
     }
 
     /// The same of each of these places.
-    fn unshift(&self, places: &mut [u32])
+    pub fn unshift(&self, places: &mut [u32])
         requires { self.now.low ≤ self.now.high }
         ensures { AreUnshifted self.now places.old places.new }
     {
         for place in places.iter_mut() {
             *place = self.unshifted(*place);
-        }
-    }
-
-    /// The same of the place of a pair, which may be [`NO_PLACE`].
-    fn unshifted_place(&self, place: u32) -> u32
-        requires { self.now.low ≤ self.now.high }
-        ensures none { place ≡ no_place → result ≡ no_place }
-        ensures some { (p : ℕ) → place ≢ no_place → place ≡ shifted self.now p → result ≡ p }
-    {
-        if place == NO_PLACE {
-            return NO_PLACE;
-        }
-        self.unshifted(place)
-    }
-
-    /// The same of the place of each pair.
-    pub fn unshift_places(&self, places: &mut [u32])
-        requires { self.now.low ≤ self.now.high }
-        ensures none { (i : ℕ) → i < length places.old → slice_index places.old i ≡ no_place → slice_index places.new i ≡ no_place }
-        ensures some { (i p : ℕ) → i < length places.old → slice_index places.old i ≢ no_place
-            → slice_index places.old i ≡ shifted self.now p → slice_index places.new i ≡ p }
-    {
-        for place in places.iter_mut() {
-            *place = self.unshifted_place(*place);
         }
     }
 

@@ -97,13 +97,17 @@ carries-before t has old new may made =
     )
 
 -- The same, where there is a search.
-pub some-added : (s : NetworkState) (arc : Arc) → IsState (with_idle_arc s arc) → (p : Pair) → residual_pair arc 0 ≡ Some p → (old : Searched)
-    → MayCarry s old → (found : Option Searched)
-    → IfSome found (λ new. new ≡ with_pairs old (insert old.pairs (length old.pairs - 1) (Some (idle p)))) → IfSome found (MayCarry (with_idle_arc s arc))
+pub some-added : (s : NetworkState) (arc : Arc) → IsState (with_idle_arc s arc) → (p : Pair) → residual_pair arc 0 ≡ Some p
+    → (old : Option Searched) → IfSome old (MayCarry s) → (found : Option Searched) → IfSome found (λ new. (o : Searched) × ((old ≡ Some o)
+    × (new ≡ with_pairs o (insert o.pairs (length o.pairs - 1) (Some (idle p))))))
+    → IfSome found (MayCarry (with_idle_arc s arc))
 some-added s arc state p has old may None made = tt
-some-added s arc state p has old may (Some new) made = carries-added s arc state p has old new may made
+some-added s arc state p has old may (Some new) (o, (same, made)) =
+    carries-added s arc state p has o new (subst (λ (x : Option Searched). IfSome x (MayCarry s)) same may) made
 
-pub some-before : (t : NetworkState) → HasIdleLast t → (old : Searched) → MayCarry t old → (found : Option Searched)
-    → IfSome found (λ new. new ≡ with_pairs old (remove old.pairs (length old.pairs - 2))) → IfSome found (MayCarry (without_last t))
+pub some-before : (t : NetworkState) → HasIdleLast t → (old : Option Searched) → IfSome old (MayCarry t) → (found : Option Searched)
+    → IfSome found (λ new. (o : Searched) × ((old ≡ Some o) × (new ≡ with_pairs o (remove o.pairs (length o.pairs - 2)))))
+    → IfSome found (MayCarry (without_last t))
 some-before t has old may None made = tt
-some-before t has old may (Some new) made = carries-before t has old new may made
+some-before t has old may (Some new) (o, (same, made)) =
+    carries-before t has o new (subst (λ (x : Option Searched). IfSome x (MayCarry t)) same may) made

@@ -144,8 +144,8 @@ impl ResidualNetwork {
     }
 
     /// The residual network of the state after an edit, which fits this one, also if the edit adds an arc: then the links of the arc go
-    /// in among the others. That takes memory for two links an arc, and time for each link. `None` if memory is refused, or if the new
-    /// arc is a self loop.
+    /// in among the others. That takes memory for two links more where there is no room for them, and time for each link. `None` if memory
+    /// is refused, or if the new arc is a self loop.
     pub fn follow_any(self, alloc: Global, state: &State, edit: &Edit) -> Option<ResidualNetwork>
         requires network { IsNetworkOf state.now self }
         requires fits { Fits edit.now state.now }
@@ -186,30 +186,18 @@ impl ResidualNetwork {
             carrying,
             looks,
         } = self;
-        let Some(others) = carrying else {
-            let Ok(search) = search.insert(alloc, pair) else {
-                return None;
-            };
-            return Some(ResidualNetwork {
-                search,
-                carrying: None,
-                looks,
-            });
-        };
         let idle = Pair {
             tail: pair.tail,
             head: pair.head,
             along: 0,
             against: 0,
         };
-        match search.insert_both(alloc, pair, others, idle) {
-            Ok((search, carrying)) => Some(ResidualNetwork {
-                search,
-                carrying,
-                looks,
-            }),
-            Err(_) => None,
-        }
+        let (search, carrying) = search.insert(alloc, pair, carrying, idle)?;
+        Some(ResidualNetwork {
+            search,
+            carrying,
+            looks,
+        })
     }
 
     /// The residual network of the state without its last arc, on which nothing flows.
@@ -223,15 +211,7 @@ impl ResidualNetwork {
             carrying,
             looks,
         } = self;
-        let Some(others) = carrying else {
-            let search = search.remove()?;
-            return Some(ResidualNetwork {
-                search,
-                carrying: None,
-                looks,
-            });
-        };
-        let (search, carrying) = search.remove_both(others)?;
+        let (search, carrying) = search.remove(carrying)?;
         Some(ResidualNetwork {
             search,
             carrying,

@@ -1,22 +1,40 @@
-//! A search comes apart, and is put together over other links.
-ghost use Rattle.std.specs.Prelude.{◌≡◌, true};
-ghost use Rattle.dmf_path.specs.Apart.{seen, HasBegun};
-ghost use Rattle.dmf_path.specs.Links.{ArePlaces};
+//! A search comes apart into what it shares with others and what it has of its own, and is put together over other links.
+ghost use Rattle.std.specs.Prelude.{◌≡◌, Some, IfSome};
+ghost use Rattle.dmf_path.specs.Apart.{AreShared, IsApart};
 ghost use Rattle.dmf_path.specs.LinkTable.{links_of};
-ghost use Rattle.dmf_path.specs.Touching.{MayBeNumbered};
+ghost use Rattle.dmf_path.specs.Search.{Searched};
 
 use crate::aside::Aside;
 use crate::levels::Levels;
+use crate::numbers::share_known;
 use crate::phase::begin_anew;
 use crate::places::Places;
 use crate::push::Links;
 use crate::search::Search;
+use crate::table::LinkTable;
 use crate::trail::Trail;
 use std::rc::Rc;
 
-/// What a search keeps beside its links.
+/// Links, and what goes with them. Searches can share all of it.
 #[derive(Drop)]
-pub struct Rest {
+pub struct Shared {
+    /// The links, without their rooms.
+    pub table: Rc<LinkTable>,
+    /// The places of the pairs.
+    pub places: Rc<Places>,
+    /// The numbers of the links, once they are numbered.
+    pub numbers: Option<Rc<Vec<u32>>>,
+}
+
+/// What a search that has begun anew has of its own: of each link, and beside its links.
+#[derive(Drop)]
+pub struct Own {
+    /// Whether a push along a link can be pushed back along its opposite.
+    pub takes_back: bool,
+    /// The room of each link.
+    pub rooms: Vec<u64>,
+    /// For each link 1 if its opposite has room, else 0.
+    pub flags: Vec<u8>,
     /// Its labels and current links.
     pub levels: Levels,
     /// Other labels, which do not stay.
@@ -25,26 +43,11 @@ pub struct Rest {
     pub trail: Trail,
 }
 
-/// The parts of a search that has begun anew.
-#[derive(Drop)]
-pub struct Parts {
-    /// Its links with their rooms.
-    pub links: Links,
-    /// The places of the pairs.
-    pub places: Rc<Places>,
-    /// The numbers of the links, once they are numbered.
-    pub numbers: Option<Rc<Vec<u32>>>,
-    /// All else.
-    pub rest: Rest,
-}
-
 impl Search {
     /// The search begins anew, and comes apart. Takes no memory.
-    pub fn begun(self) -> Parts
-        ensures begun { HasBegun result.links.table.value.nodes result.rest }
-        ensures places { ArePlaces (links_of result.links.table.value) result.places.value }
-        ensures numbers { MayBeNumbered (links_of result.links.table.value) result.places.value result.numbers }
-        ensures same { seen result.links result.places.value result.rest ≡ self }
+    pub fn begun(self) -> (Shared, Own)
+        ensures shared { AreShared result.0 }
+        ensures apart { IsApart (links_of result.0.table.value) result.0.places.value result.1 self }
     {
         let Search {
             mut links,
@@ -56,34 +59,92 @@ impl Search {
             ..
         } = self;
         begin_anew(&mut links, &mut levels, &mut trail);
-        Parts {
-            links,
+        let Links {
+            table,
+            takes_back,
+            rooms,
+            flags,
+        } = links;
+        let shared = Shared {
+            table,
             places,
             numbers,
-            rest: Rest {
-                levels,
-                asides,
-                trail,
-            },
-        }
+        };
+        let own = Own {
+            takes_back,
+            rooms,
+            flags,
+            levels,
+            asides,
+            trail,
+        };
+        (shared, own)
     }
 }
 
-impl Rest {
-    /// The search over these links. Takes no memory.
-    pub fn over(self, links: Links, places: Rc<Places>, numbers: Option<Rc<Vec<u32>>>) -> Search
-        requires begun { HasBegun links.table.value.nodes self }
-        requires places { ArePlaces (links_of links.table.value) places.value }
-        requires numbers { MayBeNumbered (links_of links.table.value) places.value numbers }
-        ensures { result ≡ seen links places.value self }
+/// What a search has of its own, if one is given: it begins anew, and comes apart. What it shares is let go. `None` if its links are not
+/// these, at the places of as many pairs. Takes no memory, and time for a look at each link.
+pub fn begun_over(search: Option<Search>, shared: &Shared) -> Option<Own>
+    ensures { IfSome result (λ own. (s : Searched) × ((search ≡ Some s)
+        × IsApart (links_of shared.now.table.value) shared.now.places.value own s)) }
+{
+    let (others, own) = search?.begun();
+    if others.table.is(&shared.table) && others.places.are(&shared.places) {
+        Some(own)
+    } else {
+        None
+    }
+}
+
+impl Shared {
+    /// The same for another search. `None` if more searches share it than can be counted. Takes no memory.
+    pub fn share(&self) -> Option<Shared>
+        ensures shared { AreShared self.now → IfSome result AreShared }
+        ensures table { IfSome result (λ shared. shared.table.value ≡ self.now.table.value) }
+        ensures places { IfSome result (λ shared. shared.places.value ≡ self.now.places.value) }
     {
-        let Rest {
+        let Ok(table) = self.table.clone() else {
+            return None;
+        };
+        let Ok(places) = self.places.clone() else {
+            return None;
+        };
+        Some(Shared {
+            table,
+            places,
+            numbers: share_known(&self.numbers),
+        })
+    }
+}
+
+impl Own {
+    /// The search over these links. Takes no memory.
+    pub fn over(self, shared: Shared) -> Search
+        requires shared { AreShared shared }
+        requires apart { (s : Searched) × IsApart (links_of shared.table.value) shared.places.value self s }
+        ensures { (s : Searched) → IsApart (links_of shared.table.value) shared.places.value self s → result ≡ s }
+    {
+        let Shared {
+            table,
+            places,
+            numbers,
+        } = shared;
+        let Own {
+            takes_back,
+            rooms,
+            flags,
             levels,
             mut asides,
             trail,
         } = self;
         asides.clear();
-        let levels = levels.over(&links.table);
+        let levels = levels.over(&table);
+        let links = Links {
+            table,
+            takes_back,
+            rooms,
+            flags,
+        };
         Search {
             links,
             places,
@@ -93,15 +154,5 @@ impl Rest {
             trail,
             is_fresh: true,
         }
-    }
-}
-
-impl Parts {
-    /// Whether these are the links of other parts, at the places of as many pairs. Takes no memory, and time for a look at each link.
-    pub fn has_links_of(&self, other: &Parts) -> bool
-        ensures links { result ≡ true → links_of self.now.links.table.value ≡ links_of other.now.links.table.value }
-        ensures places { result ≡ true → self.now.places.value ≡ other.now.places.value }
-    {
-        self.links.table.is(&other.links.table) && self.places.are(&other.places)
     }
 }

@@ -1,18 +1,26 @@
 -- A search that has begun anew holds nothing.
-use Rattle.std.proofs.Common.{ap, sym, ◌∙◌}
+use Rattle.std.proofs.Common.{refl, ap, sym, ◌∙◌, subst}
 use Rattle.dmf_path.specs.Held.{way_of}
+use Rattle.dmf_path.specs.Links.{ArePlaces}
 use Rattle.dmf_path.specs.Residual.{Residual, residual_of}
 use Rattle.dmf_path.specs.Searching.{Sought, searched, labelling_of}
 use Rattle.dmf_path.proofs.SearchTurns.{told-fresh}
 use Rattle.dmf_path.proofs.search.Search.begun.Goals as goal
 
-pub returns-clause-same : goal.returns-clause-same
-returns-clause-same c =
-    let of = c.self.inside in
+pub returns-clause-apart : goal.returns-clause-apart
+returns-clause-apart c =
+    let places = c.self.inside.places.value in
     let e = c.begin_anew.ensures in
-    let r = residual_of c.begin_anew.new.links in
+    let links = c.begin_anew.new.links in
+    let r = residual_of links in
     let w = way_of c.begin_anew.new.trail in
-    let before = of.places.value in
-    rw (← c.self.view_is) (ap (λ (x : Residual). searched (record { residual = x; start = w.start; goal = w.goal }) before)
-    (sym (told-fresh r (labelling_of c.begin_anew.new.levels) w r e.searching e.fresh))
-    ∙ ap (λ (s : Sought). searched s before) e.same)
+    record {
+      links = links.table.value.are;
+      places_are = subst (λ l. ArePlaces l places) (sym (ap (λ (s : Sought). s.residual.links) e.same)) c.self.invariant.1.places_are;
+      rooms = links.rooms_are;
+      flags = links.flags_are;
+      begun = record { residual = r; searching = e.searching; fresh = e.fresh; nodes_are = refl; ready = e.ready; none_last = e.all };
+      same = rw (← c.self.view_is) (ap (λ (x : Residual). searched (record { residual = x; start = w.start; goal = w.goal }) places)
+          (sym (told-fresh r (labelling_of c.begin_anew.new.levels) w r e.searching e.fresh))
+          ∙ ap (λ (s : Sought). searched s places) e.same);
+    }

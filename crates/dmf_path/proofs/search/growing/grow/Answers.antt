@@ -1,33 +1,47 @@
 -- The links, the places and the numbers, with those of the new pair.
-use Rattle.std.proofs.Common.{◌-◌, length, sym, ◌∙◌, subst}
-use Rattle.dmf_path.specs.Grown.{AreGrown, IsGrown, IsPlaced}
+use Rattle.std.proofs.Common.{◌-◌, length, arith}
+use Rattle.std.proofs.lemmas.Option.{IfSome_then}
+use Rattle.dmf_path.specs.Grown.{AreGrown}
 use Rattle.dmf_path.specs.LinkTable.{links_of}
-use Rattle.dmf_path.proofs.GrownLinks.{in-order}
-use Rattle.dmf_path.proofs.GrownTogether.{numbered-with}
-use Rattle.dmf_path.proofs.search.growing.grow.Goals.{In_ok-after}
+use Rattle.dmf_path.proofs.GrownLinks.{in-order, gap-within}
+use Rattle.dmf_path.proofs.GrownTogether.{numbered-with, places-grown}
+use Rattle.dmf_path.proofs.search.growing.grow.Goals.{In-Ok-new}
 use Rattle.dmf_path.proofs.search.growing.grow.Goals as goal
 
-pub grow_numbers-requires-clause-order : goal.grow_numbers-requires-clause-order
-grow_numbers-requires-clause-order c =
-    in-order (links_of c.args.table.now) c.args.places.now (length c.args.places.now - 1) c.place_pair-new.result.gap c.args.table.now.are
-    c.place_pair-new.ensures.gap
+pub grow_numbers-numbers-requires-clause-order : goal.grow_numbers-numbers-requires-clause-order
+grow_numbers-numbers-requires-clause-order c =
+    let shared = c.args.shared in
+    in-order (links_of shared.table.value) shared.places.value (length shared.places.value - 1) c.place_pair-new.result.gap shared.table.value.are
+    (rw (c.deref.ensures, c.deref-2.ensures) at c.place_pair-new.ensures.gap)
 
-are : (c : In_ok-after) → AreGrown (links_of c.args.table.now) c.args.places.now c.args.pair c.place_pair-new.result
-    (links_of c.in_ok-grown-2.grown.value) c.in_ok-after.after.value
-are c =
-    let new = c.place_pair-new.result in
-    let places = c.args.places.now in
+pub grow_numbers-numbers-requires-clause-within : goal.grow_numbers-numbers-requires-clause-within
+grow_numbers-numbers-requires-clause-within c =
+    let shared = c.args.shared in
+    let most = gap-within (links_of shared.table.value) shared.places.value (length shared.places.value - 1) c.place_pair-new.result.gap
+    shared.table.value.are (rw (c.deref.ensures, c.deref-2.ensures) at c.place_pair-new.ensures.gap) in
+    IfSome_then shared.numbers c.requires.shared.numbers (λ known numbers. omega (arith, most, numbers.0))
+
+are : (c : In-Ok-new) → AreGrown (links_of c.args.shared.table.value) c.args.shared.places.value c.args.pair c.place_pair-new.result
+    (links_of c.in-Ok.table.value) c.in-Ok-new.places.value
+are c = record {
+  gap = rw (c.deref.ensures, c.deref-2.ensures) at c.place_pair-new.ensures.gap;
+  pair = c.place_pair-new.ensures.pair;
+  table = rw c.in-Ok.ensures.ok (rw c.in_ok-into_inner.ensures at c.in_ok-table.ensures);
+  placed = rw c.in-Ok-new.ensures.ok (rw c.in_ok-into_inner-2.ensures at c.in_ok-places.ensures);
+}
+
+pub returns-clause-shared : goal.returns-clause-shared
+returns-clause-shared c =
+    let shared = c.args.shared in
+    let l = links_of shared.table.value in
+    let places = shared.places.value in
+    let n = links_of c.in-Ok.table.value in
+    let after = c.in-Ok-new.places.value in
+    let grown = are (goal.at.returns-clause-shared c).In-Ok-new in
+    let links = shared.table.value.are in
+    let before = c.requires.shared in
     record {
-      gap = c.place_pair-new.ensures.gap;
-      pair = c.place_pair-new.ensures.pair;
-      table = subst (λ t. IsGrown new.gap (links_of c.args.table.now) (links_of t)) (sym c.in_ok-grown-2.ensures.ok) c.in_ok-grown.ensures;
-      placed = subst (IsPlaced new.gap (length places - 1) new.place places) (sym (c.in_ok-after.ensures.ok ∙ c.new-after.ensures))
-          c.in_ok-grown_places.ensures;
+      places = places-grown l places c.args.pair c.place_pair-new.result n after links before.places grown c.requires.some c.requires.few;
+      numbers = numbered-with l places c.args.pair c.place_pair-new.result n after links before.places grown c.requires.some shared.numbers
+          c.grow_numbers-numbers.result before.numbers (rw (c.len.ensures, c.deref-3.ensures) at c.grow_numbers-numbers.ensures);
     }
-
-pub returns-clause-numbers : goal.returns-clause-numbers
-returns-clause-numbers c =
-    let at = (goal.at.returns-clause-numbers c).In_ok-after in
-    numbered-with (links_of c.args.table.now) c.args.places.now c.args.pair c.place_pair-new.result (links_of c.in_ok-grown-2.grown.value)
-    c.in_ok-after.after.value c.args.table.now.are c.requires.places (are at) c.requires.some c.args.numbers.now c.in_ok-numbers.numbers
-    c.requires.numbers (rw c.len.ensures at c.in_ok-numbers.ensures)

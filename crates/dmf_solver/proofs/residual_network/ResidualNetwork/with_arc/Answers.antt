@@ -1,9 +1,7 @@
 -- The pair of the arc goes in before that of the return link.
 use Rattle.std.proofs.Common.{◌^◌, ◌≤◌, length, ap, sym, ◌∙◌, subst, arith}
-use Rattle.std.specs.Prelude.{IfSome}
 use Rattle.dmf_path.specs.Pair.{IsPair}
 use Rattle.dmf_path.specs.Search.{Searched}
-use Rattle.dmf_solver.specs.CarryingNetwork.{MayCarry}
 use Rattle.dmf_solver.specs.KeptNetwork.{IsNetworkOf}
 use Rattle.dmf_solver.proofs.Added.{pairs-before, few-before, pair-added, search-added}
 use Rattle.dmf_solver.proofs.CarryingAdded.{some-added}
@@ -39,35 +37,15 @@ insert-requires-clause-some c =
 pub insert-requires-clause-few : goal.insert-requires-clause-few
 insert-requires-clause-few c = are-few (goal.at.insert-requires-clause-few c).In_ok-pair
 
-pub returns-in_default : goal.returns-in_default
-returns-in_default c =
-    let at = (goal.at.returns-in_default c).In_ok-pair in
-    record {
-      residual = search-added c.args.state.now c.args.arc c.requires.state c.in_ok-pair.pair c.self.inside.search c.in-Ok.search
-          (sym c.residual_pair.ensures ∙ c.in_ok-pair.was) (before at).residual c.in-Ok.ensures;
-      carrying = tt;
-    }
-
-pub insert_both-requires-clause-pair : goal.insert_both-requires-clause-pair
-insert_both-requires-clause-pair c = is-pair (goal.at.insert_both-requires-clause-pair c).In_ok-pair
-
-pub insert_both-requires-clause-some : goal.insert_both-requires-clause-some
-insert_both-requires-clause-some c =
-    let at = (goal.at.insert_both-requires-clause-some c).In_ok-pair in
-    omega (arith, pairs-before c.args.state.now c.args.arc c.requires.state c.self.inside.search (before at).residual)
-
-pub insert_both-requires-clause-few : goal.insert_both-requires-clause-few
-insert_both-requires-clause-few c = are-few (goal.at.insert_both-requires-clause-few c).In_ok-pair
-
-pub returns-in-Ok-insert_both : goal.returns-in-Ok-insert_both
-returns-in-Ok-insert_both c =
-    let at = (goal.at.returns-in-Ok-insert_both c).In_ok-pair in
+pub returns : goal.returns
+returns c =
+    let at = (goal.at.returns c).In_ok-pair in
     let s = c.args.state.now in
     let has = sym c.residual_pair.ensures ∙ c.in_ok-pair.was in
-    let made = c.in-Ok-insert_both.ensures in
-    let may = subst (λ found. IfSome found (MayCarry s)) c.in-Some.is (before at).carrying in
+    let made = c.in_ok-search.ensures in
     record {
-      residual = search-added s c.args.arc c.requires.state c.in_ok-pair.pair c.self.inside.search c.in-Ok-insert_both.search has (before at).residual
+      residual = search-added s c.args.arc c.requires.state c.in_ok-pair.pair c.self.inside.search c.in_ok-search.search has (before at).residual
           made.search;
-      carrying = some-added s c.args.arc c.requires.state c.in_ok-pair.pair has c.in-Some.others may c.in-Ok-insert_both.carrying made.other;
+      carrying = some-added s c.args.arc c.requires.state c.in_ok-pair.pair has c.self.inside.carrying (before at).carrying c.in_ok-search.carrying
+          made.other;
     }
