@@ -7,8 +7,9 @@ use Rattle.dmf_streams.specs.declared.fault.Status.TheVariants.{Well}
 use Rattle.dmf_streams.specs.declared.fault.EngineFault.{EngineFault}
 use Rattle.dmf_streams.specs.declared.fault.EngineFault.TheVariants.{Write}
 use Rattle.dmf_streams.proofs.ReplyLemmas.{Writes-flushed}
+use Rattle.dmf_text.proofs.WritingLemmas.{PutsFront}
 use Rattle.dmf_solving.specs.Solved.{solved_text}
-use Rattle.dmf_solving.specs.SolveRun.{WritesSolved}
+use Rattle.dmf_solving.specs.SolveRun.{RunsSolve, WritesSolved}
 use Rattle.dmf_solving.proofs.solve.run_solve_watched.Given.{Over}
 use Rattle.dmf_solving.proofs.solve.run_solve_watched.Goals as goal
 use Rattle.dmf_solving.proofs.solve.run_solve_watched.Goals.{After-write_solved}
@@ -28,29 +29,24 @@ writes-solved g c new result writes = record {
   writes = writes;
 }
 
--- the writer failed
+-- The writer failed after a prefix of the solution.
+failed-run : (g : Over) (c : After-write_solved g) (new : Writer) → PutsFront (g.W.Sink.written c.args.out.now) new
+    (solved_text c.in_ok-solved.solved.state c.in_ok-solved.solved.side)
+    → RunsSolve c.args.want_cut (g.P.Source.left c.args.problem.now) (g.P.Source.left c.read_state.new.source) (g.W.Sink.written c.args.out.now) new (Err Write)
+failed-run g c new front =
+    let read = c.in_ok-state.ensures in
+    record { text = read.text; consumes = read.consumes; is_so = writes-solved g c new (Err Write) front }
+
 pub returns-in_err-write_solved-clause-run : goal.returns-in_err-write_solved-clause-run
 returns-in_err-write_solved-clause-run g c =
     let failed = err_from_is_err_and c.from_residual-in_err-write_solved.result c.from_residual-in_err-write_solved.ensures.1 in
-    let read = c.in_ok-state.ensures in
-    rw (failed.1, failed.2) (record {
-      text = read.text;
-      consumes = read.consumes;
-      is_so = writes-solved g (goal.at.returns-in_err-write_solved-clause-run g c).After-write_solved _ _ c.in_err-write_solved.ensures;
-    })
+    rw (failed.1, failed.2) (failed-run g (goal.at.returns-in_err-write_solved-clause-run g c).After-write_solved _ c.in_err-write_solved.ensures)
 
--- or the flush did
 pub returns-in_err-flush-clause-run : goal.returns-in_err-flush-clause-run
 returns-in_err-flush-clause-run g c =
     let failed = err_from_is_err_and c.from_residual-in_err-flush.result c.from_residual-in_err-flush.ensures.1 in
-    let read = c.in_ok-state.ensures in
-    rw (failed.1, failed.2) (record {
-      text = read.text;
-      consumes = read.consumes;
-      is_so = writes-solved g (goal.at.returns-in_err-flush-clause-run g c).After-write_solved _ _
-          (Writes-flushed {V = Status} _ (g.W.Sink.written c.write_solved.new.out) (g.W.Sink.written c.flush.new.out) (Err Write) _
-          c.in_ok-write_solved.ensures c.in_err-flush.ensures);
-    })
+    rw (failed.1, failed.2) (failed-run g (goal.at.returns-in_err-flush-clause-run g c).After-write_solved (g.W.Sink.written c.flush.new.out)
+    (Writes-flushed {V = Status} _ (g.W.Sink.written c.write_solved.new.out) _ (Err Write) _ c.in_ok-write_solved.ensures c.in_err-flush.ensures))
 
 pub returns-clause-run : goal.returns-clause-run
 returns-clause-run g c =
