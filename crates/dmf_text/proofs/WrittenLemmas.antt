@@ -1,7 +1,7 @@
 -- The bytes of written lines.
 use Rattle.std.proofs.Common.{◌≡◌, ℕ, suc, ◌+◌, ◌-◌, subst, ◌<◌, ◌≤◌, List, [], ◌∷◌, ◌++◌, length, take, drop, get_or, slice_get, Some, arith, map, filter}
-use Rattle.std.proofs.Common.{nat_abs, pos, Bool, true, false, not, if◌then◌else◌, codes, refl, sym, ap, ◌∙◌, append_assoc, append-nil, decimal, take-append-drop}
-use Rattle.std.proofs.Common.{length-drop}
+use Rattle.std.proofs.Common.{nat_abs, Bool, true, false, not, if◌then◌else◌, codes, refl, sym, ap, ◌∙◌, append_assoc, append-nil, decimal, take-append-drop}
+use Rattle.std.proofs.Common.{length-drop, pos}
 use Rattle.std.proofs.Math.Numerals.{add-one}
 use Rattle.std.proofs.Math.Seq.{drop-cons}
 use Rattle.std.proofs.lemmas.List.{map-append, take_more, drop_all, length-map}

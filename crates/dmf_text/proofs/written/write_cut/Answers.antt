@@ -12,4 +12,5 @@ returns-in_err-put_line g c =
 pub returns : goal.returns
 returns g c =
     let lines = cut_text-lines c.args.side.now c.capacity.result c.capacity.ensures in
-    record { written = first-put _ (g.W.Sink.written c.put_line.new.out) _ _ _ _ _ lines c.in_ok-put_line.ensures (rw c.ids.ensures.value at c.put_nodes.ensures) }
+    let nodes = rw c.ids.ensures.value at c.put_nodes.ensures in
+    record { written = first-put _ (g.W.Sink.written c.put_line.new.out) _ _ _ _ _ lines c.in_ok-put_line.ensures nodes }
