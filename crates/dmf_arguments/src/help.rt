@@ -3,20 +3,6 @@
 /// The version, which `dmf --version` writes after the program's name.
 pub const VERSION: &str = "0.1.0";
 
-/// What the program is for.
-pub const ABOUT: &str =
-    "Find how much a network can carry and where its limit is, and try out changes";
-
-/// What `dmf solve` is for.
-pub const SOLVE: &str = "Find how much can be sent, and on which arcs (as dmf alone does)";
-
-/// What `dmf session` is for.
-pub const SESSION: &str =
-    "Try out changes of arcs and nodes, one command a line, and take them back";
-
-/// What `dmf check` is for.
-pub const CHECK: &str = "Judge whether a solution is right, and its flow the greatest";
-
 /// The option `--brief`.
 pub const BRIEF: &str = "Answer a solve by its value in place of the solution";
 
@@ -35,22 +21,24 @@ pub const PROGRESS: &str = "Tell on standard error how far it is";
 /// The path after `dmf session` and `dmf check`.
 pub const PROBLEM: &str = "The file with the problem";
 
-/// How the program is used.
-pub const USAGE: &str = "dmf [solve [--cut] [--progress]] <FILE
+/// The texts of a command's help that are its own.
+#[derive(Clone, Copy)]
+pub struct Help {
+    /// What the command is for.
+    pub about: &'static str,
+    /// How it is used.
+    pub usage: &'static str,
+    /// The end of the help.
+    pub notes: &'static str,
+}
+
+/// The help of `dmf`.
+pub const PROGRAM: Help = Help {
+    about: "Find how much a network can carry and where its limit is, and try out changes",
+    usage: "dmf [solve [--cut] [--progress]] <FILE
        dmf session [--brief] [--cut] [--history N] [--progress] PROBLEM
-       dmf check PROBLEM <SOLUTION";
-
-/// How `dmf solve` is used.
-pub const SOLVE_USAGE: &str = "dmf solve [--cut] [--progress] <FILE";
-
-/// How `dmf session` is used.
-pub const SESSION_USAGE: &str = "dmf session [--brief] [--cut] [--history N] [--progress] PROBLEM";
-
-/// How `dmf check` is used.
-pub const CHECK_USAGE: &str = "dmf check PROBLEM <SOLUTION";
-
-/// The end of the help of `dmf`.
-pub const NOTES: &str = "How much can the network carry, and where is its limit?
+       dmf check PROBLEM <SOLUTION",
+    notes: "How much can the network carry, and where is its limit?
   $ dmf solve --cut <network.max | grep -v '^f'
   s 5
   c cut 5
@@ -77,10 +65,14 @@ Exit status:
 Tools around it: dmf-plan dmf-board dmf-problem dmf-names dmf-dot dmf-sweep
 
 FILE and PROBLEM are texts in the DIMACS format for maximum flow. The --help of
-each command and tool says more. man dmf has the formats.";
+each command and tool says more. man dmf has the formats.",
+};
 
-/// The end of the help of `dmf solve`.
-pub const SOLVE_NOTES: &str = "Example:
+/// The help of `dmf solve`.
+pub const SOLVE: Help = Help {
+    about: "Find how much can be sent, and on which arcs (as dmf alone does)",
+    usage: "dmf solve [--cut] [--progress] <FILE",
+    notes: "Example:
   $ dmf solve --cut <network.max
   s 5
   f 1 2 3
@@ -96,10 +88,14 @@ follow the arcs of the problem in their order: from node, to node, and the flow
 on the arc. With --cut, c cut has how much the arcs at the limit can carry, and
 each c side names a node on the source's side of that limit.
 
-man dmf has the formats.";
+man dmf has the formats.",
+};
 
-/// The end of the help of `dmf session`.
-pub const SESSION_NOTES: &str = "Commands, one a line on standard input, each with its reply:
+/// The help of `dmf session`.
+pub const SESSION: Help = Help {
+    about: "Try out changes of arcs and nodes, one command a line, and take them back",
+    usage: "dmf session [--brief] [--cut] [--history N] [--progress] PROBLEM",
+    notes: "Commands, one a line on standard input, each with its reply:
   cap ARC CAP      the arc can carry CAP               c cap value VALUE
   add FROM TO CAP  a new arc leads from node to node   c add ARC value VALUE
   close ARC        the arc can carry nothing           c close value VALUE
@@ -130,13 +126,18 @@ Example:
   f 2 4 2
   f 3 4 1
 
-man dmf has the formats.";
+man dmf has the formats.",
+};
 
-/// The end of the help of `dmf check`.
-pub const CHECK_NOTES: &str = "Example:
+/// The help of `dmf check`.
+pub const CHECK: Help = Help {
+    about: "Judge whether a solution is right, and its flow the greatest",
+    usage: "dmf check PROBLEM <SOLUTION",
+    notes: "Example:
   $ dmf solve <network.max | dmf check network.max
   c greatest 5
 
 The solution may come from any program. The reply is c greatest VALUE where no
 flow of the problem has a larger value. Else it is c flow VALUE, with exit
-status 1. man dmf has the formats.";
+status 1. man dmf has the formats.",
+};

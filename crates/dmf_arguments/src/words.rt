@@ -6,6 +6,7 @@ ghost use Rattle.dmf_arguments.specs.CommandLine.{check_line, program_line, sess
 ghost use Rattle.dmf_arguments.specs.Words.{AsksCheck, AsksNothing, AsksSession, AsksSolve, HasBound, IsBound, ReadsMode, ReadsWords, Tells};
 
 use crate::help;
+use crate::help::Help;
 use clap::error::ErrorKind;
 use clap::{Arg, ArgAction, ArgMatches, Command, Error, value_parser};
 use std::alloc::{AllocError, Global};
@@ -112,23 +113,17 @@ fn command<'a>(alloc: Global) -> Result<Command<'a>, AllocError>
 fn program<'a>(alloc: Global) -> Command<'a>
     ensures { app_of result ≡ program_line }
 {
-    named(alloc, "dmf", help::ABOUT, help::USAGE, help::NOTES).version(help::VERSION)
+    named(alloc, "dmf", help::PROGRAM).version(help::VERSION)
 }
 
 /// A command without arguments, with its texts of help.
-fn named<'a>(
-    alloc: Global,
-    name: &'a str,
-    about: &'a str,
-    usage: &'a str,
-    notes: &'a str,
-) -> Command<'a>
+fn named<'a>(alloc: Global, name: &'a str, help: Help) -> Command<'a>
     ensures { IsLine (new_app name.now) result }
 {
     Command::new(alloc, name)
-        .about(about)
-        .override_usage(usage)
-        .after_help(notes)
+        .about(help.about)
+        .override_usage(help.usage)
+        .after_help(help.notes)
 }
 
 /// The command `solve`.
@@ -136,8 +131,7 @@ fn named<'a>(
 fn solve<'a>(alloc: Global) -> Result<Command<'a>, AllocError>
     ensures { IfOk result (IsLine solve_line) }
 {
-    let (about, usage) = (help::SOLVE, help::SOLVE_USAGE);
-    named(alloc, "solve", about, usage, help::SOLVE_NOTES)
+    named(alloc, "solve", help::SOLVE)
         .arg(flag(alloc, "cut", help::CUT))?
         .arg(flag(alloc, "progress", help::PROGRESS))
 }
@@ -147,8 +141,7 @@ fn solve<'a>(alloc: Global) -> Result<Command<'a>, AllocError>
 fn session<'a>(alloc: Global) -> Result<Command<'a>, AllocError>
     ensures { IfOk result (IsLine session_line) }
 {
-    let (about, usage) = (help::SESSION, help::SESSION_USAGE);
-    named(alloc, "session", about, usage, help::SESSION_NOTES)
+    named(alloc, "session", help::SESSION)
         .arg(flag(alloc, "brief", help::BRIEF))?
         .arg(flag(alloc, "cut", help::CUTS))?
         .arg(history(alloc))?
@@ -161,8 +154,7 @@ fn session<'a>(alloc: Global) -> Result<Command<'a>, AllocError>
 fn check<'a>(alloc: Global) -> Result<Command<'a>, AllocError>
     ensures { IfOk result (IsLine check_line) }
 {
-    let (about, usage) = (help::CHECK, help::CHECK_USAGE);
-    named(alloc, "check", about, usage, help::CHECK_NOTES).arg(problem(alloc))
+    named(alloc, "check", help::CHECK).arg(problem(alloc))
 }
 
 /// The option of this name, which has no value.

@@ -25,7 +25,7 @@ use Rattle.dmf_runs.specs.Run.{HasReply, LineRuns, Runs}
 use Rattle.dmf_runs.specs.Outcome.{LastHasReply, RestRuns, RunsAll, RunsCommandsWith, status_if, line_count}
 use Rattle.dmf_runs.specs.WrittenLine.{is_refusal, WritesLine}
 use Rattle.dmf_streams.proofs.TakingLemmas.{Takes-trans}
-use Rattle.dmf_runs.proofs.LineLemmas.{or-false}
+use Rattle.dmf_runs.proofs.LineLemmas.{lines-and-rest, or-false}
 use Rattle.dmf_runs.proofs.Progress.{streams, IsFresh, Progress, Carried, Progress-more}
 
 -- a writer whose bytes are known, and that took a text
@@ -49,20 +49,10 @@ given-by before now bytes fresh takes = Consumes-given before.pending now.pendin
 abbrev all-so-far : (wanted : SolveReply) (t : Timeline) (lines : List (List ℕ)) (written : List ℕ) (is_refused : Bool) (u : Timeline) → All HasNoLineFeed lines
     → Runs wanted.brief (Answers wanted.cut) 1 t lines written is_refused u
     → RunsAll wanted.brief (Answers wanted.cut) t (with_line_feeds lines) written is_refused
-all-so-far wanted t lines written is_refused u each runs = record {
-  lines = lines;
-  rest = [];
-  split = record { whole = sym (append-nil (with_line_feeds lines)); each = each; last = All-nil (λ (b : ℕ). b ≡ 10 → ⊥) };
-  between = u;
-  first = written;
-  here = is_refused;
-  last = [];
-  later = false;
-  runs = runs;
-  rest_runs = (refl, refl);
-  text_is = sym (append-nil written);
-  refused_is = or-false is_refused;
-}
+all-so-far wanted t lines written is_refused u each runs =
+    lines-and-rest u written is_refused [] false
+    (record { whole = sym (append-nil (with_line_feeds lines)); each = each; last = All-nil (λ (b : ℕ). b ≡ 10 → ⊥) }) runs (refl, refl)
+    (sym (append-nil written)) (or-false is_refused)
 
 -- What a line that succeeded has written.
 pub Carried-told : (wanted : SolveReply) (u : Timeline) (meaning : Result (Option Command) Refusal) (number : ℕ) (holds next : Writer) (answer : Answer)
@@ -125,20 +115,9 @@ abbrev all-with-last : (wanted : SolveReply) (t : Timeline) (lines : List (List 
     → Runs wanted.brief (Answers wanted.cut) 1 t lines written is_refused u → LineRuns wanted.brief (Answers wanted.cut) (length lines + 1) u
     (line_meaning false line) text refused v → RunsAll wanted.brief (Answers wanted.cut) t (with_line_feeds lines ++ line) (written ++ text)
     (is_refused || refused)
-all-with-last wanted t lines line written text is_refused refused u v each no_line_feed some runs then = record {
-  lines = lines;
-  rest = line;
-  split = record { whole = refl; each = each; last = no_line_feed };
-  between = u;
-  first = written;
-  here = is_refused;
-  last = text;
-  later = refused;
-  runs = runs;
-  rest_runs = rest-runs wanted (length lines + 1) u line text refused v some then;
-  text_is = refl;
-  refused_is = refl;
-}
+all-with-last wanted t lines line written text is_refused refused u v each no_line_feed some runs then =
+    lines-and-rest u written is_refused text refused (record { whole = refl; each = each; last = no_line_feed }) runs
+    (rest-runs wanted (length lines + 1) u line text refused v some then) refl refl
 
 -- ---- how a run ends after some lines
 

@@ -1,4 +1,4 @@
--- What one line leaves, and one line more of a run.
+-- What one line leaves, one line more of a run, and runs that are put together.
 use Rattle.std.proofs.Common.{ℕ, ◌≡◌, ◌+◌, List, [], ◌∷◌, ◌++◌, length, ltb, cond, Bool, true, false, ◌||◌, Result, Err, ◌⊎◌, inl, inr, refl}
 use Rattle.std.proofs.Common.{sym, ap, ◌∙◌, subst, arith, append_assoc, append-nil}
 use Rattle.std.specs.Str.Lines.{strip_carriage_return}
@@ -12,8 +12,9 @@ use Rattle.dmf_runs.specs.declared.reply.SolveReply.{SolveReply}
 use Rattle.dmf_streams.specs.KeptLine.{Kept, IsKept}
 use Rattle.dmf_streams.proofs.KeptLineLemmas.{whole-line}
 use Rattle.dmf_runs.specs.CommandText.{command_of}
-use Rattle.dmf_runs.specs.Line.{line_meaning}
-use Rattle.dmf_runs.specs.Run.{LineRuns, Runs}
+use Rattle.dmf_runs.specs.Line.{IsSplit, line_meaning}
+use Rattle.dmf_runs.specs.Outcome.{RestRuns, RunsAll}
+use Rattle.dmf_runs.specs.Run.{Answering, FirstAndMore, LineRuns, Runs}
 
 -- An answer leaves the timeline unchanged, or it is a step.
 pub answers-cases : (want_cut : Bool) (t : Timeline) (command : Command) (result : Result Reply Refusal) (u : Timeline) → Answers want_cut t command result u
@@ -64,6 +65,41 @@ Runs-push wanted number t (x ∷ lines) text refused u line more later v runs th
       text_is = ap (λ y. y ++ more) runs.text_is ∙ append_assoc runs.first runs.more more;
       refused_is = ap (λ b. b || later) runs.refused_is ∙ or-assoc runs.here runs.later later;
     }
+
+-- A first line and the lines after it, from their runs.
+pub first-and-more : {First : List ℕ → Bool → Timeline → Type 0} {More : Timeline → List ℕ → Bool → Type 0} {text : List ℕ} {refused : Bool} (u : Timeline)
+    (first : List ℕ) (here : Bool) (more : List ℕ) (later : Bool) → First first here u → More u more later → text ≡ first ++ more
+    → refused ≡ (here || later) → FirstAndMore First More text refused
+first-and-more u first here more later runs goes_on text_is refused_is = record {
+  between = u;
+  first = first;
+  here = here;
+  more = more;
+  later = later;
+  runs = runs;
+  goes_on = goes_on;
+  text_is = text_is;
+  refused_is = refused_is;
+}
+
+-- A whole text, from the runs of its lines and of its rest.
+abbrev pub lines-and-rest : {brief : Bool} {Gives : Answering} {t : Timeline} {given text : List ℕ} {refused : Bool} {lines : List (List ℕ)} {rest : List ℕ}
+    (u : Timeline) (first : List ℕ) (here : Bool) (last : List ℕ) (later : Bool) → IsSplit given lines rest → Runs brief Gives 1 t lines first here u
+    → RestRuns brief Gives (length lines + 1) u rest last later → text ≡ first ++ last → refused ≡ (here || later) → RunsAll brief Gives t given text refused
+lines-and-rest {lines = lines} {rest = rest} u first here last later split runs rest_runs text_is refused_is = record {
+  lines = lines;
+  rest = rest;
+  split = split;
+  between = u;
+  first = first;
+  here = here;
+  last = last;
+  later = later;
+  runs = runs;
+  rest_runs = rest_runs;
+  text_is = text_is;
+  refused_is = refused_is;
+}
 
 -- what a line means that is not too long
 pub meaning-of : (kept : Kept) (ended : Bool) (line content : List ℕ) → kept.is_long ≡ false → IsKept kept line

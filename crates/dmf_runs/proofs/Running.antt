@@ -15,6 +15,7 @@ use Rattle.dmf_runs.specs.Line.{line_meaning}
 use Rattle.dmf_runs.specs.Run.{Answering, reply_text, refused_text, Shows, LineRuns, Runs}
 use Rattle.dmf_runs.specs.Outcome.{RestRuns, RunsAll, line_count}
 use Rattle.dmf_runs.specs.Laws.{HasRun, StepsAreAnswers}
+use Rattle.dmf_runs.proofs.LineLemmas.{first-and-more, lines-and-rest}
 use Rattle.dmf_runs.proofs.Splitting.{some-split}
 
 -- The start of a state has states.
@@ -85,17 +86,7 @@ some-lines answer want_cut brief number t (line ∷ lines) has =
       text = first.text ++ rest.text;
       refused = first.refused || rest.refused;
       after = rest.after;
-      runs = record {
-        between = first.after;
-        first = first.text;
-        here = first.refused;
-        more = rest.text;
-        later = rest.refused;
-        runs = first.runs;
-        goes_on = rest.runs;
-        text_is = refl;
-        refused_is = refl;
-      };
+      runs = first-and-more first.after first.text first.refused rest.text rest.refused first.runs rest.runs refl refl;
       has_states = rest.has_states;
     }
 
@@ -120,20 +111,7 @@ has-run answer want_cut brief bound s given state =
     record {
       text = first.text ++ last.text;
       refused = first.refused || last.refused;
-      runs = record {
-        lines = some.lines;
-        rest = some.rest;
-        split = some.split;
-        between = first.after;
-        first = first.text;
-        here = first.refused;
-        last = last.text;
-        later = last.refused;
-        runs = first.runs;
-        rest_runs = last.runs;
-        text_is = refl;
-        refused_is = refl;
-      };
+      runs = lines-and-rest first.after first.text first.refused last.text last.refused some.split first.runs last.runs refl refl;
     }
 
 -- ---- from one way of answering to another
@@ -180,17 +158,9 @@ module _ (brief : Bool) (Holds : ℕ → Timeline → Type 0) (Gives : Answering
     lines-implied number t [] text refused u few holds runs = runs
     lines-implied number t (line ∷ lines) text refused u few holds runs =
         let next = line-keeps number t (line_meaning true line) runs.first runs.here runs.between holds runs.runs in
-        record {
-          between = runs.between;
-          first = runs.first;
-          here = runs.here;
-          more = runs.more;
-          later = runs.later;
-          runs = line-implied number t (line_meaning true line) runs.first runs.here runs.between (omega (arith, few)) holds runs.runs;
-          goes_on = lines-implied (number + 1) runs.between lines runs.more runs.later u (omega (arith, few)) next runs.goes_on;
-          text_is = runs.text_is;
-          refused_is = runs.refused_is;
-        }
+        let first = line-implied number t (line_meaning true line) runs.first runs.here runs.between (omega (arith, few)) holds runs.runs in
+        first-and-more runs.between runs.first runs.here runs.more runs.later first
+        (lines-implied (number + 1) runs.between lines runs.more runs.later u (omega (arith, few)) next runs.goes_on) runs.text_is runs.refused_is
 
     rest-implied : (t : Timeline) (lines : List (List ℕ)) (rest text : List ℕ) (refused : Bool) → line_count lines rest ≤ last → Holds (1 + length lines) t
         → RestRuns brief Gives (length lines + 1) t rest text refused → RestRuns brief Tells (length lines + 1) t rest text refused
@@ -204,21 +174,10 @@ module _ (brief : Bool) (Holds : ℕ → Timeline → Type 0) (Gives : Answering
         → line_count all.lines all.rest ≤ last
         → RunsAll brief Tells t given text refused
     RunsAll-implied t given text refused holds all few =
-        record {
-          lines = all.lines;
-          rest = all.rest;
-          split = all.split;
-          between = all.between;
-          first = all.first;
-          here = all.here;
-          last = all.last;
-          later = all.later;
-          runs = lines-implied 1 t all.lines all.first all.here all.between (omega (arith, at-most-lines last all.lines all.rest few)) holds all.runs;
-          rest_runs = rest-implied all.between all.lines all.rest all.last all.later few
-              (lines-keep 1 t all.lines all.first all.here all.between holds all.runs) all.rest_runs;
-          text_is = all.text_is;
-          refused_is = all.refused_is;
-        }
+        let after = lines-keep 1 t all.lines all.first all.here all.between holds all.runs in
+        lines-and-rest all.between all.first all.here all.last all.later all.split
+        (lines-implied 1 t all.lines all.first all.here all.between (omega (arith, at-most-lines last all.lines all.rest few)) holds all.runs)
+        (rest-implied all.between all.lines all.rest all.last all.later few after all.rest_runs) all.text_is all.refused_is
 
 -- An answer leaves states, if there were states.
 abbrev pub Keeps : Answering → Type 0

@@ -1,7 +1,8 @@
 //! What command lines mean, and the words of commands.
-ghost use Rattle.std.specs.Prelude.{◌≡◌, ◌≤◌, [], ◌∷◌, length, codes, false};
+ghost use Rattle.std.specs.Prelude.{◌≡◌, ◌≢◌, ◌≤◌, [], ◌∷◌, length, codes, false, MatchResult};
 ghost use Rattle.std.specs.Str.{bytes_eq};
 ghost use Rattle.std.specs.Str.Lines.{strip_carriage_return};
+ghost use Rattle.dmf_session.specs.declared.command.Refusal.TheVariants.{FieldCount};
 ghost use Rattle.dmf_text.specs.Number.{number_of};
 ghost use Rattle.dmf_runs.specs.CommandText as text;
 ghost use Rattle.dmf_runs.specs.CommandText.{command_of, command_by, meaning_of, meaning_of_other};
@@ -144,13 +145,10 @@ fn addition_of(tail: &[u8], head: &[u8], cap: &[u8]) -> Result<Command, Refusal>
 
 /// Reads the field after `close` or `shut`.
 #[tactic(auto, unfolding(crate::specs::CommandText::one_number))]
-fn read_one_number(mut fields: Fields<'_>) -> Result<u64, Refusal>
+fn read_one_number(fields: Fields<'_>) -> Result<u64, Refusal>
     ensures { result ≡ one_number fields.entry }
 {
-    match (fields.next(), fields.next()) {
-        (Some(field), None) => read_number(field),
-        _ => Err(Refusal::FieldCount),
-    }
+    read_number(only_field(fields)?)
 }
 
 /// Reads the fields after `solve`: there must be none.
@@ -178,13 +176,10 @@ fn read_steps(mut fields: Fields<'_>) -> Result<u64, Refusal>
 
 /// Reads the field after `print`.
 #[tactic(auto, unfolding(crate::specs::CommandText::printing))]
-fn read_printing(mut fields: Fields<'_>) -> Result<Command, Refusal>
+fn read_printing(fields: Fields<'_>) -> Result<Command, Refusal>
     ensures { result ≡ printing fields.entry }
 {
-    match (fields.next(), fields.next()) {
-        (Some(what), None) => printing_of(what),
-        _ => Err(Refusal::FieldCount),
-    }
+    printing_of(only_field(fields)?)
 }
 
 /// The command that prints the thing of this name.
@@ -203,6 +198,17 @@ fn printing_of(what: &[u8]) -> Result<Command, Refusal>
     }
 }
 
+/// The field after the word of a command that takes exactly one.
+fn only_field(mut fields: Fields<'_>) -> Result<&[u8], Refusal>
+    ensures { MatchResult result (λ field. fields.entry ≡ field.now ∷ []) (λ refusal. (refusal ≡ FieldCount) × (length fields.entry ≢ 1)) }
+{
+    match (fields.next(), fields.next()) {
+        (Some(field), None) => Ok(field),
+        _ => Err(Refusal::FieldCount),
+    }
+}
+
+/// The number that a field spells.
 fn read_number(field: &[u8]) -> Result<u64, Refusal>
     ensures { result ≡ with_number (number_of field.now) Ok }
 {

@@ -1,4 +1,4 @@
-//! Replies to command lines. Each is written and flushed.
+//! Replies to command lines.
 ghost use Rattle.std.specs.Prelude.{◌≡◌, true, IfOk};
 ghost use Rattle.dmf_text.specs.Writing.{Writes};
 ghost use Rattle.dmf_session.specs.Step.{IsReplyTo};
@@ -10,7 +10,7 @@ use crate::refusal::refusal_text;
 use dmf_session::{Command, Refusal, Reply};
 use dmf_solving::{write_side, write_solved};
 use dmf_state::{Side, State};
-use dmf_streams::{flush, put_line, write_line};
+use dmf_streams::{put_line, write_line};
 use dmf_text::LineField::{Number, Text};
 use dmf_text::{LineBuffer, Sink, WriteFault, line_of, write_cut, write_problem, write_solution};
 
@@ -53,8 +53,8 @@ pub fn refuse<W: Sink>(number: u32, refusal: &Refusal, out: &mut W) -> Result<An
     Ok(Answer::Refused)
 }
 
-/// Writes the reply to a command, and flushes. With `brief` the reply to a solve has its value alone.
-pub fn put_reply<W: Sink>(
+/// Writes the reply to a command. With `brief` the reply to a solve has its value alone.
+pub fn write_reply<W: Sink>(
     command: Command,
     reply: &Reply,
     present: &State,
@@ -62,20 +62,6 @@ pub fn put_reply<W: Sink>(
     out: &mut W,
 ) -> Result<(), WriteFault>
     requires { IsReplyTo command reply.now }
-    ensures { Writes (W.written out.old) (W.written out.new) result
-        (run.reply_text brief command reply.now present.now) }
-{
-    write_reply(command, reply, present, brief, out)?;
-    flush(out)
-}
-
-fn write_reply<W: Sink>(
-    command: Command,
-    reply: &Reply,
-    present: &State,
-    brief: bool,
-    out: &mut W,
-) -> Result<(), WriteFault>
     ensures { Writes (W.written out.old) (W.written out.new) result
         (run.reply_text brief command reply.now present.now) }
 {

@@ -6,11 +6,11 @@ ghost use Rattle.dmf_runs.specs.Session.{RunsSession, RunsSessionWith};
 ghost use Rattle.dmf_runs.specs.WrittenLine.{WritesLine};
 
 use crate::command_text::{Meaning, meaning_of};
-use crate::reply::{Answer, SolveReply, put_reply, refuse};
+use crate::reply::{Answer, SolveReply, refuse, write_reply};
 use dmf_history::{DeltaHistory, History, MAX_BOUND};
 use dmf_session::{Command, Session};
 use dmf_solver::{Unwatched, Watch};
-use dmf_streams::{EngineFault, Input, KeptLine, Next, Status, read_state};
+use dmf_streams::{EngineFault, Input, KeptLine, Next, Status, flush, read_state};
 use dmf_text::{Sink, Source, WriteFault};
 use std::alloc::Global;
 
@@ -132,7 +132,8 @@ impl SessionRun {
         tell_solve(session, command, watch);
         match session.step_watched(self.alloc, command, self.wanted.cut, watch) {
             Ok(reply) => {
-                put_reply(command, &reply, session.present(), self.wanted.brief, out)?;
+                write_reply(command, &reply, session.present(), self.wanted.brief, out)?;
+                flush(out)?;
                 Ok(Answer::Accepted)
             }
             Err(refusal) => refuse(line.number, &refusal, out),

@@ -1,5 +1,5 @@
 -- What a solve reports, by the answer of the session.
-use Rattle.std.proofs.Common.{ℕ, ◌≡◌, ◌+◌, ◌≤◌, List, Option, Result, Ok, Err, inl, subst}
+use Rattle.std.proofs.Common.{List, Option, Result, Ok, Err, inl, subst}
 use Rattle.std.specs.Result.{IsErr}
 use Rattle.std.proofs.lemmas.Bool.{false≢true}
 use Rattle.dmf_state.specs.declared.edit.Edit.{Edit}
@@ -9,11 +9,10 @@ use Rattle.dmf_solver.specs.Told.{Told, TellsSolve, MayTellSolve}
 use Rattle.dmf_solver.proofs.Solving.{AreTold-none}
 use Rattle.dmf_history.specs.Timeline.{Timeline, IsPresent, Appends}
 use Rattle.dmf_history.proofs.Appending.{one-present, appends-applied}
-use Rattle.dmf_session.specs.declared.command.Command.{Command}
 use Rattle.dmf_session.specs.declared.command.Command.TheVariants.{Solve}
 use Rattle.dmf_session.specs.declared.command.Reply.{Reply}
 use Rattle.dmf_session.specs.declared.command.Refusal.{Refusal}
-use Rattle.dmf_session.specs.Telling.{TellsStep, TellsDrains, drained_most}
+use Rattle.dmf_session.specs.Telling.{TellsStep}
 use Rattle.dmf_session.proofs.Optimal.{present-appended}
 
 -- A solve that is refused before it is planned reports nothing.
@@ -37,10 +36,3 @@ TellsStep-solved t u s edit reply before after present appends told =
       present-appended t u s (applied edit s) present (appends-applied t u s edit present appends),
       subst (λ p. TellsSolve p (applied edit s).flows before after) (one-present t s other present also) told,
     )
-
--- There is only one present state, so the report is about it.
-pub TellsDrains-present : {X : Type 0} (timeline : X → Timeline) (inside seen : X) → inside ≡ seen → (s : NetworkState) (command : Command)
-    (before after : ℕ) → IsPresent (timeline inside) s → after ≤ before + drained_most s command → TellsDrains (timeline seen) command before after
-TellsDrains-present timeline inside seen same s command before after present most =
-    let here = subst (λ h. IsPresent (timeline h) s) same present in
-    λ other also. subst (λ p. after ≤ before + drained_most p command) (one-present (timeline seen) s other here also) most

@@ -16,9 +16,7 @@ pub(crate) fn kept_before<H: History>(
     requires { KeepsPresent (H.timeline history.now) kept }
     ensures { KeepsPresent (back (H.timeline history.now) 1) result }
 {
-    let network = kept?;
-    let edit = history.last_edit()?;
-    network.follow_back_any(history.present(), edit)
+    kept?.follow_back_any(history.present(), history.last_edit()?)
 }
 
 /// The kept network, one state forward. `None` if the history does not give the edit, or if the network cannot follow it.
@@ -30,9 +28,7 @@ pub(crate) fn kept_after<H: History>(
     requires { KeepsPresent (H.timeline history.now) kept }
     ensures { KeepsPresent (forward (H.timeline history.now) 1) result }
 {
-    let network = kept?;
-    let edit = history.next_edit()?;
-    network.follow_any(alloc, history.present(), edit)
+    kept?.follow_any(alloc, history.present(), history.next_edit()?)
 }
 
 /// The kept network after the edit.

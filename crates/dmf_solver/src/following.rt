@@ -90,6 +90,7 @@ fn put_capacity(search: &mut Search, j: u32, cap: u64)
 {
     let k = j as usize - 1;
     if let Some(flow) = search.against(k) {
+        // No clause of the search says that the flow is within the new capacity, so the room is 0 where it would not be.
         search.set_rooms(k, cap.saturating_sub(flow), flow);
     }
 }

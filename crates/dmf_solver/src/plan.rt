@@ -13,13 +13,10 @@ ghost use Rattle.dmf_solver.specs.Told.{AreTold, TellsSolve, MayTellSolve};
 
 use crate::drain::drain;
 use crate::fault::PlanFault;
-use crate::residual::residual_search;
-use crate::residual_network::{ResidualNetwork, touched_moves};
+use crate::residual_network::{ResidualNetwork, kept_or_new};
 use crate::shut::{drain_all, open_arcs_at};
-use crate::side::wanted_side;
-use crate::solve::solve;
 use crate::watch::{Turn, Unwatched, Watch};
-use dmf_path::{Search, Touched};
+use dmf_path::Search;
 use dmf_state::{Edit, Side, State};
 use std::alloc::Global;
 
@@ -260,11 +257,9 @@ pub fn plan_solve_watched<W: Watch>(
         (λ _. MayTellSolve state.now (W.told watch.old) (W.told watch.new)) }
     ensures drained { W.drained watch.new ≤ W.drained watch.old }
 {
-    let search = residual_search(alloc, state)?;
-    let solved = solve(search, state, Touched::all(), watch);
-    let side = wanted_side(alloc, state, &solved, want_side)?;
-    let moves = touched_moves(alloc, state, &solved)?;
-    Ok((Edit::Solve { moves }, side))
+    let network = kept_or_new(alloc, state, None)?;
+    let (edit, side, _) = network.plan_solve(alloc, state, want_side, watch)?;
+    Ok((edit, side))
 }
 
 /// The number and the capacity of arc number `j`, or why the arc cannot be changed.

@@ -319,7 +319,7 @@ fn look_or_number(alloc: Global, search: &mut Search, looks: u32) -> Result<u32,
 }
 
 /// The moves of a solve. Looks at no arc whose pair is not touched.
-pub fn touched_moves(alloc: Global, state: &State, solved: &Solved) -> Result<Vec<Move>, AllocError>
+fn touched_moves(alloc: Global, state: &State, solved: &Solved) -> Result<Vec<Move>, AllocError>
     requires { IsSolved state.now solved.now }
     ensures { IfOk result (λ moves. moves.items ≡ differences 1 state.now.flows (reached_flows state.now solved.now.search)) }
 {

@@ -4,7 +4,7 @@
 pub use check::run_check;
 pub use laws::written_is_optimal;
 pub use solve::{run_solve, run_solve_watched};
-pub use solved::{put_solved, write_side, write_solved};
+pub use solved::{write_side, write_solved};
 
 mod check;
 mod laws;

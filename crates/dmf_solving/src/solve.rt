@@ -6,10 +6,10 @@ ghost use Rattle.dmf_solving.specs.SolveRun.{RunsSolve};
 ghost use Rattle.dmf_solving.specs.Laws.{WrittenIsOptimal};
 
 use crate::laws::written_is_optimal;
-use crate::solved::put_solved;
+use crate::solved::write_solved;
 use dmf_solver::{Unwatched, Watch, plan_solve_watched};
 use dmf_state::{NoMemory, Side, State};
-use dmf_streams::{EngineFault, Status, read_state};
+use dmf_streams::{EngineFault, Status, flush, read_state};
 use dmf_text::{Sink, Source};
 use std::alloc::Global;
 
@@ -46,7 +46,8 @@ pub fn run_solve_watched<P: Source, W: Sink, V: Watch>(
     written_is_optimal();
     let state = read_state(alloc, problem)?;
     let solved = solve(alloc, state, want_cut, watch)?;
-    put_solved(&solved.state, &solved.side, out)?;
+    write_solved(&solved.state, &solved.side, out)?;
+    flush(out)?;
     Ok(Status::Well)
 }
 

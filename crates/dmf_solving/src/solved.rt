@@ -3,20 +3,7 @@ ghost use Rattle.dmf_text.specs.Writing.{Writes};
 ghost use Rattle.dmf_solving.specs.Solved.{side_text, solved_text};
 
 use dmf_state::{Side, State};
-use dmf_streams::flush;
 use dmf_text::{Sink, WriteFault, write_cut, write_solution};
-
-/// Writes the solution of a state, and after it this cut, if there is one, and flushes.
-pub fn put_solved<W: Sink>(
-    state: &State,
-    side: &Option<Side>,
-    out: &mut W,
-) -> Result<(), WriteFault>
-    ensures { Writes (W.written out.old) (W.written out.new) result (solved_text state.now side.now) }
-{
-    write_solved(state, side, out)?;
-    flush(out)
-}
 
 /// Writes the solution of a state, and after it this cut, if there is one.
 pub fn write_solved<W: Sink>(

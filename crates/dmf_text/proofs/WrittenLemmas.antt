@@ -1,7 +1,7 @@
 -- The bytes of written lines.
 use Rattle.std.proofs.Common.{◌≡◌, ℕ, suc, ◌+◌, ◌-◌, subst, ◌<◌, ◌≤◌, List, [], ◌∷◌, ◌++◌, length, take, drop, get_or, slice_get, Some, arith, map, filter}
 use Rattle.std.proofs.Common.{nat_abs, Bool, true, false, not, if◌then◌else◌, codes, refl, sym, ap, ◌∙◌, append_assoc, append-nil, decimal, take-append-drop}
-use Rattle.std.proofs.Common.{length-drop}
+use Rattle.std.proofs.Common.{length-drop, pos}
 use Rattle.std.proofs.Math.Numerals.{add-one}
 use Rattle.std.proofs.Math.Seq.{drop-cons}
 use Rattle.std.proofs.lemmas.List.{map-append, take_more, drop_all, length-map}
@@ -145,13 +145,14 @@ unfolding written
 problem_text-lines n = refl
 
 -- the text of a solution, line by line
-pub solution_text-lines : (s : NetworkState) → solution_text s
-    ≡ written_line (codes "s" ∷ decimal (nat_abs (flow_value s.network s.flows)) ∷ []) ++ flows_text (zip s.network.arcs s.flows)
+pub solution_text-lines : (s : NetworkState) (value : ℕ) → pos value ≡ flow_value s.network s.flows → solution_text s
+    ≡ written_line (codes "s" ∷ decimal value ∷ []) ++ flows_text (zip s.network.arcs s.flows)
 unfolding written
-solution_text-lines s = refl
+solution_text-lines s value is =
+    ap (λ n. written_line (codes "s" ∷ decimal (nat_abs n) ∷ []) ++ flows_text (zip s.network.arcs s.flows)) (sym is)
 
 -- the text of a cut, line by line
-pub cut_text-lines : (side : CutSide) → cut_text side
-    ≡ written_line (codes "c" ∷ codes "cut" ∷ decimal side.capacity ∷ []) ++ nodes_text side.ids
+pub cut_text-lines : (side : CutSide) (capacity : ℕ) → capacity ≡ side.capacity → cut_text side
+    ≡ written_line (codes "c" ∷ codes "cut" ∷ decimal capacity ∷ []) ++ nodes_text side.ids
 unfolding written
-cut_text-lines side = refl
+cut_text-lines side capacity is = ap (λ n. written_line (codes "c" ∷ codes "cut" ∷ decimal n ∷ []) ++ nodes_text side.ids) (sym is)

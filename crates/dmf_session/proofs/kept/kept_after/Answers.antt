@@ -5,4 +5,4 @@ use Rattle.dmf_session.proofs.kept.kept_after.Goals as goal
 pub follow_any-requires-clause-network : goal.follow_any-requires-clause-network
 follow_any-requires-clause-network g c =
     let s = c.present.result.now in
-    subst (Keeps s) c.in_ok-network.was (c.requires s c.present.ensures.state)
+    subst (Keeps s) c.in_ok-kept.was (c.requires s c.present.ensures.state)

@@ -1,20 +1,25 @@
-use Rattle.std.proofs.Common.{Result}
+use Rattle.std.proofs.Common.{Result, Ok, Err}
 use Rattle.std.proofs.lemmas.Result.{err_from_is_err_and}
+use Rattle.dmf_text.specs.Streams.{Writer}
 use Rattle.dmf_text.specs.Writing.{Writes}
 use Rattle.dmf_streams.specs.declared.fault.Status.{Status}
+use Rattle.dmf_streams.specs.declared.fault.Status.TheVariants.{Well}
 use Rattle.dmf_streams.specs.declared.fault.EngineFault.{EngineFault}
+use Rattle.dmf_streams.specs.declared.fault.EngineFault.TheVariants.{Write}
+use Rattle.dmf_streams.proofs.ReplyLemmas.{Writes-flushed}
+use Rattle.dmf_text.proofs.WritingLemmas.{PutsFront}
 use Rattle.dmf_solving.specs.Solved.{solved_text}
-use Rattle.dmf_solving.specs.SolveRun.{WritesSolved}
+use Rattle.dmf_solving.specs.SolveRun.{RunsSolve, WritesSolved}
 use Rattle.dmf_solving.proofs.solve.run_solve_watched.Given.{Over}
 use Rattle.dmf_solving.proofs.solve.run_solve_watched.Goals as goal
-use Rattle.dmf_solving.proofs.solve.run_solve_watched.Goals.{After-put_solved}
+use Rattle.dmf_solving.proofs.solve.run_solve_watched.Goals.{After-write_solved}
 
 -- the solution was written, or a prefix of it
-writes-solved : (g : Over) (c : After-put_solved g) (result : Result Status EngineFault) → Writes (g.W.Sink.written c.args.out.now)
-    (g.W.Sink.written c.put_solved.new.out) result (solved_text c.in_ok-solved.solved.state c.in_ok-solved.solved.side)
+writes-solved : (g : Over) (c : After-write_solved g) (new : Writer) (result : Result Status EngineFault) → Writes (g.W.Sink.written c.args.out.now) new result
+    (solved_text c.in_ok-solved.solved.state c.in_ok-solved.solved.side)
     → WritesSolved c.args.want_cut (g.P.Source.left c.args.problem.now) (g.P.Source.left c.read_state.new.source) (g.W.Sink.written c.args.out.now)
-    (g.W.Sink.written c.put_solved.new.out) c.in_ok-state.ensures.text result
-writes-solved g c result writes = record {
+    new c.in_ok-state.ensures.text result
+writes-solved g c new result writes = record {
   state = c.in_ok-state.state;
   problem = c.in_ok-state.ensures.is_so;
   solved = c.in_ok-solved.solved.state;
@@ -24,16 +29,24 @@ writes-solved g c result writes = record {
   writes = writes;
 }
 
--- the writer failed
-pub returns-in_err-put_solved-clause-run : goal.returns-in_err-put_solved-clause-run
-returns-in_err-put_solved-clause-run g c =
-    let failed = err_from_is_err_and c.from_residual-in_err-put_solved.result c.from_residual-in_err-put_solved.ensures.1 in
+-- The writer failed after a prefix of the solution.
+failed-run : (g : Over) (c : After-write_solved g) (new : Writer) → PutsFront (g.W.Sink.written c.args.out.now) new
+    (solved_text c.in_ok-solved.solved.state c.in_ok-solved.solved.side)
+    → RunsSolve c.args.want_cut (g.P.Source.left c.args.problem.now) (g.P.Source.left c.read_state.new.source) (g.W.Sink.written c.args.out.now) new (Err Write)
+failed-run g c new front =
     let read = c.in_ok-state.ensures in
-    rw (failed.1, failed.2) (record {
-      text = read.text;
-      consumes = read.consumes;
-      is_so = writes-solved g (goal.at.returns-in_err-put_solved-clause-run g c).After-put_solved _ c.in_err-put_solved.ensures;
-    })
+    record { text = read.text; consumes = read.consumes; is_so = writes-solved g c new (Err Write) front }
+
+pub returns-in_err-write_solved-clause-run : goal.returns-in_err-write_solved-clause-run
+returns-in_err-write_solved-clause-run g c =
+    let failed = err_from_is_err_and c.from_residual-in_err-write_solved.result c.from_residual-in_err-write_solved.ensures.1 in
+    rw (failed.1, failed.2) (failed-run g (goal.at.returns-in_err-write_solved-clause-run g c).After-write_solved _ c.in_err-write_solved.ensures)
+
+pub returns-in_err-flush-clause-run : goal.returns-in_err-flush-clause-run
+returns-in_err-flush-clause-run g c =
+    let failed = err_from_is_err_and c.from_residual-in_err-flush.result c.from_residual-in_err-flush.ensures.1 in
+    rw (failed.1, failed.2) (failed-run g (goal.at.returns-in_err-flush-clause-run g c).After-write_solved (g.W.Sink.written c.flush.new.out)
+    (Writes-flushed {V = Status} _ (g.W.Sink.written c.write_solved.new.out) _ (Err Write) _ c.in_ok-write_solved.ensures c.in_err-flush.ensures))
 
 pub returns-clause-run : goal.returns-clause-run
 returns-clause-run g c =
@@ -41,6 +54,7 @@ returns-clause-run g c =
     record {
       text = read.text;
       consumes = read.consumes;
-      is_so = writes-solved g
-          (goal.at.returns-clause-run g c).After-put_solved _ c.in_ok-put_solved.ensures;
+      is_so = writes-solved g (goal.at.returns-clause-run g c).After-write_solved _ _
+          (Writes-flushed {E = EngineFault} _ (g.W.Sink.written c.write_solved.new.out) (g.W.Sink.written c.flush.new.out) (Ok Well) _
+          c.in_ok-write_solved.ensures c.in_ok-flush.ensures);
     }

@@ -8,6 +8,10 @@ use Rattle.dmf_session.specs.Step.{Answers}
 use Rattle.dmf_session.proofs.EachCommand.{answers-reply}
 use Rattle.dmf_state.specs.NetworkState.{NetworkState}
 use Rattle.dmf_history.specs.Timeline.{Timeline, IsPresent}
+use Rattle.dmf_streams.proofs.ReplyLemmas.{Writes-flushed}
+use Rattle.dmf_text.specs.declared.writer.WriteFault.{WriteFault}
+use Rattle.dmf_runs.specs.declared.reply.Answer.{Answer}
+use Rattle.dmf_runs.specs.declared.reply.Answer.TheVariants.{Accepted}
 use Rattle.dmf_runs.specs.declared.reply.SolveReply.{SolveReply}
 use Rattle.dmf_runs.specs.Run.{LineRuns, reply_text, refused_text}
 use Rattle.dmf_runs.proofs.session.SessionRun.answer.Goals as goal
@@ -44,26 +48,38 @@ returns-in-Err g c =
     let runs = means c.args.self.wanted c.args.line.number _ _ _ (Err refusal) text true c.in-Err.is (refl, refl, refl) in
     record { line = (text, true, runs, c.refuse.ensures.text, c.refuse.ensures.refused); silent = λ none. let is = c.in-Err.is in absurd (cc) }
 
-pub put_reply-requires : goal.put_reply-requires
-put_reply-requires g c =
+pub write_reply-requires : goal.write_reply-requires
+write_reply-requires g c =
     let timeline = g.H.History.timeline in
     answers-reply c.args.self.wanted.cut (timeline c.args.session.now) c.in-Ok-Some.command c.in-Ok.reply (timeline c.step_watched.new.self)
     c.in-Ok.ensures.answer
 
-pub returns-in_err-put_reply-in-Ok : goal.returns-in_err-put_reply-in-Ok
-returns-in_err-put_reply-in-Ok g c =
+pub returns-in_err-write_reply-in-Ok : goal.returns-in_err-write_reply-in-Ok
+returns-in_err-write_reply-in-Ok g c =
     let failed = err_from_is_err_and c.from_residual.result c.from_residual.ensures.1 in
     let some = rw c.in-Ok-Some.is at c.in-Ok-Some.field-0-is in
     let is = c.in-Ok-Some.is ∙ ap (λ o. Ok o) some in
     let runs = accepted c.args.self.wanted c.args.line.number _ _ _ c.in-Ok-Some.command c.in-Ok.reply _ is c.in-Ok.ensures.answer c.present.ensures.state in
-    rw failed.1 (record { line = (_, false, runs, c.in_err-put_reply-in-Ok.ensures, tt); silent = λ none. absurd (cc) })
+    rw failed.1 (record { line = (_, false, runs, c.in_err-write_reply-in-Ok.ensures, tt); silent = λ none. absurd (cc) })
 
-pub returns-in_ok-put_reply-in-Ok : goal.returns-in_ok-put_reply-in-Ok
-returns-in_ok-put_reply-in-Ok g c =
+pub returns-in_err-flush-in-Ok : goal.returns-in_err-flush-in-Ok
+returns-in_err-flush-in-Ok g c =
+    let failed = err_from_is_err_and c.from_residual-in_err-flush-in-Ok.result c.from_residual-in_err-flush-in-Ok.ensures.1 in
     let some = rw c.in-Ok-Some.is at c.in-Ok-Some.field-0-is in
     let is = c.in-Ok-Some.is ∙ ap (λ o. Ok o) some in
     let runs = accepted c.args.self.wanted c.args.line.number _ _ _ c.in-Ok-Some.command c.in-Ok.reply _ is c.in-Ok.ensures.answer c.present.ensures.state in
-    record { line = (_, false, runs, c.in_ok-put_reply-in-Ok.ensures, refl); silent = λ none. absurd (cc) }
+    let writes = Writes-flushed {V = Answer} _ (g.W.Sink.written c.write_reply.new.out) (g.W.Sink.written c.flush.new.out) (Err failed.0) _
+    c.in_ok-write_reply-in-Ok.ensures c.in_err-flush-in-Ok.ensures in
+    rw failed.1 (record { line = (_, false, runs, writes, tt); silent = λ none. absurd (cc) })
+
+pub returns-in_ok-flush-in-Ok : goal.returns-in_ok-flush-in-Ok
+returns-in_ok-flush-in-Ok g c =
+    let some = rw c.in-Ok-Some.is at c.in-Ok-Some.field-0-is in
+    let is = c.in-Ok-Some.is ∙ ap (λ o. Ok o) some in
+    let runs = accepted c.args.self.wanted c.args.line.number _ _ _ c.in-Ok-Some.command c.in-Ok.reply _ is c.in-Ok.ensures.answer c.present.ensures.state in
+    let writes = Writes-flushed {E = WriteFault} _ (g.W.Sink.written c.write_reply.new.out) (g.W.Sink.written c.flush.new.out) (Ok Accepted) _
+    c.in_ok-write_reply-in-Ok.ensures c.in_ok-flush-in-Ok.ensures in
+    record { line = (_, false, runs, writes, refl); silent = λ none. absurd (cc) }
 
 pub returns-in-Err-step_watched-clause-line : goal.returns-in-Err-step_watched-clause-line
 returns-in-Err-step_watched-clause-line g c =

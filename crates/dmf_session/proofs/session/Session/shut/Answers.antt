@@ -2,7 +2,6 @@ use Rattle.dmf_solver.specs.Change as change
 use Rattle.dmf_session.specs.declared.command.Command.TheVariants.{Shut}
 use Rattle.dmf_session.specs.Step.{Answers}
 use Rattle.dmf_session.proofs.Changed.{answers-appended}
-use Rattle.dmf_session.proofs.Telling.{TellsDrains-present}
 use Rattle.dmf_session.proofs.session.Session.shut.Goals as goal
 
 pub returns-clause-answer : goal.returns-clause-answer
@@ -10,13 +9,3 @@ returns-clause-answer g c want_cut =
     answers-appended g.H.History.timeline c.self.inside.history c.args.self.now c.self.view_is (g.H.History.timeline c.change.new.self) _ _
     (change.Shut c.args.node) (λ t result u. Answers want_cut t (Shut c.args.node) result u) _ c.present.ensures.state
     c.in_ok-edit.ensures.refused c.in_ok-edit.ensures.plan.becomes c.change.ensures (λ t value is. is) (λ t is. is)
-
-pub returns-in_err-edit-clause-drained : goal.returns-in_err-edit-clause-drained
-returns-in_err-edit-clause-drained g c =
-    TellsDrains-present g.H.History.timeline c.self.inside.history c.args.self.now c.self.view_is c.present.result.now (Shut c.args.node) _ _
-    c.present.ensures.state c.in_err-edit.ensures.drained
-
-pub returns-clause-drained : goal.returns-clause-drained
-returns-clause-drained g c =
-    TellsDrains-present g.H.History.timeline c.self.inside.history c.args.self.now c.self.view_is c.present.result.now (Shut c.args.node) _ _
-    c.present.ensures.state c.in_ok-edit.ensures.drained

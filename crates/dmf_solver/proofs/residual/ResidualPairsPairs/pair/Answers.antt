@@ -1,4 +1,3 @@
-use Rattle.std.proofs.Common.{Some, ap, sym, ◌∙◌}
 use Rattle.dmf_state.proofs.Changing.{within-at}
 use Rattle.dmf_solver.proofs.NetworkPairs.{pair-at, pair-past}
 use Rattle.dmf_solver.proofs.residual.ResidualPairsPairs.pair.Goals as goal
@@ -10,9 +9,7 @@ residual_pair-requires c =
     rw (at.arc_is, at.flow_is) (within-at s.network.arcs s.flows c.args.k c.arc_at.ensures.state.flow.within)
 
 pub returns-in-Some : goal.returns-in-Some
-returns-in-Some c =
-    pair-at c.args.self.now.state.now c.args.k _ c.arc_at.ensures.state c.in-Some.ensures.at ∙ ap Some (sym c.residual_pair.ensures)
+returns-in-Some c = rw c.residual_pair.ensures (pair-at c.args.self.now.state.now c.args.k _ c.arc_at.ensures.state c.in-Some.ensures.at)
 
 pub returns-in-None : goal.returns-in-None
-returns-in-None c =
-    pair-past c.args.self.now.state.now c.args.k c.arc_at.ensures.state c.requires c.in-None.ensures.at ∙ ap Some (sym c.closed_return.ensures)
+returns-in-None c = rw c.closed_return.ensures (pair-past c.args.self.now.state.now c.args.k c.arc_at.ensures.state c.requires c.in-None.ensures.at)
