@@ -70,8 +70,8 @@ fn a_solution_is_checked(rt: HostRuntime) {
     assert!(rt; written.as_slice() == b"c flow 1\n".as_slice());
 }
 
-/// Holds a session on the problem in each of the three ways, one after the other, and says how each ended.
-fn hold_each(alloc: Global, written: &mut Vec<u8>) -> Result<[Status; 3], EngineFault> {
+/// Holds a session on the problem in each of the four ways, one after the other, and says how each ended.
+fn hold_each(alloc: Global, written: &mut Vec<u8>) -> Result<[Status; 4], EngineFault> {
     let mut problem = StdSource::new(PROBLEM);
     let mut commands = StdSource::new(b"solve\n".as_slice());
     let mut out = StdSink::new(written);
@@ -79,42 +79,43 @@ fn hold_each(alloc: Global, written: &mut Vec<u8>) -> Result<[Status; 3], Engine
     let mut problem = StdSource::new(PROBLEM);
     let mut commands = StdSource::new(b"cap 1 6\nundo".as_slice());
     let bounded = run_session_bounded(alloc, &mut problem, &mut commands, &mut out, false, 0)?;
+    let mut problem = StdSource::new(PROBLEM);
+    let mut commands = StdSource::new(b"solve\nprint flow\n".as_slice());
+    let wanted = SolveReply {
+        cut: true,
+        brief: true,
+    };
+    let brief = run_session_watched(
+        alloc,
+        &mut problem,
+        &mut commands,
+        &mut out,
+        wanted,
+        1,
+        &mut Unwatched,
+    )?;
     let state = read_problem(alloc, PROBLEM).map_err(EngineFault::Problem)?;
     let session = Session::new(DeltaHistory::new(alloc, state));
     let mut commands = StdSource::new(b"redo".as_slice());
     let given = run_commands(alloc, session, &mut commands, &mut out, false)?;
-    Ok([plain, bounded, given])
+    Ok([plain, bounded, brief, given])
 }
 
 #[test]
 fn sessions_are_held(rt: HostRuntime) -> Result<(), Fail> {
     let mut written = Vec::new(rt.alloc());
     let ended = hold_each(rt.alloc(), &mut written)?;
-    assert!(rt; ended == [Status::Well, Status::SomeRefused, Status::SomeRefused]);
-    let replies =
-        b"s 7\nf 1 2 7\nc cap value 0\nc refused 2 nothing to undo\nc refused 1 nothing to redo\n";
-    assert!(rt; written.as_slice() == replies.as_slice());
-    Ok(())
-}
-
-#[test]
-fn solves_are_answered_briefly(rt: HostRuntime) -> Result<(), Fail> {
-    let mut written = Vec::new(rt.alloc());
-    let wanted = SolveReply {
-        cut: true,
-        brief: true,
-    };
-    let outcome = run_session_watched(
-        rt.alloc(),
-        &mut StdSource::new(PROBLEM),
-        &mut StdSource::new(b"solve\nprint flow\n".as_slice()),
-        &mut StdSink::new(&mut written),
-        wanted,
-        1,
-        &mut Unwatched,
-    );
-    assert!(rt; outcome == Ok(Status::Well));
-    let replies = b"c solve value 7\nc cut 7\nc side 1\ns 7\nf 1 2 7\n";
+    let statuses = [
+        Status::Well,
+        Status::SomeRefused,
+        Status::Well,
+        Status::SomeRefused,
+    ];
+    assert!(rt; ended == statuses);
+    let replies = b"s 7\nf 1 2 7\n\
+          c cap value 0\nc refused 2 nothing to undo\n\
+          c solve value 7\nc cut 7\nc side 1\ns 7\nf 1 2 7\n\
+          c refused 1 nothing to redo\n";
     assert!(rt; written.as_slice() == replies.as_slice());
     Ok(())
 }
