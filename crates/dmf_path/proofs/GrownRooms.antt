@@ -8,7 +8,7 @@ use Rattle.dmf_path.specs.declared.grown.Gap.{Gap}
 use Rattle.dmf_path.specs.declared.grown.NewPair.{NewPair}
 use Rattle.dmf_path.specs.declared.pair.Pair.{Pair}
 use Rattle.dmf_path.specs.Links.{Links, AreLinks, ArePlaces, AreRooms, AreFlags, open_flag, no_place, pair_at, pairs_at, tail_of}
-use Rattle.dmf_path.specs.Grown.{shifted, shifted_place, counted, with_two, IsGap, IsGrown, IsPlaced, IsSpread, IsOfPair, rising, falling}
+use Rattle.dmf_path.specs.Grown.{shifted, counted, with_two, IsGap, IsGrown, IsPlaced, IsSpread, IsOfPair, rising, falling}
 use Rattle.dmf_path.proofs.GrownLinks.{old, low, high, some-link, in-order, gap-within, shift-is}
 use Rattle.dmf_path.proofs.GrownPlaces.{was, new, some-index}
 
@@ -64,22 +64,11 @@ spread-two g f first second before mid after order within same each is =
     })
 
 -- what is read after a new place
-pub get-counted : {A : Type 0} (xs : List A) (k : ℕ) (y d : A) (i : ℕ) → k ≤ length xs → get_or (insert xs k y) (counted k i) d ≡ get_or xs i d
+get-counted : {A : Type 0} (xs : List A) (k : ℕ) (y d : A) (i : ℕ) → k ≤ length xs → get_or (insert xs k y) (counted k i) d ≡ get_or xs i d
 get-counted xs k y d i most = elim (cases_lt i k) [
   | inl before ↦ ap (λ j. get_or (insert xs k y) j d) (cond-true _ _ _ (lt-ltb i k before)) ∙ get_or-insert_below xs k y d i before most
   | inr from ↦ ap (λ j. get_or (insert xs k y) j d) (cond-false _ _ _ (le-ltb i k from)) ∙ get_or-insert_above xs k y d i from most
 ]
-
--- Places into which a new one goes are shifted, but for it.
-pub placed-one : (g : Gap) (k place : ℕ) (before mid after : List ℕ) → k ≤ length before → length mid ≡ length before
-    → ((j : ℕ) → j < length before → get_or mid j 0 ≡ shifted_place g (get_or before j 0)) → after ≡ insert mid k place → IsPlaced g k place before after
-placed-one g k place before mid after index same each is =
-    let in_mid : k ≤ length mid = omega (arith, index, same) in
-    rw is (record {
-      long = omega (arith, length-insert mid k place in_mid, same);
-      kept = λ j h. get-counted mid k place 0 j in_mid ∙ each j h;
-      new_is = get_or-insert_at mid k place 0 in_mid;
-    })
 
 module _ (l : Links) (places : List ℕ) (k : ℕ) (g : Gap) (links : AreLinks l) (gap : IsGap l places k g) (n : Links) (grown : IsGrown g l n) where
   partner-was : (p : ℕ) → p < length l.heads → get_or n.partners (shifted g p) 0 ≡ shifted g (get_or l.partners p 0)
