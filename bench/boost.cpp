@@ -1,6 +1,10 @@
 // Boost's push-relabel (boost push) and its search from both ends by Boykov and Kolmogorov (boost trees), on its graph that
-// is quickest to walk: that of compressed rows. Its edges are the links of links.hpp, in their order.
+// is quickest to walk: that of compressed rows. Its edges are the links of links.hpp, in their order. With the numbers of arcs behind
+// that word it writes the value without each of them in turn, each solved anew.
 #include "links.hpp"
+
+#include <ctime>
+#include <utility>
 
 #include <boost/graph/boykov_kolmogorov_max_flow.hpp>
 #include <boost/graph/compressed_sparse_row_graph.hpp>
@@ -28,7 +32,7 @@ Graph graph_of(const Links &links, Node nodes) {
 }
 
 int main(int count, char **words) {
-    if (count != 2) dimacs::fail("usage: boost push|trees");
+    if (count < 2) dimacs::fail("usage: boost push|trees [ARC..]");
     dimacs::Clock clock;
     const Network network = dimacs::read_network();
     clock.lap("read");
@@ -36,18 +40,34 @@ int main(int count, char **words) {
     const Graph graph = graph_of(links, network.nodes);
     const auto index = boost::get(boost::edge_index, graph);
     const auto vertex = boost::get(boost::vertex_index, graph);
-    const std::vector<int64_t> capacities(links.rooms.begin(), links.rooms.end());
+    std::vector<int64_t> capacities(links.rooms.begin(), links.rooms.end());
     std::vector<int64_t> rooms(capacities.size());
     const auto capacity_of = boost::make_iterator_property_map(capacities.begin(), index);
     const auto room_of = boost::make_iterator_property_map(rooms.begin(), index);
     const auto partner_of = boost::make_function_property_map<Edge>(Partner{&links});
     clock.lap("build");
-    const int64_t value =
-        std::string(words[1]) == "push"
-            ? boost::push_relabel_max_flow(graph, network.source, network.sink, capacity_of, room_of, partner_of, vertex)
-            : boost::boykov_kolmogorov_max_flow(graph, capacity_of, room_of, partner_of, vertex, network.source,
-                                                network.sink);
+    const bool pushes = std::string(words[1]) == "push";
+    const auto solve = [&]() -> int64_t {
+        return pushes
+                   ? boost::push_relabel_max_flow(graph, network.source, network.sink, capacity_of, room_of, partner_of, vertex)
+                   : boost::boykov_kolmogorov_max_flow(graph, capacity_of, room_of, partner_of, vertex, network.source,
+                                                       network.sink);
+    };
+    const int64_t value = solve();
     clock.lap("solve");
+    if (count > 2) {
+        dimacs::Output values;
+        const std::clock_t began = std::clock();
+        for (int at = 2; at < count; ++at) {
+            const Place along = links.along(std::atoi(words[at]) - 1);
+            const int64_t capacity = along == NO_PLACE ? 0 : std::exchange(capacities[along], 0);
+            values.line("s", solve());
+            if (along != NO_PLACE) capacities[along] = capacity;
+        }
+        // In processor seconds.
+        clock.tell("cases " + std::to_string(static_cast<double>(std::clock() - began) / CLOCKS_PER_SEC));
+        return 0;
+    }
     dimacs::write_solution(network, value, [&](size_t j) {
         return links.along(j) == NO_PLACE ? 0 : capacities[links.along(j)] - rooms[links.along(j)];
     });
