@@ -45,9 +45,8 @@ SECONDS = {
 }  # fmt: skip
 UNKNOWN_SECONDS = 60
 # A crate that delays nothing though it takes this many times its seconds more is built by one job, which takes a quarter less processor time
-# than several, and is as nice as can be. One with less room is less nice. More niceness would leave it too little beside a long chain.
+# than several. Niceness would not do: Linux first shares the processors out among sessions, and each crate is built in one of its own.
 ROOM_FOR_ONE_JOB = 2
-MOST_NICENESS = 5
 
 
 class Failure(Exception):
@@ -180,11 +179,9 @@ def lay_out(crate: Crate, place: Path, parts: list[str]) -> None:
 
 
 def command_of(crate: Crate, slack: float) -> list[str]:
-    """What builds a crate that can be this many seconds late without delaying the program. The more slack it has for its size, the more
-    it leaves the processors to others."""
-    room = slack / (ROOM_FOR_ONE_JOB * crate.seconds)
-    niceness = ["nice", "-n", str(int(MOST_NICENESS * min(room, 1)))]
-    return [*niceness, *crate.command, *(["--jobs", "1"] if room >= 1 else [])]
+    """What builds a crate that can be this many seconds late without delaying the program."""
+    has_room = slack >= ROOM_FOR_ONE_JOB * crate.seconds
+    return [*crate.command, *(["--jobs", "1"] if has_room else [])]
 
 
 def begin(crate: Crate, crates: dict[str, Crate], place: Path, slack: float) -> Work:

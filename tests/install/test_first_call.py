@@ -43,10 +43,10 @@ echo "end $crate" >>"$LOG"
 """
 # A chain of three crates below the program, and one that nothing waits for but the program.
 CHAIN = "low:\nleft: low\nright: left\nspare:\ndmf: right spare\n"
-# A rt that writes down with which flags it builds a crate, and how nice it is.
+# A rt that writes down with which flags it builds a crate.
 NOTING = r"""#!/bin/sh
 crate=${PWD##*/}
-echo "$crate $(nice) $*" >>"$LOG"
+echo "$crate $*" >>"$LOG"
 mkdir -p out/rlib
 if [ "$crate" = dmf ]; then
     printf '#!/bin/sh\necho ran "$@"\n' >out/dmf
@@ -126,15 +126,13 @@ def test_calls(clone: Clone) -> None:
 @pytest.mark.seconds(2)
 def test_off_the_chain(clone_of: Callable[[str], Clone]) -> None:
     """A crate that can take three times as long without delaying the program leaves the processors to the longest chain: it is built by
-    one job, and nicer."""
+    one job."""
     clone = clone_of(NOTING)
     (clone.root / "crates.txt").write_text(CHAIN)
     assert clone.call("solve")[:2] == (0, "ran solve\n")
-    own = os.nice(0)
-    noted = {crate: (int(niceness) - own, flags) for crate, niceness, flags in (line.split(" ", 2) for line in clone.logged())}
-    program = noted.pop("dmf")
-    assert program[0] == 0 and program[1].startswith("run --jobs ")
-    assert noted == {"low": (0, "lib"), "left": (0, "lib"), "right": (0, "lib"), "spare": (min(5, 19 - own), "lib --jobs 1")}
+    noted = dict(line.split(" ", 1) for line in clone.logged())
+    assert noted.pop("dmf").startswith("run --jobs ")
+    assert noted == {"low": "lib", "left": "lib", "right": "lib", "spare": "lib --jobs 1"}
 
 
 @pytest.mark.seconds(4)
