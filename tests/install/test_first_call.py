@@ -68,7 +68,7 @@ class Clone:
 
     def __init__(self, root: Path, stand_in: str) -> None:
         self.root, self.log = root, root / "log"
-        for crate in "low", "left", "right", "spare", "dmf", "above":
+        for crate in "low", "left", "right", "spare", "dmf", "above", "test_low":
             (root / "crates" / crate / "src").mkdir(parents=True)
         for folder in "bin", "tools", "examples":
             (root / folder).mkdir()
@@ -110,8 +110,8 @@ def clone(tmp_path: Path) -> Clone:
 
 @pytest.mark.seconds(6)
 def test_calls(clone: Clone) -> None:
-    """The first call builds two crates side by side, between the lowest and the program; the next builds nothing; and one after a
-    change builds again."""
+    """The first call builds two crates side by side, between the lowest and the program; the next builds nothing, nor does one after a
+    change in a crate of tests; and one after another change builds again."""
     assert clone.call("solve", "--cut") == (0, "ran solve --cut\n", FIRST_CALL + BUILT)
     logged = clone.logged()
     # Which of two crates that are begun together writes first is chance.
@@ -119,6 +119,8 @@ def test_calls(clone: Clone) -> None:
     assert logged[4:] == ["end left", "end right", "begin dmf", "end dmf"]
     assert clone.call("solve", "--cut") == (0, "ran solve --cut\n", "")
     later = time.time() + 3600
+    os.utime(clone.root / "crates" / "test_low" / "src", (later, later))
+    assert clone.call("solve", "--cut") == (0, "ran solve --cut\n", "")
     os.utime(clone.root / "crates" / "low" / "src", (later, later))
     assert clone.call("solve", "--cut") == (0, "ran solve --cut\n", CHANGED + BUILT)
 
