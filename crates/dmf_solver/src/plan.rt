@@ -13,10 +13,15 @@ ghost use Rattle.dmf_solver.specs.Told.{AreTold, TellsSolve, MayTellSolve};
 
 use crate::drain::drain;
 use crate::fault::PlanFault;
-use crate::residual_network::{ResidualNetwork, kept_or_new};
+use crate::moves::list_all_moves;
+use crate::reached_flows::into_flows;
+use crate::residual::residual_search;
+use crate::residual_network::ResidualNetwork;
 use crate::shut::{drain_all, open_arcs_at};
+use crate::side::wanted_side;
+use crate::solve::solve;
 use crate::watch::{Turn, Unwatched, Watch};
-use dmf_path::Search;
+use dmf_path::{Search, Touched};
 use dmf_state::{Edit, Side, State};
 use std::alloc::Global;
 
@@ -217,7 +222,8 @@ pub fn plan_add(state: &State, tail: u64, head: u64, cap: u64) -> Result<Edit, P
 ///
 /// No flow of the network has a larger value, and some cut has that value as its capacity.
 ///
-/// Takes memory for two links an arc, some numbers a node and the moves. If that is refused, fails with [`PlanFault::NoMemory`].
+/// Takes memory for two links an arc, some numbers a node and the flows, and then for the moves. If that is refused, fails with
+/// [`PlanFault::NoMemory`].
 pub fn plan_solve(alloc: Global, state: &State) -> Result<Edit, PlanFault>
     ensures refused { IsOkUnless result PlanFault.NoMemory }
     ensures edit { IfOk result (PlansSolve state.now) }
@@ -257,9 +263,12 @@ pub fn plan_solve_watched<W: Watch>(
         (λ _. MayTellSolve state.now (W.told watch.old) (W.told watch.new)) }
     ensures drained { W.drained watch.new ≤ W.drained watch.old }
 {
-    let network = kept_or_new(alloc, state, None)?;
-    let (edit, side, _) = network.plan_solve(alloc, state, want_side, watch)?;
-    Ok((edit, side))
+    let search = residual_search(alloc, state)?;
+    let solved = solve(search, state, Touched::all(), watch);
+    let side = wanted_side(alloc, state, &solved, want_side)?;
+    let flows = into_flows(alloc, state, solved)?;
+    let moves = list_all_moves(alloc, state, &flows)?;
+    Ok((Edit::Solve { moves }, side))
 }
 
 /// The number and the capacity of arc number `j`, or why the arc cannot be changed.
