@@ -1,7 +1,7 @@
 -- Numbers read digit by digit, and where they exceed 64 bits.
-use Rattle.std.proofs.Common.{◌≡◌, ℕ, ◌+◌, ◌*◌, ◌^◌, ◌<◌, ◌≤◌, Option, Some, None, List, [], ◌∷◌, length, take, take_all, get_or, ◌-◌, true, false, Err, ok_or}
-use Rattle.std.proofs.Common.{arith, sym, ap, ◌∙◌, ⊎_elim, refl, Ok}
-use Rattle.std.proofs.lemmas.Bool.{cond-true, cond-false, lt-ltb, le-ltb, cases_lt, and_right, and_from, and_parts, leb-true}
+use Rattle.std.proofs.Common.{◌≡◌, ℕ, ◌+◌, ◌*◌, ◌^◌, ◌<◌, ◌≤◌, Option, Some, None, List, [], ◌∷◌, length, take, take_all, get_or, ◌-◌, Bool, true, false, Err, ok_or}
+use Rattle.std.proofs.Common.{arith, sym, ap, ◌∙◌, ⊎_elim, refl, Ok, length-take-le, get_or-take}
+use Rattle.std.proofs.lemmas.Bool.{cond-true, cond-false, lt-ltb, le-ltb, cases_lt, and_right, and_from, and_parts, leb-true, ne_eqb, both_ways, cases_Bool}
 use Rattle.std.proofs.lemmas.List.Folds.{list_all_at, list_all_more}
 use Rattle.std.proofs.lemmas.Int.Digits.{digits_value_more}
 use Rattle.std.proofs.lemmas.Str.{digit_value_digit}
@@ -11,7 +11,9 @@ use Rattle.std.specs.Int.{IsInRange}
 use Rattle.std.specs.Str.Parse.{digits_value}
 use Rattle.dmf_text.specs.declared.digits.NumberFault.TheVariants.{NotANumber, TooLarge}
 use Rattle.std.specs.Option.{SomeIff}
+use Rattle.dmf_text.specs.Fields.{is_blank}
 use Rattle.dmf_text.specs.Number.{within, number_of}
+use Rattle.dmf_text.specs.Numbers.{AreDigitsInFront}
 
 -- A number below 2^64 is within 64 bits,
 pub within-below : (n : ℕ) → n < 2 ^ 64 → within n ≡ Some n
@@ -55,6 +57,11 @@ pub number_of-other : (field : List ℕ) (i : ℕ) → i < length field → fals
 unfolding number_of
 number_of-other field i below other = sym (cond-false _ _ _ (and_right _ _ (list_all_at is_ascii_digit field i 0 below (sym other))))
 
+-- what holds of all bytes holds of each
+pub all-at : (p : ℕ → Bool) (text : List ℕ) (k : ℕ) (d : ℕ) → list_all p text ≡ true → k < length text → p (get_or text k d) ≡ true
+all-at p text k d all below =
+    ⊎_elim (λ yes. yes) (λ no. absurd (both_ways _ (list_all_at p text k d below no) all)) (cases_Bool (p (get_or text k d)))
+
 -- Digits are a number, unless it is too large.
 pub number_of-digits : (field : List ℕ) → 0 < length field → list_all is_ascii_digit field ≡ true
     → number_of field ≡ ok_or (within (digits_value 10 field)) TooLarge
@@ -90,3 +97,24 @@ number_of-all field i value some end all is =
 pub number_of-short : (field : List ℕ) (i value : ℕ) → 0 < length field → length field ≤ i → list_all is_ascii_digit (take i field) ≡ true
     → value ≡ digits_value 10 (take i field) → value < 2 ^ 64 → Ok value ≡ number_of field
 number_of-short field i value some end all is small = number_of-all field i (Some value) some end all (sym (within-below value small) ∙ ap within is)
+
+-- Digits in front of some bytes spell their value.
+pub digits-spell : (bytes : List ℕ) (value count : ℕ) → AreDigitsInFront bytes value count → 0 < count → number_of (take count bytes) ≡ Ok value
+digits-spell bytes value count are some =
+    let field = take count bytes in
+    let long : length field ≡ count = length-take-le count bytes are.within in
+    let whole : take count field ≡ field = take_all count field (omega (arith, long)) in
+    sym (number_of-short field count value (omega (arith, long, some)) (omega (arith, long)) (ap (λ ds. list_all is_ascii_digit ds) whole ∙ are.digits)
+    (are.is ∙ ap (λ ds. digits_value 10 ds) (sym whole)) are.small)
+
+-- Each of them is a digit,
+pub digit-at : (bytes : List ℕ) (value count : ℕ) → AreDigitsInFront bytes value count → (k : ℕ) → k < count → is_ascii_digit (get_or bytes k 0) ≡ true
+digit-at bytes value count are k below =
+    ap is_ascii_digit (sym (get_or-take count bytes k 0 below))
+    ∙ all-at is_ascii_digit (take count bytes) k 0 are.digits (omega (arith, length-take-le count bytes are.within))
+
+-- and a digit is no blank.
+pub digit-no_blank : (b : ℕ) → is_ascii_digit b ≡ true → is_blank b ≡ false
+digit-no_blank b digit =
+    let low : 48 ≤ b = leb-true _ _ (and_parts _ _ digit).0 in
+    rw (ne_eqb b 32 (λ is. absurd (omega (arith, is, low))), ne_eqb b 9 (λ is. absurd (omega (arith, is, low)))) refl

@@ -1,9 +1,9 @@
 -- Reading written lines again.
-use Rattle.std.proofs.Common.{◌≡◌, ◌≢◌, ℕ, ◌-◌, ◌^◌, ◌<◌, ◌==◌, ◌&&◌, List, [], ◌∷◌, ◌++◌, length, get_or, slice_index, map, filter, nat_lt, Bool, true, false}
-use Rattle.std.proofs.Common.{not, Ok, ok_or, decimal, arith, refl, ap, ◌∙◌, ⊎_elim, append_assoc}
-use Rattle.std.proofs.lemmas.Bool.{cond-true, cond-false, cases_Bool, both_ways, and_parts, and_from, or_from, not-true, not_from_false, lt-ltb, le-leb}
+use Rattle.std.proofs.Common.{◌≡◌, ◌≢◌, ℕ, ◌-◌, ◌^◌, ◌<◌, ◌==◌, ◌&&◌, List, [], ◌∷◌, ◌++◌, length, slice_index, map, filter, nat_lt, Bool, true, false}
+use Rattle.std.proofs.Common.{not, Ok, ok_or, decimal, arith, refl, ap, ◌∙◌, append_assoc}
+use Rattle.std.proofs.lemmas.Bool.{cond-true, cond-false, and_parts, and_from, or_from, not-true, not_from_false, lt-ltb, le-leb, leb-true}
 use Rattle.std.proofs.lemmas.Bool.{eqb-false, ne_eqb}
-use Rattle.std.proofs.lemmas.List.Folds.{list_all_at, list_all-append}
+use Rattle.std.proofs.lemmas.List.Folds.{list_all-append}
 use Rattle.std.proofs.lemmas.List.Splits.{slice_split_none, slice_split_at}
 use Rattle.std.proofs.lemmas.Fmt.{decimal_is_IsNumeral, decimal_nonempty}
 use Rattle.std.proofs.lemmas.Str.Parse.{digit_from_value}
@@ -18,7 +18,7 @@ use Rattle.dmf_text.specs.Number.{within, number_of}
 use Rattle.dmf_text.specs.Judging.{Line}
 use Rattle.dmf_text.specs.Written.{written_line, written}
 use Rattle.dmf_text.proofs.LineLemmas.{parts-more}
-use Rattle.dmf_text.proofs.NumberLemmas.{within-below, number_of-digits}
+use Rattle.dmf_text.proofs.NumberLemmas.{within-below, number_of-digits, all-at}
 
 -- a byte that ends no line, and that no reader drops at the end of one
 abbrev pub inner : ℕ → Bool
@@ -39,12 +39,8 @@ AreFields line = AllByRecursion IsField line
 
 -- ---- fields
 
-at : (p : ℕ → Bool) (text : List ℕ) (k : ℕ) (d : ℕ) → list_all p text ≡ true → k < length text → p (get_or text k d) ≡ true
-at p text k d all below =
-    ⊎_elim (λ yes. yes) (λ no. absurd (both_ways _ (list_all_at p text k d below no) all)) (cases_Bool (p (get_or text k d)))
-
 not-blank : (text : List ℕ) → list_all plain text ≡ true → All (λ b. is_blank b ≡ false) text
-not-blank text all = λ k d below. not-true _ (and_parts _ _ (at plain text k d all below)).0
+not-blank text all = λ k d below. not-true _ (and_parts _ _ (all-at plain text k d all below)).0
 
 pub fields-join : (line : Line) → AreFields line → fields (join_with_byte 32 line) ≡ line
 unfolding fields
@@ -63,7 +59,7 @@ inner-all (b ∷ bs) all =
     let parts = and_parts _ _ all in
     and_from _ _ (and_parts _ _ parts.0).1 (inner-all bs parts.1)
 
-inner-join : (line : Line) → AreFields line → list_all inner (join_with_byte 32 line) ≡ true
+pub inner-join : (line : Line) → AreFields line → list_all inner (join_with_byte 32 line) ≡ true
 inner-join [] are = refl
 inner-join (f ∷ []) are = inner-all f are.0.all
 inner-join (f ∷ g ∷ more) are =
@@ -72,12 +68,13 @@ inner-join (f ∷ g ∷ more) are =
 no-return : (text : List ℕ) → list_all inner text ≡ true → slice_index text (length text - 1) ≢ 13
 no-return [] all is = absurd (let no : ⊥ = cc in no)
 no-return (b ∷ bs) all is =
-    let last = at inner (b ∷ bs) (length (b ∷ bs) - 1) 0 all (omega arith) in
+    let last = all-at inner (b ∷ bs) (length (b ∷ bs) - 1) 0 all (omega arith) in
     eqb-false _ _ (not-true _ (and_parts _ _ last).1) is
 
-lines-line : (text rest : List ℕ) → list_all inner text ≡ true → lines (text ++ 10 ∷ rest) ≡ text ∷ lines rest
+-- A line that stands in front is the first one.
+pub lines-line : (text rest : List ℕ) → list_all inner text ≡ true → lines (text ++ 10 ∷ rest) ≡ text ∷ lines rest
 lines-line text rest all =
-    let none : All (λ b. (b == 10) ≡ false) text = λ k d below. not-true _ (and_parts _ _ (at inner text k d all below)).0 in
+    let none : All (λ b. (b == 10) ≡ false) text = λ k d below. not-true _ (and_parts _ _ (all-at inner text k d all below)).0 in
     ap lines_of_parts (slice_split_at (λ b. b == 10) text 10 rest none refl) ∙ parts-more text rest
     ∙ ap (λ l. l ∷ lines rest) (cond-false _ _ _ (ne_eqb _ 13 (no-return text all)))
 
@@ -100,9 +97,13 @@ plain-digit c range =
     (not_from_false _ (or_from _ _ (ne_eqb c 32 (λ e. omega arith)) (ne_eqb c 9 (λ e. omega arith))))
     (and_from _ _ (not_from_false _ (ne_eqb c 10 (λ e. omega arith))) (not_from_false _ (ne_eqb c 13 (λ e. omega arith))))
 
-plain-digits : (ds : List ℕ) → AllDigits 10 ds → list_all plain ds ≡ true
+-- Digits can stand in a field.
+pub plain-digits : (ds : List ℕ) → list_all is_ascii_digit ds ≡ true → list_all plain ds ≡ true
 plain-digits [] are = refl
-plain-digits (c ∷ cs) are = and_from _ _ (plain-digit c (digit_from_value c are.0)) (plain-digits cs are.1)
+plain-digits (c ∷ cs) are =
+    let parts = and_parts _ _ are in
+    let range = and_parts _ _ parts.0 in
+    and_from _ _ (plain-digit c (leb-true _ _ range.0, leb-true _ _ range.1)) (plain-digits cs parts.1)
 
 ascii-digits : (ds : List ℕ) → AllDigits 10 ds → list_all is_ascii_digit ds ≡ true
 ascii-digits [] are = refl
@@ -114,7 +115,7 @@ ascii-digits (c ∷ cs) are =
 pub decimal-field : (n : ℕ) → n < 2 ^ 64 → IsField (decimal n)
 decimal-field n small = record {
   some = decimal_nonempty n small;
-  all = plain-digits (decimal n) (decimal_is_IsNumeral n small).0.1;
+  all = plain-digits (decimal n) (ascii-digits (decimal n) (decimal_is_IsNumeral n small).0.1);
 }
 
 -- A decimal number is read as the number.

@@ -2,6 +2,7 @@ pub mod Lines
 pub mod Fields
 pub mod Number
 pub mod Numbers
+pub mod ProblemLine
 pub mod Streams
 pub mod Writing
 pub mod Judging

@@ -1,6 +1,7 @@
 //! Texts of networks: lines, fields and numbers; sources and sinks of bytes; and problem, solution and cut texts.
 #![tactic(auto)]
 
+mod arc_line;
 mod digits;
 mod exact_fields;
 mod fault;

@@ -4,6 +4,7 @@ ghost use Rattle.std.specs.Iterator.{YieldsFirstBy, item_count};
 ghost use Rattle.std.specs.List.{enumerate_from};
 ghost use Rattle.dmf_text.specs.Lines.{numbered_lines};
 
+use crate::arc_line::{ProblemLine, arc_in_front};
 use bstr::ByteSlice;
 use std::marker::Model;
 
@@ -34,6 +35,24 @@ impl<'a> Lines<'a> {
             given: 0,
             left: text.lines(),
         }
+    }
+}
+
+impl<'a> Lines<'a> {
+    ghost use Rattle.std.specs.Prelude.{[], MatchOption};
+    ghost use Rattle.dmf_text.specs.ProblemLine.{GivesLine};
+
+    /// Takes the next line, if there is one, as a line of a problem text.
+    pub(crate) fn next_of_problem(&mut self) -> Option<(u64, ProblemLine<'a>)>
+        ensures { MatchOption result (self.old ≡ []) (λ given. GivesLine self.old given.0 given.1 self.new) }
+    {
+        if let Some((arc, behind)) = arc_in_front(self.left.as_bytes()) {
+            self.given += 1;
+            self.left = behind.lines();
+            return Some((self.given, ProblemLine::Arc(arc)));
+        }
+        let (number, line) = self.next()?;
+        Some((number, ProblemLine::Bytes(line)))
     }
 }
 

@@ -1,7 +1,7 @@
 //! The three numbers of a line after its first field.
-ghost use Rattle.std.specs.Prelude.{◌≡◌, ◌<◌, true, IfErr, IfOk, IfSome, Err};
-ghost use Rattle.dmf_text.specs.Fields.{fields, is_blank};
-ghost use Rattle.dmf_text.specs.Numbers.{numbers_in, AreSpelled, IsAhead, IsNumberInFront};
+ghost use Rattle.std.specs.Prelude.{◌≡◌, IfErr, IfOk, IfSome, Err};
+ghost use Rattle.dmf_text.specs.Fields.{fields};
+ghost use Rattle.dmf_text.specs.Numbers.{numbers_in, AreSpelled, IsAhead, IsNumberInFront, IsNumberBefore, AreDigitsInFront};
 ghost use Rattle.dmf_text.specs.declared.numbers.NumbersFault.TheVariants as numbers_fault;
 
 use crate::digits::{NumberFault, number};
@@ -78,27 +78,36 @@ fn short_number(line: &[u8]) -> Option<(u64, &[u8])>
 fn number_in_front(bytes: &[u8]) -> Option<(u64, usize)>
     ensures { IfSome result (λ front. IsNumberInFront bytes.now front.0 front.1) }
 {
+    let (value, count) = digits_in_front(bytes);
+    if count == 0 || (count < bytes.len() && !is_blank(bytes[count])) {
+        return None;
+    }
+    Some((value, count))
+}
+
+/// The number that the bytes before this byte spell, and the bytes behind it. `None` if they are more than [`SHORT`].
+pub(crate) fn number_before(end: u8, bytes: &[u8]) -> Option<(u64, &[u8])>
+    ensures { IfSome result (λ front. IsNumberBefore end bytes.now front.0 front.1.now) }
+{
+    let (value, count) = digits_in_front(bytes);
+    if count == 0 || count == bytes.len() || bytes[count] != end {
+        return None;
+    }
+    Some((value, &bytes[count + 1..]))
+}
+
+/// The number that the first bytes spell, and how many bytes these are: the digits in front, up to [`SHORT`] of them.
+fn digits_in_front(bytes: &[u8]) -> (u64, usize)
+    ensures { AreDigitsInFront bytes.now result.0 result.1 }
+{
     let most = bytes.len().min(SHORT);
     let mut value = 0u64;
     for i in 0..most {
         let byte = bytes[i];
         if !byte.is_ascii_digit() {
-            return ended(value, i, byte);
+            return (value, i);
         }
         value = value * 10 + u64::from(byte - b'0');
     }
-    if most == 0 || most < bytes.len() {
-        return None;
-    }
-    Some((value, most))
-}
-
-/// The number that so many digits spell, if there are some and the byte after them is a blank.
-fn ended(value: u64, count: usize, behind: u8) -> Option<(u64, usize)>
-    ensures { IfSome result (λ front. (front ≡ (value, count)) × (0 < count) × (is_blank behind ≡ true)) }
-{
-    if count > 0 && is_blank(behind) {
-        return Some((value, count));
-    }
-    None
+    (value, most)
 }

@@ -17,8 +17,9 @@ pub fn read_problem(alloc: Global, text: &[u8]) -> Result<State, ProblemFault>
     ensures { IsErrOf result out_of_memory ⊎ (result ≡ problem_of text.now) }
 {
     let mut reading = Reading::Start;
+    let mut lines = Lines::new(text);
     let mut last = 0;
-    for (number, line) in Lines::new(text) {
+    while let Some((number, line)) = lines.next_of_problem() {
         if let Err(kind) = reading.take_line(alloc, line) {
             return Err(ProblemFault::at(number, kind));
         }

@@ -1,9 +1,12 @@
 //! Taking the lines of a problem text, one after the other.
-ghost use Rattle.std.specs.Prelude.{◌≡◌, ◌≢◌, ◌≤◌, ◌&&◌, ◌∷◌, ◌^◌, [], ℕ, false, true, codes, length, replicate, is_some, IsTrue};
+ghost use Rattle.std.specs.Prelude.{◌≡◌, ◌≢◌, ◌<◌, ◌≤◌, ◌&&◌, ◌∷◌, ◌^◌, [], ℕ, List, false, true, codes, length, replicate, is_some, IsTrue};
 ghost use Rattle.std.specs.Prelude.{MatchResult, Ok, Err, Some, None};
 ghost use Rattle.std.specs.Option.{ForSome};
 ghost use Rattle.dmf_node.specs.Node.{is_node};
+ghost use Rattle.dmf_text.specs.declared.fault.ProblemFaultKind.TheVariants as kinds;
+ghost use Rattle.dmf_text.specs.Numbers.{AreSpelled};
 
+use crate::arc_line::{ArcLine, ProblemLine};
 use crate::digits::number;
 use crate::exact_fields::three_fields;
 use crate::fault::ProblemFaultKind;
@@ -52,10 +55,26 @@ pub(crate) enum Reading {
 impl Reading {
     ghost use Rattle.dmf_text.specs.Fields.{fields};
     ghost use Rattle.dmf_text.specs.Problem.{judged, judged_problem, judged_node, judged_arc, ended};
+    ghost use Rattle.dmf_text.specs.ProblemLine.{IsLine};
     ghost use Rattle.dmf_text.specs.Reading.{facts_in, Takes, TakesInMemory};
 
     /// Takes the next line. Fails with its fault, or if memory is refused.
-    pub(crate) fn take_line(&mut self, alloc: Global, line: &[u8]) -> Result<(), ProblemFaultKind>
+    pub(crate) fn take_line(
+        &mut self,
+        alloc: Global,
+        line: ProblemLine<'_>,
+    ) -> Result<(), ProblemFaultKind>
+        ensures { (bytes : List ℕ) → IsLine line.entry bytes → TakesInMemory (facts_in self.old) (fields bytes)
+            (judged (facts_in self.old) (fields bytes)) (facts_in self.new) result }
+    {
+        match line {
+            ProblemLine::Arc(arc) => self.take_arc(arc),
+            ProblemLine::Bytes(line) => self.take_bytes(alloc, line),
+        }
+    }
+
+    /// Takes the next line, of these bytes.
+    fn take_bytes(&mut self, alloc: Global, line: &[u8]) -> Result<(), ProblemFaultKind>
         ensures { TakesInMemory (facts_in self.old) (fields line.now)
             (judged (facts_in self.old) (fields line.now)) (facts_in self.new) result }
     {
@@ -118,6 +137,22 @@ impl Reading {
             Reading::Start => Err(ProblemFaultKind::ProblemLineExpected),
             Reading::Terminals(_) => Err(ProblemFaultKind::ArcBeforeTerminals),
             Reading::Arcs(body) => body.take_arc_line(behind),
+        }
+    }
+
+    /// Takes an arc line of these numbers.
+    #[tactic(auto, unfolding(crate::specs::Problem::judged_arc))]
+    fn take_arc(&mut self, arc: ArcLine) -> Result<(), ProblemFaultKind>
+        ensures { (behind : List (List ℕ)) → AreSpelled behind arc.tail arc.head arc.cap → TakesInMemory (facts_in self.old)
+            (codes "a" ∷ behind) (judged_arc (facts_in self.old) behind) (facts_in self.new) result }
+    {
+        match self {
+            Reading::Start => Err(ProblemFaultKind::ProblemLineExpected),
+            Reading::Terminals(_) => Err(ProblemFaultKind::ArcBeforeTerminals),
+            Reading::Arcs(body) => {
+                body.expect_more()?;
+                body.push(arc)
+            }
         }
     }
 
@@ -206,11 +241,29 @@ impl Body {
         ensures { TakesInMemory (facts_in_body self.old) (codes "a" ∷ behind.entry)
             (judged_arc (facts_in_body self.old) behind.entry) (facts_in_body self.new) result }
     {
+        self.expect_more()?;
+        let (tail, head, cap) = three_numbers(behind)?;
+        self.push(ArcLine { tail, head, cap })
+    }
+
+    /// Fails if there are as many arcs as the problem line says.
+    fn expect_more(&self) -> Result<(), ProblemFaultKind>
+        ensures { MatchResult result (λ _. length self.now.state.network.arcs < self.now.arcs)
+            (λ kind. (kind ≡ kinds.TooManyArcs) × (self.now.arcs ≤ length self.now.state.network.arcs)) }
+    {
         if self.state.arcs().len() >= self.arcs as usize {
             return Err(ProblemFaultKind::TooManyArcs);
         }
-        let (tail, head, cap) = three_numbers(behind)?;
-        self.state.push_arc(tail, head, cap)?;
+        Ok(())
+    }
+
+    /// Takes an arc line of these numbers, where there are fewer arcs than the problem line says.
+    fn push(&mut self, arc: ArcLine) -> Result<(), ProblemFaultKind>
+        requires { length self.old.state.network.arcs < self.old.arcs }
+        ensures { (behind : List (List ℕ)) → AreSpelled behind arc.tail arc.head arc.cap → TakesInMemory (facts_in_body self.old)
+            (codes "a" ∷ behind) (judged_arc (facts_in_body self.old) behind) (facts_in_body self.new) result }
+    {
+        self.state.push_arc(arc.tail, arc.head, arc.cap)?;
         Ok(())
     }
 

@@ -1,81 +1,20 @@
-use Rattle.std.proofs.Common.{◌≡◌, ◌<◌, ◌+◌, ◌^◌, ◌&&◌, ◌==◌, ◌⊎◌, ◌∷◌, ◌++◌, [], ℕ}
-use Rattle.std.proofs.Common.{List, Bool, true, false, Some, None, Result, Ok, Err, MatchOption, MatchResult}
-use Rattle.std.proofs.Common.{IsOkUnless, arith, codes, length, refl, sym, ap, ◌∙◌, subst, inl, inr, if◌then◌else◌, nat_lt}
+use Rattle.std.proofs.Common.{◌≡◌, ◌<◌, ◌+◌, ◌^◌, ◌==◌, ℕ}
+use Rattle.std.proofs.Common.{List, Err}
+use Rattle.std.proofs.Common.{length, inr, nat_lt}
 use Rattle.std.proofs.lemmas.Bool.{lt-ltb}
 use Rattle.std.proofs.lemmas.Result.{err_from_is_err_and}
 use Rattle.dmf_node.specs.Node.{is_node}
-use Rattle.dmf_state.specs.declared.fault.ArcFault.TheVariants as arc
-use Rattle.dmf_state.specs.declared.fault.NetFault.{NetFault}
-use Rattle.dmf_state.specs.declared.fault.NetFault.TheVariants as net
-use Rattle.dmf_state.specs.Arc.{open_arc, capacity_sum}
-use Rattle.dmf_state.specs.ArcFault.{arc_fault, net_fault}
-use Rattle.dmf_state.specs.NetworkState.{NetworkState}
-use Rattle.dmf_text.specs.declared.fault.ProblemFaultKind.{ProblemFaultKind}
-use Rattle.dmf_text.specs.declared.fault.ProblemFaultKind.TheVariants.{FieldCount, NodeOutOfRange, SumTooLarge, NoMemory}
+use Rattle.dmf_state.specs.Arc.{capacity_sum}
+use Rattle.dmf_text.specs.declared.fault.ProblemFaultKind.TheVariants.{FieldCount, NodeOutOfRange, SumTooLarge}
 use Rattle.dmf_text.specs.declared.numbers.NumbersFault.{NumbersFault}
 use Rattle.dmf_text.specs.declared.reading.Body.{Body}
 use Rattle.dmf_text.specs.Number.{number_of}
 use Rattle.dmf_text.specs.Judging.{◌>>◌, expect, field}
 use Rattle.dmf_text.specs.Numbers.{numbers_in, numbers_kind}
-use Rattle.dmf_text.specs.Problem.{Facts, judged_arc, number_fault}
-use Rattle.dmf_text.specs.Reading.{arc_kind, facts_in_body, with_line}
+use Rattle.dmf_text.specs.Problem.{judged_arc, number_fault}
+use Rattle.dmf_text.specs.Reading.{facts_in_body}
 use Rattle.dmf_text.proofs.NumbersLemmas.{numbers-bad}
 use Rattle.dmf_text.proofs.reading.Body.take_arc_line.Goals as goal
-
--- whether the ends of an arc are nodes, and its capacity fits
-abbrev judgement : Bool → Bool → Bool → Result (Unit {0}) ProblemFaultKind
-judgement from to fits = expect from NodeOutOfRange >> (expect to NodeOutOfRange >> expect fits SumTooLarge)
-
--- the network takes such an arc, or fails with the same fault
-same-told : (from to fits : Bool) (outcome : Result (Unit {0}) NetFault)
-    → MatchOption (if from && to then (if fits then None else Some arc.SumTooLarge) else Some arc.NoSuchNode) (IsOkUnless outcome net.NoMemory)
-    (λ fault. outcome ≡ Err (net_fault fault))
-    → MatchResult outcome (λ _. judgement from to fits ≡ Ok tt) (λ fault. (arc_kind fault ≡ NoMemory) ⊎ (judgement from to fits ≡ Err (arc_kind fault)))
-same-told true true true (Ok done) told = refl
-same-told true true true (Err fault) told = inl (ap arc_kind told)
-same-told true true false (Ok done) told = absurd (let no : ⊥ = cc in no)
-same-told true true false (Err fault) told = inr (let is : fault ≡ net.SumTooLarge = cc in ap (λ f. Err (arc_kind f)) (sym is))
-same-told true false fits (Ok done) told = absurd (let no : ⊥ = cc in no)
-same-told true false fits (Err fault) told = inr (let is : fault ≡ net.NoSuchNode = cc in ap (λ f. Err (arc_kind f)) (sym is))
-same-told false to fits (Ok done) told = absurd (let no : ⊥ = cc in no)
-same-told false to fits (Err fault) told = inr (let is : fault ≡ net.NoSuchNode = cc in ap (λ f. Err (arc_kind f)) (sym is))
-
--- what the lines say, where this is the network so far
-abbrev facts_at : ℕ → NetworkState → Facts
-facts_at arcs state = record {
-  counts = Some (record { nodes = state.network.nodes; arcs = arcs });
-  source = Some state.network.source;
-  sink = Some state.network.sink;
-  arcs = state.network.arcs;
-}
-
--- an arc line whose numbers are these
-module _ (body : Body) (f g h : List ℕ) (tail head cap : ℕ) (fewer : length body.state.network.arcs < body.arcs)
-    (first : number_of f ≡ Ok tail) (second : number_of g ≡ Ok head) (third : number_of h ≡ Ok cap) where
-  line-judged : judged_arc (facts_in_body body) (f ∷ g ∷ h ∷ [])
-      ≡ judgement (is_node body.state.network.nodes tail) (is_node body.state.network.nodes head) (nat_lt (capacity_sum body.state.network.arcs + cap) (2 ^ 64))
-  unfolding judged_arc
-  line-judged = rw (lt-ltb _ _ fewer, first, second, third) refl
-
-  line-says : with_line (facts_in_body body) (codes "a" ∷ f ∷ g ∷ h ∷ [])
-      ≡ record {
-        counts = Some (record { nodes = body.state.network.nodes; arcs = body.arcs });
-        source = Some body.state.network.source;
-        sink =
-            Some body.state.network.sink;
-        arcs = body.state.network.arcs ++ open_arc tail head cap ∷ [];
-      }
-  line-says = rw (first, second, third) refl
-
-  line-told : (outcome : Result (Unit {0}) NetFault)
-      → MatchOption (arc_fault body.state.network tail head cap) (IsOkUnless outcome net.NoMemory) (λ fault. outcome ≡ Err (net_fault fault))
-      → MatchResult outcome (λ _. judged_arc (facts_in_body body) (f ∷ g ∷ h ∷ []) ≡ Ok tt)
-      (λ fault. (arc_kind fault ≡ NoMemory) ⊎ (judged_arc (facts_in_body body) (f ∷ g ∷ h ∷ []) ≡ Err (arc_kind fault)))
-  line-told outcome told =
-      let few : nat_lt (length body.state.network.arcs) (2 ^ 27) ≡ true = lt-ltb _ _ (omega (arith, fewer, body.at_most_arcs)) in
-      rw line-judged
-      (same-told (is_node body.state.network.nodes tail) (is_node body.state.network.nodes head)
-      (nat_lt (capacity_sum body.state.network.arcs + cap) (2 ^ 64)) outcome (rw few at told))
 
 -- an arc line whose numbers have a fault
 line-faulty : (body : Body) (behind : List (List ℕ)) (fault : NumbersFault) → length body.state.network.arcs < body.arcs → numbers_in behind ≡ Err fault
@@ -84,39 +23,10 @@ unfolding judged_arc
 line-faulty body behind fault fewer is =
     rw (lt-ltb _ _ fewer)
     (numbers-bad FieldCount number_fault (length behind == 3) (number_of (field 0 behind)) (number_of (field 1 behind)) (number_of (field 2 behind))
-    (λ tail head cap. judgement (is_node body.state.network.nodes tail) (is_node body.state.network.nodes head)
-    (nat_lt (capacity_sum body.state.network.arcs + cap) (2 ^ 64))) fault is)
+    (λ tail head cap. expect (is_node body.state.network.nodes tail) NodeOutOfRange >> (expect (is_node body.state.network.nodes head) NodeOutOfRange
+    >> expect (nat_lt (capacity_sum body.state.network.arcs + cap) (2 ^ 64)) SumTooLarge)) fault is)
 
 pub returns-in_err-tail : goal.returns-in_err-tail
 returns-in_err-tail c =
-    let body = c.args.self.now in
-    let fewer : length body.state.network.arcs < body.arcs = omega (arith, ap length c.arcs.ensures.value) in
-    let failed = err_from_is_err_and c.from_residual.result c.from_residual.ensures.1 in
-    rw (failed.1, failed.2) (inr (line-faulty body c.args.behind c.in_err-tail.field-0.0 fewer c.in_err-tail.ensures.fault))
-
-pub returns-in_err-push_arc : goal.returns-in_err-push_arc
-returns-in_err-push_arc c =
-    let body = c.args.self.now in
-    let three = c.in_ok-tail.ensures.spelled in
-    let fewer : length body.state.network.arcs < body.arcs = omega (arith, ap length c.arcs.ensures.value) in
-    let failed = err_from_is_err_and c.from_residual-in_err-push_arc.result c.from_residual-in_err-push_arc.ensures.1 in
-    let told = line-told body three.first three.second three.third c.in_ok-tail.tail c.in_ok-tail.head c.in_ok-tail.cap fewer
-    three.first_is three.second_is three.third_is (Err c.in_err-push_arc.field-0.0) c.in_err-push_arc.ensures.refused in
-    rw (failed.1, failed.2)
-    (subst (λ behind. (arc_kind c.in_err-push_arc.field-0.0 ≡ NoMemory) ⊎ (judged_arc (facts_in_body body) behind ≡ Err (arc_kind c.in_err-push_arc.field-0.0)))
-    (sym three.are) told)
-
-pub returns : goal.returns
-returns c =
-    let body = c.args.self.now in
-    let three = c.in_ok-tail.ensures.spelled in
-    let tail = c.in_ok-tail.tail in
-    let head = c.in_ok-tail.head in
-    let cap = c.in_ok-tail.cap in
-    let fewer : length body.state.network.arcs < body.arcs = omega (arith, ap length c.arcs.ensures.value) in
-    let told = line-told body three.first three.second three.third tail head cap fewer three.first_is three.second_is three.third_is
-    (Ok tt) c.in_ok-push_arc.ensures.refused in
-    let says = line-says body three.first three.second three.third tail head cap fewer three.first_is three.second_is three.third_is in
-    subst (λ behind. (judged_arc (facts_in_body body) behind ≡ Ok tt) ×
-    (facts_at body.arcs c.push_arc.new.self ≡ with_line (facts_in_body body) (codes "a" ∷ behind))) (sym three.are)
-    (told, ap (facts_at body.arcs) c.in_ok-push_arc.ensures.ok ∙ sym says)
+    let failed = err_from_is_err_and c.from_residual-in_err-tail.result c.from_residual-in_err-tail.ensures.1 in
+    rw (failed.1, failed.2) (inr (line-faulty c.args.self.now c.args.behind c.in_err-tail.field-0.0 c.in_ok-expect_more.ensures c.in_err-tail.ensures.fault))
