@@ -120,7 +120,7 @@ def calls_text(old: str) -> str:
 
 
 def words_text(old: str) -> str:
-    """The words of crates/test_fixtures, each with how many numbers follow it. One that comes more often in random scripts stands twice."""
+    """The words of crates/test_sessions, each with how many numbers follow it. One that comes more often in random scripts stands twice."""
     commands = [it for it in COMMANDS.values() if it.word != "print"]
     words = [(it.word, len(it.fields)) for it in commands for _ in range(1 + (it.weight > 1))] + [(it, 0) for it in LISTED_PRINTS]
     rows = "".join(f'    (b"{word}", {count}),\n' for word, count in words)
@@ -147,6 +147,6 @@ def lists_text(old: str) -> str:
 # What makes each file that has the commands, of the text that stands there.
 GENERATED = {
     "crates/test_calls/src/commands.rt": calls_text,
-    "crates/test_fixtures/src/words.rt": words_text,
+    "crates/test_sessions/src/tests/words.rt": words_text,
     "clients/python/dmf/commands.py": lists_text,
 }

@@ -119,19 +119,23 @@ VERSIONS = [("--version", "dmf 0.1.0\n"), ("-V", "dmf 0.1.0\n")]
 
 # What may stand after a command; the words of one part stand together.
 PARTS = ("--brief",), ("--cut",), ("--history", "1"), ("--progress",), (PROBLEM.decode(),)
+# What else may stand after `session`: other ways to write a bound, and paths that look like other words. Of these paths only one has
+# a file.
+SESSION_WORDS = "--history=+1 problem.max", "--history 0 problem.max", "-- problem.max", "-- --cut", "-", "solve"
 # What is on standard input after each command, from which it shows what was asked for.
 INPUTS = {"solve": text(CROSSED), "session": b"solve\ncap 5 1\nundo\nundo\n", "check": text(CROSSED_FLOW)}
 
 
 def orders(command: str) -> Iterator[Case]:
     """The parts after a command in every order: all of them after `session`, three after the others, which take fewer. And each
-    part twice, with the path after it or between."""
+    part twice, with the path after it or between; and what else may stand after `session`."""
     most = len(PARTS) if command == "session" else 3
     chosen = [order for count in range(most + 1) for order in permutations(PARTS, count)]
     chosen += [order for part in PARTS for order in ((part, part, PARTS[-1]), (part, PARTS[-1], part))]
-    for order in chosen:
-        words = [command, *(word for part in order for word in part)]
-        yield Case(" ".join(words), tuple(word.encode() for word in words), text(CROSSED), INPUTS[command])
+    lines = [" ".join([command, *(word for part in order for word in part)]) for order in chosen]
+    lines += [f"session {words}" for words in SESSION_WORDS if command == "session"]
+    for line in lines:
+        yield Case(line, tuple(line.encode().split()), text(CROSSED), INPUTS[command])
 
 
 def wanted_of(case: Case) -> Outcome:

@@ -1,4 +1,4 @@
-//! Tests of networks and of plans by worked values.
+//! Tests of plans: of draining by worked values, and of what no run calls.
 #![tactic(auto)]
 
 #[cfg(test)]

@@ -1,5 +1,8 @@
+mod counts;
+mod draws;
 mod flushes;
 mod histories;
-mod slow;
+mod streams;
+mod texts;
 mod watching;
-mod worked;
+mod words;

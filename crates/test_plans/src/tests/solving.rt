@@ -1,16 +1,12 @@
-//! A test of solving.
-use crate::tests::moves::listed;
-use crate::tests::networks::detour;
-use dmf_solver::plan_solve;
-use dmf_state::Edit;
+//! A test of the solve that tells the smallest side too, which no run makes.
+use crate::tests::networks::example;
+use dmf_solver::plan_solve_with_side;
 use std::test::Fail;
 
-/// The least path has the ranks 8, 3, 10. It comes before the one of ranks 8, 12, 14, and cancels the flow from node 3 to node 2, over
-/// the opposite link of node 1's arc.
 #[test]
-fn a_backward_step_goes_by_its_rank(rt: HostRuntime) -> Result<(), Fail> {
-    let state = detour(rt.alloc())?;
-    let moves = listed(rt.alloc(), &[(1, 1, 0), (4, 0, 1), (5, 0, 1)])?;
-    assert!(rt; plan_solve(rt.alloc(), &state) == Ok(Edit::Solve { moves }));
+fn a_solve_tells_the_smallest_side(rt: HostRuntime) -> Result<(), Fail> {
+    let state = example(rt.alloc())?;
+    let (_, side) = plan_solve_with_side(rt.alloc(), &state)?;
+    assert!(rt; (side.contains(1), side.contains(2), side.capacity()) == (true, false, 5));
     Ok(())
 }

@@ -1,9 +1,10 @@
 //! Which lines of a session flush the writer.
+use crate::tests::counts::FlushCounter;
+use crate::tests::texts::NO_ARCS;
 use dmf_runs::{EngineFault, Status, run_session};
 use dmf_text::{StdSink, StdSource};
 use std::alloc::Global;
 use std::test::Fail;
-use test_fixtures::{FlushCounter, NO_ARCS};
 
 /// How a session of these commands ends, and how often it flushes. Either each flush fails or none.
 fn run_counted(

@@ -1,16 +1,15 @@
 //! Sessions over a history of edits and over a history of whole states write the same.
 ghost use Rattle.std.specs.Prelude.{◌≤◌};
 
-use crate::tests::worked::WORKED;
+use crate::tests::draws::Draws;
+use crate::tests::texts::{FULL_ARC, LENIENT, NETWORK_A, NETWORK_B, PARALLEL, TWO_SHORTEST};
+use crate::tests::words::{WORD_COUNT, WORDS};
 use dmf_history::{DeltaHistory, WholeHistory};
 use dmf_runs::{EngineFault, Status, run_commands};
 use dmf_session::Session;
 use dmf_text::{StdSink, StdSource, read_problem};
 use std::alloc::{AllocError, Global};
 use std::test::Fail;
-use test_fixtures::{
-    Draws, FULL_ARC, LENIENT, NETWORK_A, NETWORK_B, PARALLEL, TWO_SHORTEST, WORD_COUNT, WORDS,
-};
 
 /// How many random scripts are tried on each network, and how many commands each has.
 const SCRIPTS: u32 = 20;
@@ -118,14 +117,6 @@ fn random_sessions_are_the_same_over_both_histories(rt: HostRuntime) -> Result<(
     Ok(())
 }
 
-#[test]
-fn worked_sessions_are_the_same_over_both_histories(rt: HostRuntime) -> Result<(), Fail> {
-    for &(problem, script) in WORKED {
-        compare(rt.alloc(), problem, script, 1_000_000)?;
-    }
-    Ok(())
-}
-
 /// Commands of which fewer can be undone if one state is kept, or none.
 const BOUNDED: &[&[u8]] = &[
     b"cap 1 4\nclose 2\nundo 2\nundo\nredo\nprint problem\n",
@@ -142,20 +133,4 @@ fn bounded_sessions_are_the_same_over_both_histories(rt: HostRuntime) -> Result<
         compare_random(rt.alloc(), NETWORK_A, &mut draws, bound)?;
     }
     Ok(())
-}
-
-/// A line that is too long, another line, and one more that is too long and has no end.
-fn long_lines(alloc: Global) -> Result<Vec<u8>, AllocError> {
-    let mut script = vec![in alloc; b'x'; 4097]?;
-    script.extend_from_slice(b"\nprint flow\n")?;
-    for _ in 0..9000 {
-        script.push(b'x')?;
-    }
-    Ok(script)
-}
-
-#[test]
-fn sessions_with_long_lines_are_the_same_over_both_histories(rt: HostRuntime) -> Result<(), Fail> {
-    let script = long_lines(rt.alloc())?;
-    compare(rt.alloc(), NETWORK_A, &script, 1_000_000)
 }

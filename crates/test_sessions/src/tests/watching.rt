@@ -1,12 +1,12 @@
 //! What the solves of a session report to a watch.
 ghost use Rattle.std.specs.Prelude.{map, pos, Some, None, if◌then◌else◌};
 
+use crate::tests::texts::NETWORK_A;
 use dmf_history::MAX_BOUND;
 use dmf_runs::{SolveReply, Status, run_session_watched};
 use dmf_solver::Watch;
 use dmf_text::{StdSink, StdSource};
 use std::test::Fail;
-use test_fixtures::NETWORK_A;
 
 /// Keeps the reported paths: the value that each leads to, and how many links it has.
 #[derive(Drop)]
