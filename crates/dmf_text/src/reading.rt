@@ -258,6 +258,7 @@ impl Body {
     }
 
     /// Takes an arc line of these numbers, where there are fewer arcs than the problem line says.
+    #[inline(always)]
     fn push(&mut self, arc: ArcLine) -> Result<(), ProblemFaultKind>
         requires { length self.old.state.network.arcs < self.old.arcs }
         ensures { (behind : List (List ℕ)) → AreSpelled behind arc.tail arc.head arc.cap → TakesInMemory (facts_in_body self.old)
