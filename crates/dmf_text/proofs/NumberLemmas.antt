@@ -1,6 +1,6 @@
 -- Numbers read digit by digit, and where they exceed 64 bits.
-use Rattle.std.proofs.Common.{◌≡◌, ℕ, ◌+◌, ◌*◌, ◌^◌, ◌<◌, ◌≤◌, Option, Some, None, List, [], ◌∷◌, length, take, take_all, get_or, ◌-◌, Bool, true, false, Err, ok_or}
-use Rattle.std.proofs.Common.{arith, sym, ap, ◌∙◌, ⊎_elim, refl, Ok, length-take-le, get_or-take}
+use Rattle.std.proofs.Common.{◌≡◌, ℕ, ◌+◌, ◌*◌, ◌^◌, ◌<◌, ◌≤◌, Option, Some, None, List, [], ◌∷◌, length, take, take_all, get_or}
+use Rattle.std.proofs.Common.{◌-◌, Bool, true, false, Err, ok_or, arith, sym, ap, ◌∙◌, ⊎_elim, refl, Ok, length-take-le, get_or-take}
 use Rattle.std.proofs.lemmas.Bool.{cond-true, cond-false, lt-ltb, le-ltb, cases_lt, and_right, and_from, and_parts, leb-true, ne_eqb, both_ways, cases_Bool}
 use Rattle.std.proofs.lemmas.List.Folds.{list_all_at, list_all_more}
 use Rattle.std.proofs.lemmas.Int.Digits.{digits_value_more}

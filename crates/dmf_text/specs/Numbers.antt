@@ -1,10 +1,9 @@
 -- Numbers that the fields of a line spell.
 -- Private: only contracts inside the crate and proofs use this.
-use Rattle.std.specs.Prelude.{ℕ, ◌≡◌, ◌==◌, ◌<◌, ◌≤◌, ◌^◌, List, [], ◌∷◌, ◌++◌, length, take, true, codes, Result, Ok}
+use Rattle.std.specs.Prelude.{ℕ, ◌≡◌, ◌==◌, ◌<◌, ◌≤◌, ◌^◌, List, [], ◌∷◌, ◌++◌, length, take, true, Result, Ok}
 use Rattle.std.specs.List.{position_or_len, list_all}
 use Rattle.std.specs.Char.{is_ascii_digit}
 use Rattle.std.specs.Str.Parse.{digits_value}
-use Rattle.std.specs.Str.Lines.{lines}
 use Rattle.dmf_text.specs.declared.digits.NumberFault.{NumberFault}
 use Rattle.dmf_text.specs.declared.numbers.NumbersFault.{NumbersFault}
 use Rattle.dmf_text.specs.declared.numbers.NumbersFault.TheVariants.{FieldCount, Number}
@@ -63,15 +62,3 @@ pub record IsNumberInFront (bytes : List ℕ) (n count : ℕ) : Type 0 where
   pub within : count ≤ length bytes
   pub ends : count ≡ position_or_len is_blank bytes
   pub spells : number_of (take count bytes) ≡ Ok n
-
--- The fields of a line are `a` and three that spell these numbers.
-pub record IsArcLine (line : List ℕ) (tail head cap : ℕ) : Type 0 where
-  pub behind : List (List ℕ)
-  pub fields_are : fields line ≡ codes "a" ∷ behind
-  pub spelled : AreSpelled behind tail head cap
-
--- The first line of a text is an arc line of these numbers, and these bytes stand behind it.
-pub record IsArcInFront (text : List ℕ) (tail head cap : ℕ) (behind : List ℕ) : Type 0 where
-  pub line : List ℕ
-  pub first : lines text ≡ line ∷ lines behind
-  pub is_arc : IsArcLine line tail head cap

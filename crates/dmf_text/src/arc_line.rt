@@ -1,6 +1,6 @@
 //! The lines of a problem text, of which arc lines in the usual form are read in one walk.
 ghost use Rattle.std.specs.Prelude.{IfSome};
-ghost use Rattle.dmf_text.specs.Numbers.{IsArcInFront};
+ghost use Rattle.dmf_text.specs.ProblemLine.{IsArcInFront};
 
 use crate::numbers::number_before;
 

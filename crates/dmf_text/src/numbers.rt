@@ -74,7 +74,8 @@ fn short_number(line: &[u8]) -> Option<(u64, &[u8])>
     Some((value, behind))
 }
 
-/// The number that the bytes before the first blank spell, and how many bytes these are. `None` if they are more than [`SHORT`].
+/// The number that the bytes before the first blank spell, and how many bytes these are. `None` if they spell none, or are more
+/// than [`SHORT`].
 fn number_in_front(bytes: &[u8]) -> Option<(u64, usize)>
     ensures { IfSome result (λ front. IsNumberInFront bytes.now front.0 front.1) }
 {
@@ -85,7 +86,7 @@ fn number_in_front(bytes: &[u8]) -> Option<(u64, usize)>
     Some((value, count))
 }
 
-/// The number that the bytes before this byte spell, and the bytes behind it. `None` if they are more than [`SHORT`].
+/// The number that the bytes before this byte spell, and the bytes behind it. `None` if they spell none, or are more than [`SHORT`].
 pub(crate) fn number_before(end: u8, bytes: &[u8]) -> Option<(u64, &[u8])>
     ensures { IfSome result (λ front. IsNumberBefore end bytes.now front.0 front.1.now) }
 {

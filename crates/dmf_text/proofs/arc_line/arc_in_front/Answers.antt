@@ -1,7 +1,8 @@
 use Rattle.std.proofs.Common.{◌≡◌, ℕ, ◌-◌, ◌≤◌, List, [], ◌∷◌, ◌++◌, length, take, drop, get_or, arith, codes, refl, sym, ap, ◌∙◌, take_all, append_assoc}
 use Rattle.std.specs.List.{join_with_byte}
 use Rattle.std.specs.Str.Lines.{lines}
-use Rattle.dmf_text.specs.Numbers.{IsNumberBefore, IsArcInFront}
+use Rattle.dmf_text.specs.Numbers.{IsNumberBefore}
+use Rattle.dmf_text.specs.ProblemLine.{IsArcInFront}
 use Rattle.dmf_text.proofs.WrittenLines.{IsField, AreFields, fields-join, inner-join, lines-line, plain-digits}
 use Rattle.dmf_text.proofs.arc_line.arc_in_front.Goals as goal
 

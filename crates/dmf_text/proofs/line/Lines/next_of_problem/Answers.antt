@@ -1,7 +1,7 @@
 use Rattle.std.proofs.Common.{◌≡◌, ℕ, ◌+◌, List, ◌∷◌, map, length, arith, refl, sym, ap, ◌∙◌}
 use Rattle.std.specs.List.{enumerate_from}
 use Rattle.bstr.specs.Text.{lines_of, without_terminator}
-use Rattle.dmf_text.specs.Numbers.{IsArcInFront}
+use Rattle.dmf_text.specs.ProblemLine.{IsArcInFront}
 use Rattle.dmf_text.proofs.LineLemmas.{lines-bstr}
 use Rattle.dmf_text.proofs.line.Lines.next_of_problem.Goals as goal
 
