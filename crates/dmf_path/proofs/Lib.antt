@@ -1,4 +1,5 @@
 pub mod LinkPlaces
+pub mod SameLinks
 pub mod Steps
 pub mod Ranks
 pub mod Spreading

@@ -51,13 +51,10 @@ impl LinkTable {
         self.heads[self.opposite(place) as usize]
     }
 
-    /// Whether another table has the same links.
+    /// Whether another table has the same links. The call does not compare the heads: a link leads to the node at which its opposite lies.
     pub fn is(&self, other: &LinkTable) -> bool
         ensures { result ≡ true → links_of self.now ≡ links_of other.now }
     {
-        self.nodes == other.nodes
-            && self.first == other.first
-            && self.heads == other.heads
-            && self.partners == other.partners
+        self.nodes == other.nodes && self.first == other.first && self.partners == other.partners
     }
 }

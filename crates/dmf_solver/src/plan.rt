@@ -13,8 +13,7 @@ ghost use Rattle.dmf_solver.specs.Told.{AreTold, TellsSolve, MayTellSolve};
 
 use crate::drain::drain;
 use crate::fault::PlanFault;
-use crate::moves::list_all_moves;
-use crate::reached_flows::into_flows;
+use crate::reached_flows::into_moves;
 use crate::residual::residual_search;
 use crate::residual_network::ResidualNetwork;
 use crate::shut::{drain_all, open_arcs_at};
@@ -222,8 +221,8 @@ pub fn plan_add(state: &State, tail: u64, head: u64, cap: u64) -> Result<Edit, P
 ///
 /// No flow of the network has a larger value, and some cut has that value as its capacity.
 ///
-/// Takes memory for two links an arc, some numbers a node and the flows, and then for the moves. If that is refused, fails with
-/// [`PlanFault::NoMemory`].
+/// Takes memory for two links an arc and some numbers a node, then for the moves, and for the flows if there are many moves. If that is
+/// refused, fails with [`PlanFault::NoMemory`].
 pub fn plan_solve(alloc: Global, state: &State) -> Result<Edit, PlanFault>
     ensures refused { IsOkUnless result PlanFault.NoMemory }
     ensures edit { IfOk result (PlansSolve state.now) }
@@ -266,8 +265,7 @@ pub fn plan_solve_watched<W: Watch>(
     let search = residual_search(alloc, state)?;
     let solved = solve(search, state, Touched::all(), watch);
     let side = wanted_side(alloc, state, &solved, want_side)?;
-    let flows = into_flows(alloc, state, solved)?;
-    let moves = list_all_moves(alloc, state, &flows)?;
+    let moves = into_moves(alloc, state, solved)?;
     Ok((Edit::Solve { moves }, side))
 }
 
