@@ -43,10 +43,11 @@ echo "end $crate" >>"$LOG"
 """
 # A chain of three crates below the program, and one that nothing waits for but the program.
 CHAIN = "low:\nleft: low\nright: left\nspare:\ndmf: right spare\n"
-# A rt that writes down with which flags it builds a crate.
+# A rt that writes down how nice it is, and with which flags it builds a crate.
 NOTING = r"""#!/bin/sh
 crate=${PWD##*/}
-echo "$crate $*" >>"$LOG"
+sleep 0.5
+echo "$crate" $(sed "s/.* //" /proc/self/autogroup) "$*" >>"$LOG"
 mkdir -p out/rlib
 if [ "$crate" = dmf ]; then
     printf '#!/bin/sh\necho ran "$@"\n' >out/dmf
@@ -125,16 +126,17 @@ def test_calls(clone: Clone) -> None:
     assert clone.call("solve", "--cut") == (0, "ran solve --cut\n", CHANGED + BUILT)
 
 
-@pytest.mark.seconds(2)
+@pytest.mark.seconds(4)
+@pytest.mark.skipif(not Path("/proc/self/autogroup").exists(), reason="the system has no niceness of a session")
 def test_off_the_chain(clone_of: Callable[[str], Clone]) -> None:
     """A crate that can take three times as long without delaying the program leaves the processors to the longest chain: it is built by
-    one job."""
+    one job, and nicer."""
     clone = clone_of(NOTING)
     (clone.root / "crates.txt").write_text(CHAIN)
     assert clone.call("solve")[:2] == (0, "ran solve\n")
     noted = dict(line.split(" ", 1) for line in clone.logged())
-    assert noted.pop("dmf").startswith("run --jobs ")
-    assert noted == {"low": "lib", "left": "lib", "right": "lib", "spare": "lib --jobs 1"}
+    assert noted.pop("dmf").startswith("0 run --jobs ")
+    assert noted == {"low": "0 lib", "left": "0 lib", "right": "0 lib", "spare": "5 lib --jobs 1"}
 
 
 @pytest.mark.seconds(4)
