@@ -1,15 +1,15 @@
 -- A search that is apart, whose links become those of a pair more, or of a pair less.
 use Rattle.std.proofs.Common.{ℕ, ◌≡◌, ◌-◌, ◌<◌, ◌≤◌, List, length, ap, sym, ◌∙◌, arith}
 use Rattle.std.proofs.lemmas.List.{length-map}
-use Rattle.dmf_path.specs.declared.grown.Gap.{Gap}
-use Rattle.dmf_path.specs.declared.grown.NewPair.{NewPair}
-use Rattle.dmf_path.specs.declared.pair.Pair.{Pair}
+use Rattle.dmf_links.specs.declared.grown.Gap.{Gap}
+use Rattle.dmf_links.specs.declared.grown.NewPair.{NewPair}
+use Rattle.dmf_links.specs.declared.pair.Pair.{Pair}
 use Rattle.dmf_path.specs.declared.search.apart.Own.{Own}
 use Rattle.dmf_path.specs.Apart.{HasGrown, HasShrunk, IsApart}
-use Rattle.dmf_path.specs.Grown.{AreGrown, HasEndsOf}
-use Rattle.dmf_path.specs.Links.{Links, pair_at}
+use Rattle.dmf_links.specs.Grown.{AreGrown, HasEndsOf}
+use Rattle.dmf_links.specs.Links.{Links, pair_at}
 use Rattle.dmf_path.specs.Search.{Searched}
-use Rattle.dmf_path.specs.Shrunk.{AreShrunk}
+use Rattle.dmf_links.specs.Shrunk.{AreShrunk}
 
 -- It has as many pairs as there are places.
 pub pairs-long : (l : Links) (places : List ℕ) (own : Own) (s : Searched) → IsApart l places own s → length s.pairs ≡ length places

@@ -4,7 +4,7 @@ use Rattle.std.proofs.lemmas.Bool.{cases_eq}
 use Rattle.std.proofs.lemmas.List.{get_or-set_other, get_or-set_same, length-set}
 use Rattle.dmf_path.specs.declared.aside.Aside.{Aside}
 use Rattle.dmf_path.specs.declared.levels.Levels.{Levels}
-use Rattle.dmf_path.specs.Links.{AreLinks}
+use Rattle.dmf_links.specs.Links.{AreLinks}
 use Rattle.dmf_path.specs.Residual.{Residual, roomed}
 use Rattle.dmf_path.specs.Searching.{Labelling, Sought, labelling_of, AreAside, AreUsable}
 use Rattle.dmf_path.proofs.Lasting.{lasting-opens}

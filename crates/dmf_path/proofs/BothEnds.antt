@@ -5,12 +5,12 @@ use Rattle.std.proofs.lemmas.Bool.{cases_lt, ne_eqb}
 use Rattle.std.proofs.lemmas.Bool.Decides.{eqb_tells}
 use Rattle.std.proofs.lemmas.List.{get_or-map}
 use Rattle.dmf_node.specs.Node.{IsNode}
-use Rattle.dmf_path.specs.Links.{Links, LiesAt, AreLinks, AreFlags, open_flag, tail_of}
+use Rattle.dmf_links.specs.Links.{Links, LiesAt, AreLinks, AreFlags, open_flag, tail_of}
 use Rattle.dmf_path.specs.Labels.{no_label}
 use Rattle.dmf_path.specs.Walk.{IsWalk, AreValid}
 use Rattle.dmf_path.specs.BothEnds.{AreLevels, HaveMet, HasMetAt, AreJoined, AreSmall, IsLabelled, joined_label, filled_label, filled}
-use Rattle.dmf_path.proofs.LinkPlaces.{lies-within, lies-partner}
-use Rattle.dmf_path.proofs.Flags.{room-of_flag, flag-of_room}
+use Rattle.dmf_links.proofs.LinkPlaces.{lies-within, lies-partner}
+use Rattle.dmf_links.proofs.Flags.{room-of_flag, flag-of_room}
 use Rattle.dmf_path.proofs.Reaching.{AreOpen}
 
 -- The labels `g` and `s` of a node: their bounds where they are labels, and their sum.

@@ -1,7 +1,7 @@
 -- Making the first link of some nodes their current one.
 use Rattle.std.proofs.Common.{ℕ, ◌≡◌, ◌+◌, ◌≤◌, List, length, get_or, take, ap, ◌∙◌, arith}
 use Rattle.std.proofs.lemmas.List.{get_or-take, length-take-le}
-use Rattle.dmf_path.specs.Links.{Links, AreLinks}
+use Rattle.dmf_links.specs.Links.{Links, AreLinks}
 use Rattle.dmf_path.specs.Walk.{AreCurrent}
 
 -- The current links are all first ones.

@@ -1,10 +1,10 @@
 -- Links that fall, each from a lower label than the one before: no two of them are the same or opposite.
 use Rattle.std.proofs.Common.{ℕ, ◌≡◌, ◌≢◌, ◌+◌, ◌<◌, ◌≤◌, List, [], ◌∷◌, ◌++◌, length, get_or, ap, sym, ◌∙◌, arith}
 use Rattle.dmf_node.specs.Node.{IsNode}
-use Rattle.dmf_path.specs.Links.{Links, AreLinks, tail_of}
+use Rattle.dmf_links.specs.Links.{Links, AreLinks, tail_of}
 use Rattle.dmf_path.specs.Walk.{IsTrail, end_of}
 use Rattle.dmf_path.specs.Held.{IsOff}
-use Rattle.dmf_path.proofs.LinkPlaces.{lies-within}
+use Rattle.dmf_links.proofs.LinkPlaces.{lies-within}
 
 -- The link at place `p` falls, from a label of at most `top`.
 pub record FallsBelow (l : Links) (labels : List ℕ) (top p : ℕ) : Type 0 where

@@ -4,7 +4,7 @@ use Rattle.std.proofs.lemmas.Bool.Decides.{eqb_tells}
 use Rattle.std.proofs.lemmas.Bool.{cases_lt}
 use Rattle.std.proofs.lemmas.List.{get_or_append_left, get_or_default, get_or-append_right, length-append, length-drop, get_or-drop, take_all}
 use Rattle.dmf_node.specs.Node.{IsNode}
-use Rattle.dmf_path.specs.Links.{Links, AreLinks}
+use Rattle.dmf_links.specs.Links.{Links, AreLinks}
 use Rattle.dmf_path.specs.Labels.{no_label}
 use Rattle.dmf_path.specs.BothEnds.{AreLevels}
 use Rattle.dmf_path.specs.Frontier.{AreSpread, Expands, IsAtRest, AreApart, MeetBeyond}

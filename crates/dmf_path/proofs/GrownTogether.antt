@@ -3,17 +3,17 @@ use Rattle.std.proofs.Common.{ℕ, ◌≡◌, ◌+◌, ◌-◌, ◌^◌, ◌<◌
 use Rattle.std.specs.Prelude.{insert}
 use Rattle.std.specs.declared.rc.Rc.{Rc}
 use Rattle.std.proofs.lemmas.List.{length-map}
-use Rattle.dmf_path.specs.declared.grown.NewPair.{NewPair}
-use Rattle.dmf_path.specs.declared.pair.Pair.{Pair}
+use Rattle.dmf_links.specs.declared.grown.NewPair.{NewPair}
+use Rattle.dmf_links.specs.declared.pair.Pair.{Pair}
 use Rattle.dmf_path.specs.declared.search.apart.Own.{Own}
 use Rattle.dmf_path.specs.Apart.{seen, with_values, HasBegun, HasGrown, IsApart}
-use Rattle.dmf_path.specs.Links.{Links, AreLinks, ArePlaces, IsOf, open_flag, pair_at, pairs_at}
+use Rattle.dmf_links.specs.Links.{Links, AreLinks, ArePlaces, IsOf, open_flag, pair_at, pairs_at}
 use Rattle.dmf_path.specs.Search.{Searched, with_pairs}
-use Rattle.dmf_path.specs.Grown.{shifted, counted, with_two, AreGrown, IsOfPair, IsSpread, IsGap, IsPlaced, IsGrown, rising, falling}
-use Rattle.dmf_path.specs.Touching.{AreNumbers, AreSpreadNumbers, MayBeNumbered, none, some}
-use Rattle.dmf_path.proofs.GrownLinks.{old, low, high, some-link, in-order, gap-within}
-use Rattle.dmf_path.proofs.GrownPlaces.{ArePlaces-grown, of-shifted, of-low, of-high}
-use Rattle.dmf_path.proofs.GrownRooms.{pairs-grown, place-own, spread-two, AreRooms-grown, AreFlags-grown}
+use Rattle.dmf_links.specs.Grown.{shifted, counted, with_two, AreGrown, IsOfPair, IsSpread, IsGap, IsPlaced, IsGrown, rising, falling}
+use Rattle.dmf_links.specs.Numbers.{AreNumbers, AreSpreadNumbers, MayBeNumbered, none, some}
+use Rattle.dmf_links.proofs.GrownLinks.{old, low, high, some-link, in-order, gap-within}
+use Rattle.dmf_links.proofs.GrownPlaces.{ArePlaces-grown, of-shifted, of-low, of-high}
+use Rattle.dmf_links.proofs.GrownRooms.{pairs-grown, place-own, spread-two, AreRooms-grown, AreFlags-grown}
 
 -- The same pair with other rooms has the same links.
 pub grown-with : (l : Links) (places : List ℕ) (p q : Pair) (made new : NewPair) (n : Links) (after : List ℕ) → AreGrown l places p made n after

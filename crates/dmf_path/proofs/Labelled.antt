@@ -5,12 +5,12 @@ use Rattle.std.proofs.Common.{◌==◌, true, false}
 use Rattle.std.proofs.lemmas.Bool.Decides.{eqb_tells}
 use Rattle.std.proofs.lemmas.List.{ext_get_or, get_or-map, length-map}
 use Rattle.dmf_node.specs.Node.{IsNode}
-use Rattle.dmf_path.specs.Links.{Links, LiesAt, AreLinks, AreFlags, open_flag, tail_of}
+use Rattle.dmf_links.specs.Links.{Links, LiesAt, AreLinks, AreFlags, open_flag, tail_of}
 use Rattle.dmf_path.specs.Labels.{no_label, AreLabels}
 use Rattle.dmf_path.specs.Walk.{IsWalk, AreValid}
 use Rattle.dmf_path.specs.BothEnds.{AreSmall, AreSound, AreWhole, IsLabelled, filled, filled_label}
-use Rattle.dmf_path.proofs.LinkPlaces.{lies-within, lies-partner}
-use Rattle.dmf_path.proofs.Flags.{room-of_flag, flag-of_room}
+use Rattle.dmf_links.proofs.LinkPlaces.{lies-within, lies-partner}
+use Rattle.dmf_links.proofs.Flags.{room-of_flag, flag-of_room}
 
 -- No link with room falls by more than one.
 pub valid-labelled : (l : Links) (rooms flags labels : List ℕ) (start goal : ℕ) → AreLinks l → AreFlags l rooms flags → AreLabels l flags goal start labels

@@ -6,7 +6,7 @@ use Rattle.std.proofs.lemmas.Bool.{cases_lt}
 use Rattle.std.proofs.lemmas.List.{get_or-replicate, get_or-set_same, length-set, length-replicate, get_or_default, ext_get_or}
 use Rattle.std.proofs.lemmas.List.Folds.{sum_by-replicate}
 use Rattle.dmf_node.specs.Node.{IsNode}
-use Rattle.dmf_path.specs.Links.{Links, LiesAt, AreLinks}
+use Rattle.dmf_links.specs.Links.{Links, LiesAt, AreLinks}
 use Rattle.dmf_path.specs.Labels.{no_label, unlabelled_count, AreLabels, AreQueued}
 use Rattle.dmf_path.specs.Frontier.{AreSpread}
 use Rattle.dmf_path.proofs.Spreading.{unlabelled_count-set, cases-set}

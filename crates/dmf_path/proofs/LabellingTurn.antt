@@ -6,9 +6,9 @@ use Rattle.std.proofs.lemmas.Bool.{cases_lt}
 use Rattle.std.proofs.lemmas.List.{length-append, get_or_append_left, get_or-append_right, get_or_default}
 use Rattle.std.proofs.lemmas.List.Elements.{Contains-append_left, Contains-append_right, Contains-get_or}
 use Rattle.dmf_node.specs.Node.{IsNode}
-use Rattle.dmf_path.specs.Links.{Links, LiesAt, AreLinks, tail_of}
+use Rattle.dmf_links.specs.Links.{Links, LiesAt, AreLinks, tail_of}
 use Rattle.dmf_path.specs.Labels.{no_label, IsBacked, Spreads}
-use Rattle.dmf_path.proofs.LinkPlaces.{lies-within}
+use Rattle.dmf_links.proofs.LinkPlaces.{lies-within}
 use Rattle.dmf_path.specs.Frontier.{IsQueued, AreSpread, Expands}
 use Rattle.dmf_path.proofs.Labelling.{queue-short, queued-at}
 

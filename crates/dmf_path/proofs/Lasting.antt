@@ -1,6 +1,6 @@
 -- Labels that another search may keep.
 use Rattle.std.proofs.Common.{ℕ, ◌≡◌, Bool, List, sym, subst}
-use Rattle.dmf_path.specs.Links.{Links}
+use Rattle.dmf_links.specs.Links.{Links}
 use Rattle.dmf_path.specs.Labels.{no_label}
 use Rattle.dmf_path.specs.Walk.{AreSkipped}
 use Rattle.dmf_path.specs.Residual.{Residual, roomed}

@@ -7,7 +7,7 @@ use Rattle.dmf_path.specs.Step.{Step}
 use Rattle.dmf_node.specs.Node.{IsNode}
 use Rattle.dmf_path.specs.Path.{IsPath, ComesBefore, ranks, IsLeastPath}
 use Rattle.dmf_path.specs.Pair.{steps_of}
-use Rattle.dmf_path.specs.Links.{Links, LiesAt, AreLinks, ArePlaces, pairs_at}
+use Rattle.dmf_links.specs.Links.{Links, LiesAt, AreLinks, ArePlaces, pairs_at}
 use Rattle.dmf_path.specs.Labels.{no_label}
 use Rattle.dmf_path.specs.BothEnds.{AreSound, filled}
 use Rattle.dmf_path.specs.Walk.{IsWalk, AreValid, ArePassed, IsTrail, end_of, IsWalking}

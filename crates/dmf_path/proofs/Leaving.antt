@@ -3,7 +3,7 @@ use Rattle.std.proofs.Common.{ℕ, ◌≡◌, ◌+◌, ◌-◌, ◌<◌, Bool, t
 use Rattle.std.proofs.Common.{get_or-set_other}
 use Rattle.std.proofs.lemmas.List.{drop_more}
 use Rattle.dmf_path.specs.declared.trail.Slot.{Slot}
-use Rattle.dmf_path.specs.Links.{Links, AreLinks}
+use Rattle.dmf_links.specs.Links.{Links, AreLinks}
 use Rattle.dmf_path.specs.Walk.{pushed_once}
 use Rattle.dmf_path.specs.Held.{room_left, places_of, settled, HaveLeft, IsSlot, slot_at, put_once, put_each, CanPut, IsOff}
 use Rattle.dmf_path.specs.Residual.{Residual, put_on, put_each_on}

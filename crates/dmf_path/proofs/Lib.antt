@@ -1,13 +1,9 @@
-pub mod LinkPlaces
-pub mod SameLinks
 pub mod Steps
 pub mod Ranks
 pub mod Spreading
 pub mod LinkSteps
 pub mod OpenPaths
 pub mod LeastTrail
-pub mod Flags
-pub mod Flagging
 pub mod Reaching
 pub mod RoomLeft
 pub mod Descending
@@ -17,7 +13,6 @@ pub mod Lasting
 pub mod Redirected
 pub mod Asides
 mod Leaving
-pub mod PairRead
 pub mod Pushing
 pub mod Pushed
 pub mod PushedPairs
@@ -47,29 +42,13 @@ pub mod Joining
 pub mod Beginning
 pub mod Currents
 pub mod Marks
-pub mod Counting
-pub mod CountingLinks
 pub mod Covering
-pub mod Sums
-pub mod Starts
-pub mod Putting
-pub mod Filling
-pub mod Twins
-pub mod Built
 pub mod Searching
 mod Untouched
-mod Numbering
 mod TouchedIndices
 pub mod Lowered
 pub mod RoomsSet
 pub mod Released
-pub mod GrownLinks
-pub mod GrownPlaces
-pub mod GrownRooms
-pub mod Slots
-pub mod ShrunkLinks
-pub mod ShrunkPlaces
-pub mod ShrunkRooms
 pub mod ApartPairs
 pub mod GrownTogether
 pub mod ShrunkTogether

@@ -5,7 +5,7 @@ use Rattle.std.proofs.lemmas.List.{get_or-map, get_or-drop}
 use Rattle.dmf_node.specs.Node.{IsNode}
 use Rattle.dmf_path.specs.Path.{IsReachable}
 use Rattle.dmf_path.specs.Pair.{steps_of}
-use Rattle.dmf_path.specs.Links.{Links, AreLinks, ArePlaces, AreRooms, open_flag, pairs_at}
+use Rattle.dmf_links.specs.Links.{Links, AreLinks, ArePlaces, AreRooms, open_flag, pairs_at}
 use Rattle.dmf_path.specs.Labels.{AreLabels, is_label}
 use Rattle.dmf_path.proofs.Reaching.{AreOpen-map, label-from, label-to, reachable-labelled}
 

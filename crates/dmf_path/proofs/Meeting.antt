@@ -7,14 +7,14 @@ use Rattle.std.proofs.lemmas.List.Sums.{sum_by-cons}
 use Rattle.dmf_node.specs.Node.{IsNode}
 use Rattle.dmf_path.specs.declared.frontier.Frontier.{Frontier}
 use Rattle.dmf_path.specs.declared.push.Links.{Links as Roomy}
-use Rattle.dmf_path.specs.Links.{Links, LiesAt, AreLinks, open_flag, tail_of}
-use Rattle.dmf_path.specs.LinkTable.{links_of}
+use Rattle.dmf_links.specs.Links.{Links, LiesAt, AreLinks, open_flag, tail_of}
+use Rattle.dmf_links.specs.LinkTable.{links_of}
 use Rattle.dmf_path.specs.Labels.{no_label, unlabelled_count}
 use Rattle.dmf_path.specs.BothEnds.{AreLevels, AreNearing, HasMetAt, HaveGoneOn}
 use Rattle.dmf_path.specs.Searching.{IsSeparated}
 use Rattle.dmf_path.specs.Frontier.{AreSpread, IsAtRest, AreApart, MeetBeyond}
-use Rattle.dmf_path.proofs.LinkPlaces.{lies-partner}
-use Rattle.dmf_path.proofs.Flags.{room-of_flag, flag-of_room}
+use Rattle.dmf_links.proofs.LinkPlaces.{lies-partner}
+use Rattle.dmf_links.proofs.Flags.{room-of_flag, flag-of_room}
 use Rattle.dmf_path.proofs.Labelling.{queue-short, queued-at, labels-spread}
 use Rattle.dmf_path.proofs.Reaching.{AreOpen-map, separated-unlabelled, separated-labelled}
 

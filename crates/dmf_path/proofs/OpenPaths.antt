@@ -4,8 +4,8 @@ use Rattle.dmf_path.specs.Step.{Step}
 use Rattle.dmf_node.specs.Node.{IsNode}
 use Rattle.dmf_path.specs.Path.{IsPath}
 use Rattle.dmf_path.specs.Pair.{steps_of}
-use Rattle.dmf_path.specs.Links.{Links, LiesAt, AreLinks, ArePlaces, tail_of, pairs_at}
-use Rattle.dmf_path.proofs.LinkPlaces.{lies-within}
+use Rattle.dmf_links.specs.Links.{Links, LiesAt, AreLinks, ArePlaces, tail_of, pairs_at}
+use Rattle.dmf_links.proofs.LinkPlaces.{lies-within}
 use Rattle.dmf_path.proofs.Steps.{path_on}
 use Rattle.dmf_path.proofs.LinkSteps.{IsLinkStep, link-of_step, step-of_link}
 

@@ -5,9 +5,9 @@ use Rattle.std.proofs.lemmas.Bool.{cases_eq}
 use Rattle.std.proofs.lemmas.List.{get_or-set_other, get_or-set_same}
 use Rattle.std.specs.List.{All}
 use Rattle.dmf_node.specs.Node.{IsNode}
-use Rattle.dmf_path.specs.Links.{Links, LiesAt, AreLinks, tail_of}
+use Rattle.dmf_links.specs.Links.{Links, LiesAt, AreLinks, tail_of}
 use Rattle.dmf_path.specs.Walk.{IsAdmissible, IsWalk, AreValid, ArePassed, IsTrail, pushed_once, pushed}
-use Rattle.dmf_path.proofs.LinkPlaces.{lies-within}
+use Rattle.dmf_links.proofs.LinkPlaces.{lies-within}
 use Rattle.dmf_path.proofs.Pushing.{own, partner, other, is_beside, once-own, once-other, length-pushed_once}
 
 -- The link at place `p` of node `v` falls: it leads to a label that is lower by one.

@@ -3,14 +3,14 @@ use Rattle.std.proofs.Common.{ℕ, ◌≡◌, ◌≢◌, ◌+◌, ◌-◌, ◌*�
 use Rattle.std.proofs.Common.{subst, arith, ⊎_elim, eq-eqb, Option, Some}
 use Rattle.std.specs.List.{list_any}
 use Rattle.std.proofs.lemmas.Bool.{cases_eq, ne_eqb}
-use Rattle.dmf_path.specs.declared.pair.Pair.{Pair}
+use Rattle.dmf_links.specs.declared.pair.Pair.{Pair}
 use Rattle.dmf_path.specs.Step.{Step}
 use Rattle.dmf_path.specs.Path.{has_rank}
 use Rattle.dmf_path.specs.Pair.{pushed_pair, pushed_from, pushed_pairs}
 use Rattle.dmf_node.specs.Node.{IsNode}
-use Rattle.dmf_path.specs.Links.{Links, AreLinks, ArePlaces, IsOf, no_place, tail_of, pair_at, pairs_at}
+use Rattle.dmf_links.specs.Links.{Links, AreLinks, ArePlaces, IsOf, no_place, tail_of, pair_at, pairs_at}
 use Rattle.dmf_path.specs.Walk.{IsTrail, pushed_once, pushed}
-use Rattle.dmf_path.proofs.LinkPlaces.{partner-other}
+use Rattle.dmf_links.proofs.LinkPlaces.{partner-other}
 use Rattle.dmf_path.proofs.Steps.{rank_of, path_on}
 use Rattle.dmf_path.proofs.Ranks.{rank_of-along, rank_of-against}
 use Rattle.dmf_path.proofs.Pushing.{own, partner, other, is_beside, once-own, once-partner, once-other, length-pushed_once}

@@ -3,9 +3,9 @@ use Rattle.std.proofs.Common.{ℕ, ◌≡◌, ◌≢◌, ◌+◌, ◌*◌, ◌<�
 use Rattle.std.proofs.Common.{inl, inr, arith}
 use Rattle.std.proofs.lemmas.Bool.{both_ways, eqb-true, eq-eqb, ne_eqb}
 use Rattle.dmf_node.specs.Node.{IsNode}
-use Rattle.dmf_path.specs.Links.{Links, LiesAt, AreLinks, IsOf, ArePlaces, no_place}
+use Rattle.dmf_links.specs.Links.{Links, LiesAt, AreLinks, IsOf, ArePlaces, no_place}
 use Rattle.dmf_path.proofs.Steps.{rank_from, rank_of}
-use Rattle.dmf_path.proofs.LinkPlaces.{lies-within, partner-other}
+use Rattle.dmf_links.proofs.LinkPlaces.{lies-within, partner-other}
 
 -- three tests in turn, of which the first and the last choose the same
 other-choice : (a b c : Bool) (x y z : ℕ) → (a ≡ false → b ≡ true → ⊥) → (a ≡ false → c ≡ true → ⊥) → cond a x (cond b y (cond c z x)) ≡ x

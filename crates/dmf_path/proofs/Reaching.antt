@@ -6,11 +6,11 @@ use Rattle.std.proofs.lemmas.List.{get_or-map}
 use Rattle.dmf_node.specs.Node.{IsNode}
 use Rattle.dmf_path.specs.Path.{HasNoPath, IsReachable}
 use Rattle.dmf_path.specs.Pair.{steps_of}
-use Rattle.dmf_path.specs.Links.{Links, LiesAt, AreLinks, ArePlaces, AreRooms, AreFlags, open_flag, pairs_at, tail_of}
+use Rattle.dmf_links.specs.Links.{Links, LiesAt, AreLinks, ArePlaces, AreRooms, AreFlags, open_flag, pairs_at, tail_of}
 use Rattle.dmf_path.specs.Labels.{AreLabels, IsBacked, no_label, is_label}
 use Rattle.dmf_path.specs.Searching.{IsClosed, IsSeparated}
-use Rattle.dmf_path.proofs.Flags.{room-of_flag, flag-of_room}
-use Rattle.dmf_path.proofs.LinkPlaces.{lies-within}
+use Rattle.dmf_links.proofs.Flags.{room-of_flag, flag-of_room}
+use Rattle.dmf_links.proofs.LinkPlaces.{lies-within}
 use Rattle.dmf_path.proofs.Labelled.{valid-labelled}
 use Rattle.dmf_path.proofs.Steps.{path_on}
 use Rattle.dmf_path.proofs.OpenPaths.{IsOpenPath, IsPathOn, head-node, path-of_links, links-of_path}

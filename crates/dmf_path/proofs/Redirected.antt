@@ -4,12 +4,12 @@ use Rattle.std.proofs.Common.{ℕ, ◌≡◌, ◌≢◌, ◌+◌, ◌<◌, ◌�
 use Rattle.std.proofs.lemmas.List.{get_or-set_other, get_or-set_same, length-set}
 use Rattle.std.proofs.lemmas.Bool.{cases_eq}
 use Rattle.dmf_node.specs.Node.{IsNode}
-use Rattle.dmf_path.specs.Links.{Links, LiesAt, AreLinks, AreFlags, open_flag}
+use Rattle.dmf_links.specs.Links.{Links, LiesAt, AreLinks, AreFlags, open_flag}
 use Rattle.dmf_path.specs.Labels.{no_label}
 use Rattle.dmf_path.specs.Walk.{AreCurrent, AreSkipped}
 use Rattle.dmf_path.specs.BothEnds.{AreSmall, AreWhole}
-use Rattle.dmf_path.proofs.Flags.{flag-of_room}
-use Rattle.dmf_path.proofs.LinkPlaces.{lies-within, lies-partner}
+use Rattle.dmf_links.proofs.Flags.{flag-of_room}
+use Rattle.dmf_links.proofs.LinkPlaces.{lies-within, lies-partner}
 use Rattle.dmf_path.proofs.Spreading.{cases-set}
 use Rattle.dmf_path.proofs.Walking.{AreCurrent-set}
 

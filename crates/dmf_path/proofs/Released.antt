@@ -5,7 +5,7 @@ use Rattle.std.proofs.lemmas.Bool.{cases_eq}
 use Rattle.std.proofs.lemmas.List.{ext_get_or}
 use Rattle.dmf_path.specs.declared.trail.Slot.{Slot}
 use Rattle.dmf_node.specs.Node.{IsNode}
-use Rattle.dmf_path.specs.Links.{Links, AreLinks, ArePlaces, AreRooms, tail_of, pairs_at}
+use Rattle.dmf_links.specs.Links.{Links, AreLinks, ArePlaces, AreRooms, tail_of, pairs_at}
 use Rattle.dmf_path.specs.Walk.{IsTrail, pushed_once}
 use Rattle.dmf_path.specs.Held.{Way, places_of, walked_slots, rest_slots, filled_slots, held_for, settled, rooms_with, IsOff}
 use Rattle.dmf_path.specs.Residual.{Residual, roomed, lowered, told}

@@ -4,11 +4,10 @@ use Rattle.std.proofs.Common.{get_or-set_same, length-set, Option, None}
 use Rattle.std.specs.Option.{option_map}
 use Rattle.std.proofs.lemmas.Bool.{cases_eq, ne_eqb}
 use Rattle.std.proofs.lemmas.List.{get_or-map, set-get_or}
-use Rattle.dmf_path.specs.declared.pair.Pair.{Pair}
-use Rattle.dmf_path.specs.Links.{Links, AreLinks, ArePlaces, IsOf, no_place, tail_of, pair_at, pairs_at}
-use Rattle.dmf_path.specs.Walk.{rooms_set}
+use Rattle.dmf_links.specs.declared.pair.Pair.{Pair}
+use Rattle.dmf_links.specs.Links.{Links, AreLinks, ArePlaces, IsOf, no_place, tail_of, pair_at, pairs_at, rooms_set}
 use Rattle.dmf_path.specs.Search.{pair_with, with_rooms}
-use Rattle.dmf_path.proofs.LinkPlaces.{partner-other}
+use Rattle.dmf_links.proofs.LinkPlaces.{partner-other}
 use Rattle.dmf_path.proofs.Lowered.{map-set}
 use Rattle.dmf_path.proofs.PushedPairs.{pair-rooms}
 

@@ -3,7 +3,7 @@ use Rattle.std.proofs.Common.{ℕ, ◌≡◌, ◌≢◌, ◌^◌, ◌<◌, ◌�
 use Rattle.std.proofs.lemmas.List.{length-drop, nil_from_length, drop_all}
 use Rattle.dmf_path.specs.declared.trail.Slot.{Slot}
 use Rattle.dmf_node.specs.Node.{IsNode}
-use Rattle.dmf_path.specs.Links.{Links, AreLinks, ArePlaces, AreRooms}
+use Rattle.dmf_links.specs.Links.{Links, AreLinks, ArePlaces, AreRooms}
 use Rattle.dmf_path.specs.Walk.{AreCurrent, ArePassed, end_of}
 use Rattle.dmf_path.specs.Held.{Way, places_of, rest_slots, filled_slots, IsOff, emptied, with_slots}
 use Rattle.dmf_path.specs.Residual.{Residual, roomed, told}

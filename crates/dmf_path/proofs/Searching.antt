@@ -2,7 +2,7 @@
 use Rattle.std.proofs.Common.{ℕ, ◌≡◌, ◌+◌, ◌%◌, ◌^◌, Bool, false, List, length, get_or, ap, sym, ◌∙◌, subst, arith}
 use Rattle.std.proofs.lemmas.List.{length-map}
 use Rattle.dmf_path.specs.declared.trail.Slot.{Slot}
-use Rattle.dmf_path.specs.Links.{Links, ArePlaces, AreRooms, pairs_at}
+use Rattle.dmf_links.specs.Links.{Links, ArePlaces, AreRooms, pairs_at}
 use Rattle.dmf_path.specs.Walk.{IsWalking, end_of, bottleneck_on, pushed}
 use Rattle.dmf_path.specs.Held.{Way, places_of, filled_slots, settled, HaveLeft, least_left}
 use Rattle.dmf_path.specs.Residual.{Residual, told, IsSplit}

@@ -5,9 +5,9 @@ use Rattle.std.proofs.lemmas.Bool.{cases_eq, ne_eqb}
 use Rattle.std.proofs.lemmas.List.{ext_get_or}
 use Rattle.std.proofs.lemmas.List.FromFn.{get_or-map-range_with_len, length-map-range_with_len}
 use Rattle.dmf_path.specs.declared.trail.Slot.{Slot}
-use Rattle.dmf_path.specs.Links.{Links, AreLinks, AreRooms}
+use Rattle.dmf_links.specs.Links.{Links, AreLinks, AreRooms}
 use Rattle.dmf_path.specs.Held.{room_left, places_of, held_for, settled_room, settled, put_once, IsOff}
-use Rattle.dmf_path.proofs.LinkPlaces.{partner-other}
+use Rattle.dmf_links.proofs.LinkPlaces.{partner-other}
 use Rattle.dmf_path.proofs.Pushing.{own, partner, other, is_beside, once-own, once-partner, once-other, length-pushed_once}
 use Rattle.dmf_path.proofs.Descending.{Descends, between, off-append, off-partner}
 

@@ -3,7 +3,7 @@ use Rattle.std.proofs.Common.{ℕ, ◌≡◌, ◌≢◌, ◌+◌, ◌-◌, ◌^�
 use Rattle.std.proofs.Common.{Some, None, unwrap_or}
 use Rattle.std.proofs.lemmas.Bool.{cases_eq, ne_eqb}
 use Rattle.dmf_path.specs.declared.trail.Slot.{Slot}
-use Rattle.dmf_path.specs.Links.{Links, AreLinks, AreRooms}
+use Rattle.dmf_links.specs.Links.{Links, AreLinks, AreRooms}
 use Rattle.dmf_path.specs.Held.{Way, held_for, held_in, filled_slots, settled, rooms_with}
 use Rattle.dmf_path.proofs.Settled.{room-settled, AreRooms-settled}
 use Rattle.dmf_path.proofs.Settling.{settled-none}

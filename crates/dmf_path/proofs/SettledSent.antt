@@ -4,7 +4,7 @@ use Rattle.std.proofs.Common.{◌∙◌, arith, ⊎_elim, eq-eqb}
 use Rattle.std.proofs.lemmas.Bool.{cases_eq, ne_eqb}
 use Rattle.std.proofs.lemmas.List.{ext_get_or}
 use Rattle.dmf_path.specs.declared.trail.Slot.{Slot}
-use Rattle.dmf_path.specs.Links.{Links, AreLinks, tail_of}
+use Rattle.dmf_links.specs.Links.{Links, AreLinks, tail_of}
 use Rattle.dmf_path.specs.Walk.{bottleneck_on, pushed}
 use Rattle.dmf_path.specs.Held.{room_left, places_of, held_for, settled, HaveLeft, least_left, IsOff}
 use Rattle.dmf_path.proofs.RoomLeft.{room_left-sent}

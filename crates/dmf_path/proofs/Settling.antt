@@ -3,7 +3,7 @@ use Rattle.std.proofs.Common.{ℕ, ◌≡◌, ◌^◌, ◌<◌, Bool, List, [], 
 use Rattle.std.proofs.lemmas.List.{append-nil, ext_get_or, drop_all}
 use Rattle.dmf_path.specs.declared.trail.Slot.{Slot}
 use Rattle.dmf_node.specs.Node.{IsNode}
-use Rattle.dmf_path.specs.Links.{Links, AreRooms}
+use Rattle.dmf_links.specs.Links.{Links, AreRooms}
 use Rattle.dmf_path.specs.Walk.{AreCurrent, ArePassed, IsTrail, end_of}
 use Rattle.dmf_path.specs.Held.{Way, places_of, walked_slots, rest_slots, settled, rooms_with, HaveLeft, put_each, emptied, with_slots}
 use Rattle.dmf_path.specs.Residual.{Residual, roomed, told, CanSettle}

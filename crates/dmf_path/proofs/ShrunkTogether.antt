@@ -3,17 +3,17 @@ use Rattle.std.proofs.Common.{ℕ, ◌≡◌, ◌-◌, ◌<◌, List, length, ge
 use Rattle.std.specs.Prelude.{remove}
 use Rattle.std.specs.declared.rc.Rc.{Rc}
 use Rattle.std.proofs.lemmas.List.{length-map}
-use Rattle.dmf_path.specs.declared.grown.Gap.{Gap}
+use Rattle.dmf_links.specs.declared.grown.Gap.{Gap}
 use Rattle.dmf_path.specs.declared.search.apart.Own.{Own}
 use Rattle.dmf_path.specs.Apart.{seen, with_values, HasBegun, HasShrunk, IsApart}
-use Rattle.dmf_path.specs.Links.{Links, AreLinks, ArePlaces, AreRooms, AreFlags, IsOf, pair_at, pairs_at}
+use Rattle.dmf_links.specs.Links.{Links, AreLinks, ArePlaces, AreRooms, AreFlags, IsOf, pair_at, pairs_at}
 use Rattle.dmf_path.specs.Search.{Searched, with_pairs}
-use Rattle.dmf_path.specs.Grown.{shifted}
-use Rattle.dmf_path.specs.Shrunk.{without_two, AreRenumbered, AreShrunk}
-use Rattle.dmf_path.specs.Touching.{AreNumbers, AreNumbersLeft, MayBeNumbered, none, some}
-use Rattle.dmf_path.proofs.ShrunkLinks.{shifted-in}
-use Rattle.dmf_path.proofs.ShrunkPlaces.{ArePlaces-shrunk, its-index}
-use Rattle.dmf_path.proofs.ShrunkRooms.{AreRooms-left, AreFlags-left, pairs-shrunk}
+use Rattle.dmf_links.specs.Grown.{shifted}
+use Rattle.dmf_links.specs.Shrunk.{without_two, AreRenumbered, AreShrunk}
+use Rattle.dmf_links.specs.Numbers.{AreNumbers, AreNumbersLeft, MayBeNumbered, none, some}
+use Rattle.dmf_links.proofs.ShrunkLinks.{shifted-in}
+use Rattle.dmf_links.proofs.ShrunkPlaces.{ArePlaces-shrunk, its-index}
+use Rattle.dmf_links.proofs.ShrunkRooms.{AreRooms-left, AreFlags-left, pairs-shrunk}
 
 module _ (l : Links) (places : List ℕ) (k : ℕ) (gap : Gap) (n : Links) (after : List ℕ) (links : AreLinks l) (are : ArePlaces l places)
     (g : AreShrunk l places k gap n after) (index : k < length places) where

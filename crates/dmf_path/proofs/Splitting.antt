@@ -6,7 +6,7 @@ use Rattle.std.proofs.lemmas.List.{take-append-drop, drop-drop, take_more, take-
 use Rattle.std.proofs.lemmas.List.{map_push}
 use Rattle.dmf_path.specs.declared.trail.Slot.{Slot}
 use Rattle.dmf_node.specs.Node.{IsNode}
-use Rattle.dmf_path.specs.Links.{Links, AreLinks, AreRooms}
+use Rattle.dmf_links.specs.Links.{Links, AreLinks, AreRooms}
 use Rattle.dmf_path.specs.Walk.{AreCurrent, ArePassed, IsTrail, end_of}
 use Rattle.dmf_path.specs.Held.{Way, places_of, walked_slots, filled_slots, settled, AreOpen, HaveLeft, slot_at}
 use Rattle.dmf_path.specs.Residual.{Residual, roomed, told, IsSplit, stays, split_at, MakesWay, free, leaves}

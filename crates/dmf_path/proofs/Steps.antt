@@ -2,7 +2,7 @@
 use Rattle.std.proofs.Common.{ℕ, ◌≡◌, ◌+◌, ◌*◌, ◌==◌, if◌then◌else◌, List, [], ◌∷◌, map, min, get_or, refl, ap, slice_index}
 use Rattle.dmf_path.specs.Step.{Step}
 use Rattle.dmf_path.specs.Path.{bottleneck_up_to}
-use Rattle.dmf_path.specs.Links.{Links, no_place, tail_of}
+use Rattle.dmf_links.specs.Links.{Links, no_place, tail_of}
 use Rattle.dmf_path.specs.Walk.{bottleneck_on}
 
 -- the rank of the link at place `p`, where the places are those of the pairs from number `j` on

@@ -2,11 +2,11 @@
 use Rattle.std.proofs.Common.{ℕ, ◌≡◌, ◌≢◌, ◌+◌, ◌-◌, ◌<◌, ◌≤◌, Bool, List, [], ◌∷◌, ◌++◌, length, set, get_or, ap, sym, ◌∙◌, subst, arith}
 use Rattle.std.proofs.lemmas.List.{get_or-set_other, length-take-le, length-drop, length-map, nil_from_length}
 use Rattle.dmf_node.specs.Node.{IsNode}
-use Rattle.dmf_path.specs.Links.{Links, LiesAt, AreLinks, tail_of}
+use Rattle.dmf_links.specs.Links.{Links, LiesAt, AreLinks, tail_of}
 use Rattle.dmf_path.specs.Walk.{IsTrail, end_of}
 use Rattle.dmf_path.specs.Held.{Way, places_of, walked_slots, rest_slots, filled_slots, rooms_with, IsOff}
 use Rattle.dmf_path.specs.Searching.{IsUnderWay}
-use Rattle.dmf_path.proofs.LinkPlaces.{lies-within}
+use Rattle.dmf_links.proofs.LinkPlaces.{lies-within}
 use Rattle.dmf_path.proofs.Walking.{label-trail}
 use Rattle.dmf_path.proofs.Descending.{Descends, descends-raised, descends-append, descends-trail, off-above, off-below, off-append, off-partner}
 use Rattle.dmf_path.proofs.Settled.{places-append, room-off}

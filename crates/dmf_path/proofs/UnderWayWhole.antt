@@ -4,7 +4,7 @@ use Rattle.std.proofs.Common.{arith}
 use Rattle.std.proofs.lemmas.Bool.{cases_lt}
 use Rattle.std.proofs.lemmas.List.{take-append-drop, drop_more}
 use Rattle.dmf_path.specs.declared.trail.Slot.{Slot}
-use Rattle.dmf_path.specs.Links.{Links, AreLinks}
+use Rattle.dmf_links.specs.Links.{Links, AreLinks}
 use Rattle.dmf_path.specs.Walk.{IsTrail, end_of}
 use Rattle.dmf_path.specs.Held.{Way, held_for, places_of, walked_slots, rest_slots, filled_slots, settled, HaveLeft, room_left, slot_at}
 use Rattle.dmf_path.specs.Searching.{IsUnderWay}

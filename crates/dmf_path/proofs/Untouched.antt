@@ -7,11 +7,12 @@ use Rattle.std.proofs.lemmas.Bool.{cases_lt}
 use Rattle.std.proofs.lemmas.List.{get_or-map, get_or_past, length-map}
 use Rattle.std.proofs.lemmas.List.Elements.{Contains-get_or, Contains-append_left, Contains-append_right, Contains-append_cases}
 use Rattle.dmf_path.specs.declared.trail.Slot.{Slot}
-use Rattle.dmf_path.specs.Links.{Links, AreLinks, ArePlaces, IsOf, no_place, pair_at, pairs_at}
+use Rattle.dmf_links.specs.Links.{Links, AreLinks, ArePlaces, IsOf, no_place, pair_at, pairs_at}
 use Rattle.dmf_path.specs.Held.{places_of, slot_at, settled, IsOff}
-use Rattle.dmf_path.specs.Search.{pair_number}
+use Rattle.dmf_links.specs.Pair.{pair_number}
 use Rattle.dmf_path.specs.Touched.{IsTouched, AreBelow, KeepsUntouched}
-use Rattle.dmf_path.specs.Touching.{AreNumbers, MayBeNumbered, Lists, all, these, numbers_of}
+use Rattle.dmf_links.specs.Numbers.{AreNumbers, MayBeNumbered}
+use Rattle.dmf_path.specs.Touching.{Lists, all, these, numbers_of}
 use Rattle.dmf_path.proofs.Settled.{room-off}
 
 -- These slots have links.

@@ -4,9 +4,9 @@ use Rattle.std.proofs.Math.Nat.{mul-le-mul_right}
 use Rattle.std.proofs.lemmas.List.{get_or-set_same, get_or_default, length-set}
 use Rattle.std.proofs.lemmas.List.Sums.{sum_by-set}
 use Rattle.dmf_node.specs.Node.{IsNode}
-use Rattle.dmf_path.specs.Links.{Links, IsLink, AreLinks, tail_of}
+use Rattle.dmf_links.specs.Links.{Links, IsLink, AreLinks, tail_of}
 use Rattle.dmf_path.specs.Walk.{IsWalk, end_of}
-use Rattle.dmf_path.proofs.LinkPlaces.{lies-within, last-within}
+use Rattle.dmf_links.proofs.LinkPlaces.{lies-within, last-within}
 use Rattle.dmf_path.proofs.Walking.{HasCome, label-trail, IsTrail-pop, end-node, dead-end, walking-set, come-back}
 
 -- The last node of a walk and its links: those before `place` are not admissible, and this is the place at which they end.

@@ -2,12 +2,12 @@
 use Rattle.std.proofs.Common.{ℕ, ◌≡◌, ◌-◌, ◌<◌, ◌≤◌, List, length, take, get_or, refl, ap, sym, ◌∙◌, subst, ⊎_elim, arith}
 use Rattle.std.proofs.lemmas.Bool.{cases_lt}
 use Rattle.dmf_node.specs.Node.{IsNode}
-use Rattle.dmf_path.specs.Links.{Links, AreLinks}
+use Rattle.dmf_links.specs.Links.{Links, AreLinks}
 use Rattle.dmf_path.specs.Walk.{IsTrail, end_of}
 use Rattle.dmf_path.specs.Held.{Way, places_of, walked_slots, slot_at}
 use Rattle.dmf_path.specs.Residual.{Residual, told}
 use Rattle.dmf_path.specs.Searching.{IsUnderWay, IsHolding, Labelling, Sought, sought, IsAimed, IsSearching}
-use Rattle.dmf_path.proofs.LinkPlaces.{lies-within}
+use Rattle.dmf_links.proofs.LinkPlaces.{lies-within}
 use Rattle.dmf_path.proofs.Walking.{IsTrail-pop, end_of-push, end-node}
 use Rattle.dmf_path.proofs.WayTurn.{IsOnWay, last-places}
 

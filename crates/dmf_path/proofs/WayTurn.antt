@@ -4,7 +4,7 @@ use Rattle.std.proofs.Common.{append_assoc}
 use Rattle.std.proofs.lemmas.List.{drop_more, take_more, take_more_set, drop-set-lt, map_push, length-set}
 use Rattle.dmf_path.specs.declared.trail.Slot.{Slot}
 use Rattle.dmf_node.specs.Node.{IsNode}
-use Rattle.dmf_path.specs.Links.{AreLinks, AreRooms}
+use Rattle.dmf_links.specs.Links.{AreLinks, AreRooms}
 use Rattle.dmf_path.specs.Walk.{IsTrail, end_of}
 use Rattle.dmf_path.specs.Held.{Way, places_of, walked_slots, rest_slots, filled_slots, settled, HaveLeft, slot_at, put_once, room_left, entered, stepped_back}
 use Rattle.dmf_path.specs.Residual.{Residual, roomed, told, put_on, MakesWay, free, leaves}

@@ -2,7 +2,7 @@
 use Rattle.std.proofs.Common.{ℕ, ◌≡◌, ◌≢◌, ◌+◌, ◌-◌, ◌<◌, ◌≤◌, List, [], ◌∷◌, ◌++◌, length, set, take, get_or, refl, ap, sym, ◌∙◌, subst, arith, inl, inr}
 use Rattle.std.proofs.lemmas.List.{get_or_default, get_or-set_same}
 use Rattle.dmf_node.specs.Node.{IsNode}
-use Rattle.dmf_path.specs.Links.{Links, LiesAt, AreLinks, AreRooms, tail_of}
+use Rattle.dmf_links.specs.Links.{Links, LiesAt, AreLinks, AreRooms, tail_of}
 use Rattle.dmf_path.specs.Walk.{AreSkipped, IsWalk, IsTrail, end_of}
 use Rattle.dmf_path.specs.Held.{Way, places_of, walked_slots, IsSlot, slot_at, entered, stepped_back}
 use Rattle.dmf_path.specs.Residual.{Residual, put_on, MakesWay, free, leaves}

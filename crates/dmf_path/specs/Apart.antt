@@ -2,22 +2,22 @@
 -- Private: only contracts inside the crate and proofs use this.
 use Rattle.std.specs.Prelude.{ℕ, ◌≡◌, ◌-◌, ◌<◌, ◌≤◌, false, List, Vec, length}
 use Rattle.std.specs.declared.alloc.Global.{Global}
-use Rattle.dmf_path.specs.declared.grown.Gap.{Gap}
-use Rattle.dmf_path.specs.declared.grown.NewPair.{NewPair}
+use Rattle.dmf_links.specs.declared.grown.Gap.{Gap}
+use Rattle.dmf_links.specs.declared.grown.NewPair.{NewPair}
 use Rattle.dmf_path.specs.declared.levels.Levels.{Levels}
-use Rattle.dmf_path.specs.declared.pair.Pair.{Pair}
+use Rattle.dmf_links.specs.declared.pair.Pair.{Pair}
 use Rattle.dmf_path.specs.declared.search.apart.Own.{Own}
 use Rattle.dmf_path.specs.declared.search.apart.Shared.{Shared}
 use Rattle.dmf_path.specs.declared.trail.Trail.{Trail}
-use Rattle.dmf_path.specs.Grown.{AreGrown, HasEndsOf}
+use Rattle.dmf_links.specs.Grown.{AreGrown, HasEndsOf}
 use Rattle.dmf_path.specs.Held.{way_of}
-use Rattle.dmf_path.specs.Links.{Links, AreFlags, AreLinks, ArePlaces, AreRooms, pairs_at}
-use Rattle.dmf_path.specs.LinkTable.{links_of}
+use Rattle.dmf_links.specs.Links.{Links, AreFlags, AreLinks, ArePlaces, AreRooms, pairs_at}
+use Rattle.dmf_links.specs.LinkTable.{links_of}
 use Rattle.dmf_path.specs.Residual.{Residual}
 use Rattle.dmf_path.specs.Search.{Searched}
 use Rattle.dmf_path.specs.Searching.{labelling_of, AreReady, IsFresh, IsSearching}
-use Rattle.dmf_path.specs.Shrunk.{AreShrunk}
-use Rattle.dmf_path.specs.Touching.{MayBeNumbered}
+use Rattle.dmf_links.specs.Shrunk.{AreShrunk}
+use Rattle.dmf_links.specs.Numbers.{MayBeNumbered}
 
 -- The places are those of the pairs of the links, and the numbers are theirs.
 pub record AreShared (shared : Shared) : Type 0 where

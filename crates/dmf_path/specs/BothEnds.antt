@@ -6,8 +6,8 @@ use Rattle.dmf_node.specs.Node.{IsNode}
 use Rattle.dmf_path.specs.declared.frontier.Frontier.{Frontier}
 use Rattle.dmf_path.specs.declared.push.Links.{Links as Roomy}
 use Rattle.dmf_path.specs.Frontier.{AreApart, AreSpread, IsAtRest}
-use Rattle.dmf_path.specs.Links.{Links, LiesAt, open_flag}
-use Rattle.dmf_path.specs.LinkTable.{links_of}
+use Rattle.dmf_links.specs.Links.{Links, LiesAt, open_flag}
+use Rattle.dmf_links.specs.LinkTable.{links_of}
 use Rattle.dmf_path.specs.Labels.{no_label, IsBacked}
 use Rattle.dmf_path.specs.Walk.{AreValid, IsWalk}
 

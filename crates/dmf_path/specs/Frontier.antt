@@ -2,7 +2,7 @@
 -- Private: only contracts inside the crate and proofs use this.
 use Rattle.std.specs.Prelude.{ℕ, ◌≡◌, ◌≢◌, ◌+◌, ◌≤◌, ◌<◌, ◌⊎◌, ◌++◌, List, length, replicate, slice_index, vec_capacity, Contains}
 use Rattle.dmf_node.specs.Node.{IsNode}
-use Rattle.dmf_path.specs.Links.{Links, LiesAt}
+use Rattle.dmf_links.specs.Links.{Links, LiesAt}
 use Rattle.dmf_path.specs.declared.frontier.Frontier.{Frontier}
 use Rattle.dmf_path.specs.Labels.{no_label, unlabelled_count, IsBacked, Spreads}
 

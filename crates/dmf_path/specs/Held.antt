@@ -5,7 +5,7 @@ use Rattle.std.specs.Prelude.{slice_index, slice_index_or, slice_set, Option, So
 use Rattle.std.specs.List.{range_with_len}
 use Rattle.dmf_path.specs.declared.trail.Slot.{Slot}
 use Rattle.dmf_path.specs.declared.trail.Trail.{Trail}
-use Rattle.dmf_path.specs.Links.{Links}
+use Rattle.dmf_links.specs.Links.{Links}
 use Rattle.dmf_path.specs.Walk.{pushed_once}
 
 -- the room that a link has left after `sent`, if it is full at a total of `full_at`; both modulo 2^64

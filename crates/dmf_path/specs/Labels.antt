@@ -2,7 +2,7 @@
 -- Private: only contracts inside the crate and proofs use this.
 use Rattle.std.specs.Prelude.{ℕ, ◌≡◌, ◌≢◌, ◌+◌, ◌<◌, ◌≤◌, ◌⊎◌, ◌==◌, not, Bool, List, length, slice_index, count_by, Contains}
 use Rattle.dmf_node.specs.Node.{IsNode}
-use Rattle.dmf_path.specs.Links.{Links, LiesAt, tail_of}
+use Rattle.dmf_links.specs.Links.{Links, LiesAt, tail_of}
 
 -- the number that stands for no label; it exceeds any label
 abbrev pub no_label : ℕ

@@ -2,9 +2,6 @@ pub mod Step
 pub mod Path
 pub mod Steps
 pub mod Pair
-pub mod Links
-pub mod LinkTable
-pub mod Building
 pub mod Labels
 pub mod Walk
 pub mod Held
@@ -14,7 +11,5 @@ pub mod Touched
 pub mod Searching
 pub mod BothEnds
 pub mod Frontier
-pub mod Grown
-pub mod Shrunk
 pub mod Touching
 pub mod Apart

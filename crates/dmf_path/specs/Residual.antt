@@ -3,9 +3,9 @@
 use Rattle.std.specs.Prelude.{ℕ, ◌≡◌, ◌+◌, ◌-◌, ◌<◌, ◌≤◌, Bool, false, List, length, take, drop, slice_index, slice_set}
 use Rattle.dmf_path.specs.declared.push.Links.{Links as Roomy}
 use Rattle.dmf_path.specs.declared.trail.Slot.{Slot}
-use Rattle.dmf_path.specs.Links.{Links}
-use Rattle.dmf_path.specs.LinkTable.{links_of}
-use Rattle.dmf_path.specs.Walk.{pushed_once, rooms_set}
+use Rattle.dmf_links.specs.Links.{Links, rooms_set}
+use Rattle.dmf_links.specs.LinkTable.{links_of}
+use Rattle.dmf_path.specs.Walk.{pushed_once}
 use Rattle.dmf_path.specs.Held.{Way, slot_at, walked_slots, rest_slots, rooms_with, put_once, put_each, CanPut, AreOpen}
 
 -- the links by node, whether a push along one can be pushed back along its opposite, and the room of each

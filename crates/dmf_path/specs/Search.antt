@@ -1,10 +1,11 @@
 -- What a search is to its callers: pairs of links between nodes, and the nodes between which it looks for least paths.
 -- Public: a public contract says no more than this.
-use Rattle.std.specs.Prelude.{ℕ, ◌≡◌, ◌-◌, ◌<◌, ◌≤◌, ◌⊎◌, Bool, List, length, slice_index, Option, Some, None, slice_index_or, slice_get, slice_set, option_map}
+use Rattle.std.specs.Prelude.{ℕ, ◌≡◌, ◌-◌, ◌<◌, ◌≤◌, ◌⊎◌, Bool, List, length, slice_index, Option, Some, slice_get, slice_set, option_map}
 use Rattle.std.specs.List.{range_with_len}
-use Rattle.dmf_path.specs.declared.pair.Pair.{Pair}
-use Rattle.dmf_path.specs.declared.places.Indices.{Indices}
-use Rattle.dmf_path.specs.declared.places.Indices.TheVariants.{Within, Listed}
+use Rattle.dmf_links.specs.declared.pair.Pair.{Pair}
+use Rattle.dmf_links.specs.Pair.{pair_number}
+use Rattle.dmf_path.specs.declared.touched.Indices.{Indices}
+use Rattle.dmf_path.specs.declared.touched.Indices.TheVariants.{Within, Listed}
 use Rattle.dmf_path.specs.declared.search.AugmentingPath.{AugmentingPath}
 use Rattle.dmf_path.specs.Step.{Step}
 use Rattle.dmf_path.specs.Path.{IsLeastPath, bottleneck_up_to}
@@ -35,10 +36,6 @@ pub record Augments (limit : ℕ) (found : AugmentingPath) (old new : Searched) 
   pub amount_is : found.amount ≡ bottleneck_up_to limit path
   pub links_are : found.links ≡ length path
   pub gives : new ≡ with_pairs old (pushed_pairs old.takes_back found.amount path old.pairs)
-
--- the pair at index `k`
-abbrev pub pair_number : List (Option Pair) → ℕ → Option Pair
-pair_number pairs k = slice_index_or pairs k None
 
 -- the rooms of the links of the pair at index `k`, if there is one
 abbrev pub along_at : List (Option Pair) → ℕ → Option ℕ

@@ -9,7 +9,7 @@ use Rattle.dmf_path.specs.Labels.{no_label, AreQueued}
 use Rattle.dmf_path.specs.Frontier.{IsClean, IsIdle}
 use Rattle.dmf_path.specs.BothEnds.{AreSound, AreWhole}
 use Rattle.dmf_node.specs.Node.{IsNode}
-use Rattle.dmf_path.specs.Links.{Links, LiesAt, AreLinks, ArePlaces, AreRooms, pairs_at}
+use Rattle.dmf_links.specs.Links.{Links, LiesAt, AreLinks, ArePlaces, AreRooms, pairs_at}
 use Rattle.dmf_path.specs.Walk.{AreCurrent, ArePassed, AreSkipped, IsTrail, IsWalking, end_of}
 use Rattle.dmf_path.specs.Held.{Way, places_of, walked_slots, rest_slots, filled_slots, HaveLeft}
 use Rattle.dmf_path.specs.Residual.{Residual, told}

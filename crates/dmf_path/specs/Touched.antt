@@ -2,8 +2,8 @@
 -- Public: a public contract says no more than this.
 use Rattle.std.specs.Prelude.{ℕ, ◌≡◌, ◌<◌, List, length, Option, Some, None, IfSome, ⊤}
 use Rattle.std.specs.List.{Contains}
-use Rattle.dmf_path.specs.declared.pair.Pair.{Pair}
-use Rattle.dmf_path.specs.Search.{pair_number}
+use Rattle.dmf_links.specs.declared.pair.Pair.{Pair}
+use Rattle.dmf_links.specs.Pair.{pair_number}
 
 -- The pair at index `k` counts as touched.
 abbrev pub IsTouched : Option (List ℕ) → ℕ → Type 0

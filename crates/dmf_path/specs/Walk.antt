@@ -3,7 +3,7 @@
 -- Private: only contracts inside the crate and proofs use this.
 use Rattle.std.specs.Prelude.{ℕ, ◌≡◌, ◌+◌, ◌-◌, ◌<◌, ◌≤◌, Bool, if◌then◌else◌, List, [], ◌∷◌, length, min, slice_index, slice_set}
 use Rattle.dmf_node.specs.Node.{IsNode}
-use Rattle.dmf_path.specs.Links.{Links, LiesAt}
+use Rattle.dmf_links.specs.Links.{Links, LiesAt}
 
 -- Link `p` of node `v` is admissible: it has room, and leads to a node whose label is lower by one.
 pub record IsAdmissible (l : Links) (labels rooms : List ℕ) (v p : ℕ) : Type 0 where
@@ -70,10 +70,6 @@ pushed_once l takes_back amount p rooms =
     let taken = slice_set rooms p (slice_index rooms p - amount) in
     let partner = slice_index l.partners p in
     if takes_back then slice_set taken partner (slice_index taken partner + amount) else taken
-
--- the rooms with these of the link at place `p` and of its opposite
-abbrev pub rooms_set : Links → ℕ → ℕ → ℕ → List ℕ → List ℕ
-rooms_set l p along against rooms = slice_set (slice_set rooms p along) (slice_index l.partners p) against
 
 -- the rooms after an amount is pushed along these links
 abbrev pub pushed : Links → Bool → ℕ → List ℕ → List ℕ → List ℕ

@@ -1,14 +1,14 @@
 //! A breadth-first search that goes on where it stopped: from a root, level by level, over open links.
 ghost use Rattle.std.specs.Prelude.{◌≡◌, ◌≢◌, ℕ, ◌+◌, ◌^◌, ◌≤◌, ◌<◌, ◌∷◌, [], None, Some, IfOk, length, replicate, slice_index, slice_set, vec_capacity};
 ghost use Rattle.dmf_node.specs.Node.{IsNode};
-ghost use Rattle.dmf_path.specs.LinkTable.{links_of};
+ghost use Rattle.dmf_links.specs.LinkTable.{links_of};
 ghost use Rattle.dmf_path.specs.Labels.{AreQueued, no_label};
 ghost use Rattle.dmf_path.specs.BothEnds.{AreLevels};
 ghost use Rattle.dmf_path.specs.Frontier.{AreSpread, AreApart, Expands, IsAtRest, IsClean, IsIdle, MeetBeyond};
 
 use crate::label::{NO_LABEL, spread, take_off};
 use crate::open::OpenLinks;
-use crate::table::LinkTable;
+use dmf_links::LinkTable;
 use std::alloc::{AllocError, Global};
 
 /// How far a breadth-first search has come: the labels of the nodes, and a queue of the nodes that have one, in the order of their labels.

@@ -1,13 +1,13 @@
 //! Labels: how far the nodes are from a root, over open links.
 ghost use Rattle.std.specs.Prelude.{◌≡◌, ◌≢◌, ℕ, ◌+◌, ◌++◌, ◌≤◌, ◌<◌, ◌^◌, List, None, length, replicate, slice_index, vec_capacity};
 ghost use Rattle.dmf_node.specs.Node.{IsNode};
-ghost use Rattle.dmf_path.specs.LinkTable.{links_of};
+ghost use Rattle.dmf_links.specs.LinkTable.{links_of};
 ghost use Rattle.dmf_path.specs.Frontier.{AreSpread, IsClean};
 ghost use Rattle.dmf_path.specs.Labels.{AreLabels, AreQueued, Spreads, no_label, unlabelled_count};
 
 use crate::frontier::{Frontier, begin, expand};
 use crate::open::OpenLinks;
-use crate::table::LinkTable;
+use dmf_links::LinkTable;
 use std::ops::Range;
 
 /// The number that stands for no label.

@@ -1,11 +1,11 @@
 //! What a search keeps of each node: its label and its current link.
 ghost use Rattle.std.specs.Prelude.{◌≡◌, ℕ, ◌+◌, ◌≤◌, ◌<◌, false, length, slice_index, IfOk};
-ghost use Rattle.dmf_path.specs.LinkTable.{links_of};
+ghost use Rattle.dmf_links.specs.LinkTable.{links_of};
 ghost use Rattle.dmf_path.specs.Searching.{IsReady};
 ghost use Rattle.dmf_path.specs.Walk.{AreCurrent};
 
 use crate::frontier::Frontier;
-use crate::table::LinkTable;
+use dmf_links::LinkTable;
 use std::alloc::{AllocError, Global};
 
 /// The labels and the current links of the nodes.

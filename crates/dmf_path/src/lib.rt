@@ -2,23 +2,16 @@
 #![tactic(auto)]
 
 pub use aside::Ends;
-pub use pair::{Pair, Pairs};
-pub use places::Indices;
 pub use search::{AugmentingPath, Search};
-pub use touched::Touched;
+pub use touched::{Indices, Touched};
 
 mod aside;
 mod frontier;
-mod grown;
 mod label;
 mod levels;
-mod links;
 mod meet;
-mod numbers;
 mod open;
-mod pair;
 mod phase;
-mod places;
 mod push;
 mod reach;
 mod redirect;
@@ -26,8 +19,6 @@ mod relabel;
 mod release;
 mod room;
 mod search;
-mod shrunk;
-mod table;
 mod touched;
 mod trail;
 mod walk;

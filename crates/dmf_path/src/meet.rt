@@ -1,13 +1,13 @@
 //! Two breadth-first searches meet: one from the goal, against the links, and one from the start, along them.
 ghost use Rattle.std.specs.Prelude.{◌≡◌, ℕ, ◌+◌, ◌≤◌, ◌<◌, None, length, slice_index};
-ghost use Rattle.dmf_path.specs.LinkTable.{links_of};
+ghost use Rattle.dmf_links.specs.LinkTable.{links_of};
 ghost use Rattle.dmf_path.specs.BothEnds.{AreNearing, HaveGoneOn};
 ghost use Rattle.dmf_path.specs.Searching.{IsSeparated};
 
 use crate::frontier::{Frontier, expand_level};
 use crate::open::{Flagged, Roomy};
 use crate::push::Links;
-use crate::table::LinkTable;
+use dmf_links::LinkTable;
 
 /// Labels the nodes from both ends until a node has a label of both searches. Returns that node, or `None` if no path leads from the
 /// start to the goal.

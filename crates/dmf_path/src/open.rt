@@ -31,7 +31,7 @@ pub struct Roomy<'a>(pub &'a [u64]);
 
 impl OpenLinks for Roomy<'_> {
     ghost use Rattle.std.specs.Prelude.{map};
-    ghost use Rattle.dmf_path.specs.Links.{open_flag};
+    ghost use Rattle.dmf_links.specs.Links.{open_flag};
 
     ghost flags = { λ opens. map open_flag opens.0.now };
 

@@ -1,7 +1,7 @@
 //! The search for the next path: the walk goes on, or the nodes get new labels and it begins again.
 ghost use Rattle.std.specs.Prelude.{◌≡◌, ◌≢◌, ℕ, List, true, false, []};
 ghost use Rattle.dmf_node.specs.Node.{IsNode};
-ghost use Rattle.dmf_path.specs.LinkTable.{links_of};
+ghost use Rattle.dmf_links.specs.LinkTable.{links_of};
 ghost use Rattle.dmf_path.specs.Walk.{IsWalk};
 ghost use Rattle.dmf_path.specs.Held.{way_of, with_slots};
 ghost use Rattle.dmf_path.specs.Residual.{residual_of, told};
@@ -14,9 +14,9 @@ use crate::levels::{Levels, set_current};
 use crate::push::Links;
 use crate::redirect::redirect;
 use crate::relabel::label_anew;
-use crate::table::LinkTable;
 use crate::trail::Trail;
 use crate::walk::walk;
+use dmf_links::LinkTable;
 
 /// Finds the least path from the start to the goal: goes on with the walk, and if none is left, labels the nodes anew and walks again.
 pub fn find(links: &mut Links, levels: &mut Levels, trail: &mut Trail) -> bool

@@ -1,10 +1,9 @@
 //! Links with their rooms: the residual network.
 ghost use Rattle.std.specs.Prelude.{◌≡◌, ◌<◌, length, slice_index, slice_set};
-ghost use Rattle.dmf_path.specs.Links.{AreRooms, AreFlags, open_flag};
-ghost use Rattle.dmf_path.specs.LinkTable.{links_of};
+ghost use Rattle.dmf_links.specs.Links.{AreRooms, AreFlags, open_flag};
+ghost use Rattle.dmf_links.specs.LinkTable.{links_of};
 
-use crate::links::open_flag;
-use crate::table::LinkTable;
+use dmf_links::{LinkTable, open_flag};
 use std::rc::Rc;
 
 /// Links with their rooms.

@@ -1,8 +1,8 @@
 //! The nodes that are reachable from the start, with the held pushes applied.
 ghost use Rattle.std.specs.Prelude.{◌≡◌, drop, length, map, IfOk};
 ghost use Rattle.dmf_node.specs.Node.{IsNode};
-ghost use Rattle.dmf_path.specs.Links.{open_flag};
-ghost use Rattle.dmf_path.specs.LinkTable.{links_of};
+ghost use Rattle.dmf_links.specs.Links.{open_flag};
+ghost use Rattle.dmf_links.specs.LinkTable.{links_of};
 ghost use Rattle.dmf_path.specs.Labels.{AreLabels, is_label};
 ghost use Rattle.dmf_path.specs.Held.{way_of, filled_slots, HaveLeft};
 ghost use Rattle.dmf_path.specs.Residual.{residual_of, told};
@@ -11,8 +11,8 @@ use crate::frontier::Frontier;
 use crate::label::{NO_LABEL, label_nodes};
 use crate::open::Roomy;
 use crate::push::Links;
-use crate::table::LinkTable;
 use crate::trail::Trail;
+use dmf_links::LinkTable;
 use std::alloc::{AllocError, Global};
 
 /// Labels from the start over the links that have room, with the held pushes applied. Takes memory for two numbers a node, and for

@@ -1,8 +1,8 @@
 //! Making labels that lead to one goal lead to another.
 ghost use Rattle.std.specs.Prelude.{◌≡◌, ◌≢◌, ◌+◌, ◌≤◌, ℕ, true, false, length, slice_index};
 ghost use Rattle.dmf_node.specs.Node.{IsNode};
-ghost use Rattle.dmf_path.specs.Links.{LiesAt};
-ghost use Rattle.dmf_path.specs.LinkTable.{links_of};
+ghost use Rattle.dmf_links.specs.Links.{LiesAt};
+ghost use Rattle.dmf_links.specs.LinkTable.{links_of};
 ghost use Rattle.dmf_path.specs.Labels.{no_label};
 ghost use Rattle.dmf_path.specs.Residual.{residual_of};
 ghost use Rattle.dmf_path.specs.Searching.{labelling_of, AreKeptFor, IsReady};
@@ -11,7 +11,7 @@ ghost use Rattle.dmf_path.specs.Walk.{AreCurrent};
 use crate::label::NO_LABEL;
 use crate::levels::Levels;
 use crate::push::Links;
-use crate::table::LinkTable;
+use dmf_links::LinkTable;
 
 /// Makes the labels, which lead to one goal, lead to another, and to that from this start: if all nodes from which paths lead to the one
 /// goal have labels, and it takes no more than the label 0 for the other and 1 for the one. Whether they lead there then.

@@ -1,7 +1,7 @@
 //! Labelling the nodes anew: from the goal alone, or from both ends.
 ghost use Rattle.std.specs.Prelude.{◌≡◌, ◌≢◌, ℕ, ◌+◌, ◌≤◌, ◌<◌, true, false, length, slice_index, vec_capacity};
 ghost use Rattle.dmf_node.specs.Node.{IsNode};
-ghost use Rattle.dmf_path.specs.LinkTable.{links_of};
+ghost use Rattle.dmf_links.specs.LinkTable.{links_of};
 ghost use Rattle.dmf_path.specs.Labels.{AreQueued, no_label, unlabelled_count};
 ghost use Rattle.dmf_path.specs.BothEnds.{AreJoined, AreWhole, IsLabelled};
 ghost use Rattle.dmf_path.specs.Frontier.{IsClean};

@@ -1,15 +1,15 @@
 //! Applying held pushes before a caller changes the room of a link.
 ghost use Rattle.std.specs.Prelude.{◌≡◌, ◌+◌, ◌<◌, ◌==◌, length, slice_index};
-ghost use Rattle.dmf_path.specs.Links.{tail_of};
-ghost use Rattle.dmf_path.specs.LinkTable.{links_of};
+ghost use Rattle.dmf_links.specs.Links.{tail_of};
+ghost use Rattle.dmf_links.specs.LinkTable.{links_of};
 ghost use Rattle.dmf_path.specs.Held.{way_of, places_of, filled_slots, IsOff};
 ghost use Rattle.dmf_path.specs.Residual.{residual_of, told};
 ghost use Rattle.dmf_path.specs.Searching.{labelling_of, sought, IsSearching};
 
 use crate::levels::Levels;
 use crate::push::Links;
-use crate::table::LinkTable;
 use crate::trail::Trail;
+use dmf_links::LinkTable;
 
 /// Applies all held pushes if one of them may change the room of the link at this place: if pushes are taken back, or if the link
 /// falls, as the links in slots do.

@@ -9,14 +9,13 @@ ghost use Rattle.dmf_path.specs.Touched.{AreBelow, Touches};
 
 use crate::aside::{Aside, Ends};
 use crate::levels::Levels;
-use crate::numbers::{have_same_numbers, number_links};
 use crate::phase::{aim, begin_anew, find};
-use crate::places::Places;
 use crate::push::Links;
 use crate::reach::{labelled, labels_from_start};
 use crate::release::release;
 use crate::touched::Touched;
 use crate::trail::Trail;
+use dmf_links::{Places, have_same_numbers, number_links};
 use std::alloc::{AllocError, Global};
 use std::marker::Model;
 use std::rc::Rc;
@@ -56,11 +55,11 @@ pub struct Search {
 
 impl Model for Search {
     ghost use Rattle.dmf_path.specs.Held.{way_of};
-    ghost use Rattle.dmf_path.specs.LinkTable.{links_of};
+    ghost use Rattle.dmf_links.specs.LinkTable.{links_of};
     ghost use Rattle.dmf_path.specs.Residual.{residual_of, told};
     ghost use Rattle.dmf_path.specs.Search.{Searched};
     ghost use Rattle.dmf_path.specs.Searching.{labelling_of, sought, searched, AreAside, AreKept, AreReady, IsSearch};
-    ghost use Rattle.dmf_path.specs.Touching.{MayBeNumbered};
+    ghost use Rattle.dmf_links.specs.Numbers.{MayBeNumbered};
 
     ghost Value = { Searched };
 

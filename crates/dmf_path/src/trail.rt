@@ -46,7 +46,7 @@ impl Slot {
 
 impl Links {
     ghost use Rattle.dmf_path.specs.Held.{CanPut, IsSlot};
-    ghost use Rattle.dmf_path.specs.LinkTable.{links_of};
+    ghost use Rattle.dmf_links.specs.LinkTable.{links_of};
     ghost use Rattle.dmf_path.specs.Residual.{residual_of, put_on, put_each_on};
 
     /// Applies the pushes that these slots hold to the rooms of their links.
@@ -74,7 +74,7 @@ impl Links {
 
 impl Trail {
     ghost use Rattle.std.specs.Prelude.{◌≢◌, ℕ, ◌<◌, true, [], ◌-◌, take, drop};
-    ghost use Rattle.dmf_path.specs.LinkTable.{links_of};
+    ghost use Rattle.dmf_links.specs.LinkTable.{links_of};
     ghost use Rattle.dmf_path.specs.Held.{least_left, way_of, filled_slots, slot_at, CanPut, IsSlot, entered, stepped_back, emptied, with_slots};
     ghost use Rattle.dmf_path.specs.Residual.{residual_of, told, put_on, CanSettle, MakesWay, IsSplit};
 

@@ -6,8 +6,8 @@ ghost use Rattle.dmf_path.specs.Residual.{residual_of, told};
 ghost use Rattle.dmf_path.specs.Searching.{sought, IsSearching, IsFound, MaySkip};
 
 use crate::push::Links;
-use crate::table::LinkTable;
 use crate::trail::Trail;
+use dmf_links::LinkTable;
 
 /// Goes on from where the trail ends, until it leads from the start to where the end of the last path begins, or no walk leads to the
 /// goal. At each node the walk takes the first admissible link from the current one on. If there is none, it steps back.

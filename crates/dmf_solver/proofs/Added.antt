@@ -6,8 +6,8 @@ use Rattle.std.proofs.lemmas.List.Edits.{insert_end, insert-append_left}
 use Rattle.std.proofs.lemmas.List.Elements.{All-get_or}
 use Rattle.std.proofs.lemmas.List.Sums.{get_or-le-sum_by}
 use Rattle.std.proofs.lemmas.Slice.Zip.{AllZip-long}
-use Rattle.dmf_path.specs.declared.pair.Pair.{Pair}
-use Rattle.dmf_path.specs.Pair.{IsPair}
+use Rattle.dmf_links.specs.declared.pair.Pair.{Pair}
+use Rattle.dmf_links.specs.Pair.{IsPair}
 use Rattle.dmf_path.specs.Search.{Searched, with_pairs}
 use Rattle.dmf_state.specs.declared.arc.Arc.{Arc}
 use Rattle.dmf_state.specs.Arc.{IsArc, no_arc}

@@ -2,7 +2,7 @@
 use Rattle.std.proofs.Common.{ℕ, ◌≡◌, ◌+◌, ◌-◌, ◌<◌, ◌≤◌, ◌==◌, Bool, true, false, List, [], ◌∷◌, ◌++◌, length, get_or, set, zero, suc, refl, ap, sym}
 use Rattle.std.proofs.Common.{◌∙◌, subst, arith, Option, Some, None, IfSome, length-set}
 use Rattle.std.specs.Option.{option_map}
-use Rattle.dmf_path.specs.declared.pair.Pair.{Pair}
+use Rattle.dmf_links.specs.declared.pair.Pair.{Pair}
 use Rattle.dmf_path.specs.Search.{Searched, pair_with, with_pairs, with_rooms}
 use Rattle.dmf_state.specs.declared.arc.Arc.{Arc}
 use Rattle.dmf_state.specs.declared.edit.Edit.{Edit}

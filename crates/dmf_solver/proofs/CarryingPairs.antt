@@ -7,9 +7,10 @@ use Rattle.std.proofs.lemmas.List.{append-nil}
 use Rattle.std.proofs.lemmas.List.Sums.{sum_by-cons}
 use Rattle.std.proofs.lemmas.List.Elements.{Contains-append_cases, Contains-append_left, Contains-append_right}
 use Rattle.std.proofs.lemmas.Slice.Zip.{AllZip-long}
-use Rattle.dmf_path.specs.declared.pair.Pair.{Pair}
+use Rattle.dmf_links.specs.declared.pair.Pair.{Pair}
 use Rattle.dmf_path.specs.Step.{Step}
-use Rattle.dmf_path.specs.Pair.{IsPair, ArePairs, pair_steps, steps_from, steps_of}
+use Rattle.dmf_links.specs.Pair.{IsPair, ArePairs}
+use Rattle.dmf_path.specs.Pair.{pair_steps, steps_from, steps_of}
 use Rattle.dmf_path.proofs.Loops.{AreWithoutLoops}
 use Rattle.dmf_state.specs.declared.arc.Arc.{Arc}
 use Rattle.dmf_state.specs.Arc.{IsArc, no_arc, capacity_sum}

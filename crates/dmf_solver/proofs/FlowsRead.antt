@@ -1,7 +1,7 @@
 -- The flows that are read from a search.
 use Rattle.std.proofs.Common.{ℕ, ◌≡◌, ◌≤◌, ◌<◌, List, [], ◌∷◌, length, get_or, zero, suc, refl, ap, arith, Option}
-use Rattle.dmf_path.specs.declared.pair.Pair.{Pair}
-use Rattle.dmf_path.specs.Search.{pair_number}
+use Rattle.dmf_links.specs.declared.pair.Pair.{Pair}
+use Rattle.dmf_links.specs.Pair.{pair_number}
 use Rattle.dmf_solver.specs.Pairs.{PairLink, flow_read, flows_read}
 
 -- There is one for each flow before,

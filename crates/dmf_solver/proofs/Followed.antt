@@ -7,8 +7,9 @@ use Rattle.std.proofs.lemmas.Option.{slice_get_within}
 use Rattle.std.proofs.lemmas.Slice.Zip.{AllZip-long}
 use Rattle.std.proofs.Math.ListN.{drop_of_length-le}
 use Rattle.std.proofs.Math.Seq.{drop-cons}
-use Rattle.dmf_path.specs.declared.pair.Pair.{Pair}
-use Rattle.dmf_path.specs.Search.{Searched, pair_number, pair_with, with_pairs, with_rooms, against_at}
+use Rattle.dmf_links.specs.declared.pair.Pair.{Pair}
+use Rattle.dmf_path.specs.Search.{Searched, pair_with, with_pairs, with_rooms, against_at}
+use Rattle.dmf_links.specs.Pair.{pair_number}
 use Rattle.dmf_state.specs.declared.arc.Arc.{Arc}
 use Rattle.dmf_state.specs.declared.edit.Edit.{Edit}
 use Rattle.dmf_state.specs.declared.edit.Edit.TheVariants.{Cap, Add, Close, Shut, Solve}

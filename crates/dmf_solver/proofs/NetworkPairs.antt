@@ -8,10 +8,11 @@ use Rattle.std.proofs.lemmas.List.Elements.{All-get_or}
 use Rattle.std.proofs.lemmas.List.Sums.{get_or-le-sum_by}
 use Rattle.std.proofs.lemmas.Option.{slice_get_within}
 use Rattle.std.proofs.lemmas.Slice.Zip.{AllZip-long}
-use Rattle.dmf_path.specs.declared.pair.Pair.{Pair}
+use Rattle.dmf_links.specs.declared.pair.Pair.{Pair}
 use Rattle.dmf_path.specs.Step.{Step}
 use Rattle.dmf_path.specs.Path.{has_rank, IsPath, IsReachable, bottleneck}
-use Rattle.dmf_path.specs.Pair.{emptied, IsPair, ArePairs, pair_steps, steps_from, steps_of, pushed_pair, pushed_from, pushed_pairs}
+use Rattle.dmf_links.specs.Pair.{emptied, IsPair, ArePairs}
+use Rattle.dmf_path.specs.Pair.{pair_steps, steps_from, steps_of, pushed_pair, pushed_from, pushed_pairs}
 use Rattle.dmf_path.specs.Search.{Searched}
 use Rattle.dmf_path.proofs.Loops.{AreWithoutLoops, reachable-without_loops, reachable-within}
 use Rattle.dmf_state.specs.declared.arc.Arc.{Arc}

@@ -4,8 +4,9 @@ use Rattle.std.proofs.Common.{⊎_elim, subst, arith, Option, None}
 use Rattle.std.proofs.lemmas.List.{get_or-set_other}
 use Rattle.std.proofs.lemmas.Bool.{cases_lt}
 use Rattle.std.proofs.lemmas.Slice.Zip.{AllZip-long}
-use Rattle.dmf_path.specs.declared.pair.Pair.{Pair}
-use Rattle.dmf_path.specs.Search.{Searched, Covers, pair_number, lowered_along}
+use Rattle.dmf_links.specs.declared.pair.Pair.{Pair}
+use Rattle.dmf_path.specs.Search.{Searched, Covers, lowered_along}
+use Rattle.dmf_links.specs.Pair.{pair_number}
 use Rattle.dmf_path.specs.Touched.{IsTouched, AreBelow, KeepsUntouched, Touches}
 use Rattle.dmf_path.proofs.Covering.{Covers-weaker}
 use Rattle.dmf_state.specs.declared.arc.Arc.{Arc}

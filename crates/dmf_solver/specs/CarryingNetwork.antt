@@ -2,7 +2,7 @@
 -- paths over these links.
 -- Public: a public contract says no more than this.
 use Rattle.std.specs.Prelude.{ℕ, ◌≡◌, ◌==◌, false, if◌then◌else◌, List, [], ◌∷◌, ◌++◌, Option, Some, None}
-use Rattle.dmf_path.specs.declared.pair.Pair.{Pair}
+use Rattle.dmf_links.specs.declared.pair.Pair.{Pair}
 use Rattle.dmf_path.specs.Search.{Searched}
 use Rattle.dmf_state.specs.declared.arc.Arc.{Arc}
 use Rattle.dmf_state.specs.Network.{Network}

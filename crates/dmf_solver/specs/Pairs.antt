@@ -4,12 +4,13 @@ use Rattle.std.specs.Prelude.{ℕ, ◌≡◌, ◌-◌, ◌<◌, ◌↔◌, lengt
 use Rattle.std.specs.Prelude.{Option, option_map, IfSome, IsTrue, pos, ◌+◌}
 use Rattle.std.specs.Option.{unwrap_or}
 use Rattle.std.specs.List.Sorted.{IsStrictlyIncreasing}
-use Rattle.dmf_path.specs.declared.pair.Pair.{Pair}
+use Rattle.dmf_links.specs.declared.pair.Pair.{Pair}
 use Rattle.dmf_node.specs.Node.{IsNode}
 use Rattle.dmf_path.specs.Pair.{steps_of}
 use Rattle.dmf_path.specs.Touched.{AreBelow, KeepsUntouched}
 use Rattle.dmf_path.specs.Path.{IsReachable}
-use Rattle.dmf_path.specs.Search.{Searched, pair_number, pair_with}
+use Rattle.dmf_path.specs.Search.{Searched, pair_with}
+use Rattle.dmf_links.specs.Pair.{pair_number}
 use Rattle.dmf_state.specs.declared.arc.Arc.{Arc}
 use Rattle.dmf_state.specs.Arc.{no_arc}
 use Rattle.dmf_solver.specs.declared.solve.Solved.{Solved}

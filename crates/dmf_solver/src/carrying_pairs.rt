@@ -2,7 +2,7 @@ ghost use Rattle.std.specs.Prelude.{◌≡◌};
 ghost use Rattle.dmf_solver.specs.CarryingNetwork.{carrying_pair, return_pair};
 
 use crate::arc_flow::arc_at;
-use dmf_path::{Pair, Pairs};
+use dmf_links::{Pair, Pairs};
 use dmf_state::{Arc, State};
 
 /// The pairs of links that stand for the carrying steps of a state's flow: one for each arc except self loops, and after all arcs one

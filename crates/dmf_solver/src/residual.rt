@@ -3,7 +3,8 @@ ghost use Rattle.dmf_state.specs.NetworkState.{IsState};
 ghost use Rattle.dmf_solver.specs.ResidualNetwork.{closed_return, residual_pair, IsResidualOf};
 
 use crate::arc_flow::arc_at;
-use dmf_path::{Ends, Pair, Pairs, Search};
+use dmf_links::{Pair, Pairs};
+use dmf_path::{Ends, Search};
 use dmf_state::{Arc, State};
 use std::alloc::{AllocError, Global};
 

@@ -1,18 +1,16 @@
 //! A search comes apart into what it shares with others and what it has of its own, and is put together over other links.
 ghost use Rattle.std.specs.Prelude.{◌≡◌, Some, IfSome};
 ghost use Rattle.dmf_path.specs.Apart.{AreShared, IsApart};
-ghost use Rattle.dmf_path.specs.LinkTable.{links_of};
+ghost use Rattle.dmf_links.specs.LinkTable.{links_of};
 ghost use Rattle.dmf_path.specs.Search.{Searched};
 
 use crate::aside::Aside;
 use crate::levels::Levels;
-use crate::numbers::share_known;
 use crate::phase::begin_anew;
-use crate::places::Places;
 use crate::push::Links;
 use crate::search::Search;
-use crate::table::LinkTable;
 use crate::trail::Trail;
+use dmf_links::{LinkTable, Places, share_known};
 use std::rc::Rc;
 
 /// Links, and what goes with them. Searches can share all of it.

@@ -1,17 +1,14 @@
 //! A search takes in a pair more, and with it another search over the same links.
 ghost use Rattle.std.specs.Prelude.{◌≡◌, ◌+◌, ◌-◌, ◌^◌, ◌<◌, ◌≤◌, length, insert, Some, IfSome};
 ghost use Rattle.dmf_path.specs.Apart.{AreShared, HasGrown};
-ghost use Rattle.dmf_path.specs.Grown.{AreGrown, HasEndsOf};
-ghost use Rattle.dmf_path.specs.LinkTable.{links_of};
-ghost use Rattle.dmf_path.specs.Pair.{IsPair};
+ghost use Rattle.dmf_links.specs.Grown.{AreGrown, HasEndsOf};
+ghost use Rattle.dmf_links.specs.LinkTable.{links_of};
+ghost use Rattle.dmf_links.specs.Pair.{IsPair};
 ghost use Rattle.dmf_path.specs.Search.{Searched, with_pairs};
 
-use crate::grown::{NewPair, place_pair};
-use crate::links::open_flag;
-use crate::numbers::grow_numbers;
-use crate::pair::Pair;
 use crate::search::Search;
 use crate::search::apart::{Own, Shared, begun_over};
+use dmf_links::{NewPair, Pair, grow_numbers, open_flag, place_pair};
 use std::alloc::Global;
 use std::rc::Rc;
 

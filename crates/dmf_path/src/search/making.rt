@@ -1,20 +1,17 @@
 //! Making a search from pairs, or over the links of another search.
 ghost use Rattle.std.specs.Prelude.{◌≡◌, ◌≢◌, ◌^◌, ◌≤◌, length, map, replicate, [], IfOk};
 ghost use Rattle.dmf_node.specs.Node.{IsNode};
-ghost use Rattle.dmf_path.specs.Pair.{ArePairs, emptied};
-ghost use Rattle.dmf_path.specs.Links.{AreBuilt, ArePlaces, AreRooms, pairs_at};
-ghost use Rattle.dmf_path.specs.LinkTable.{links_of};
+ghost use Rattle.dmf_links.specs.Pair.{ArePairs, emptied};
+ghost use Rattle.dmf_links.specs.Links.{AreBuilt, ArePlaces, AreRooms, pairs_at};
+ghost use Rattle.dmf_links.specs.LinkTable.{links_of};
 
 use crate::aside::Ends;
 use crate::levels::Levels;
-use crate::links::{build, opposite_flags, put_pair};
-use crate::pair::Pairs;
 use crate::phase::make_fresh;
-use crate::places::Places;
 use crate::push::Links;
 use crate::search::Search;
-use crate::table::LinkTable;
 use crate::trail::Trail;
+use dmf_links::{LinkTable, Pairs, Places, build, opposite_flags, put_pair};
 use std::alloc::{AllocError, Global};
 use std::rc::Rc;
 

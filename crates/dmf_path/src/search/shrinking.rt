@@ -1,18 +1,14 @@
 //! A pair is taken out of a search, and with it out of another search over the same links.
 ghost use Rattle.std.specs.Prelude.{◌≡◌, ℕ, ◌-◌, ◌<◌, ◌≤◌, length, remove, Some, IfSome};
 ghost use Rattle.dmf_path.specs.Apart.{AreShared, HasShrunk};
-ghost use Rattle.dmf_path.specs.Grown.{IsGrown};
-ghost use Rattle.dmf_path.specs.LinkTable.{links_of};
+ghost use Rattle.dmf_links.specs.Grown.{IsGrown};
+ghost use Rattle.dmf_links.specs.LinkTable.{links_of};
 ghost use Rattle.dmf_path.specs.Search.{Searched, with_pairs};
-ghost use Rattle.dmf_path.specs.Shrunk.{AreShrunk, IsFilled, IsUnplaced};
+ghost use Rattle.dmf_links.specs.Shrunk.{AreShrunk, IsFilled, IsUnplaced};
 
-use crate::grown::Gap;
-use crate::numbers::numbers_left;
-use crate::places::Places;
 use crate::search::Search;
 use crate::search::apart::{Own, Shared, begun_over};
-use crate::shrunk::{gap_of, shrink_own};
-use crate::table::LinkTable;
+use dmf_links::{Gap, LinkTable, Places, gap_of, numbers_left, shrink_own};
 use std::rc::Rc;
 
 impl Search {

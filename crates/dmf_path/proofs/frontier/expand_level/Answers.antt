@@ -2,7 +2,7 @@
 use Rattle.std.proofs.Common.{rules, ◌≡◌, ◌+◌, refl, ap, sym, ◌∙◌, arith, length, get_or}
 use Rattle.dmf_path.specs.declared.frontier.Frontier.{Frontier}
 use Rattle.dmf_path.specs.BothEnds.{AreLevels}
-use Rattle.dmf_path.specs.LinkTable.{links_of}
+use Rattle.dmf_links.specs.LinkTable.{links_of}
 use Rattle.dmf_path.proofs.Expanding.{IsLevel, level-first, level-next, level-labels, level-read, beyond-next, apart-next, behind-at, behind-long, behind-node}
 use Rattle.dmf_path.proofs.frontier.expand_level.Goals as goal
 use Rattle.dmf_path.proofs.frontier.expand_level.Goals.{After-expand, After-index-level}

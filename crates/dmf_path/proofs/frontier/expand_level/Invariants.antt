@@ -1,5 +1,5 @@
 use Rattle.std.proofs.Common.{◌≡◌, ◌+◌, ◌-◌, ◌<◌, ◌≤◌, length, slice_index, vec_capacity}
-use Rattle.dmf_path.specs.LinkTable.{links_of}
+use Rattle.dmf_links.specs.LinkTable.{links_of}
 use Rattle.dmf_path.specs.Frontier.{AreApart}
 use Rattle.dmf_path.proofs.Expanding.{IsLevel}
 use Rattle.dmf_path.proofs.frontier.expand_level.Given as goal

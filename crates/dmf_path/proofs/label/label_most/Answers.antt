@@ -1,8 +1,8 @@
 -- A turn of the loop, and the labels where the loop ends.
 use Rattle.std.proofs.Common.{ℕ, ◌≡◌, ◌≢◌, ◌+◌, ◌-◌, ◌*◌, ◌^◌, ◌≤◌, ◌<◌, ◌⊎◌, inl, inr, List, length, get_or, refl, sym, subst, ◌∙◌, arith}
 use Rattle.std.proofs.lemmas.List.{get_or_default}
-use Rattle.dmf_path.specs.Links.{Links, AreLinks}
-use Rattle.dmf_path.specs.LinkTable.{links_of}
+use Rattle.dmf_links.specs.Links.{Links, AreLinks}
+use Rattle.dmf_links.specs.LinkTable.{links_of}
 use Rattle.dmf_path.specs.Labels.{AreLabels, no_label}
 use Rattle.dmf_path.specs.Frontier.{AreSpread}
 use Rattle.dmf_path.proofs.Labelling.{labels-spread}

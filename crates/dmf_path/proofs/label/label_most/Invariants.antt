@@ -1,5 +1,5 @@
 use Rattle.std.proofs.Common.{◌≡◌, ◌+◌, ◌-◌, ◌*◌, ◌^◌, ◌≤◌, vec_capacity}
-use Rattle.dmf_path.specs.LinkTable.{links_of}
+use Rattle.dmf_links.specs.LinkTable.{links_of}
 use Rattle.dmf_path.specs.Frontier.{AreSpread}
 use Rattle.dmf_path.proofs.label.label_most.Given as goal
 

@@ -1,4 +1,4 @@
-use Rattle.dmf_path.specs.LinkTable.{links_of}
+use Rattle.dmf_links.specs.LinkTable.{links_of}
 use Rattle.dmf_path.proofs.Labelling.{starts-spread}
 use Rattle.dmf_path.proofs.label.label_nodes.Goals as goal
 

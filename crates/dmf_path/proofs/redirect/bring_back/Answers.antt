@@ -1,8 +1,8 @@
 -- Each link to the node is looked at.
 use Rattle.std.proofs.Common.{◌≡◌, ◌+◌, ◌<◌, get_or, length, ap, sym, ◌∙◌, arith}
 use Rattle.std.proofs.lemmas.List.{get_or_default}
-use Rattle.dmf_path.specs.LinkTable.{links_of}
-use Rattle.dmf_path.proofs.LinkPlaces.{end-within}
+use Rattle.dmf_links.specs.LinkTable.{links_of}
+use Rattle.dmf_links.proofs.LinkPlaces.{end-within}
 use Rattle.dmf_path.proofs.Redirected.{back-kept, back-set}
 use Rattle.dmf_path.proofs.redirect.bring_back.Goals as goal
 use Rattle.dmf_path.proofs.redirect.bring_back.Goals.{then-flags-place-eq1+then-current-tail, else-flags-place-eq1}

@@ -1,4 +1,4 @@
-use Rattle.dmf_path.specs.LinkTable.{links_of}
+use Rattle.dmf_links.specs.LinkTable.{links_of}
 use Rattle.dmf_path.proofs.Redirected.{AreBack}
 use Rattle.dmf_path.proofs.redirect.bring_back.Given as goal
 

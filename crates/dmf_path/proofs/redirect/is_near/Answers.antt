@@ -1,8 +1,8 @@
 use Rattle.std.proofs.Common.{◌≡◌, ◌<◌, ◌≤◌, inl, inr, get_or, length, ap, sym, ◌∙◌, subst, arith}
 use Rattle.std.proofs.lemmas.Bool.{cases_eq}
 use Rattle.std.proofs.lemmas.List.{get_or_default}
-use Rattle.dmf_path.specs.LinkTable.{links_of}
-use Rattle.dmf_path.proofs.LinkPlaces.{end-within}
+use Rattle.dmf_links.specs.LinkTable.{links_of}
+use Rattle.dmf_links.proofs.LinkPlaces.{end-within}
 use Rattle.dmf_path.proofs.redirect.is_near.Goals as goal
 use Rattle.dmf_path.proofs.redirect.is_near.Goals.{else-index-eq1-via-then-index-eq1+else-labels-tail-gt1, else-index-eq1-via-else-index-eq1}
 

@@ -2,7 +2,7 @@
 use Rattle.std.proofs.Common.{◌≡◌, ◌≤◌, ℕ, List, get_or, set, ap, sym, ◌∙◌, arith}
 use Rattle.std.specs.Vec.{with_item}
 use Rattle.std.proofs.lemmas.List.{get_or_default, get_or-set_same, with_items_is}
-use Rattle.dmf_path.specs.LinkTable.{links_of}
+use Rattle.dmf_links.specs.LinkTable.{links_of}
 use Rattle.dmf_path.specs.Walk.{AreSkipped}
 use Rattle.dmf_path.specs.BothEnds.{AreWhole}
 use Rattle.dmf_path.proofs.Redirected.{LeadsTo, IsNear, opposite, whole-redirected, whole-left, near-left, skipped-left, skipped-redirected}

@@ -1,6 +1,6 @@
 -- All nodes from which paths lead to the goal are labelled.
 use Rattle.std.proofs.Common.{arith, inl, inr}
-use Rattle.dmf_path.specs.LinkTable.{links_of}
+use Rattle.dmf_links.specs.LinkTable.{links_of}
 use Rattle.dmf_path.specs.Labels.{AreLabels}
 use Rattle.dmf_path.proofs.Labelled.{labelled-one, whole-labelled}
 use Rattle.dmf_path.proofs.Reaching.{separated-unlabelled}

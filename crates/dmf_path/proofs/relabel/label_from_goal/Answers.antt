@@ -1,5 +1,5 @@
 use Rattle.std.proofs.Common.{arith}
-use Rattle.dmf_path.specs.LinkTable.{links_of}
+use Rattle.dmf_links.specs.LinkTable.{links_of}
 use Rattle.dmf_path.proofs.Labelled.{labelled-one}
 use Rattle.dmf_path.proofs.Reaching.{separated-unlabelled}
 use Rattle.dmf_path.proofs.relabel.label_from_goal.Goals as goal

@@ -2,17 +2,16 @@
 use Rattle.std.proofs.Common.{◌≡◌, ◌+◌, ◌-◌, ◌<◌, set, get_or, refl, ap, sym, subst, ◌∙◌, arith, length}
 use Rattle.std.proofs.lemmas.List.{get_or_default}
 use Rattle.dmf_node.specs.Node.{IsNode}
-use Rattle.dmf_path.specs.Links.{Links, tail_of}
+use Rattle.dmf_links.specs.Links.{Links, tail_of}
 use Rattle.dmf_path.specs.Held.{Way, way_of, slot_at}
 use Rattle.dmf_path.specs.Residual.{Residual, residual_of, told, MakesWay}
 use Rattle.dmf_path.specs.Walk.{IsWalk}
 use Rattle.dmf_path.specs.Searching.{IsUnderWay}
-use Rattle.dmf_path.proofs.LinkPlaces.{end-within}
+use Rattle.dmf_links.proofs.LinkPlaces.{end-within}
 use Rattle.dmf_path.proofs.WalkingTurn.{work_left}
 use Rattle.dmf_path.proofs.WayStart.{last-link_within, on-start, searching-on, same-sought}
-use Rattle.dmf_path.proofs.WayWalk.{Turn, IsFound, on-turned, skipped-turned, within-found, slot-found, slot-first}
+use Rattle.dmf_path.proofs.WayWalk.{Turn, IsFound, on-turned, skipped-turned, within-found, slot-found, slot-first, made-links, is-made}
 use Rattle.dmf_path.proofs.Splitting.{made-aim}
-use Rattle.dmf_path.proofs.WayWalk.{made-links, is-made}
 use Rattle.dmf_path.proofs.WayWalk.{on-found, less-found, no-walk, slot-last, back-within, back-tail, back-tail_within, less-back, on-stepped, back-last}
 use Rattle.dmf_path.proofs.walk.walk.Goals as goal
 use Rattle.dmf_path.proofs.walk.walk.Goals.{After-first_admissible-place, After-end_node-node-else-place-end}

@@ -1,6 +1,6 @@
 use Rattle.std.proofs.Common.{ℕ, ap, map, subst, sym, ◌∙◌}
 use Rattle.std.proofs.lemmas.Result.{IfOk-weaker}
-use Rattle.dmf_path.specs.Pair.{emptied, ArePairs}
+use Rattle.dmf_links.specs.Pair.{emptied, ArePairs}
 use Rattle.dmf_path.specs.Search.{Searched}
 use Rattle.dmf_solver.specs.CarryingNetwork.{carrying_pairs}
 use Rattle.dmf_solver.proofs.CarryingPairs.{ArePairs-carrying}

@@ -1,5 +1,5 @@
 use Rattle.std.proofs.Common.{◌≡◌, arith, ◌+◌}
-use Rattle.dmf_path.specs.LinkTable.{links_of}
+use Rattle.dmf_links.specs.LinkTable.{links_of}
 use Rattle.dmf_path.proofs.Currents.{current-first}
 use Rattle.dmf_path.proofs.levels.Levels.over.Goals as goal
 

@@ -1,10 +1,10 @@
 use Rattle.std.proofs.Common.{ℕ, ◌≡◌, ◌<◌, ◌≤◌, get_or, ap, sym, ◌∙◌, arith, ⊎_elim}
 use Rattle.std.proofs.lemmas.Bool.{cases_lt}
 use Rattle.std.proofs.lemmas.List.{get_or_default}
-use Rattle.dmf_path.specs.Links.{open_flag}
-use Rattle.dmf_path.specs.LinkTable.{links_of}
+use Rattle.dmf_links.specs.Links.{open_flag}
+use Rattle.dmf_links.specs.LinkTable.{links_of}
 use Rattle.dmf_path.specs.Held.{way_of}
-use Rattle.dmf_path.proofs.Flags.{flag-of_room}
+use Rattle.dmf_links.proofs.Flags.{flag-of_room}
 use Rattle.dmf_path.proofs.SettledRoom.{rooms_with-empty}
 use Rattle.dmf_path.proofs.push.Links.opposite_room.Goals as goal
 

@@ -1,7 +1,7 @@
 use Rattle.std.proofs.Common.{◌≡◌, ◌<◌, length, get_or, ap, ◌∙◌, arith}
 use Rattle.std.proofs.lemmas.List.{get_or_default, with_items_is}
-use Rattle.dmf_path.specs.Links.{open_flag}
-use Rattle.dmf_path.specs.LinkTable.{links_of}
+use Rattle.dmf_links.specs.Links.{open_flag}
+use Rattle.dmf_links.specs.LinkTable.{links_of}
 use Rattle.dmf_path.proofs.Pushing.{AreRooms-put, AreFlags-put}
 use Rattle.dmf_path.proofs.push.Links.put.Goals as goal
 

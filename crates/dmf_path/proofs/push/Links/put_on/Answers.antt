@@ -1,6 +1,6 @@
 use Rattle.std.proofs.Common.{ℕ, ◌≡◌, ◌+◌, ◌-◌, Bool, true, false, List, set, get_or, ap, sym, ◌∙◌, arith}
 use Rattle.std.proofs.lemmas.List.{set-get_or, get_or_default}
-use Rattle.dmf_path.specs.Links.{Links}
+use Rattle.dmf_links.specs.Links.{Links}
 use Rattle.dmf_path.specs.Walk.{pushed_once}
 use Rattle.dmf_path.specs.Held.{room_left}
 use Rattle.dmf_path.specs.Residual.{residual_of, roomed}

@@ -1,7 +1,7 @@
 use Rattle.std.proofs.Common.{ℕ, ◌≡◌, ◌≢◌, List, set, get_or, ap, sym, ◌∙◌}
 use Rattle.std.proofs.lemmas.List.{set-set, set_comm}
 use Rattle.dmf_path.specs.Residual.{Residual, residual_of, roomed, put_at}
-use Rattle.dmf_path.proofs.LinkPlaces.{partner-other}
+use Rattle.dmf_links.proofs.LinkPlaces.{partner-other}
 use Rattle.dmf_path.proofs.push.Links.set_pair.Goals as goal
 
 -- The last write at a place counts.

@@ -4,7 +4,7 @@ use Rattle.std.proofs.lemmas.List.{with_items_is}
 use Rattle.dmf_path.specs.Held.{way_of}
 use Rattle.dmf_path.specs.Residual.{residual_of}
 use Rattle.dmf_path.specs.Searching.{Sought, searched, labelling_of}
-use Rattle.dmf_path.specs.Touching.{MayBeNumbered}
+use Rattle.dmf_links.specs.Numbers.{MayBeNumbered}
 use Rattle.dmf_path.proofs.SearchTurns.{search-next}
 use Rattle.dmf_path.proofs.search.Search.aim.Goals as goal
 

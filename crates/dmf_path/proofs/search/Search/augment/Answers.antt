@@ -3,12 +3,14 @@ use Rattle.std.proofs.Common.{◌≡◌, false, length, ap, sym, refl, ◌∙◌
 use Rattle.std.proofs.lemmas.List.{length-map}
 use Rattle.std.proofs.lemmas.Option.{IfSome_then}
 use Rattle.dmf_path.specs.declared.search.AugmentingPath.{AugmentingPath}
-use Rattle.dmf_path.specs.Links.{ArePlaces, pair_at, pairs_at}
+use Rattle.dmf_links.specs.Links.{ArePlaces, pair_at, pairs_at}
 use Rattle.dmf_path.specs.Held.{way_of, settled}
 use Rattle.dmf_path.specs.Residual.{residual_of, told}
-use Rattle.dmf_path.specs.Search.{Searched, Augments, pair_number}
+use Rattle.dmf_path.specs.Search.{Searched, Augments}
+use Rattle.dmf_links.specs.Pair.{pair_number}
 use Rattle.dmf_path.specs.Touched.{AreBelow, KeepsUntouched}
-use Rattle.dmf_path.specs.Touching.{MayBeNumbered, Lists}
+use Rattle.dmf_links.specs.Numbers.{MayBeNumbered}
+use Rattle.dmf_path.specs.Touching.{Lists}
 use Rattle.dmf_path.specs.Searching.{Sought, sought, searched, labelling_of, AreAside, AreKept, AreLasting, begun}
 use Rattle.dmf_path.proofs.UnderWayWhole.{slot-within}
 use Rattle.dmf_path.proofs.Splitting.{sent_along, middle-leaves}

@@ -1,7 +1,7 @@
 -- A search that has begun anew holds nothing.
 use Rattle.std.proofs.Common.{refl, ap, sym, ◌∙◌, subst}
 use Rattle.dmf_path.specs.Held.{way_of}
-use Rattle.dmf_path.specs.Links.{ArePlaces}
+use Rattle.dmf_links.specs.Links.{ArePlaces}
 use Rattle.dmf_path.specs.Residual.{Residual, residual_of}
 use Rattle.dmf_path.specs.Searching.{Sought, searched, labelling_of}
 use Rattle.dmf_path.proofs.SearchTurns.{told-fresh}

@@ -1,7 +1,7 @@
 -- Both searches take in their pairs.
 use Rattle.std.proofs.Common.{◌<◌, length, refl, arith}
 use Rattle.dmf_path.specs.Apart.{HasGrown}
-use Rattle.dmf_path.specs.LinkTable.{links_of}
+use Rattle.dmf_links.specs.LinkTable.{links_of}
 use Rattle.dmf_path.proofs.ApartPairs.{has-grown, pairs-long}
 use Rattle.dmf_path.proofs.search.Search.insert.Goals.{In_ok-grown, In_ok-share}
 use Rattle.dmf_path.proofs.search.Search.insert.Goals as goal

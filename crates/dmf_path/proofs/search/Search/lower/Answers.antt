@@ -2,16 +2,16 @@
 use Rattle.std.proofs.Common.{◌≡◌, get_or, ap, sym, ◌∙◌, subst, arith}
 use Rattle.dmf_path.specs.Held.{way_of}
 use Rattle.dmf_path.specs.Residual.{Residual, residual_of, told}
-use Rattle.dmf_path.specs.Links.{Links, pairs_at, ArePlaces}
+use Rattle.dmf_links.specs.Links.{Links, pairs_at, ArePlaces}
 use Rattle.dmf_path.specs.Search.{with_pairs, lowered_along}
 use Rattle.dmf_path.specs.Searching.{Sought, sought, searched, labelling_of, AreAside, AreKept, AreLasting, IsMarked}
 use Rattle.dmf_path.proofs.Asides.{aside-falls, aside-same}
 use Rattle.dmf_path.proofs.Pushed.{opens-none}
 use Rattle.dmf_path.proofs.Lasting.{lasting, lasting-opens}
 use Rattle.dmf_path.proofs.Lowered.{HasPlace, HasPlace-along}
-use Rattle.dmf_path.proofs.PairRead.{has-place}
+use Rattle.dmf_links.proofs.PairRead.{has-place}
 use Rattle.dmf_path.proofs.Released.{IsLowered, is-lowered}
-use Rattle.dmf_path.specs.Touching.{MayBeNumbered}
+use Rattle.dmf_links.specs.Numbers.{MayBeNumbered}
 use Rattle.dmf_path.proofs.SearchTurns.{search-next, same-mark}
 use Rattle.dmf_path.proofs.search.Search.lower.Goals as goal
 use Rattle.dmf_path.proofs.search.Search.lower.Goals.{After-unwrap-place, After-release, After-lower}

@@ -1,7 +1,7 @@
 -- Both searches leave out their pairs.
 use Rattle.std.proofs.Common.{◌≤◌, length, arith}
 use Rattle.dmf_path.specs.Apart.{HasShrunk}
-use Rattle.dmf_path.specs.LinkTable.{links_of}
+use Rattle.dmf_links.specs.LinkTable.{links_of}
 use Rattle.dmf_path.proofs.ApartPairs.{has-shrunk, pairs-long}
 use Rattle.dmf_path.proofs.search.Search.remove.Goals.{In_ok-left, In_ok-share}
 use Rattle.dmf_path.proofs.search.Search.remove.Goals as goal

@@ -2,15 +2,15 @@
 use Rattle.std.proofs.Common.{◌≡◌, ◌<◌, true, [], length, refl, ap, sym, ◌∙◌, subst, arith}
 use Rattle.std.proofs.lemmas.List.{length-map}
 use Rattle.dmf_path.specs.declared.search.Search.TheInside.{Inside}
-use Rattle.dmf_path.specs.Links.{Links, IsPlaceOf, pair_at}
+use Rattle.dmf_links.specs.Links.{Links, IsPlaceOf, pair_at}
 use Rattle.dmf_path.specs.Held.{way_of}
 use Rattle.dmf_path.specs.Residual.{Residual, residual_of, told}
 use Rattle.dmf_path.specs.Search.{Searched, with_pairs, with_rooms}
 use Rattle.dmf_path.specs.Searching.{AreReady, AreKept, IsSearch, IsMarked, Sought, searched, labelling_of, fresh}
-use Rattle.dmf_path.specs.Touching.{MayBeNumbered}
+use Rattle.dmf_links.specs.Numbers.{MayBeNumbered}
 use Rattle.dmf_path.proofs.Asides.{aside-none}
 use Rattle.dmf_path.proofs.SearchTurns.{search-next, fresh-mark, told-fresh, searching-set}
-use Rattle.dmf_path.proofs.PairRead.{place-within}
+use Rattle.dmf_links.proofs.PairRead.{place-within}
 use Rattle.dmf_path.proofs.RoomsSet.{pairs-set, pairs-unset}
 use Rattle.dmf_path.proofs.search.Search.set_rooms.Goals.{Joined-not-self, then-not-self, else-not-self}
 use Rattle.dmf_path.proofs.search.Search.set_rooms.Goals as goal

@@ -6,7 +6,7 @@ use Rattle.dmf_path.specs.Searching.{Sought, sought, searched, labelling_of}
 use Rattle.dmf_path.proofs.Asides.{aside-same}
 use Rattle.dmf_path.proofs.Lasting.{lasting}
 use Rattle.dmf_path.proofs.Settling.{can-settle}
-use Rattle.dmf_path.specs.Touching.{MayBeNumbered}
+use Rattle.dmf_links.specs.Numbers.{MayBeNumbered}
 use Rattle.dmf_path.proofs.SearchTurns.{search-settled, sought-settled}
 use Rattle.dmf_path.proofs.search.Search.settle.Goals as goal
 

@@ -1,5 +1,5 @@
-use Rattle.dmf_path.specs.LinkTable.{links_of}
-use Rattle.dmf_path.specs.Touching.{AreNumbers}
+use Rattle.dmf_links.specs.LinkTable.{links_of}
+use Rattle.dmf_links.specs.Numbers.{AreNumbers}
 use Rattle.dmf_path.proofs.search.Search.share_numbers.Goals as goal
 
 pub invariant_of-self-in_ok-clone-2 : goal.invariant_of-self-in_ok-clone-2

@@ -1,9 +1,9 @@
 -- The links, the places and the numbers, with those of the new pair.
 use Rattle.std.proofs.Common.{◌-◌, length, arith}
 use Rattle.std.proofs.lemmas.Option.{IfSome_then}
-use Rattle.dmf_path.specs.Grown.{AreGrown}
-use Rattle.dmf_path.specs.LinkTable.{links_of}
-use Rattle.dmf_path.proofs.GrownLinks.{in-order, gap-within}
+use Rattle.dmf_links.specs.Grown.{AreGrown}
+use Rattle.dmf_links.specs.LinkTable.{links_of}
+use Rattle.dmf_links.proofs.GrownLinks.{in-order, gap-within}
 use Rattle.dmf_path.proofs.GrownTogether.{numbered-with, places-grown}
 use Rattle.dmf_path.proofs.search.growing.grow.Goals.{In-Ok-new}
 use Rattle.dmf_path.proofs.search.growing.grow.Goals as goal

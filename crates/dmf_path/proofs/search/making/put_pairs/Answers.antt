@@ -1,12 +1,12 @@
 -- Each pair's rooms are put at the places of its links, where 0 stands.
 use Rattle.std.proofs.Common.{◌≡◌, get_or, set, Some, None, ap, sym, ◌∙◌, arith}
 use Rattle.std.proofs.lemmas.Option.{get_or_from_slice_get}
-use Rattle.dmf_path.specs.declared.pair.Pair.{Pair}
-use Rattle.dmf_path.specs.LinkTable.{links_of}
-use Rattle.dmf_path.specs.Links.{IsPlaceOf}
-use Rattle.dmf_path.proofs.Filling.{ArePut-none, ArePut-some, AreClear-zeros, AreClear-some, AreClear-none, clear-along}
-use Rattle.dmf_path.proofs.PairRead.{has-place}
-use Rattle.dmf_path.proofs.Twins.{opposites_of, IsAt, is-read, apart-ends, pairs-put}
+use Rattle.dmf_links.specs.declared.pair.Pair.{Pair}
+use Rattle.dmf_links.specs.LinkTable.{links_of}
+use Rattle.dmf_links.specs.Links.{IsPlaceOf}
+use Rattle.dmf_links.proofs.Filling.{ArePut-none, ArePut-some, AreClear-zeros, AreClear-some, AreClear-none, clear-along}
+use Rattle.dmf_links.proofs.PairRead.{has-place}
+use Rattle.dmf_links.proofs.Twins.{opposites_of, IsAt, is-read, apart-ends, pairs-put}
 use Rattle.dmf_path.proofs.search.making.put_pairs.Goals as goal
 use Rattle.dmf_path.proofs.search.making.put_pairs.Goals.{After-unwrap-place, in-Some, in_default}
 

@@ -1,7 +1,7 @@
-use Rattle.dmf_path.specs.Building.{ArePut}
-use Rattle.dmf_path.specs.LinkTable.{links_of}
-use Rattle.dmf_path.proofs.Filling.{AreClear}
-use Rattle.dmf_path.proofs.Twins.{opposites_of}
+use Rattle.dmf_links.specs.Building.{ArePut}
+use Rattle.dmf_links.specs.LinkTable.{links_of}
+use Rattle.dmf_links.proofs.Filling.{AreClear}
+use Rattle.dmf_links.proofs.Twins.{opposites_of}
 use Rattle.dmf_path.proofs.search.making.put_pairs.Given as goal
 
 abbrev pub invariant-loop-k : goal.invariant-loop-k

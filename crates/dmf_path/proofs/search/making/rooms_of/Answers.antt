@@ -1,8 +1,8 @@
 -- The rooms are those of pairs, so they fit.
 use Rattle.std.proofs.Common.{arith}
 use Rattle.std.proofs.lemmas.List.{with_items_is}
-use Rattle.dmf_path.specs.LinkTable.{links_of}
-use Rattle.dmf_path.proofs.Twins.{rooms-pairs}
+use Rattle.dmf_links.specs.LinkTable.{links_of}
+use Rattle.dmf_links.proofs.Twins.{rooms-pairs}
 use Rattle.dmf_path.proofs.search.making.rooms_of.Goals as goal
 
 pub returns-clause-rooms : goal.returns-clause-rooms

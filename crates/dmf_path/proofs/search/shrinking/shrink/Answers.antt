@@ -1,8 +1,8 @@
 -- The links, the places and the numbers are those that are left without the links of the pair.
 use Rattle.std.proofs.Common.{ℕ, ◌-◌, length, subst, arith}
-use Rattle.dmf_path.specs.LinkTable.{links_of}
-use Rattle.dmf_path.specs.Links.{IsPlaceOf}
-use Rattle.dmf_path.specs.Shrunk.{AreShrunk, IsFilled}
+use Rattle.dmf_links.specs.LinkTable.{links_of}
+use Rattle.dmf_links.specs.Links.{IsPlaceOf}
+use Rattle.dmf_links.specs.Shrunk.{AreShrunk, IsFilled}
 use Rattle.dmf_path.proofs.ShrunkTogether.{numbered-without, places-without}
 use Rattle.dmf_path.proofs.search.shrinking.shrink.Goals.{In_ok-places}
 use Rattle.dmf_path.proofs.search.shrinking.shrink.Goals as goal

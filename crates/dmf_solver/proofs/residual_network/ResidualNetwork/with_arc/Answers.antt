@@ -1,6 +1,6 @@
 -- The pair of the arc goes in before that of the return link.
 use Rattle.std.proofs.Common.{◌^◌, ◌≤◌, length, ap, sym, ◌∙◌, subst, arith}
-use Rattle.dmf_path.specs.Pair.{IsPair}
+use Rattle.dmf_links.specs.Pair.{IsPair}
 use Rattle.dmf_path.specs.Search.{Searched}
 use Rattle.dmf_solver.specs.KeptNetwork.{IsNetworkOf}
 use Rattle.dmf_solver.proofs.Added.{pairs-before, few-before, pair-added, search-added}

@@ -1,7 +1,7 @@
 -- A search that has begun anew goes on over any links between as many nodes.
 use Rattle.std.proofs.Common.{ℕ, true, List, ap, sym, ◌∙◌, subst}
 use Rattle.dmf_path.specs.Held.{way_of}
-use Rattle.dmf_path.specs.LinkTable.{links_of}
+use Rattle.dmf_links.specs.LinkTable.{links_of}
 use Rattle.dmf_path.specs.Residual.{Residual}
 use Rattle.dmf_path.specs.Searching.{searched, labelling_of, IsSearch}
 use Rattle.dmf_path.specs.Walk.{AreCurrent}

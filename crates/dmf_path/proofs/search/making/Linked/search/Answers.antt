@@ -1,7 +1,7 @@
 -- What a search keeps at first.
 use Rattle.std.proofs.Common.{[], ap, sym, subst, arith}
 use Rattle.std.specs.Vec.{vec_capacity}
-use Rattle.dmf_path.specs.LinkTable.{links_of}
+use Rattle.dmf_links.specs.LinkTable.{links_of}
 use Rattle.dmf_path.specs.Walk.{AreCurrent}
 use Rattle.dmf_path.specs.Held.{Way, way_of}
 use Rattle.dmf_path.specs.Residual.{Residual}
