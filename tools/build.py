@@ -348,7 +348,7 @@ def build(told: Told) -> None:
         if before is not None:
             told.line("a source has changed since the program was built. What depends on it is proved and built again.")
         else:
-            told.line("the program is proved and built. This happens once, and takes some 9 minutes on 4 idle processors.")
+            told.line("the program is proved and built. This happens once, and takes 9 to 15 minutes on 4 idle processors.")
         git = ROOT / ".git"
         place = git if git.is_dir() and os.access(git, os.W_OK) else Path(tempfile.gettempdir())
         if place == git:

@@ -106,7 +106,7 @@ told() {
 
 putting="$(told "$prefix")
 "
-first="dmf: the program is proved and built. This happens once, and takes some 9 minutes on 4 idle processors.
+first="dmf: the program is proved and built. This happens once, and takes 9 to 15 minutes on 4 idle processors.
 "
 built="dmf: 1 of 1: dmf is built
 "

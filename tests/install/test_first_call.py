@@ -15,7 +15,7 @@ import pytest
 from conftest import ROOT
 
 SECONDS = 60
-FIRST_CALL = "dmf: the program is proved and built. This happens once, and takes some 9 minutes on 4 idle processors.\n"
+FIRST_CALL = "dmf: the program is proved and built. This happens once, and takes 9 to 15 minutes on 4 idle processors.\n"
 CHANGED = "dmf: a source has changed since the program was built. What depends on it is proved and built again.\n"
 BUILT = "".join(f"dmf: {place} of 4: {crate} is built\n" for place, crate in enumerate(["low", "left", "right", "dmf"], 1))
 CRATES = "# Crates.\nlow:\nleft: low\nright: low\ndmf: left right\nabove: dmf\n"
