@@ -1,4 +1,4 @@
--- Pairs of opposite links, and the steps that they give.
+-- The steps that pairs of opposite links give, and what a push along a path makes of the pairs.
 -- Public: a public contract says no more than this.
 use Rattle.std.specs.Prelude.{ℕ, ◌+◌, ◌-◌, ◌*◌, Bool, if◌then◌else◌, List, [], ◌∷◌, ◌++◌, nat_lt, Option, Some}
 use Rattle.std.specs.Prelude.{None}
