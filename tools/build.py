@@ -33,10 +33,6 @@ from typing import IO, NoReturn
 
 ROOT = Path(__file__).resolve().parents[1]
 PROGRAM = "dmf"
-# The folders with a crate's sources; its library; and an empty file whose time is that at which the library's build began.
-SOURCES = ["src", "specs", "proofs"]
-LIBRARY = "out/rlib"
-BEGUN = "out/begun"
 FAILED, INTERRUPTED = 70, 130
 # The most memory that proving one crate takes, in GiB.
 MEMORY = 3.5
@@ -75,15 +71,6 @@ class Crate:
     @property
     def seconds(self) -> float:
         return SECONDS.get(self.name, UNKNOWN_SECONDS)
-
-    def is_built(self) -> bool:
-        """Whether there is a library, and nothing that it is made of is newer. Before `rt` builds a crate above it, it compares the texts."""
-        begun = self.folder / BEGUN
-        if not begun.exists() or not (self.folder / LIBRARY).is_dir():
-            return False
-        folders = [self.folder / part for part in SOURCES if (self.folder / part).is_dir()]
-        sources = [ROOT / "crates.txt", *folders, *(file for folder in folders for file in folder.rglob("*"))]
-        return all(it.stat().st_mtime <= begun.stat().st_mtime for it in sources)
 
     @property
     def command(self) -> list[str]:
@@ -160,17 +147,15 @@ class Work:
 
     @property
     def seconds(self) -> float:
-        return time.time() - self.begun
+        return time.monotonic() - self.begun
 
     def keep(self) -> None:
-        """Moves the result to the crate's own folder, in place of an earlier call's. A source that was edited meanwhile is newer."""
+        """Moves the result to the crate's own folder, in place of an earlier call's."""
         made, out = self.folder / "crates" / self.crate.name / "out", self.crate.folder / "out"
         old = self.folder / "old"
         if out.exists():
             shutil.move(out, old)
         shutil.move(made, out)
-        (self.crate.folder / BEGUN).touch()
-        os.utime(self.crate.folder / BEGUN, (self.begun, self.begun))
 
     def be_nice(self, niceness: int) -> None:
         """Gives the crate this niceness, where the system has one for each session: the crate is built in a session of its own."""
@@ -209,12 +194,11 @@ def command_of(crate: Crate, slack: float) -> list[str]:
 
 def begin(crate: Crate, crates: dict[str, Crate], place: Path, slack: float) -> Work:
     """Begins to build a crate that has this slack."""
-    begun = time.time()
     folder = Path(tempfile.mkdtemp(prefix="dmf-build-", dir=place))
     names = [*crate.below, crate.name]
     (folder / "crates.txt").write_text("".join(f"{name}: {' '.join(crates[name].libraries)}\n" for name in names))
     for name in names:
-        lay_out(crates[name], folder / "crates" / name, SOURCES + [LIBRARY] * (name != crate.name))
+        lay_out(crates[name], folder / "crates" / name, ["src", "specs", "proofs"] + ["out/rlib"] * (name != crate.name))
     # The result of an earlier call is copied, since `rt` may write to it.
     if (crate.folder / "out").is_dir():
         shutil.copytree(crate.folder / "out", folder / "crates" / crate.name / "out")
@@ -227,7 +211,7 @@ def begin(crate: Crate, crates: dict[str, Crate], place: Path, slack: float) -> 
         stderr=said,
         start_new_session=True,
     )
-    return Work(crate, folder, process, said, begun)
+    return Work(crate, folder, process, said, time.monotonic())
 
 
 class Build:
@@ -240,10 +224,6 @@ class Build:
         self.begun = time.monotonic()
         self.took: dict[str, float] = {}
         self.running: list[Work] = []
-        self.built: set[str] = set()
-        for crate in crates.values():
-            if crate.name != PROGRAM and self.built.issuperset(crate.below) and crate.is_built():
-                self.built.add(crate.name)
 
     def chain(self, crate: Crate, left: dict[str, float]) -> float:
         """The seconds left for a crate and for the longest chain of crates that wait for it."""
@@ -252,7 +232,7 @@ class Build:
 
     def left(self) -> dict[str, float]:
         """The seconds left for each crate, on the machine of the table."""
-        left = {it.name: 0.0 if it.name in self.built else it.seconds for it in self.crates.values()}
+        left = {it.name: 0.0 if it.name in self.took else it.seconds for it in self.crates.values()}
         for work in self.running:
             left[work.crate.name] = max(work.crate.seconds - work.seconds / self.pace(), work.crate.seconds / 20)
         return left
@@ -269,8 +249,8 @@ class Build:
 
     def ready(self) -> list[Crate]:
         """The crates that can be begun, the one with the longest chain first."""
-        begun = {*self.built, *(it.crate.name for it in self.running)}
-        ready = [it for it in self.crates.values() if it.name not in begun and self.built.issuperset(it.below)]
+        begun = {*self.took, *(it.crate.name for it in self.running)}
+        ready = [it for it in self.crates.values() if it.name not in begun and all(name in self.took for name in it.below)]
         left = self.left()
         return sorted(ready, key=lambda it: -self.chain(it, left))
 
@@ -284,7 +264,7 @@ class Build:
     def rank(self) -> None:
         """Gives processor time to the crates in the order of their chains, the longest first. What is done of a crate counts for nothing, since
         a nice one may have had no time."""
-        left = {it.name: 0.0 if it.name in self.built else it.seconds for it in self.crates.values()}
+        left = {it.name: 0.0 if it.name in self.took else it.seconds for it in self.crates.values()}
         for rank, work in enumerate(sorted(self.running, key=lambda it: -self.chain(it.crate, left))):
             work.be_nice(min(rank * NICER, NICEST))
 
@@ -298,27 +278,26 @@ class Build:
                     raise Failure(f"{work.crate.name} is not built\n{work.said.read().decode(errors='replace')}")
                 work.keep()
                 self.took[work.crate.name] = work.seconds
-                self.built.add(work.crate.name)
             finally:
                 work.end()
             self.tell_built(work.crate, self.took[work.crate.name])
 
     def tell_built(self, crate: Crate, seconds: float) -> None:
         if not self.told.is_terminal:
-            count = f"{len(self.built)} of {len(self.crates)}"
-            rest = f"; about {duration(self.rest())} left" if len(self.built) < len(self.crates) else ""
+            count = f"{len(self.took)} of {len(self.crates)}"
+            rest = f"; about {duration(self.rest())} left" if len(self.took) < len(self.crates) else ""
             self.told.line(f"{count}: {crate.name} is built, after {duration(seconds)}{rest}")
 
     def tell_status(self) -> None:
         names = ", ".join(it.crate.name for it in self.running)
         so_far = duration(time.monotonic() - self.begun)
         self.told.status(
-            f"{len(self.built)} of {len(self.crates)} built; in work: {names}; {so_far} so far, about {duration(self.rest())} left"
+            f"{len(self.took)} of {len(self.crates)} built; in work: {names}; {so_far} so far, about {duration(self.rest())} left"
         )
 
     def run(self) -> None:
         try:
-            while len(self.built) < len(self.crates):
+            while len(self.took) < len(self.crates):
                 self.begin_more()
                 self.rank()
                 self.tell_status()
